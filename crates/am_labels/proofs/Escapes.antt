@@ -1,0 +1,42 @@
+-- A character escaped is its bytes escaped, since the bytes of a character past ASCII are past it too.
+use Rattle.std.proofs.Common.{◌≡◌, ◌≢◌, ℕ, zero, suc, ◌+◌, ◌<◌, ◌≤◌, List, [], ◌∷◌, ◌++◌, cond, length, get_or, encode_utf8, refl, sym, subst, ap, ◌∙◌, arith, append-nil, append_assoc}
+use Rattle.std.proofs.lemmas.Bool.{ne_eqb}
+use Rattle.std.proofs.lemmas.Grind.{flat_map-append}
+use Rattle.std.proofs.lemmas.Str.{inside_one}
+use Rattle.am_labels.specs.Printing.{escaped, escaped_all}
+
+pub record IsOrdinary (byte : ℕ) : Type 0 where
+  pub no_quote : byte ≢ 34
+  pub no_backslash : byte ≢ 92
+  pub no_line_feed : byte ≢ 10
+
+escaped_ordinary : (byte : ℕ) → IsOrdinary byte → escaped byte ≡ byte ∷ []
+escaped_ordinary byte is =
+    ap (λ b. cond b (92 ∷ 34 ∷ []) (cond (Rattle.std.proofs.Common.eqb byte 92) (92 ∷ 92 ∷ []) (cond (Rattle.std.proofs.Common.eqb byte 10) (92 ∷ 110 ∷ []) (byte ∷ [])))) (ne_eqb byte 34 is.no_quote)
+      ∙ (ap (λ b. cond b (92 ∷ 92 ∷ []) (cond (Rattle.std.proofs.Common.eqb byte 10) (92 ∷ 110 ∷ []) (byte ∷ []))) (ne_eqb byte 92 is.no_backslash)
+      ∙ ap (λ b. cond b (92 ∷ 110 ∷ []) (byte ∷ [])) (ne_eqb byte 10 is.no_line_feed))
+
+escaped_all_ordinary : (bytes : List ℕ) → ((k : ℕ) → k < length bytes → IsOrdinary (get_or bytes k 0)) → escaped_all bytes ≡ bytes
+escaped_all_ordinary [] is = refl
+escaped_all_ordinary (byte ∷ bytes) is =
+    ap (λ (front : List ℕ). front ++ escaped_all bytes) (escaped_ordinary byte (is 0 (omega arith)))
+      ∙ ap (λ (rest : List ℕ). byte ∷ rest) (escaped_all_ordinary bytes (λ k short. is (suc k) (omega arith)))
+
+-- a byte of a character is no special one, where the character isn't
+differs : (c k special : ℕ) → special < 128 → c ≢ special → k < length (encode_utf8 c) → get_or (encode_utf8 c) k 0 ≢ special
+differs c k special ascii other short is =
+    other (inside_one c [] (encode_utf8 c) k (sym (append-nil (encode_utf8 c))) short (omega arith) ∙ is)
+
+pub escaped_char : (c : ℕ) → IsOrdinary c → encode_utf8 c ≡ escaped_all (encode_utf8 c)
+escaped_char c is =
+    sym (escaped_all_ordinary (encode_utf8 c) (λ k short. record {
+      no_quote = differs c k 34 (omega arith) is.no_quote short;
+      no_backslash = differs c k 92 (omega arith) is.no_backslash short;
+      no_line_feed = differs c k 10 (omega arith) is.no_line_feed short;
+    }))
+
+-- a loop's step: what was written, then this character, and what is left
+pub escaped_more : (written rest left all : List ℕ) (c : ℕ) → rest ≡ encode_utf8 c ++ left → written ++ escaped_all rest ≡ all → (written ++ escaped_all (encode_utf8 c)) ++ escaped_all left ≡ all
+escaped_more written rest left all c step so_far =
+    append_assoc written (escaped_all (encode_utf8 c)) (escaped_all left)
+      ∙ (ap (λ (bytes : List ℕ). written ++ bytes) (sym (flat_map-append escaped (encode_utf8 c) left) ∙ ap escaped_all (sym step)) ∙ so_far)

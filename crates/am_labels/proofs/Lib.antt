@@ -1,0 +1,4 @@
+pub mod LabelMaps
+pub mod Searches
+pub mod Escapes
+pub mod Joins

@@ -1,0 +1,85 @@
+-- A binary search by name among pairs in byte order of names.
+use Rattle.std.proofs.Common.{◌≡◌, ◌≢◌, ℕ, zero, suc, ◌+◌, ◌<◌, ◌≤◌, ◌&&◌, Bool, true, false, cond, Some, None, List, [], ◌∷◌, length, get_or, refl, sym, ap, subst, ◌∙◌, arith, T, Less, Equal, Greater, add-one, ⊎_elim}
+use Rattle.std.specs.FinMap.{slice_cmp-IsAntisymmetric, nat_cmp-IsAntisymmetric}
+use Rattle.std.specs.FinMap.Entries.{is_sorted, below_all, find}
+use Rattle.std.specs.Cmp.{tied_itself}
+use Rattle.std.specs.Cmp.Lexicographic.{nat_list_cmp_total}
+use Rattle.std.specs.declared.cmp.Ordering.{Ordering}
+use Rattle.std.specs.List.Sorted.{IsNonDecreasingBy, IsSortedByKey}
+use Rattle.std.specs.Ordering.{is_lt, is_eq, ordering_reverse, ordering_index}
+use Rattle.std.proofs.lemmas.List.Sorted.{searchable_from_sorted}
+use Rattle.std.specs.List.{AllWithin}
+use Rattle.std.proofs.lemmas.Bool.{cases_lt}
+use Rattle.am_labels.specs.Texts.{text_cmp}
+
+both : (a b : Bool) → T (a && b) → T a × T b
+both true b h = (tt, h)
+both false b h = absurd h
+
+less : (o : Ordering) → T (is_lt o) → o ≡ Less
+less Less h = refl
+less Equal h = absurd h
+less Greater h = absurd h
+
+flipped : (x y : List ℕ) → text_cmp x y ≡ Less → text_cmp y x ≡ Greater
+flipped x y e = nat_list_cmp_total.antisymm y x ∙ ap ordering_reverse e
+
+-- only equal texts tie
+pub tied : (x y : List ℕ) → text_cmp x y ≡ Equal → x ≡ y
+tied = slice_cmp-IsAntisymmetric nat_cmp-IsAntisymmetric
+
+-- the names after one are greater
+below_at : (name : List ℕ) (pairs : List (List ℕ × List ℕ)) (at : ℕ) (d : List ℕ × List ℕ) → T (below_all text_cmp name pairs) → at < length pairs → text_cmp name (get_or pairs at d).0 ≡ Less
+below_at name [] at d h short = absurd (omega arith)
+below_at name (pair ∷ pairs) zero d h short = less _ (both _ _ h).0
+below_at name (pair ∷ pairs) (suc at) d h short = below_at name pairs at d (both _ _ h).1 (omega arith)
+
+pub find_there : (pairs : List (List ℕ × List ℕ)) (name : List ℕ) (at : ℕ) (d : List ℕ × List ℕ) → T (is_sorted text_cmp pairs) → at < length pairs → (get_or pairs at d).0 ≡ name → find text_cmp name pairs ≡ Some (get_or pairs at d).1
+find_there [] name at d h short here = absurd (omega arith)
+find_there (pair ∷ pairs) name zero d h short here =
+    ap (λ o. cond (is_eq o) (Some pair.1) (find text_cmp name pairs)) (ap (text_cmp name) here ∙ tied_itself nat_list_cmp_total name)
+find_there (pair ∷ pairs) name (suc at) d h short here =
+    let apart = flipped pair.0 name (ap (text_cmp pair.0) (sym here) ∙ below_at pair.0 pairs at d (both _ _ h).0 (omega arith)) in
+    ap (λ o. cond (is_eq o) (Some pair.1) (find text_cmp name pairs)) apart ∙ find_there pairs name at d (both _ _ h).1 (omega arith) here
+
+untied : (o : Ordering) → (o ≡ Equal → ⊥) → is_eq o ≡ false
+untied Less h = refl
+untied Equal h = absurd (h refl)
+untied Greater h = refl
+
+pub find_nowhere : (pairs : List (List ℕ × List ℕ)) (name : List ℕ) → ((at : ℕ) (d : List ℕ × List ℕ) → at < length pairs → text_cmp (get_or pairs at d).0 name ≢ Equal) → find text_cmp name pairs ≡ None
+find_nowhere [] name h = refl
+find_nowhere (pair ∷ pairs) name h =
+    let apart : text_cmp name pair.0 ≡ Equal → ⊥ = λ e. h 0 pair (omega arith) (nat_list_cmp_total.antisymm pair.0 name ∙ ap ordering_reverse e) in
+    ap (λ b. cond b (Some pair.1) (find text_cmp name pairs)) (untied (text_cmp name pair.0) apart)
+      ∙ find_nowhere pairs name (λ at d short. h (suc at) d (omega arith))
+
+ascends : (pairs : List (List ℕ × List ℕ)) (at : ℕ) (d : List ℕ × List ℕ) → T (is_sorted text_cmp pairs) → suc at < length pairs → text_cmp (get_or pairs at d).0 (get_or pairs (suc at) d).0 ≡ Less
+ascends [] at d h short = absurd (omega arith)
+ascends (pair ∷ pairs) zero d h short = below_at pair.0 pairs 0 d (both _ _ h).0 (omega arith)
+ascends (pair ∷ pairs) (suc at) d h short = ascends pairs at d (both _ _ h).1 (omega arith)
+
+not_less : (o : Ordering) → o ≡ Greater → is_lt o ≡ false
+not_less o e = ap is_lt e
+
+-- what a binary search asks of pairs in order
+pub searchable : (pairs : List (List ℕ × List ℕ)) (name : List ℕ) → T (is_sorted text_cmp pairs) → IsNonDecreasingBy (λ (pair : List ℕ × List ℕ). ordering_index (text_cmp pair.0 name)) pairs
+searchable pairs name h =
+    searchable_from_sorted nat_list_cmp_total (λ (pair : List ℕ × List ℕ). pair.0) pairs name
+      (λ at d low short.
+        let name_at = λ (k : ℕ). (get_or pairs k d).0 in
+        let next : suc at < length pairs = omega arith in
+        ap (λ k. is_lt (text_cmp (name_at k) (name_at at))) (add-one at)
+          ∙ not_less (text_cmp (name_at (suc at)) (name_at at)) (flipped (name_at at) (name_at (suc at)) (ascends pairs at d h next)))
+
+-- where no name ties before a place or from it on
+pub find_between : (pairs : List (List ℕ × List ℕ)) (name : List ℕ) (place : ℕ)
+    → AllWithin (λ (pair : List ℕ × List ℕ). text_cmp pair.0 name ≡ Less) pairs 0 place
+    → AllWithin (λ (pair : List ℕ × List ℕ). text_cmp pair.0 name ≡ Greater) pairs place (length pairs)
+    → find text_cmp name pairs ≡ None
+find_between pairs name place front back =
+    find_nowhere pairs name (λ at d short e.
+      ⊎_elim
+        (λ (before : at < place). let no : Less ≡ Equal = sym (front at d (omega arith) before) ∙ e in (cc))
+        (λ (past : place ≤ at). let no : Greater ≡ Equal = sym (back at d past short) ∙ e in (cc))
+        (cases_lt at place))

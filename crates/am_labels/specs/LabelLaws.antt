@@ -1,0 +1,58 @@
+-- The laws of comparing and hashing label sets, by their pairs in order.
+use Rattle.std.specs.Prelude.{◌≡◌, ℕ, Bool, true, List, ◌++◌, nat_eq, refl}
+use Rattle.std.proofs.Common.{ap, sym, ◌∙◌}
+use Rattle.std.specs.Ordering.{nat_cmp, as_partial_cmp, on, ordering_then, eq_by_cmp, eq_of_both}
+use Rattle.std.specs.Bool.{Decides}
+use Rattle.std.specs.declared.cmp.Ordering.{Ordering}
+use Rattle.std.specs.Cmp.{IsTotalOrder, IsEquivalence, IsPartialEquivalence, IsPartialOrder}
+use Rattle.std.specs.Cmp as Cmp
+use Rattle.std.specs.Cmp.Lexicographic.{slice_cmp, lists_ties, texts_ties, pointwise_decides}
+use Rattle.std.specs.Cmp.{unsigned_Decides}
+use Rattle.std.specs.Hash as fed
+use Rattle.std.specs.FinMap.{entries, same_entries_map}
+use Rattle.std.proofs.lemmas.Cmp.{nat_list_cmp_total, nat_list_eq_equiv, lists_total, lists_equiv, on_total, on_equiv, then_total, and_equiv}
+use Rattle.am_labels.specs.LabelSets.{Labels, same_pair, same_labels}
+use Rattle.am_labels.specs.Texts.{text_cmp, same_text}
+
+abbrev pub pair_cmp : List ℕ × List ℕ → List ℕ × List ℕ → Ordering
+pair_cmp p q = ordering_then (text_cmp p.0 q.0) (text_cmp p.1 q.1)
+
+abbrev pub labels_cmp : Labels → Labels → Ordering
+labels_cmp a b = slice_cmp pair_cmp (entries a) (entries b)
+
+abbrev pub labels_fed : Labels → fed.HashWrites
+labels_fed a = fed.slice (λ p. fed.str p.0 ++ fed.str p.1) (entries a)
+
+pub pairs_equiv : IsEquivalence same_pair
+pairs_equiv = and_equiv (on_equiv (λ p. p.0) nat_list_eq_equiv) (on_equiv (λ p. p.1) nat_list_eq_equiv)
+
+pub labels_equiv : IsEquivalence same_labels
+labels_equiv = on_equiv entries (lists_equiv pairs_equiv)
+
+pub labels_partial : IsPartialEquivalence same_labels
+labels_partial = Cmp.partial_equiv_from_equiv labels_equiv
+
+pub labels_total : IsTotalOrder labels_cmp
+labels_total = on_total entries (lists_total (then_total (on_total (λ p. p.0) nat_list_cmp_total) (on_total (λ p. p.1) nat_list_cmp_total)))
+
+pub labels_ties : (a b : Labels) → same_labels a b ≡ eq_by_cmp labels_cmp a b
+labels_ties a b = lists_ties pair_cmp (λ p q. Cmp.both_tied _ _ (text_cmp p.0 q.0) (text_cmp p.1 q.1) (texts_ties p.0 q.0) (texts_ties p.1 q.1)) (entries a) (entries b)
+
+pub labels_order : IsPartialOrder same_labels (as_partial_cmp labels_cmp)
+labels_order = Cmp.partial_order_from_agreeing_total labels_cmp labels_total (λ a b. refl) labels_ties
+
+text_alike : fed.Alike same_text fed.str
+text_alike = fed.same_Alike fed.str (pointwise_decides unsigned_Decides)
+
+pub labels_alike : (a b : Labels) → same_labels a b ≡ true → labels_fed a ≡ labels_fed b
+labels_alike = (fed.on_Alike entries (fed.items_Alike (fed.and-Alike (fed.on_Alike (λ p. p.0) text_alike) (fed.on_Alike (λ p. p.1) text_alike)))).fed
+
+pairs_decide : (p q : List ℕ × List ℕ) → Decides (same_pair p q) (p ≡ q)
+pairs_decide p q =
+    (λ h i. ((pointwise_decides unsigned_Decides p.0 q.0).0 (Cmp.first_so (same_text p.0 q.0) (same_text p.1 q.1) h) i, (pointwise_decides unsigned_Decides p.1 q.1).0 (Cmp.second_so (same_text p.0 q.0) (same_text p.1 q.1) h) i),
+     λ e. ap (λ r. same_pair p r) (sym e) ∙ pairs_equiv.refl p)
+
+-- only equal label sets are the same
+pub labels_decide : (a b : Labels) → Decides (same_labels a b) (a ≡ b)
+labels_decide a b =
+    (λ h. same_entries_map a b ((pointwise_decides pairs_decide (entries a) (entries b)).0 h), λ e. ap (λ c. same_labels a c) (sym e) ∙ labels_equiv.refl a)

@@ -1,0 +1,4 @@
+pub mod Texts
+pub mod LabelSets
+pub mod LabelLaws
+pub mod Printing

@@ -1,0 +1,49 @@
+-- How a label set is printed: `{name="value",other="value"}`, as Alertmanager prints one in its logs.
+use Rattle.std.specs.Prelude.{ℕ, Bool, false, ◌&&◌, ◌||◌, ◌==◌, if◌then◌else◌, nat_le, List, [], ◌∷◌, ◌++◌, map, codes}
+use Rattle.std.specs.List.{flat_map, list_all, join_with_byte}
+use Rattle.std.specs.FinMap.{entries}
+use Rattle.am_labels.specs.LabelSets.{Labels}
+
+-- a byte inside quotes: `\"` for a quote, `\\` for a backslash, `\n` for a line feed, others stay
+abbrev pub escaped : ℕ → List ℕ
+escaped byte =
+    if byte == 34 then 92 ∷ 34 ∷ []
+    else (if byte == 92 then 92 ∷ 92 ∷ []
+    else (if byte == 10 then 92 ∷ 110 ∷ []
+    else byte ∷ []))
+
+abbrev pub escaped_all : List ℕ → List ℕ
+escaped_all text = flat_map escaped text
+
+-- a text between quotes
+abbrev pub quoted : List ℕ → List ℕ
+quoted text = 34 ∷ escaped_all text ++ 34 ∷ []
+
+-- a letter of ASCII, `_` or `:`
+abbrev pub is_name_start : ℕ → Bool
+is_name_start byte =
+    (nat_le 65 byte && nat_le byte 90) || (nat_le 97 byte && nat_le byte 122) || (byte == 95 || byte == 58)
+
+-- the same, or a digit of ASCII
+abbrev pub is_name_byte : ℕ → Bool
+is_name_byte byte = is_name_start byte || (nat_le 48 byte && nat_le byte 57)
+
+-- a name of the classic form (Prometheus's label names before UTF-8 names, with `:` allowed)
+abbrev pub is_classic_name : List ℕ → Bool
+is_classic_name [] = false
+is_classic_name (byte ∷ bytes) = is_name_start byte && list_all is_name_byte bytes
+
+-- a name is printed plain where it is classic, else quoted
+abbrev pub name_text : List ℕ → List ℕ
+name_text name = if is_classic_name name then name else quoted name
+
+abbrev pub pair_text : List ℕ × List ℕ → List ℕ
+pair_text pair = name_text pair.0 ++ (61 ∷ quoted pair.1)
+
+-- pairs with commas between
+abbrev pub pairs_text : List (List ℕ × List ℕ) → List ℕ
+pairs_text pairs = join_with_byte 44 (map pair_text pairs)
+
+-- a label set: its pairs in byte order of names, in braces
+abbrev pub labels_text : Labels → List ℕ
+labels_text labels = 123 ∷ pairs_text (entries labels) ++ 125 ∷ []

@@ -1,0 +1,228 @@
+//! Label sets: what Alertmanager knows an alert by.
+
+ghost use Rattle.std.specs.Prelude.{◌≡◌, ◌↔◌, IfOk, IsSome, IsTrue};
+ghost use Rattle.std.specs.Prelude.{List, ℕ, map, Some, T};
+ghost use Rattle.std.specs.Option.{option_copied};
+ghost use Rattle.std.specs.FinMap as map_of;
+ghost use Rattle.std.specs.FinMap.Entries.{find};
+ghost use Rattle.am_labels.specs.Texts.{text_cmp};
+ghost use Rattle.am_labels.specs.LabelSets.{Labels, bytes_of, last_holds, same_labels, value_of};
+ghost use Rattle.std.specs.Fmt.{DisplaysOnOk};
+ghost use Rattle.am_labels.specs.Printing.{labels_text, pair_text, pairs_text};
+
+use crate::quoted::{LabelName, Quoted};
+use crate::text::Text;
+use std::alloc::{AllocError, Global};
+use std::cmp::Ordering;
+use std::collections::BTreeMap;
+use std::fmt;
+use std::hash::{Hash, Hasher};
+use std::marker::Model;
+
+/// A finite map from names to values. A look-up among n labels takes O(log n) comparisons.
+#[derive(Debug, Drop)]
+pub struct LabelSet {
+    // In byte order of names, each name once.
+    pairs: Vec<(Text, Text)>,
+}
+
+impl Model for LabelSet {
+    ghost use Rattle.std.specs.FinMap.{from_sorted};
+    ghost use Rattle.std.specs.FinMap.Entries.{is_sorted};
+    ghost use Rattle.std.specs.Prelude.{T};
+    ghost use Rattle.am_labels.specs.Texts.{text_cmp};
+    ghost use Rattle.am_labels.specs.LabelSets.{Labels, coded_labels};
+
+    ghost Value = { Labels };
+
+    ghost coded = { coded_labels };
+
+    ghost view = { λ a. from_sorted {R = text_cmp} a.pairs.items };
+
+    ghost invariant = { λ a. T (is_sorted text_cmp a.pairs.items) };
+}
+
+impl LabelSet {
+    /// No labels. It takes no memory.
+    pub fn new(alloc: Global) -> LabelSet
+        ensures { result ≡ map_of.empty }
+    {
+        LabelSet {
+            pairs: Vec::new(alloc),
+        }
+    }
+
+    /// The label set of these names and values, in O(n log n). Of pairs with one name the last holds.
+    pub fn from_pairs(alloc: Global, pairs: Vec<(String, String)>) -> Result<LabelSet, AllocError>
+        ensures { IfOk result (λ labels. labels ≡ last_holds (map bytes_of pairs.items)) }
+    {
+        let mut sorted = BTreeMap::new(alloc);
+        for (name, value) in pairs {
+            sorted.insert(Text { text: name }, Text { text: value })?;
+        }
+        Ok(LabelSet {
+            pairs: sorted.into_iter().collect(alloc)?,
+        })
+    }
+
+    /// How many names it has.
+    pub fn len(&self) -> usize
+        ensures { result ≡ map_of.len self.now }
+    {
+        self.pairs.len()
+    }
+
+    pub fn is_empty(&self) -> bool
+        ensures { IsTrue result ↔ (self.now ≡ map_of.empty) }
+    {
+        self.pairs.is_empty()
+    }
+
+    /// The value of a name, empty where the name is missing.
+    pub fn get(&self, name: &str) -> &str
+        ensures { result.now ≡ value_of self.now name.now }
+    {
+        match find(&self.pairs, name) {
+            Some(value) => value.as_str(),
+            None => "",
+        }
+    }
+
+    /// Whether it has the name, with whatever value.
+    pub fn contains_name(&self, name: &str) -> bool
+        ensures { result ≡ map_of.contains_key self.now name.now }
+    {
+        find(&self.pairs, name).is_some()
+    }
+
+    /// Names with their values, in byte order of names.
+    pub fn names_and_values(&self) -> &[(Text, Text)]
+        ensures { result.now ≡ map_of.entries self.now }
+    {
+        &self.pairs
+    }
+
+    pub fn copy(&self, alloc: Global) -> Result<LabelSet, AllocError>
+        ensures { IfOk result (λ copy. copy ≡ self.now) }
+    {
+        Ok(LabelSet {
+            pairs: copy_pairs(alloc, &self.pairs)?,
+        })
+    }
+}
+
+// The value of a name among pairs in byte order of names.
+fn find<'a>(pairs: &'a [(Text, Text)], name: &str) -> Option<&'a Text>
+    requires { T (map_of.is_sorted text_cmp pairs.now) }
+    ensures { option_copied result ≡ find text_cmp name.now pairs.now }
+{
+    let order = |pair: &(Text, Text)| -> Ordering
+        ensures { result ≡ text_cmp pair.now.0 name.entry.now }
+    { pair.0.as_str().cmp(name) };
+    match pairs.binary_search_by(order) {
+        Ok(at) => Some(&pairs[at].1),
+        Err(_) => None,
+    }
+}
+
+fn copy_pairs(alloc: Global, pairs: &[(Text, Text)]) -> Result<Vec<(Text, Text)>, AllocError>
+    ensures { IfOk result (λ copy. copy.items ≡ pairs.now) }
+{
+    let mut copy = Vec::with_capacity(alloc, pairs.len())?;
+    for (name, value) in pairs {
+        copy.push((name.copy()?, value.copy()?))?;
+    }
+    Ok(copy)
+}
+
+impl PartialEq for LabelSet {
+    ghost use Rattle.am_labels.specs.LabelLaws.{labels_partial};
+
+    ghost eq = { same_labels };
+
+    ghost laws = { labels_partial };
+
+    fn eq(&self, other: &LabelSet) -> bool {
+        self.pairs == other.pairs
+    }
+}
+
+impl Eq for LabelSet {
+    ghost use Rattle.am_labels.specs.LabelLaws.{labels_equiv};
+
+    ghost laws = { labels_equiv };
+}
+
+impl PartialOrd for LabelSet {
+    ghost use Rattle.am_labels.specs.LabelLaws.{labels_cmp, labels_order};
+    ghost use Rattle.std.specs.Ordering.{as_partial_cmp};
+
+    ghost partial_cmp = { as_partial_cmp labels_cmp };
+
+    ghost laws = { labels_order };
+
+    fn partial_cmp(&self, other: &LabelSet) -> Option<Ordering> {
+        Some(self.cmp(other))
+    }
+}
+
+impl Ord for LabelSet {
+    ghost use Rattle.am_labels.specs.LabelLaws.{labels_cmp, labels_total, labels_ties};
+    ghost use Rattle.std.specs.Prelude.{refl};
+
+    ghost cmp = { labels_cmp };
+
+    ghost total = { labels_total };
+
+    ghost matches_partial_cmp = { λ x y. refl };
+
+    ghost matches_eq = { labels_ties };
+
+    fn cmp(&self, other: &LabelSet) -> Ordering {
+        self.pairs.cmp(&other.pairs)
+    }
+}
+
+impl Hash for LabelSet {
+    ghost use Rattle.am_labels.specs.LabelLaws.{labels_fed, labels_alike};
+
+    ghost hash_input = { labels_fed };
+
+    ghost respects_eq = { labels_alike };
+
+    fn hash<H: Hasher>(&self, state: &mut H) {
+        self.pairs.hash(state);
+    }
+}
+
+// Printed as `{name="value",other="value"}`.
+impl fmt::Display for LabelSet {
+    ghost output = { λ labels. Some (labels_text labels) };
+
+    fn fmt<W: fmt::Write>(&self, f: &mut fmt::Formatter<W>) -> fmt::Result {
+        f.write_str("{")?;
+        write_pairs(self.names_and_values(), f)?;
+        f.write_str("}")
+    }
+}
+
+// The pairs with commas between.
+fn write_pairs<W: fmt::Write>(pairs: &[(Text, Text)], f: &mut fmt::Formatter<W>) -> fmt::Result
+    ensures { DisplaysOnOk W.write_str_gives f.old result (Some (pairs_text pairs.now)) f.new }
+{
+    let Some((first, others)) = pairs.split_first() else {
+        return Ok(());
+    };
+    write_pair(first, f)?;
+    for pair in others {
+        f.write_str(",")?;
+        write_pair(pair, f)?;
+    }
+    Ok(())
+}
+
+fn write_pair<W: fmt::Write>(pair: &(Text, Text), f: &mut fmt::Formatter<W>) -> fmt::Result
+    ensures { DisplaysOnOk W.write_str_gives f.old result (Some (pair_text pair.now)) f.new }
+{
+    write!(f, "{}={}", LabelName(pair.0.as_str()), Quoted(pair.1.as_str()))
+}
