@@ -102,11 +102,11 @@ impl LabelSet {
         &self.pairs
     }
 
-    pub fn copy(&self, alloc: Global) -> Result<LabelSet, AllocError>
+    pub fn copy(&self) -> Result<LabelSet, AllocError>
         ensures { IfOk result (λ copy. copy ≡ self.now) }
     {
         Ok(LabelSet {
-            pairs: copy_pairs(alloc, &self.pairs)?,
+            pairs: copy_pairs(*self.pairs.allocator(), &self.pairs)?,
         })
     }
 }

@@ -1,0 +1,64 @@
+//! How a stored report and a new one of the same label set become one (Alertmanager's `types.Alert.Merge`, and
+//! the test before it in `provider/mem`'s Put).
+
+ghost use Rattle.std.specs.Prelude.{◌≡◌, IfOk};
+ghost use Rattle.std.specs.Option.{option_copied};
+ghost use Rattle.am_alert.specs.Merging.{absorbed, combined, merged, overlap};
+
+use crate::alert::Alert;
+use crate::moment::Moment;
+use std::alloc::AllocError;
+
+/// Whether one report begins or ends strictly within the other.
+pub fn overlaps(old: &Alert, new: &Alert) -> bool
+    ensures { result ≡ overlap old.now new.now }
+{
+    (new.end > old.start && new.end < old.end) || (new.start > old.start && new.start < old.end)
+}
+
+/// Two reports of one label set as one: the younger report, from the earlier of the two starts.
+/// The older report's later end is kept where it still says something: where both ended by `now`, or where the
+/// younger hasn't and the older's end was given.
+pub fn merge(old: &Alert, new: &Alert, now: Moment) -> Result<Alert, AllocError>
+    ensures { IfOk result (λ both. both ≡ merged now old.now new.now) }
+{
+    if new.updated < old.updated {
+        combine(new, old, now)
+    } else {
+        combine(old, new, now)
+    }
+}
+
+fn combine(older: &Alert, younger: &Alert, now: Moment) -> Result<Alert, AllocError>
+    ensures { IfOk result (λ both. both ≡ combined now older.now younger.now) }
+{
+    let mut both = younger.copy()?;
+    both.start = older.start.min(younger.start);
+    both.end = combined_end(older, younger, now);
+    Ok(both)
+}
+
+fn combined_end(older: &Alert, younger: &Alert, now: Moment) -> Moment
+    ensures { result ≡ (combined now older.now younger.now).end }
+{
+    let older_counts = if younger.resolved_at(now) {
+        older.resolved_at(now)
+    } else {
+        !older.timeout
+    };
+    if older_counts && older.end > younger.end {
+        older.end
+    } else {
+        younger.end
+    }
+}
+
+/// What a label set holds once the new report of it came.
+pub fn absorb(stored: Option<&Alert>, new: &Alert, now: Moment) -> Result<Alert, AllocError>
+    ensures { IfOk result (λ alert. alert ≡ absorbed now (option_copied stored.entry) new.now) }
+{
+    match stored {
+        Some(old) if overlaps(old, new) => merge(old, new, now),
+        _ => new.copy(),
+    }
+}
