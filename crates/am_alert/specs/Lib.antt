@@ -1,7 +1,11 @@
 pub use Rattle.am_labels.specs.Texts
 pub use Rattle.am_labels.specs.LabelSets
 pub use Rattle.am_labels.specs.LabelLaws
-pub use Rattle.am_labels.specs.Printing
 pub mod Moments
+pub mod Calendar
 pub mod Alerts
 pub mod Merging
+pub mod Printing
+pub mod Times
+pub mod Members
+pub mod Posts

@@ -45,3 +45,18 @@ pub struct Post {
     pub faults: Faults,
     pub ghost few: { length valid + length faults ≤ 1024 },
 }
+
+/// Why a post was refused as a whole: nothing of it is stored.
+#[derive(Clone, Copy, Debug, PartialEq, Eq)]
+pub enum PostFault {
+    NoMemory,
+    /// The bytes aren't JSON.
+    NotJson,
+    NotAnArray,
+    /// More than 4,194,304 bytes or 1,024 alerts.
+    TooMany,
+    /// The element isn't an object, has no labels, or has a member that isn't read.
+    BadMember(u32),
+    /// The element gives no end, and the moment and the resolve timeout are no instant.
+    OutOfRange(u32),
+}

@@ -42,11 +42,6 @@ last_push strings name value =
       ∙ (sym (entries-insert nat_list_cmp_total (last_holds (map bytes_of strings)) (string_bytes name) (string_bytes value))
       ∙ ap (λ pairs. entries (from_entries {R = text_cmp} pairs)) (sym (ap reverse (map-append bytes_of strings ((name, value) ∷ [])) ∙ reverse-append (map bytes_of strings) (bytes_of (name, value) ∷ []))))
 
--- only the map of no pairs is empty
-pub empty_from_none : (pairs : List (List ℕ × List ℕ)) (m : Labels) → T (is_sorted text_cmp pairs) → from_sorted {R = text_cmp} pairs ≡ m → (pairs ≡ [] → m ≡ empty) × (m ≡ empty → pairs ≡ [])
-empty_from_none pairs m h e =
-    (λ none. sym e ∙ from_none pairs none, λ none. sym (entries_of pairs m h e) ∙ (ap entries none ∙ entries_empty))
-
 pub sorted_entries : (pairs : List (List ℕ × List ℕ)) (m : Labels) → pairs ≡ entries m → T (is_sorted text_cmp pairs)
 sorted_entries pairs m e = subst (λ (ps : List (List ℕ × List ℕ)). T (is_sorted text_cmp ps)) (sym e) (entries_sorted m)
 

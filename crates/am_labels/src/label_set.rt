@@ -1,6 +1,6 @@
 //! Label sets: what Alertmanager knows an alert by.
 
-ghost use Rattle.std.specs.Prelude.{◌≡◌, ◌↔◌, IfOk, IsSome, IsTrue};
+ghost use Rattle.std.specs.Prelude.{◌≡◌, ◌==◌, IfOk};
 ghost use Rattle.std.specs.Prelude.{List, ℕ, map, Some, T};
 ghost use Rattle.std.specs.Option.{option_copied};
 ghost use Rattle.std.specs.FinMap as map_of;
@@ -73,9 +73,9 @@ impl LabelSet {
     }
 
     pub fn is_empty(&self) -> bool
-        ensures { IsTrue result ↔ (self.now ≡ map_of.empty) }
+        ensures { result ≡ (map_of.len self.now == 0) }
     {
-        self.pairs.is_empty()
+        self.len() == 0
     }
 
     /// The value of a name, empty where the name is missing.

@@ -1,0 +1,36 @@
+-- The date and the time of day of an instant, in UTC, by the Gregorian calendar counted back to the year 1.
+use Rattle.std.specs.Prelude.{ℕ, zero, suc, ◌+◌, ◌/◌, ◌%◌, if◌then◌else◌, nat_lt, pos}
+use Rattle.jiff.specs.Words.{days_in_month}
+use Rattle.am_alert.specs.declared.parts.Parts.{Parts}
+
+pub record Date : Type 0 where
+  pub year : ℕ
+  pub month : ℕ
+  pub day : ℕ
+
+-- the date that follows
+abbrev pub next_date : Date → Date
+next_date date =
+    if nat_lt date.day (days_in_month (pos date.year) date.month) then record date { day = date.day + 1 }
+    else (if nat_lt date.month 12 then record { year = date.year; month = date.month + 1; day = 1 }
+    else record { year = date.year + 1; month = 1; day = 1 })
+
+-- the date so many days after 0001-01-01
+unfoldable pub date_after : ℕ → Date
+date_after zero = record { year = 1; month = 1; day = 1 }
+date_after (suc days) = next_date (date_after days)
+
+-- what a calendar and a clock in UTC show at an instant
+abbrev pub parts_of : ℕ → Parts
+parts_of nanoseconds =
+    let date = date_after (nanoseconds / 86_400_000_000_000) in
+    let time = nanoseconds % 86_400_000_000_000 in
+    record {
+      year = date.year;
+      month = date.month;
+      day = date.day;
+      hour = time / 3_600_000_000_000;
+      minute = time / 60_000_000_000 % 60;
+      second = time / 1_000_000_000 % 60;
+      nanosecond = time % 1_000_000_000
+    }

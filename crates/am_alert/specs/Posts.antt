@@ -1,0 +1,121 @@
+-- The alerts and faults of a post, over the value that its JSON is (Alertmanager's API v2, `postAlertsHandler`).
+use Rattle.std.specs.Prelude.{◌≡◌, ℕ, ◌+◌, ◌<◌, ◌≤◌, ◌⊎◌, Bool, ◌||◌, nat_eq, nat_lt, if◌then◌else◌, List, [], ◌∷◌, ◌++◌, length, Option, Some, None, option_map, is_none, unwrap_or, Result, Ok, Err, IsUtf8}
+use Rattle.std.specs.FinMap.{contains_key, len}
+use Rattle.serde_json.specs.Data.{Data, array, Items, no_items, item}
+use Rattle.serde_json.specs.Find.{as_array}
+use Rattle.serde_json.specs.Read.{read}
+use Rattle.am_alert.specs.Moments.{moments}
+use Rattle.am_alert.specs.Members.{postable_of}
+use Rattle.am_alert.specs.declared.alert.Alert.{Alert}
+use Rattle.am_alert.specs.declared.members.Postable.{Postable}
+use Rattle.am_alert.specs.declared.reading.Element.{Element}
+use Rattle.am_alert.specs.declared.reading.Element.TheVariants.{Valid, Invalid, BadMember, OutOfRange}
+use Rattle.am_alert.specs.declared.post.AlertFault.{AlertFault}
+use Rattle.am_alert.specs.declared.post.AlertFault.TheVariants.{NoLabels, EndBeforeStart, EmptyName}
+use Rattle.am_alert.specs.declared.post.Post.{Post}
+use Rattle.am_alert.specs.declared.post.PostFault.{PostFault}
+use Rattle.am_alert.specs.declared.post.PostFault.TheVariants as fault
+
+-- ---- one element
+
+-- the instant so many nanoseconds later, where it is one
+abbrev pub later : ℕ → ℕ → Option ℕ
+later now nanoseconds = if nat_lt (now + nanoseconds) moments then Some (now + nanoseconds) else None
+
+-- the first of two that is there
+abbrev pub first_given : Option ℕ → Option ℕ → Option ℕ
+first_given None second = second
+first_given (Some time) second = Some time
+
+abbrev pub with_end : ℕ → Postable → ℕ → Alert
+with_end now given finish = record {
+  labels = given.labels;
+  annotations = given.annotations;
+  start = unwrap_or (first_given given.start given.end) now;
+  end = finish;
+  updated = now;
+  timeout = is_none given.end;
+  generator = given.generator
+}
+
+-- an absent end is the moment and the resolve timeout, an absent start is the given end, else the moment
+-- (`postAlertsHandler`'s defaults). None: the default end is no instant
+abbrev pub defaulted : ℕ → ℕ → Postable → Option Alert
+defaulted now timeout given = option_map (with_end now given) (first_given given.end (later now timeout))
+
+-- why an alert is invalid, the first cause in this order (`types.Alert.Validate`, which tests the times first)
+abbrev pub fault_of : Alert → Option AlertFault
+fault_of alert =
+    if nat_eq (len alert.labels) 0 then Some NoLabels
+    else (if nat_lt alert.end alert.start then Some EndBeforeStart
+    else (if contains_key alert.labels [] || contains_key alert.annotations [] then Some EmptyName else None))
+
+abbrev pub judged : Alert → Option AlertFault → Element
+judged alert None = Valid alert
+judged alert (Some f) = Invalid f
+
+abbrev pub in_range : Option Alert → Element
+in_range None = OutOfRange
+in_range (Some alert) = judged alert (fault_of alert)
+
+abbrev pub read_members : ℕ → ℕ → Option Postable → Element
+read_members now timeout None = BadMember
+read_members now timeout (Some given) = in_range (defaulted now timeout given)
+
+-- what an element is: a bad member comes before an end out of range, and that before an invalid alert
+unfoldable pub element_of : ℕ → ℕ → Data → Element
+element_of now timeout d = read_members now timeout (postable_of d)
+
+-- ---- all elements
+
+-- valid alerts, and faults by index
+abbrev pub Entries : Type 0
+Entries = List Alert × List (ℕ × AlertFault)
+
+abbrev pub with_first : ℕ → Element → Result Entries PostFault → Result Entries PostFault
+with_first i (Valid alert) (Ok rest) = Ok (alert ∷ rest.0, rest.1)
+with_first i (Valid alert) (Err f) = Err f
+with_first i (Invalid f) (Ok rest) = Ok (rest.0, (i, f) ∷ rest.1)
+with_first i (Invalid f) (Err g) = Err g
+with_first i BadMember rest = Err (fault.BadMember i)
+with_first i OutOfRange rest = Err (fault.OutOfRange i)
+
+-- the elements from number i on: what is valid and what is invalid, or the refusal of the first that is refused
+abbrev pub elements_of : ℕ → ℕ → ℕ → Items → Result Entries PostFault
+elements_of now timeout i no_items = Ok ([], [])
+elements_of now timeout i (item d ds) = with_first i (element_of now timeout d) (elements_of now timeout (i + 1) ds)
+
+-- ---- the whole post
+
+abbrev pub count : Items → ℕ
+count no_items = 0
+count (item d ds) = count ds + 1
+
+-- few enough bytes that are the JSON of an array of these items
+abbrev pub IsArray : List ℕ → Items → Type 0
+IsArray bytes ds = (length bytes ≤ 4194304) × (read bytes ≡ Some (array ds))
+
+-- what reading a post answers. Want of memory may come at any point after the test of the number of bytes
+abbrev pub IsPostOf : ℕ → ℕ → List ℕ → Result Post PostFault → Type 0
+IsPostOf now timeout bytes (Ok post) = (ds : Items) × IsArray bytes ds × (count ds ≤ 1024) × (elements_of now timeout 0 ds ≡ Ok (post.valid, post.faults))
+IsPostOf now timeout bytes (Err fault.TooMany) = (4194304 < length bytes) ⊎ ((ds : Items) × IsArray bytes ds × (1024 < count ds))
+IsPostOf now timeout bytes (Err fault.NotJson) = (length bytes ≤ 4194304) × (IsUtf8 bytes → read bytes ≡ None)
+IsPostOf now timeout bytes (Err fault.NotAnArray) = (length bytes ≤ 4194304) × (d : Data) × (read bytes ≡ Some d) × (as_array d ≡ None)
+IsPostOf now timeout bytes (Err (fault.BadMember i)) = (ds : Items) × IsArray bytes ds × (count ds ≤ 1024) × (elements_of now timeout 0 ds ≡ Err (fault.BadMember i))
+IsPostOf now timeout bytes (Err (fault.OutOfRange i)) = (ds : Items) × IsArray bytes ds × (count ds ≤ 1024) × (elements_of now timeout 0 ds ≡ Err (fault.OutOfRange i))
+IsPostOf now timeout bytes (Err fault.NoMemory) = length bytes ≤ 4194304
+
+-- what reading the elements answered is what the definition gives, unless memory ran out
+abbrev pub ReadsEach : Result Post PostFault → Result Entries PostFault → Type 0
+ReadsEach (Ok post) entries = entries ≡ Ok (post.valid, post.faults)
+ReadsEach (Err (fault.BadMember i)) entries = entries ≡ Err (fault.BadMember i)
+ReadsEach (Err (fault.OutOfRange i)) entries = entries ≡ Err (fault.OutOfRange i)
+ReadsEach (Err fault.NoMemory) entries = Unit {0}
+ReadsEach (Err fault.NotJson) entries = ⊥
+ReadsEach (Err fault.NotAnArray) entries = ⊥
+ReadsEach (Err fault.TooMany) entries = ⊥
+
+-- entries that were read before others
+abbrev pub with_front : Entries → Result Entries PostFault → Result Entries PostFault
+with_front front (Ok rest) = Ok (front.0 ++ rest.0, front.1 ++ rest.1)
+with_front front (Err f) = Err f

@@ -1,0 +1,51 @@
+-- How moments, alerts and faults are printed.
+use Rattle.std.specs.Prelude.{ℕ, ◌-◌, ◌%◌, ◌^◌, ◌==◌, false, if◌then◌else◌, List, [], ◌∷◌, ◌++◌, codes}
+use Rattle.std.specs.Fmt.{decimal, format_spec}
+use Rattle.std.specs.Fmt.{padded_integral}
+use Rattle.am_labels.specs.Printing.{labels_text}
+use Rattle.am_alert.specs.Calendar.{parts_of}
+use Rattle.am_alert.specs.declared.alert.Alert.{Alert}
+use Rattle.am_alert.specs.declared.parts.Parts.{Parts}
+use Rattle.am_alert.specs.declared.post.AlertFault.{AlertFault}
+use Rattle.am_alert.specs.declared.post.AlertFault.TheVariants as alert_fault
+use Rattle.am_alert.specs.declared.post.PostFault.{PostFault}
+use Rattle.am_alert.specs.declared.post.PostFault.TheVariants as post_fault
+
+-- a number in decimal, with zeros before it up to the width: what std's `{:0width}` writes
+abbrev pub zero_padded : ℕ → ℕ → List ℕ
+zero_padded width n = padded_integral (format_spec 32 0 4 width (2 ^ 64 - 1)) false [] (decimal n)
+
+-- `2024-01-01T10:00:00`
+abbrev pub second_text : Parts → List ℕ
+second_text p =
+    zero_padded 4 p.year ++ (45 ∷ zero_padded 2 p.month ++ (45 ∷ zero_padded 2 p.day
+      ++ (84 ∷ zero_padded 2 p.hour ++ (58 ∷ zero_padded 2 p.minute ++ (58 ∷ zero_padded 2 p.second)))))
+
+-- nothing for a whole second, else a point and nine digits
+abbrev pub fraction_text : ℕ → List ℕ
+fraction_text nanosecond = if nanosecond == 0 then [] else 46 ∷ zero_padded 9 nanosecond
+
+-- an instant in UTC, as RFC 3339 writes it: `2024-01-01T10:00:00Z`, `2024-01-01T10:00:00.500000000Z`
+abbrev pub moment_text : ℕ → List ℕ
+moment_text moment = second_text (parts_of moment) ++ (fraction_text (parts_of moment).nanosecond ++ 90 ∷ [])
+
+-- an alert: labels, start, end, whether the end was given, annotations
+abbrev pub alert_text : Alert → List ℕ
+alert_text alert =
+    labels_text alert.labels ++ (32 ∷ moment_text alert.start ++ (32 ∷ moment_text alert.end
+      ++ (32 ∷ (if alert.timeout then codes "timeout" else codes "given") ++ (32 ∷ labels_text alert.annotations))))
+
+-- why one alert of a post is invalid
+abbrev pub alert_fault_text : AlertFault → List ℕ
+alert_fault_text alert_fault.NoLabels = codes "E10 NoLabels"
+alert_fault_text alert_fault.EndBeforeStart = codes "E11 EndBeforeStart"
+alert_fault_text alert_fault.EmptyName = codes "E12 EmptyName"
+
+-- why a post was refused as a whole
+abbrev pub post_fault_text : PostFault → List ℕ
+post_fault_text post_fault.NoMemory = codes "E0 NoMemory"
+post_fault_text post_fault.NotJson = codes "E5 NotJson"
+post_fault_text post_fault.NotAnArray = codes "E6 NotAnArray"
+post_fault_text post_fault.TooMany = codes "E8 TooMany"
+post_fault_text (post_fault.BadMember index) = codes "E7 BadMember " ++ decimal index
+post_fault_text (post_fault.OutOfRange index) = codes "E9 OutOfRange " ++ decimal index
