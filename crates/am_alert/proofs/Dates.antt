@@ -1,11 +1,11 @@
 -- Dates counted one day at a time are those of jiff's day numbers.
-use Rattle.std.proofs.Common.{◌≡◌, ℕ, zero, suc, ◌+◌, ◌*◌, ◌/◌, ◌%◌, ◌<◌, ◌≤◌, ◌⊎◌, true, false, Bool, cond, add-one, pos, ℤ, negsuc, neg_ℤ, ◌+ℤ◌, ◌-ℤ◌, ◌<ℤ◌, ◌≤ℤ◌, refl, sym, ap, subst, ◌∙◌, arith, inl, inr, ⊎_elim}
+use Rattle.std.proofs.Common.{◌≡◌, ℕ, zero, suc, ◌+◌, ◌/◌, ◌%◌, ◌<◌, ◌≤◌, true, false, Bool, cond, add-one, pos, ℤ, ◌-ℤ◌, refl, sym, ap, subst, ◌∙◌, arith, inl, inr}
 use Rattle.std.specs.Prelude.{nat_lt}
 use Rattle.std.proofs.lemmas.Bool.{cases_order}
 use Rattle.std.proofs.lemmas.Int.{by_lt_z}
 use Rattle.jiff_core.proofs.SignedLemmas.{signed_arith, back_small}
 use borrow.Author.Tests.{ltb-true, ltb-false}
-use Rattle.jiff_core.specs.Calendar.{IsYear, IsCivilDate, days_in_month, day_count, days_from_civil}
+use Rattle.jiff_core.specs.Calendar.{IsCivilDate, days_in_month, day_count}
 use Rattle.jiff_core.proofs.CalendarLemmas.{day_count-lt_year, day_count-lt_month, day_count-day, day_count-next_month, day_count-next_year, day_count-last_of_year, days_in_month_bounds}
 use Rattle.jiff_core.proofs.MarchLemmas.{day_count-early}
 use Rattle.jiff_core.specs.declared.civil.datetime.DateTime.{DateTime}
@@ -58,7 +58,7 @@ day_is days date is lt = record {
   month_high = is.month_high;
   day_low = omega arith;
   day_high = omega arith;
-  count = omega (arith, is.count, day_count-day (pos date.year) date.month date.day (date.day + 1) is.day_low (omega arith))
+  count = omega (arith, is.count, day_count-day (pos date.year) date.month date.day (date.day + 1) is.day_low (omega arith));
 }
 
 month_is : (days : ℕ) (date : Date) → IsDateAfter days date → date.day ≡ days_in_month (pos date.year) date.month → date.month < 12 → IsDateAfter (days + 1) (next_month date)
@@ -69,7 +69,7 @@ month_is days date is last lt = record {
   month_high = omega arith;
   day_low = omega arith;
   day_high = let long = (days_in_month_bounds (pos date.year) (date.month + 1)).1 in omega arith;
-  count = omega (arith, is.count, last, day_count-next_month (pos date.year) date.month is.month_low, day_count-day (pos date.year) date.month date.day 1 is.day_low (omega arith))
+  count = omega (arith, is.count, last, day_count-next_month (pos date.year) date.month is.month_low, day_count-day (pos date.year) date.month date.day 1 is.day_low (omega arith));
 }
 
 year_is : (days : ℕ) (date : Date) → IsDateAfter days date → date.day ≡ days_in_month (pos date.year) date.month → date.month ≡ 12 → IsDateAfter (days + 1) (next_year date)
@@ -84,7 +84,7 @@ year_is days date is last december =
       month_high = omega arith;
       day_low = omega arith;
       day_high = let long = (days_in_month_bounds (pos (date.year + 1)) 1).1 in omega arith;
-      count = omega (arith, whole, day_count-next_year y (pos (date.year + 1)) (omega (arith, signed_arith)) (omega (arith, signed_arith)), day_count-last_of_year y)
+      count = omega (arith, whole, day_count-next_year y (pos (date.year + 1)) (omega (arith, signed_arith)) (omega (arith, signed_arith)), day_count-last_of_year y);
     }
 
 -- the date that follows is one day later
@@ -94,12 +94,12 @@ next_is days date is =
     let more = nat_lt date.day (days_in_month (pos date.year) date.month) in
     let early = nat_lt date.month 12 in
     by_bool {P = IsDateAfter (days + 1) (next_date date)} more
-      (λ e. subst (IsDateAfter (days + 1)) (sym (chosen more (next_day date) (cond early (next_month date) (next_year date)) e)) (day_is days date is (ltb-true _ _ e)))
-      (λ e.
-        let last : date.day ≡ days_in_month (pos date.year) date.month = omega (arith, ltb-false _ _ e, is.day_high) in
-        by_bool {P = IsDateAfter (days + 1) (next_date date)} early
-          (λ f. subst (IsDateAfter (days + 1)) (sym (passed more (next_day date) (cond early (next_month date) (next_year date)) e ∙ chosen early (next_month date) (next_year date) f)) (month_is days date is last (ltb-true _ _ f)))
-          (λ f. subst (IsDateAfter (days + 1)) (sym (passed more (next_day date) (cond early (next_month date) (next_year date)) e ∙ passed early (next_month date) (next_year date) f)) (year_is days date is last (omega (arith, ltb-false _ _ f, is.month_high)))))
+    (λ e. subst (IsDateAfter (days + 1)) (sym (chosen more (next_day date) (cond early (next_month date) (next_year date)) e)) (day_is days date is (ltb-true _ _ e)))
+    (λ e.
+    let last : date.day ≡ days_in_month (pos date.year) date.month = omega (arith, ltb-false _ _ e, is.day_high) in
+    by_bool {P = IsDateAfter (days + 1) (next_date date)} early
+    (λ f. subst (IsDateAfter (days + 1)) (sym (passed more (next_day date) (cond early (next_month date) (next_year date)) e ∙ chosen early (next_month date) (next_year date) f)) (month_is days date is last (ltb-true _ _ f)))
+    (λ f. subst (IsDateAfter (days + 1)) (sym (passed more (next_day date) (cond early (next_month date) (next_year date)) e ∙ passed early (next_month date) (next_year date) f)) (year_is days date is last (omega (arith, ltb-false _ _ f, is.month_high)))))
 
 pub date_after_is : (days : ℕ) → IsDateAfter days (date_after days)
 unfolding date_after
@@ -110,24 +110,24 @@ date_after_is (suc days) = subst (λ n. IsDateAfter n (next_date (date_after day
 pub same_date : (days : ℕ) (date : Date) → IsDateAfter days date → (y : ℤ) (m d : ℕ) → IsCivilDate y m d → day_count y m d ≡ days + 3_652_791 → (y ≡ pos date.year) × (m ≡ date.month) × (d ≡ date.day)
 same_date days date is y m d civil count =
     by_lt_z y (pos date.year)
-      (λ lt. absurd (omega (arith, count, is.count, day_count-lt_year y m d (pos date.year) date.month date.day civil is.day_low lt)))
-      (λ ge. by_lt_z (pos date.year) y
-        (λ gt.
-          let own : IsCivilDate (pos date.year) date.month date.day = ((omega (arith, signed_arith), omega (arith, signed_arith)), (is.month_low, is.month_high), (is.day_low, is.day_high)) in
-          absurd (omega (arith, count, is.count, day_count-lt_year (pos date.year) date.month date.day y m d own civil.2.0 gt)))
-        (λ le.
-          let year : y ≡ pos date.year = omega (arith, signed_arith) in
-          let here : day_count (pos date.year) m d ≡ days + 3_652_791 = ap (λ z. day_count z m d) (sym year) ∙ count in
-          let there : IsCivilDate (pos date.year) m d = subst (λ z. IsCivilDate z m d) year civil in
-          elim (cases_order m date.month) [
-            | inl month ↦
-              let now : day_count (pos date.year) date.month d ≡ days + 3_652_791 = ap (λ n. day_count (pos date.year) n d) (sym month) ∙ here in
-              (year, month, omega (arith, now, is.count, day_count-day (pos date.year) date.month d date.day civil.2.0 is.day_low))
-            | inr (inl lt) ↦ absurd (omega (arith, here, is.count, day_count-lt_month (pos date.year) m d date.month date.day there is.day_low lt))
-            | inr (inr gt) ↦
-              let own : IsCivilDate (pos date.year) date.month date.day = (there.0, (is.month_low, is.month_high), (is.day_low, is.day_high)) in
-              absurd (omega (arith, here, is.count, day_count-lt_month (pos date.year) date.month date.day m d own civil.2.0 gt))
-          ]))
+    (λ lt. absurd (omega (arith, count, is.count, day_count-lt_year y m d (pos date.year) date.month date.day civil is.day_low lt)))
+    (λ ge. by_lt_z (pos date.year) y
+    (λ gt.
+    let own : IsCivilDate (pos date.year) date.month date.day = ((omega (arith, signed_arith), omega (arith, signed_arith)), (is.month_low, is.month_high), (is.day_low, is.day_high)) in
+    absurd (omega (arith, count, is.count, day_count-lt_year (pos date.year) date.month date.day y m d own civil.2.0 gt)))
+    (λ le.
+    let year : y ≡ pos date.year = omega (arith, signed_arith) in
+    let here : day_count (pos date.year) m d ≡ days + 3_652_791 = ap (λ z. day_count z m d) (sym year) ∙ count in
+    let there : IsCivilDate (pos date.year) m d = subst (λ z. IsCivilDate z m d) year civil in
+    elim (cases_order m date.month) [
+      | inl month ↦
+          let now : day_count (pos date.year) date.month d ≡ days + 3_652_791 = ap (λ n. day_count (pos date.year) n d) (sym month) ∙ here in
+          (year, month, omega (arith, now, is.count, day_count-day (pos date.year) date.month d date.day civil.2.0 is.day_low))
+      | inr (inl lt) ↦ absurd (omega (arith, here, is.count, day_count-lt_month (pos date.year) m d date.month date.day there is.day_low lt))
+      | inr (inr gt) ↦
+          let own : IsCivilDate (pos date.year) date.month date.day = (there.0, (is.month_low, is.month_high), (is.day_low, is.day_high)) in
+          absurd (omega (arith, here, is.count, day_count-lt_month (pos date.year) date.month date.day m d own civil.2.0 gt))
+    ]))
 
 -- what jiff's clock in UTC shows at an instant from the year 1 on
 pub parts_same : (n : ℕ) (shown : DateTime) → civil_nanos shown ≡ pos n -ℤ pos 62_135_596_800_000_000_000 → (shown.date.year ≡ pos (parts_of n).year) × (shown.date.month ≡ (parts_of n).month) × (shown.date.day ≡ (parts_of n).day) × (time_nanos shown.time ≡ n % 86_400_000_000_000)

@@ -20,8 +20,8 @@ pub pairs_more : (front new : List (String Global × String Global)) (pair : Str
     → option_map (λ pairs. map bytes_of new ++ pairs) (pairs_of ms) ≡ pairs_of all
 pairs_more front new pair name d ms all grown reads so_far =
     ap (λ (qs : List (List ℕ × List ℕ)). option_map (λ pairs. qs ++ pairs) (pairs_of ms)) (ap (map bytes_of) grown ∙ map-append bytes_of front (pair ∷ []))
-      ∙ (pushed (map bytes_of front) (bytes_of pair) (pairs_of ms)
-      ∙ (ap (λ o. option_map (λ pairs. map bytes_of front ++ pairs) (option_and_then (λ q. option_map (λ pairs. q ∷ pairs) (pairs_of ms)) o)) (sym reads) ∙ so_far))
+    ∙ (pushed (map bytes_of front) (bytes_of pair) (pairs_of ms)
+    ∙ (ap (λ o. option_map (λ pairs. map bytes_of front ++ pairs) (option_and_then (λ q. option_map (λ pairs. q ∷ pairs) (pairs_of ms)) o)) (sym reads) ∙ so_far))
 
 -- the pairs that have a value, as bytes
 pub bytes_filtered : (pairs : List (String Global × String Global)) → map bytes_of (filter (λ pair. has_value (bytes_of pair)) pairs) ≡ filter has_value (map bytes_of pairs)

@@ -32,5 +32,5 @@ parts_of nanoseconds =
       hour = time / 3_600_000_000_000;
       minute = time / 60_000_000_000 % 60;
       second = time / 1_000_000_000 % 60;
-      nanosecond = time % 1_000_000_000
+      nanosecond = time % 1_000_000_000;
     }

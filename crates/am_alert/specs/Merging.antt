@@ -21,7 +21,7 @@ older_end_wins now older younger =
 abbrev pub combined : ℕ → Alert → Alert → Alert
 combined now older younger = record younger {
   start = min older.start younger.start;
-  end = if older_end_wins now older younger then older.end else younger.end
+  end = if older_end_wins now older younger then older.end else younger.end;
 }
 
 -- the new report is the older one only where it was updated earlier (`types.Alert.Merge`)

@@ -1,5 +1,5 @@
 -- The alerts and faults of a post, over the value that its JSON is (Alertmanager's API v2, `postAlertsHandler`).
-use Rattle.std.specs.Prelude.{◌≡◌, ℕ, ◌+◌, ◌<◌, ◌≤◌, ◌⊎◌, Bool, ◌||◌, nat_eq, nat_lt, if◌then◌else◌, List, [], ◌∷◌, ◌++◌, length, Option, Some, None, option_map, is_none, unwrap_or, Result, Ok, Err, IsUtf8}
+use Rattle.std.specs.Prelude.{◌≡◌, ℕ, ◌+◌, ◌<◌, ◌≤◌, ◌⊎◌, ◌||◌, nat_eq, nat_lt, if◌then◌else◌, List, [], ◌∷◌, ◌++◌, length, Option, Some, None, option_map, is_none, unwrap_or, Result, Ok, Err, IsUtf8}
 use Rattle.std.specs.FinMap.{contains_key, len}
 use Rattle.serde_json.specs.Data.{Data, array, Items, no_items, item}
 use Rattle.serde_json.specs.Find.{as_array}
@@ -35,7 +35,7 @@ with_end now given finish = record {
   end = finish;
   updated = now;
   timeout = is_none given.end;
-  generator = given.generator
+  generator = given.generator;
 }
 
 -- an absent end is the moment and the resolve timeout, an absent start is the given end, else the moment

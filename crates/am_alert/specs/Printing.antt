@@ -1,5 +1,5 @@
 -- How moments, alerts and faults are printed.
-use Rattle.std.specs.Prelude.{ℕ, ◌-◌, ◌%◌, ◌^◌, ◌==◌, false, if◌then◌else◌, List, [], ◌∷◌, ◌++◌, codes}
+use Rattle.std.specs.Prelude.{ℕ, ◌-◌, ◌^◌, ◌==◌, false, if◌then◌else◌, List, [], ◌∷◌, ◌++◌, codes}
 use Rattle.std.specs.Fmt.{decimal, format_spec}
 use Rattle.std.specs.Fmt.{padded_integral}
 use Rattle.am_labels.specs.Printing.{labels_text}
@@ -19,7 +19,7 @@ zero_padded width n = padded_integral (format_spec 32 0 4 width (2 ^ 64 - 1)) fa
 abbrev pub second_text : Parts → List ℕ
 second_text p =
     zero_padded 4 p.year ++ (45 ∷ zero_padded 2 p.month ++ (45 ∷ zero_padded 2 p.day
-      ++ (84 ∷ zero_padded 2 p.hour ++ (58 ∷ zero_padded 2 p.minute ++ (58 ∷ zero_padded 2 p.second)))))
+    ++ (84 ∷ zero_padded 2 p.hour ++ (58 ∷ zero_padded 2 p.minute ++ (58 ∷ zero_padded 2 p.second)))))
 
 -- nothing for a whole second, else a point and nine digits
 abbrev pub fraction_text : ℕ → List ℕ
@@ -33,7 +33,7 @@ moment_text moment = second_text (parts_of moment) ++ (fraction_text (parts_of m
 abbrev pub alert_text : Alert → List ℕ
 alert_text alert =
     labels_text alert.labels ++ (32 ∷ moment_text alert.start ++ (32 ∷ moment_text alert.end
-      ++ (32 ∷ (if alert.timeout then codes "timeout" else codes "given") ++ (32 ∷ labels_text alert.annotations))))
+    ++ (32 ∷ (if alert.timeout then codes "timeout" else codes "given") ++ (32 ∷ labels_text alert.annotations))))
 
 -- why one alert of a post is invalid
 abbrev pub alert_fault_text : AlertFault → List ℕ

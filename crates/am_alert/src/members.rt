@@ -156,16 +156,15 @@ fn pairs_of(
     Ok(pairs)
 }
 
-fn pair_of(
-    alloc: Global,
-    name: &str,
-    value: &Value,
-) -> Result<(String, String), MemberFault>
+fn pair_of(alloc: Global, name: &str, value: &Value) -> Result<(String, String), MemberFault>
     ensures { Reads bytes_of result
         (option_map (λ text. (name.now, text)) (as_str (view value.now))) }
 {
     let Some(text) = value.as_str() else {
         return Err(MemberFault::Bad);
     };
-    Ok((String::from_str(alloc, name)?, String::from_str(alloc, text)?))
+    Ok((
+        String::from_str(alloc, name)?,
+        String::from_str(alloc, text)?,
+    ))
 }

@@ -34,7 +34,10 @@ fn write_second<W: fmt::Write>(parts: Parts, f: &mut fmt::Formatter<W>) -> fmt::
         second,
         nanosecond: _,
     } = parts;
-    write!(f, "{year:04}-{month:02}-{day:02}T{hour:02}:{minute:02}:{second:02}")
+    write!(
+        f,
+        "{year:04}-{month:02}-{day:02}T{hour:02}:{minute:02}:{second:02}"
+    )
 }
 
 fn write_fraction<W: fmt::Write>(nanosecond: u32, f: &mut fmt::Formatter<W>) -> fmt::Result
@@ -52,7 +55,11 @@ impl fmt::Display for Alert {
 
     fn fmt<W: fmt::Write>(&self, f: &mut fmt::Formatter<W>) -> fmt::Result {
         let end_is = if self.timeout { "timeout" } else { "given" };
-        write!(f, "{} {} {} {end_is} {}", self.labels, self.start, self.end, self.annotations)
+        write!(
+            f,
+            "{} {} {} {end_is} {}",
+            self.labels, self.start, self.end, self.annotations
+        )
     }
 }
 

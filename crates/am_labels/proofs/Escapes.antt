@@ -13,14 +13,14 @@ pub record IsOrdinary (byte : ℕ) : Type 0 where
 escaped_ordinary : (byte : ℕ) → IsOrdinary byte → escaped byte ≡ byte ∷ []
 escaped_ordinary byte is =
     ap (λ b. cond b (92 ∷ 34 ∷ []) (cond (Rattle.std.proofs.Common.eqb byte 92) (92 ∷ 92 ∷ []) (cond (Rattle.std.proofs.Common.eqb byte 10) (92 ∷ 110 ∷ []) (byte ∷ [])))) (ne_eqb byte 34 is.no_quote)
-      ∙ (ap (λ b. cond b (92 ∷ 92 ∷ []) (cond (Rattle.std.proofs.Common.eqb byte 10) (92 ∷ 110 ∷ []) (byte ∷ []))) (ne_eqb byte 92 is.no_backslash)
-      ∙ ap (λ b. cond b (92 ∷ 110 ∷ []) (byte ∷ [])) (ne_eqb byte 10 is.no_line_feed))
+    ∙ (ap (λ b. cond b (92 ∷ 92 ∷ []) (cond (Rattle.std.proofs.Common.eqb byte 10) (92 ∷ 110 ∷ []) (byte ∷ []))) (ne_eqb byte 92 is.no_backslash)
+    ∙ ap (λ b. cond b (92 ∷ 110 ∷ []) (byte ∷ [])) (ne_eqb byte 10 is.no_line_feed))
 
 escaped_all_ordinary : (bytes : List ℕ) → ((k : ℕ) → k < length bytes → IsOrdinary (get_or bytes k 0)) → escaped_all bytes ≡ bytes
 escaped_all_ordinary [] is = refl
 escaped_all_ordinary (byte ∷ bytes) is =
     ap (λ (front : List ℕ). front ++ escaped_all bytes) (escaped_ordinary byte (is 0 (omega arith)))
-      ∙ ap (λ (rest : List ℕ). byte ∷ rest) (escaped_all_ordinary bytes (λ k short. is (suc k) (omega arith)))
+    ∙ ap (λ (rest : List ℕ). byte ∷ rest) (escaped_all_ordinary bytes (λ k short. is (suc k) (omega arith)))
 
 -- a byte of a character is no special one, where the character isn't
 differs : (c k special : ℕ) → special < 128 → c ≢ special → k < length (encode_utf8 c) → get_or (encode_utf8 c) k 0 ≢ special
@@ -39,4 +39,4 @@ escaped_char c is =
 pub escaped_more : (written rest left all : List ℕ) (c : ℕ) → rest ≡ encode_utf8 c ++ left → written ++ escaped_all rest ≡ all → (written ++ escaped_all (encode_utf8 c)) ++ escaped_all left ≡ all
 escaped_more written rest left all c step so_far =
     append_assoc written (escaped_all (encode_utf8 c)) (escaped_all left)
-      ∙ (ap (λ (bytes : List ℕ). written ++ bytes) (sym (flat_map-append escaped (encode_utf8 c) left) ∙ ap escaped_all (sym step)) ∙ so_far)
+    ∙ (ap (λ (bytes : List ℕ). written ++ bytes) (sym (flat_map-append escaped (encode_utf8 c) left) ∙ ap escaped_all (sym step)) ∙ so_far)

@@ -1,6 +1,6 @@
 -- The map that pairs in byte order of names make.
-use Rattle.std.proofs.Common.{◌≡◌, ℕ, Some, Option, unwrap_or, List, [], ◌∷◌, ◌++◌, map, length, reverse, String, string_bytes, refl, sym, ap, subst, ◌∙◌, T}
-use Rattle.std.specs.FinMap.{entries, empty, insert, from_entries, from_sorted, entries-from_sorted, entries-insert, len, len-entries, empty_of_len, get-entries, entries_sorted, same_entries_map, contains_key}
+use Rattle.std.proofs.Common.{◌≡◌, ℕ, Option, unwrap_or, List, [], ◌∷◌, ◌++◌, map, length, reverse, String, string_bytes, refl, sym, ap, subst, ◌∙◌, T}
+use Rattle.std.specs.FinMap.{entries, empty, from_entries, from_sorted, entries-from_sorted, entries-insert, len, len-entries, empty_of_len, get-entries, entries_sorted, same_entries_map, contains_key}
 use Rattle.std.specs.FinMap.Entries.{put, is_sorted, find}
 use Rattle.std.specs.Cmp.Lexicographic.{nat_list_cmp_total}
 use Rattle.std.specs.declared.alloc.Global.{Global}
@@ -39,8 +39,8 @@ pub last_push : (strings : List (String Global × String Global)) (name value : 
     → insert_entry text_cmp (entries (last_holds (map bytes_of strings))) (string_bytes name) (string_bytes value) ≡ entries (last_holds (map bytes_of (strings ++ (name, value) ∷ [])))
 last_push strings name value =
     insert_put (string_bytes name) (string_bytes value) (entries (last_holds (map bytes_of strings)))
-      ∙ (sym (entries-insert nat_list_cmp_total (last_holds (map bytes_of strings)) (string_bytes name) (string_bytes value))
-      ∙ ap (λ pairs. entries (from_entries {R = text_cmp} pairs)) (sym (ap reverse (map-append bytes_of strings ((name, value) ∷ [])) ∙ reverse-append (map bytes_of strings) (bytes_of (name, value) ∷ []))))
+    ∙ (sym (entries-insert nat_list_cmp_total (last_holds (map bytes_of strings)) (string_bytes name) (string_bytes value))
+    ∙ ap (λ pairs. entries (from_entries {R = text_cmp} pairs)) (sym (ap reverse (map-append bytes_of strings ((name, value) ∷ [])) ∙ reverse-append (map bytes_of strings) (bytes_of (name, value) ∷ []))))
 
 pub sorted_entries : (pairs : List (List ℕ × List ℕ)) (m : Labels) → pairs ≡ entries m → T (is_sorted text_cmp pairs)
 sorted_entries pairs m e = subst (λ (ps : List (List ℕ × List ℕ)). T (is_sorted text_cmp ps)) (sym e) (entries_sorted m)

@@ -1,11 +1,11 @@
 -- A binary search by name among pairs in byte order of names.
-use Rattle.std.proofs.Common.{◌≡◌, ◌≢◌, ℕ, zero, suc, ◌+◌, ◌<◌, ◌≤◌, ◌&&◌, Bool, true, false, cond, Some, None, List, [], ◌∷◌, length, get_or, refl, sym, ap, subst, ◌∙◌, arith, T, Less, Equal, Greater, add-one, ⊎_elim}
+use Rattle.std.proofs.Common.{◌≡◌, ◌≢◌, ℕ, zero, suc, ◌<◌, ◌≤◌, ◌&&◌, Bool, true, false, cond, Some, None, List, [], ◌∷◌, length, get_or, refl, sym, ap, ◌∙◌, arith, T, Less, Equal, Greater, add-one, ⊎_elim}
 use Rattle.std.specs.FinMap.{slice_cmp-IsAntisymmetric, nat_cmp-IsAntisymmetric}
 use Rattle.std.specs.FinMap.Entries.{is_sorted, below_all, find}
 use Rattle.std.specs.Cmp.{tied_itself}
 use Rattle.std.specs.Cmp.Lexicographic.{nat_list_cmp_total}
 use Rattle.std.specs.declared.cmp.Ordering.{Ordering}
-use Rattle.std.specs.List.Sorted.{IsNonDecreasingBy, IsSortedByKey}
+use Rattle.std.specs.List.Sorted.{IsNonDecreasingBy}
 use Rattle.std.specs.Ordering.{is_lt, is_eq, ordering_reverse, ordering_index}
 use Rattle.std.proofs.lemmas.List.Sorted.{searchable_from_sorted}
 use Rattle.std.specs.List.{AllWithin}
@@ -52,7 +52,7 @@ find_nowhere [] name h = refl
 find_nowhere (pair ∷ pairs) name h =
     let apart : text_cmp name pair.0 ≡ Equal → ⊥ = λ e. h 0 pair (omega arith) (nat_list_cmp_total.antisymm pair.0 name ∙ ap ordering_reverse e) in
     ap (λ b. cond b (Some pair.1) (find text_cmp name pairs)) (untied (text_cmp name pair.0) apart)
-      ∙ find_nowhere pairs name (λ at d short. h (suc at) d (omega arith))
+    ∙ find_nowhere pairs name (λ at d short. h (suc at) d (omega arith))
 
 ascends : (pairs : List (List ℕ × List ℕ)) (at : ℕ) (d : List ℕ × List ℕ) → T (is_sorted text_cmp pairs) → suc at < length pairs → text_cmp (get_or pairs at d).0 (get_or pairs (suc at) d).0 ≡ Less
 ascends [] at d h short = absurd (omega arith)
@@ -66,11 +66,11 @@ not_less o e = ap is_lt e
 pub searchable : (pairs : List (List ℕ × List ℕ)) (name : List ℕ) → T (is_sorted text_cmp pairs) → IsNonDecreasingBy (λ (pair : List ℕ × List ℕ). ordering_index (text_cmp pair.0 name)) pairs
 searchable pairs name h =
     searchable_from_sorted nat_list_cmp_total (λ (pair : List ℕ × List ℕ). pair.0) pairs name
-      (λ at d low short.
-        let name_at = λ (k : ℕ). (get_or pairs k d).0 in
-        let next : suc at < length pairs = omega arith in
-        ap (λ k. is_lt (text_cmp (name_at k) (name_at at))) (add-one at)
-          ∙ not_less (text_cmp (name_at (suc at)) (name_at at)) (flipped (name_at at) (name_at (suc at)) (ascends pairs at d h next)))
+    (λ at d low short.
+    let name_at = λ (k : ℕ). (get_or pairs k d).0 in
+    let next : suc at < length pairs = omega arith in
+    ap (λ k. is_lt (text_cmp (name_at k) (name_at at))) (add-one at)
+    ∙ not_less (text_cmp (name_at (suc at)) (name_at at)) (flipped (name_at at) (name_at (suc at)) (ascends pairs at d h next)))
 
 -- where no name ties before a place or from it on
 pub find_between : (pairs : List (List ℕ × List ℕ)) (name : List ℕ) (place : ℕ)
@@ -79,7 +79,7 @@ pub find_between : (pairs : List (List ℕ × List ℕ)) (name : List ℕ) (plac
     → find text_cmp name pairs ≡ None
 find_between pairs name place front back =
     find_nowhere pairs name (λ at d short e.
-      ⊎_elim
-        (λ (before : at < place). let no : Less ≡ Equal = sym (front at d (omega arith) before) ∙ e in (cc))
-        (λ (past : place ≤ at). let no : Greater ≡ Equal = sym (back at d past short) ∙ e in (cc))
-        (cases_lt at place))
+    ⊎_elim
+    (λ (before : at < place). let no : Less ≡ Equal = sym (front at d (omega arith) before) ∙ e in (cc))
+    (λ (past : place ≤ at). let no : Greater ≡ Equal = sym (back at d past short) ∙ e in (cc))
+    (cases_lt at place))

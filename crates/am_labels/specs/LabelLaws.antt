@@ -1,7 +1,7 @@
 -- The laws of comparing and hashing label sets, by their pairs in order.
-use Rattle.std.specs.Prelude.{◌≡◌, ℕ, Bool, true, List, ◌++◌, nat_eq, refl}
+use Rattle.std.specs.Prelude.{◌≡◌, ℕ, true, List, ◌++◌, refl}
 use Rattle.std.proofs.Common.{ap, sym, ◌∙◌}
-use Rattle.std.specs.Ordering.{nat_cmp, as_partial_cmp, on, ordering_then, eq_by_cmp, eq_of_both}
+use Rattle.std.specs.Ordering.{as_partial_cmp, ordering_then, eq_by_cmp}
 use Rattle.std.specs.Bool.{Decides}
 use Rattle.std.specs.declared.cmp.Ordering.{Ordering}
 use Rattle.std.specs.Cmp.{IsTotalOrder, IsEquivalence, IsPartialEquivalence, IsPartialOrder}
@@ -48,9 +48,10 @@ pub labels_alike : (a b : Labels) → same_labels a b ≡ true → labels_fed a 
 labels_alike = (fed.on_Alike entries (fed.items_Alike (fed.and-Alike (fed.on_Alike (λ p. p.0) text_alike) (fed.on_Alike (λ p. p.1) text_alike)))).fed
 
 pairs_decide : (p q : List ℕ × List ℕ) → Decides (same_pair p q) (p ≡ q)
-pairs_decide p q =
-    (λ h i. ((pointwise_decides unsigned_Decides p.0 q.0).0 (Cmp.first_so (same_text p.0 q.0) (same_text p.1 q.1) h) i, (pointwise_decides unsigned_Decides p.1 q.1).0 (Cmp.second_so (same_text p.0 q.0) (same_text p.1 q.1) h) i),
-     λ e. ap (λ r. same_pair p r) (sym e) ∙ pairs_equiv.refl p)
+pairs_decide p q = (
+  λ h i. ((pointwise_decides unsigned_Decides p.0 q.0).0 (Cmp.first_so (same_text p.0 q.0) (same_text p.1 q.1) h) i, (pointwise_decides unsigned_Decides p.1 q.1).0 (Cmp.second_so (same_text p.0 q.0) (same_text p.1 q.1) h) i),
+  λ e. ap (λ r. same_pair p r) (sym e) ∙ pairs_equiv.refl p,
+)
 
 -- only equal label sets are the same
 pub labels_decide : (a b : Labels) → Decides (same_labels a b) (a ≡ b)

@@ -1,5 +1,5 @@
 -- A label set is a finite map from names to values, both texts (Alertmanager's `model.LabelSet`).
-use Rattle.std.specs.Prelude.{◌≡◌, ℕ, Bool, ◌&&◌, List, [], map, reverse, unwrap_or, String, string_bytes}
+use Rattle.std.specs.Prelude.{ℕ, Bool, ◌&&◌, List, [], reverse, unwrap_or, String, string_bytes}
 use Rattle.std.specs.declared.alloc.Global.{Global}
 use Rattle.std.specs.Coded.{Coded, coded_list, coded_ℕ}
 use Rattle.std.specs.FinMap.{FinMap, entries, get, from_entries, code}

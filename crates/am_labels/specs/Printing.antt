@@ -1,5 +1,5 @@
 -- How a label set is printed: `{name="value",other="value"}`, as Alertmanager prints one in its logs.
-use Rattle.std.specs.Prelude.{ℕ, Bool, false, ◌&&◌, ◌||◌, ◌==◌, if◌then◌else◌, nat_le, List, [], ◌∷◌, ◌++◌, map, codes}
+use Rattle.std.specs.Prelude.{ℕ, Bool, false, ◌&&◌, ◌||◌, ◌==◌, if◌then◌else◌, nat_le, List, [], ◌∷◌, ◌++◌, map}
 use Rattle.std.specs.List.{flat_map, list_all, join_with_byte}
 use Rattle.std.specs.FinMap.{entries}
 use Rattle.am_labels.specs.LabelSets.{Labels}

@@ -143,7 +143,7 @@ impl PartialEq for LabelSet {
     ghost laws = { labels_partial };
 
     fn eq(&self, other: &LabelSet) -> bool {
-        self.pairs == other.pairs
+        self.names_and_values() == other.names_and_values()
     }
 }
 
@@ -179,7 +179,7 @@ impl Ord for LabelSet {
     ghost matches_eq = { labels_ties };
 
     fn cmp(&self, other: &LabelSet) -> Ordering {
-        self.pairs.cmp(&other.pairs)
+        self.names_and_values().cmp(other.names_and_values())
     }
 }
 
@@ -191,7 +191,7 @@ impl Hash for LabelSet {
     ghost respects_eq = { labels_alike };
 
     fn hash<H: Hasher>(&self, state: &mut H) {
-        self.pairs.hash(state);
+        self.names_and_values().hash(state);
     }
 }
 
@@ -224,5 +224,10 @@ fn write_pairs<W: fmt::Write>(pairs: &[(Text, Text)], f: &mut fmt::Formatter<W>)
 fn write_pair<W: fmt::Write>(pair: &(Text, Text), f: &mut fmt::Formatter<W>) -> fmt::Result
     ensures { DisplaysOnOk W.write_str_gives f.old result (Some (pair_text pair.now)) f.new }
 {
-    write!(f, "{}={}", LabelName(pair.0.as_str()), Quoted(pair.1.as_str()))
+    write!(
+        f,
+        "{}={}",
+        LabelName(pair.0.as_str()),
+        Quoted(pair.1.as_str())
+    )
 }

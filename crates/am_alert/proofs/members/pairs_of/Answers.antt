@@ -1,4 +1,4 @@
-use Rattle.std.proofs.Common.{◌≡◌, ◌++◌, ◌∷◌, [], ℕ, List, map, ap, sym, ◌∙◌, rules}
+use Rattle.std.proofs.Common.{◌++◌, ℕ, List, map, ap, sym, ◌∙◌, rules}
 use Rattle.std.specs.Prelude.{option_map}
 use Rattle.std.specs.Map.Iter.{deref_pair}
 use Rattle.std.proofs.lemmas.Map.Iter.{rest_more}
@@ -16,6 +16,6 @@ loop-name-preserved c =
     let left = members_view c.next.new.self in
     let front = map bytes_of c.loop-name.pairs.items in
     pairs_more c.loop-name.pairs.items c.push.new.self.items c.in_ok-pair_of.field-0 c.as_str.result.now value left (members_view c.args.members.now.entries)
-      (search rules) c.in_ok-pair_of.ensures
-      (ap (λ (name : List ℕ). option_map (λ pairs. front ++ pairs) (pairs_of (member name value left))) c.as_str.ensures.value
-        ∙ (ap (λ entries. option_map (λ pairs. front ++ pairs) (pairs_of (members_view entries))) (sym here) ∙ c.loop-name.invariant))
+    (search rules) c.in_ok-pair_of.ensures
+    (ap (λ (name : List ℕ). option_map (λ pairs. front ++ pairs) (pairs_of (member name value left))) c.as_str.ensures.value
+    ∙ (ap (λ entries. option_map (λ pairs. front ++ pairs) (pairs_of (members_view entries))) (sym here) ∙ c.loop-name.invariant))

@@ -1,4 +1,4 @@
-use Rattle.std.proofs.Common.{◌≡◌, ◌<◌, ◌≤◌, ℕ, List, length, map, Some, Result, Err, sym, ap, subst, ◌∙◌, arith, rules, vec_len}
+use Rattle.std.proofs.Common.{◌≡◌, length, map, Result, Err, sym, ap, subst, ◌∙◌, arith, rules, vec_len}
 use Rattle.std.specs.Duration.{as_nanos}
 use Rattle.std.proofs.lemmas.List.{length-map}
 use Rattle.serde_json.specs.View.{view, items_view}
@@ -12,7 +12,7 @@ returns-then-len-gt-MAX_ALERTS c =
     let values = c.in-Some.elements.now in
     let long : vec_len values ≡ length values.items = search rules in
     post_many c.args.bytes.now (view c.in-Ok.value) (map view values.items) (omega arith) c.in-Ok.ensures.ok.1 c.in-Some.ensures
-      (omega (arith, long, length-map values.items view))
+    (omega (arith, long, length-map values.items view))
 
 pub returns-in-Ok-read_elements : goal.returns-in-Ok-read_elements
 returns-in-Ok-read_elements c =
@@ -20,7 +20,7 @@ returns-in-Ok-read_elements c =
     let long : vec_len values ≡ length values.items = search rules in
     let reads = ap (λ vs. elements_of c.args.now (as_nanos c.args.resolve_timeout) 0 (items_view vs)) (sym c.deref.ensures.value) ∙ c.in-Ok-read_elements.ensures in
     post_ok c.args.now (as_nanos c.args.resolve_timeout) c.args.bytes.now (view c.in-Ok.value) (map view values.items) c.in-Ok-read_elements.post (omega arith) c.in-Ok.ensures.ok.1 c.in-Some.ensures
-      (omega (arith, long, length-map values.items view)) reads
+    (omega (arith, long, length-map values.items view)) reads
 
 pub returns : goal.returns
 returns c =
@@ -28,5 +28,5 @@ returns c =
     let long : vec_len values ≡ length values.items = search rules in
     let same = ap (λ vs. elements_of c.args.now (as_nanos c.args.resolve_timeout) 0 (items_view vs)) c.deref.ensures.value in
     post_err c.args.now (as_nanos c.args.resolve_timeout) c.args.bytes.now (view c.in-Ok.value) (map view values.items) c.in-Err-read_elements.e (omega arith) c.in-Ok.ensures.ok.1 c.in-Some.ensures
-      (omega (arith, long, length-map values.items view))
-      (subst (λ (r : Result Entries PostFault). ReadsEach (Err c.in-Err-read_elements.e) r) same c.in-Err-read_elements.ensures)
+    (omega (arith, long, length-map values.items view))
+    (subst (λ (r : Result Entries PostFault). ReadsEach (Err c.in-Err-read_elements.e) r) same c.in-Err-read_elements.ensures)

@@ -1,5 +1,4 @@
-use Rattle.std.proofs.Common.{◌≡◌, ◌<◌, ℕ, List, Less, Equal, Greater, length, get_or, sym, ap, subst, ◌∙◌, Some, arith, rules, inl, inr, T}
-use Rattle.std.specs.FinMap.Entries.{is_sorted, find}
+use Rattle.std.proofs.Common.{sym, rules}
 use Rattle.std.proofs.lemmas.Fn.{always_returns_same}
 use Rattle.am_labels.specs.Texts.{text_cmp}
 use Rattle.am_labels.proofs.Searches.{find_there, find_between, searchable, tied}

@@ -14,17 +14,18 @@ loop-c-init g c =
 pub loop-c-preserved : goal.loop-c-preserved
 loop-c-preserved g c =
     λ plain.
-      let so_far = c.loop-c.invariant plain in
-      let step : chars_rest c.loop-c.c-iterator ≡ encode_utf8 c.in-Some.c ++ chars_rest c.next.new.self = search rules in
-      (so_far.0 ++ escaped_all (encode_utf8 c.in-Some.c),
-       has_written_append _ _ _ _ _ _ so_far.1 (c.in_ok-write_char_escaped.ensures so_far.1.plain refl),
-       escaped_more so_far.0 (chars_rest c.loop-c.c-iterator) (chars_rest c.next.new.self) _ c.in-Some.c step so_far.2)
+    let so_far = c.loop-c.invariant plain in
+    let step : chars_rest c.loop-c.c-iterator ≡ encode_utf8 c.in-Some.c ++ chars_rest c.next.new.self = search rules in (
+      so_far.0 ++ escaped_all (encode_utf8 c.in-Some.c),
+      has_written_append _ _ _ _ _ _ so_far.1 (c.in_ok-write_char_escaped.ensures so_far.1.plain refl),
+      escaped_more so_far.0 (chars_rest c.loop-c.c-iterator) (chars_rest c.next.new.self) _ c.in-Some.c step so_far.2,
+    )
 
 pub returns : goal.returns
 returns g c =
     λ plain done.
-      let so_far = c.loop-c.invariant plain in
-      let none : length (chars_rest c.loop-c.c-iterator) ≡ 0 = search rules in
-      has_written_of_eq _ _ _ _ _
-        (sym (append-nil so_far.0) ∙ (ap (λ (rest : List ℕ). so_far.0 ++ escaped_all rest) (sym (nil_from_length (chars_rest c.loop-c.c-iterator) none)) ∙ so_far.2))
-        so_far.1
+    let so_far = c.loop-c.invariant plain in
+    let none : length (chars_rest c.loop-c.c-iterator) ≡ 0 = search rules in
+    has_written_of_eq _ _ _ _ _
+    (sym (append-nil so_far.0) ∙ (ap (λ (rest : List ℕ). so_far.0 ++ escaped_all rest) (sym (nil_from_length (chars_rest c.loop-c.c-iterator) none)) ∙ so_far.2))
+    so_far.1
