@@ -1,5 +1,5 @@
 -- The array of a post.
-use Rattle.std.proofs.Common.{◌≡◌, ℕ, ◌<◌, ◌≤◌, List, [], ◌∷◌, length, Some, Ok, Err, refl, sym, ap, ◌∙◌, arith, ◌⊎◌, inr}
+use Rattle.std.proofs.Common.{◌≡◌, ℕ, ◌<◌, ◌≤◌, List, [], ◌∷◌, ◌++◌, length, Some, Result, Ok, Err, refl, sym, ap, ◌∙◌, arith, ◌⊎◌, inr}
 use Rattle.serde_json.specs.Data.{Data, null, boolean, number, string, array, object, Items}
 use Rattle.serde_json.specs.Find.{as_array}
 use Rattle.serde_json.specs.Read.{read}
@@ -7,7 +7,7 @@ use Rattle.serde_json.specs.View.{items_of}
 use Rattle.am_alert.specs.declared.post.Post.{Post}
 use Rattle.am_alert.specs.declared.post.PostFault.{PostFault}
 use Rattle.am_alert.specs.declared.post.PostFault.TheVariants as fault
-use Rattle.am_alert.specs.Posts.{count, elements_of, IsArray, IsPostOf, ReadsEach}
+use Rattle.am_alert.specs.Posts.{count, elements_of, Entries, IsArray, IsPostOf, ReadsEach}
 
 array_is : (d : Data) (ds : Items) → Some ds ≡ as_array d → d ≡ array ds
 array_is null ds e = (cc)
@@ -37,3 +37,8 @@ post_err now timeout bytes d xs fault.NotAnArray short e a few reads = absurd re
 post_err now timeout bytes d xs fault.TooMany short e a few reads = absurd reads
 post_err now timeout bytes d xs (fault.BadMember i) short e a few reads = (items_of xs, is_array bytes d (items_of xs) short e a, omega (arith, count_items xs), reads)
 post_err now timeout bytes d xs (fault.OutOfRange i) short e a few reads = (items_of xs, is_array bytes d (items_of xs) short e a, omega (arith, count_items xs), reads)
+
+-- entries that were read before others
+abbrev pub with_front : Entries → Result Entries PostFault → Result Entries PostFault
+with_front front (Ok rest) = Ok (front.0 ++ rest.0, front.1 ++ rest.1)
+with_front front (Err f) = Err f

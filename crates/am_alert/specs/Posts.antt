@@ -1,5 +1,5 @@
 -- The alerts and faults of a post, over the value that its JSON is (Alertmanager's API v2, `postAlertsHandler`).
-use Rattle.std.specs.Prelude.{◌≡◌, ℕ, ◌+◌, ◌<◌, ◌≤◌, ◌⊎◌, ◌||◌, nat_eq, nat_lt, if◌then◌else◌, List, [], ◌∷◌, ◌++◌, length, Option, Some, None, option_map, is_none, unwrap_or, Result, Ok, Err, IsUtf8}
+use Rattle.std.specs.Prelude.{◌≡◌, ℕ, ◌+◌, ◌<◌, ◌≤◌, ◌⊎◌, ◌||◌, nat_eq, nat_lt, if◌then◌else◌, List, [], ◌∷◌, length, Option, Some, None, option_map, is_none, unwrap_or, Result, Ok, Err, IsUtf8}
 use Rattle.std.specs.FinMap.{contains_key, len}
 use Rattle.serde_json.specs.Data.{Data, array, Items, no_items, item}
 use Rattle.serde_json.specs.Find.{as_array}
@@ -114,8 +114,3 @@ ReadsEach (Err fault.NoMemory) entries = Unit {0}
 ReadsEach (Err fault.NotJson) entries = ⊥
 ReadsEach (Err fault.NotAnArray) entries = ⊥
 ReadsEach (Err fault.TooMany) entries = ⊥
-
--- entries that were read before others
-abbrev pub with_front : Entries → Result Entries PostFault → Result Entries PostFault
-with_front front (Ok rest) = Ok (front.0 ++ rest.0, front.1 ++ rest.1)
-with_front front (Err f) = Err f

@@ -1,4 +1,5 @@
-//! Alerts: what was reported of a label set, how two reports of it become one, and how a post is read.
+//! Alerts: what was reported of a label set, how two reports of it become one, and how a post is
+//! read.
 //!
 //! This crate knows nothing of stores: it says what an alert is, not where it is kept.
 #![tactic(auto)]

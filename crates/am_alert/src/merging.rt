@@ -1,5 +1,5 @@
-//! How a stored report and a new one of the same label set become one (Alertmanager's `types.Alert.Merge`, and
-//! the test before it in `provider/mem`'s Put).
+//! How a stored report and a new one of the same label set become one (Alertmanager's
+//! `types.Alert.Merge`, and the test before it in `provider/mem`'s Put).
 
 ghost use Rattle.std.specs.Prelude.{◌≡◌, IfOk};
 ghost use Rattle.std.specs.Option.{option_copied};
@@ -16,9 +16,9 @@ pub fn overlaps(old: &Alert, new: &Alert) -> bool
     (new.end > old.start && new.end < old.end) || (new.start > old.start && new.start < old.end)
 }
 
-/// Two reports of one label set as one: the younger report, from the earlier of the two starts.
-/// The older report's later end is kept where it still says something: where both ended by `now`, or where the
-/// younger hasn't and the older's end was given.
+/// Two reports of one label set as one: the younger report, from the earlier of the two starts. The
+/// older report's later end is kept where it still says something: where both ended by `now`, or
+/// where the younger hasn't and the older's end was given.
 pub fn merge(old: &Alert, new: &Alert, now: Moment) -> Result<Alert, AllocError>
     ensures { IfOk result (λ both. both ≡ merged now old.now new.now) }
 {

@@ -15,7 +15,8 @@ pub enum AlertFault {
     EmptyName,
 }
 
-/// The invalid alerts of a post, each by its index in the post, in order. Contracts see them as their list.
+/// The invalid alerts of a post, each by its index in the post, in order. Contracts see them as
+/// their list.
 #[derive(Debug, Drop)]
 pub struct Faults {
     pub faults: Vec<(u32, AlertFault)>,
@@ -38,7 +39,8 @@ impl Faults {
     }
 }
 
-/// A post that was read: its valid alerts and its faults, both in the order of the post, together 1,024 at most.
+/// A post that was read: its valid alerts and its faults, both in the order of the post, together
+/// 1,024 at most.
 #[derive(Debug, Drop)]
 pub struct Post {
     pub valid: Alerts,

@@ -1,4 +1,5 @@
-//! Reading a post: from the bytes of a request to `/api/v2/alerts` to its valid alerts and its faults.
+//! Reading a post: from the bytes of a request to `/api/v2/alerts` to its valid alerts and its
+//! faults.
 //!
 //! One bad element refuses the whole post; an invalid alert costs no other.
 
@@ -30,8 +31,8 @@ pub(crate) enum Element {
     OutOfRange,
 }
 
-/// The alerts and faults of a post's bytes, or why it is refused as a whole. `now` is the post's moment; an alert
-/// without an end ends at `now` and the resolve timeout.
+/// The alerts and faults of a post's bytes, or why it is refused as a whole. `now` is the post's
+/// moment; an alert without an end ends at `now` and the resolve timeout.
 pub fn read_post(
     alloc: Global,
     bytes: &[u8],
@@ -73,7 +74,8 @@ fn read_elements(
     resolve_timeout: Duration,
 ) -> Result<Post, PostFault>
     requires { length elements.now ≤ 1024 }
-    ensures { ReadsEach result (elements_of now (as_nanos resolve_timeout) 0 (items_view elements.now)) }
+    ensures { ReadsEach result
+        (elements_of now (as_nanos resolve_timeout) 0 (items_view elements.now)) }
 {
     let mut valid = Vec::new(alloc);
     let mut faults = Vec::new(alloc);
@@ -98,7 +100,8 @@ fn read_element(
     now: Moment,
     resolve_timeout: Duration,
 ) -> Result<Element, AllocError>
-    ensures { IfOk result (λ e. e ≡ element_of now (as_nanos resolve_timeout) (view element.now)) }
+    ensures { IfOk result
+        (λ e. e ≡ element_of now (as_nanos resolve_timeout) (view element.now)) }
 {
     let postable = match read_postable(alloc, element) {
         Ok(postable) => postable,

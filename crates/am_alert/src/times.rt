@@ -14,7 +14,8 @@ pub enum TimeFault {
     NoMemory,
 }
 
-/// The instant of a time text with an offset or `Z`. The empty text and 0001-01-01T00:00:00Z count as absent.
+/// The instant of a time text with an offset or `Z`. The empty text and 0001-01-01T00:00:00Z count
+/// as absent.
 pub fn read_time(text: &str) -> Result<Option<Moment>, TimeFault>
     ensures { ReadsTime text.now result }
 {

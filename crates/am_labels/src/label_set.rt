@@ -52,7 +52,8 @@ impl LabelSet {
         }
     }
 
-    /// The label set of these names and values, in O(n log n). Of pairs with one name the last holds.
+    /// The label set of these names and values, in O(n log n). Of pairs with one name the last
+    /// holds.
     pub fn from_pairs(alloc: Global, pairs: Vec<(String, String)>) -> Result<LabelSet, AllocError>
         ensures { IfOk result (λ labels. labels ≡ last_holds (map bytes_of pairs.items)) }
     {

@@ -7,7 +7,8 @@ ghost use Rattle.am_labels.specs.Printing.{escaped_all, is_classic_name, is_name
 
 use std::fmt;
 
-/// A text printed between quotes, with `\"` for a quote, `\\` for a backslash and `\n` for a line feed.
+/// A text printed between quotes, with `\"` for a quote, `\\` for a backslash and `\n` for a line
+/// feed.
 #[derive(Clone, Copy, Debug)]
 pub struct Quoted<'a>(pub &'a str);
 
@@ -31,7 +32,8 @@ fn write_escaped<W: fmt::Write>(text: &str, f: &mut fmt::Formatter<W>) -> fmt::R
 }
 
 fn write_char_escaped<W: fmt::Write>(c: char, f: &mut fmt::Formatter<W>) -> fmt::Result
-    ensures { DisplaysOnOk W.write_str_gives f.old result (Some (escaped_all (encode_utf8 c))) f.new }
+    ensures { DisplaysOnOk W.write_str_gives f.old result
+        (Some (escaped_all (encode_utf8 c))) f.new }
 {
     match c {
         '"' => f.write_str("\\\""),
@@ -41,8 +43,8 @@ fn write_char_escaped<W: fmt::Write>(c: char, f: &mut fmt::Formatter<W>) -> fmt:
     }
 }
 
-/// A label's name, printed plain where it is classic (letters and digits of ASCII, `_` and `:`, no digit first),
-/// else as [`Quoted`].
+/// A label's name, printed plain where it is classic (letters and digits of ASCII, `_` and `:`, no
+/// digit first), else as [`Quoted`].
 #[derive(Clone, Copy, Debug)]
 pub struct LabelName<'a>(pub &'a str);
 

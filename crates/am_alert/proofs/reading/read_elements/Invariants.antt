@@ -1,7 +1,8 @@
 use Rattle.std.proofs.Common.{◌≡◌, ◌+◌, drop, length}
 use Rattle.std.specs.Duration.{as_nanos}
 use Rattle.serde_json.specs.View.{items_view}
-use Rattle.am_alert.specs.Posts.{elements_of, with_front}
+use Rattle.am_alert.specs.Posts.{elements_of}
+use Rattle.am_alert.proofs.Arrays.{with_front}
 use Rattle.am_alert.proofs.reading.read_elements.Given as goal
 
 abbrev pub invariant-loop-i : goal.invariant-loop-i
