@@ -1,0 +1,59 @@
+-- What stays as the journal grows.
+use Rattle.std.proofs.Common.{◌≡◌, ℕ, zero, suc, ◌+◌, ◌<◌, ◌≤◌, true, List, [], ◌∷◌, ◌++◌, length, take, drop, Option, Some, None, refl, sym, ap, subst, ◌∙◌, arith, length-append}
+use Rattle.std.specs.List.{slice_get}
+use Rattle.std.proofs.lemmas.List.{append_assoc, take-append-le}
+use Rattle.std.proofs.lemmas.Grind.{flat_map-append}
+use Rattle.am_alert.specs.declared.alert.Alert.{Alert}
+use Rattle.am_provider.specs.declared.call.Call.{Call}
+use Rattle.am_provider.specs.declared.call.Call.TheVariants.{Subscribed}
+use Rattle.am_provider.specs.Stored.{steps, stored}
+use Rattle.am_provider.specs.Cast.{cast, items_of, due, batches_of, IsFront}
+use Rattle.am_provider.specs.Journal.{is_open, open_after}
+use Rattle.am_provider.specs.BookView.{BookView, IsFaithful, SubscriptionView, taken, BelongsTo}
+use Rattle.am_provider.specs.BookView.{all_of}
+use Rattle.am_provider.specs.Laws.{StaysGiven, StaysFront}
+use Rattle.am_provider.proofs.Journals.{due_last, open_last, cast_last}
+use Rattle.am_provider.proofs.Items.{get_front, start_within}
+
+within : (calls : List Call) (d : Call) (k : ℕ) → slice_get calls k ≡ Some d → k < length calls
+within [] d k e = (cc)
+within (b ∷ calls) d zero e = omega arith
+within (b ∷ calls) d (suc k) e = let h = within calls d k e in omega arith
+
+drop_front : {A : Type 0} (xs ys : List A) (n : ℕ) → n ≤ length xs → drop n (xs ++ ys) ≡ drop n xs ++ ys
+drop_front xs ys zero h = refl
+drop_front [] ys (suc n) h = absurd (omega arith)
+drop_front (x ∷ xs) ys (suc n) h = drop_front xs ys n (omega arith)
+
+-- all that there is for a subscription goes on
+all_grows : (old new : BookView) (sub : SubscriptionView) (more : List (List Alert)) → IsFaithful old → BelongsTo old sub → new.log ≡ old.log ++ more → all_of new sub ≡ all_of old sub ++ items_of more
+all_grows old new sub more kept of log =
+    ap (λ batches. sub.opening ++ items_of batches) (ap (drop sub.start) log ∙ drop_front old.log more sub.start (start_within old sub kept of))
+    ∙ (ap (λ rest. sub.opening ++ rest) (flat_map-append (λ batch. batch) (drop sub.start old.log) more)
+    ∙ sym (append_assoc sub.opening (items_of (drop sub.start old.log)) (items_of more)))
+
+pub stays_given : StaysGiven
+stays_given old new sub call kept later of journal goes =
+    let more = batches_of (steps old.journal) call in
+    let log : new.log ≡ old.log ++ more =
+    later.log ∙ (ap cast journal ∙ (cast_last old.journal call ∙ ap (λ batches. batches ++ more) (sym kept.log))) in
+    let here = within old.journal (Subscribed sub.lane) sub.at of.entry in
+    let le : sub.at ≤ length old.journal = omega arith in
+    let before : take sub.at new.journal ≡ take sub.at old.journal = ap (take sub.at) journal ∙ take-append-le sub.at old.journal (call ∷ []) le in
+    let all = all_grows old new sub more kept of log in
+    let long : length (all_of new sub) ≡ length (all_of old sub) + length (items_of more) = ap length all ∙ length-append (all_of old sub) (items_of more) in (
+      record {
+        entry = ap (λ calls. slice_get calls sub.at) journal ∙ (get_front old.journal (call ∷ []) sub.at here ∙ of.entry);
+        opening = of.opening ∙ ap (λ calls. stored (steps calls)) (sym before);
+        start = of.start ∙ ap (λ calls. length (cast calls)) (sym before);
+        still = ap (λ calls. is_open calls sub.lane) journal ∙ (open_last old.journal call sub.lane ∙ (ap (λ was. open_after sub.lane was call) of.still ∙ goes));
+        within = omega (arith, of.within, long);
+      },
+      ap (take sub.count) all ∙ take-append-le sub.count (all_of old sub) (items_of more) of.within,
+    )
+
+pub stays_front : StaysFront
+stays_front calls c k xs h front = (
+  front.0 ++ items_of (batches_of (steps calls) c),
+  sym (append_assoc xs front.0 (items_of (batches_of (steps calls) c))) ∙ (ap (λ ys. ys ++ items_of (batches_of (steps calls) c)) front.1 ∙ sym (due_last calls c k h)),
+)

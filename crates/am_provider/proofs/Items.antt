@@ -1,0 +1,83 @@
+-- Items of lists one after another.
+use Rattle.std.proofs.Common.{◌≡◌, ℕ, zero, suc, ◌+◌, ◌-◌, ◌<◌, ◌≤◌, Bool, true, false, List, [], ◌∷◌, ◌++◌, length, take, drop, get_or, Option, Some, None, refl, sym, ap, subst, ◌∙◌, arith}
+use Rattle.std.specs.List.{slice_get}
+use Rattle.std.proofs.Math.Seq.{drop-cons}
+use Rattle.am_alert.specs.declared.alert.Alert.{Alert}
+use Rattle.am_provider.specs.Cast.{items_of, due}
+use Rattle.am_provider.specs.Journal.{is_closed}
+use Rattle.am_provider.specs.BookView.{BookView, SubscriptionView, taken, BelongsTo, IsFaithful}
+use Rattle.am_provider.specs.Cast.{items_of}
+use Rattle.am_provider.specs.BookView.{all_of}
+use Rattle.am_provider.specs.Advances.{Advances}
+use Rattle.std.specs.Option.{is_some}
+use Rattle.am_provider.specs.declared.advance.Advance.TheVariants.{Item, Pending, Closed}
+use Rattle.am_provider.specs.Stored.{steps}
+use Rattle.am_provider.specs.Cast.{cast, cast_from}
+use Rattle.am_provider.proofs.Journals.{cast_parts}
+use Rattle.am_provider.proofs.Stored.{by_option}
+use Rattle.std.proofs.Common.{length-append}
+use Rattle.am_provider.proofs.Flags.{due_of}
+
+pub get_front : {A : Type 0} (xs ys : List A) (i : ℕ) → i < length xs → slice_get (xs ++ ys) i ≡ slice_get xs i
+get_front [] ys i h = absurd (omega arith)
+get_front (x ∷ xs) ys zero h = refl
+get_front (x ∷ xs) ys (suc i) h = get_front xs ys i (omega arith)
+
+pub get_back : {A : Type 0} (xs ys : List A) (i k : ℕ) → i ≡ length xs + k → slice_get (xs ++ ys) i ≡ slice_get ys k
+get_back [] ys i k h = let e : i ≡ k = omega arith in ap (slice_get ys) e
+get_back (x ∷ xs) ys zero k h = absurd (omega arith)
+get_back (x ∷ xs) ys (suc i) k h = get_back xs ys i k (omega arith)
+
+-- the batch at a place comes first of those from it on
+pub items_at : (batches : List (List Alert)) (at : ℕ) (batch : List Alert) → at < length batches → batch ≡ get_or batches at batch → items_of (drop at batches) ≡ batch ++ items_of (drop (at + 1) batches)
+items_at batches at batch h e =
+    let n : suc at ≡ at + 1 = omega arith in
+    ap items_of (drop-cons batches at batch h) ∙ (ap (λ b. b ++ items_of (drop (suc at) batches)) (sym e) ∙ ap (λ n. batch ++ items_of (drop n batches)) n)
+
+pub taken_more : (xs : List Alert) (n : ℕ) (a : Alert) → slice_get xs n ≡ Some a → take (n + 1) xs ≡ take n xs ++ a ∷ []
+taken_more [] n a e = (cc)
+taken_more (x ∷ xs) zero a e = let same : x ≡ a = (cc) in ap (λ a. a ∷ []) same
+taken_more (x ∷ xs) (suc n) a e =
+    let m : suc (n + 1) ≡ suc n + 1 = omega arith in
+    subst (λ m. take m (x ∷ xs) ≡ x ∷ take n xs ++ a ∷ []) m (ap (λ rest. x ∷ rest) (taken_more xs n a e))
+
+pub taken_all : (xs : List Alert) (n : ℕ) → slice_get xs n ≡ None → take n xs ≡ xs
+taken_all [] zero e = refl
+taken_all [] (suc n) e = refl
+taken_all (x ∷ xs) zero e = (cc)
+taken_all (x ∷ xs) (suc n) e = ap (λ rest. x ∷ rest) (taken_all xs n e)
+
+pub got_within : (xs : List Alert) (n : ℕ) (a : Alert) → slice_get xs n ≡ Some a → n < length xs
+got_within [] n a e = (cc)
+got_within (x ∷ xs) zero a e = omega arith
+got_within (x ∷ xs) (suc n) a e = let h = got_within xs n a e in omega arith
+
+pub taken_due : (book : BookView) (sub : SubscriptionView) → IsFaithful book → BelongsTo book sub → slice_get (all_of book sub) sub.count ≡ None → taken book sub ≡ due book.journal sub.at
+taken_due book sub kept of none = taken_all (all_of book sub) sub.count none ∙ due_of book sub kept of
+
+pub start_within : (book : BookView) (sub : SubscriptionView) → IsFaithful book → BelongsTo book sub → sub.start ≤ length book.log
+start_within book sub kept of =
+    let parts : length book.log ≡ length (cast (take sub.at book.journal)) + length (cast_from (steps (take sub.at book.journal)) (drop sub.at book.journal)) =
+    ap length (kept.log ∙ cast_parts book.journal sub.at) ∙ length-append (cast (take sub.at book.journal)) (cast_from (steps (take sub.at book.journal)) (drop sub.at book.journal)) in
+    omega (arith, of.start)
+
+pub shows_item : (book : BookView) (old new : SubscriptionView) → new ≡ record old { count = old.count + 1 } → true ≡ is_some (slice_get (all_of book old) old.count) → Advances book old Item new
+shows_item book old new e more =
+    by_option {P = Advances book old Item new} (slice_get (all_of book old) old.count)
+    (λ none. absurd (let no : true ≡ false = more ∙ ap is_some none in (cc)))
+    (λ a some. (e, a, ap (taken book) e ∙ taken_more (all_of book old) old.count a some))
+
+none_of : {A : Type 0} (o : Option A) → false ≡ is_some o → o ≡ None
+none_of None e = refl
+none_of (Some x) e = (cc)
+
+pub shows_pending : (book : BookView) (old new : SubscriptionView) → IsFaithful book → BelongsTo book old → new ≡ old → false ≡ is_some (slice_get (all_of book old) old.count) → is_closed book.journal ≡ false → Advances book old Pending new
+shows_pending book old new kept of e more still = (e, still, taken_due book old kept of (none_of (slice_get (all_of book old) old.count) more))
+
+pub shows_closed : (book : BookView) (old new : SubscriptionView) → IsFaithful book → BelongsTo book old → new ≡ record old { closed_told = true } → false ≡ is_some (slice_get (all_of book old) old.count) → is_closed book.journal ≡ true → Advances book old Closed new
+shows_closed book old new kept of e more ended = (e, ended, taken_due book old kept of (none_of (slice_get (all_of book old) old.count) more))
+
+pub none_past : (xs : List Alert) (n : ℕ) → slice_get xs n ≡ None → length xs ≤ n
+none_past [] n e = omega arith
+none_past (x ∷ xs) zero e = (cc)
+none_past (x ∷ xs) (suc n) e = let h = none_past xs n e in omega arith

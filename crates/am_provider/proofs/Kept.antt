@@ -1,0 +1,115 @@
+-- A book stays sound as a call comes.
+use Rattle.std.proofs.Common.{◌≡◌, ◌≢◌, ℕ, zero, suc, ◌+◌, ◌<◌, ◌≤◌, Bool, true, false, not, cond, ◌||◌, ◌&&◌, nat_eq, List, [], ◌∷◌, ◌++◌, length, get_or, Option, Some, None, refl, sym, ap, subst, ◌∙◌, arith, filter}
+use Rattle.std.specs.Vec.{vec_len, vec_capacity}
+use Rattle.am_provider.specs.Lanes.{open_count}
+use Rattle.std.proofs.lemmas.List.{append-nil}
+use Rattle.am_alert.specs.declared.alert.Alert.{Alert}
+use Rattle.am_alert.specs.Merging.{is_resolved_at}
+use Rattle.am_provider.specs.declared.call.Call.{Call}
+use Rattle.am_provider.specs.declared.call.Call.TheVariants.{Posted, Collected, Subscribed, Left, Closed}
+use Rattle.am_provider.specs.declared.book.Book.TheInside.{Inside}
+use Rattle.am_provider.specs.Stored.{Step, Report, Collect, steps_of, steps, stored}
+use Rattle.am_provider.specs.Cast.{batch_of, batches_of, cast}
+use Rattle.am_provider.specs.Journal.{closes, is_closed, open_after, is_open, MayFollow, IsLegal}
+use Rattle.am_provider.specs.AlertList.{absorb_each_into, batch_by_list}
+use Rattle.am_provider.specs.BookView.{BookView, IsFaithful}
+use Rattle.am_provider.specs.BookInside.{view_of, IsSound}
+use Rattle.am_provider.proofs.Stored.{stored_post, batch_of_post, stored_collect}
+use Rattle.am_provider.proofs.Journals.{steps_last, cast_last, closed_last, open_last, legal_last}
+
+pub record Grows (a b : Inside) (c : Call) : Type 0 where
+  pub journal : b.journal.items ≡ a.journal.items ++ c ∷ []
+  pub stored : b.stored.items ≡ stored (steps a.journal.items ++ steps_of c)
+  pub log : b.log.items ≡ a.log.items ++ batches_of (steps a.journal.items) c
+  pub closed : b.closed ≡ (a.closed || closes c)
+  pub eight : length b.lanes ≡ length a.lanes
+  pub lanes : (lane : ℕ) → lane < 8 → get_or b.lanes lane false ≡ open_after lane (get_or a.lanes lane false) c
+  pub room : vec_len b.journal + open_count b.lanes + cond b.closed 0 1 ≤ vec_capacity b.journal
+
+pub sound_grown : (a b : Inside) (c : Call) → IsSound a → MayFollow a.journal.items c → Grows a b c → IsSound b
+sound_grown a b c sound may grows = record {
+  kept = record {
+    stored = grows.stored ∙ sym (ap (λ calls. stored (steps calls)) grows.journal ∙ ap stored (steps_last a.journal.items c));
+    log = grows.log ∙ (ap (λ log. log ++ batches_of (steps a.journal.items) c) sound.kept.log ∙ sym (ap cast grows.journal ∙ cast_last a.journal.items c));
+    legal = subst IsLegal (sym grows.journal) (legal_last a.journal.items c sound.kept.legal may);
+  };
+  eight = grows.eight ∙ sound.eight;
+  closed = grows.closed ∙ (ap (λ b. b || closes c) sound.closed ∙ sym (ap is_closed grows.journal ∙ closed_last a.journal.items c));
+  lanes = λ lane h. grows.lanes lane h ∙ (ap (λ was. open_after lane was c) (sound.lanes lane h) ∙ sym (ap (λ calls. is_open calls lane) grows.journal ∙ open_last a.journal.items c lane));
+  room = grows.room;
+}
+
+pub or_false : (b : Bool) → (b || false) ≡ b
+or_false true = refl
+or_false false = refl
+
+batches_posted : (before : List Step) (now : ℕ) (news : List Alert) → batches_of before (Posted now news) ≡ cond (nat_eq (length news) 0) [] (batch_of before now news ∷ [])
+batches_posted before now [] = refl
+batches_posted before now (new ∷ news) = sym (ap (λ b. cond b [] (batch_of before now (new ∷ news) ∷ [])) (Rattle.std.proofs.Math.Dec.eqb-suc-zero (length news)))
+
+cond_append : (b : Bool) (xs : List (List Alert)) (y : List Alert) → cond b xs (xs ++ y ∷ []) ≡ xs ++ cond b [] (y ∷ [])
+cond_append true xs y = sym (append-nil xs)
+cond_append false xs y = refl
+
+few : (bs : List Bool) → open_count bs ≤ length bs
+few [] = omega arith
+few (true ∷ bs) = let h = few bs in omega arith
+few (false ∷ bs) = let h = few bs in omega arith
+
+at_most_one : (b : Bool) → cond b 0 1 ≤ 1
+at_most_one true = omega arith
+at_most_one false = omega arith
+
+pub enough : (b : Inside) → length b.lanes ≡ 8 → vec_len b.journal + 9 ≤ vec_capacity b.journal → vec_len b.journal + open_count b.lanes + cond b.closed 0 1 ≤ vec_capacity b.journal
+enough b eight room =
+    let x : open_count b.lanes ≤ length b.lanes = few b.lanes in
+    let y : cond b.closed 0 1 ≤ 1 = at_most_one b.closed in
+    omega arith
+
+pub sound_posted : (a b : Inside) (now : ℕ) (news batch : List Alert) → IsSound a → a.closed ≡ false
+    → b.journal.items ≡ a.journal.items ++ Posted now news ∷ []
+    → b.stored.items ≡ absorb_each_into now news a.stored.items
+    → b.log.items ≡ cond (nat_eq (length batch) 0) a.log.items (a.log.items ++ batch ∷ [])
+    → batch ≡ batch_by_list now news a.stored.items
+    → length batch ≡ length news
+    → b.closed ≡ a.closed → b.lanes ≡ a.lanes → vec_len b.journal + 9 ≤ vec_capacity b.journal → IsSound b
+sound_posted a b now news batch sound still journal store log sent long closed lanes room =
+    let same = batch_of_post (steps a.journal.items) now news ∙ ap (batch_by_list now news) (sym sound.kept.stored) in
+    sound_grown a b (Posted now news) sound (sym sound.closed ∙ still) (record {
+      journal = journal;
+      stored = store ∙ sym (stored_post (steps a.journal.items) now news ∙ ap (absorb_each_into now news) (sym sound.kept.stored));
+      log = log ∙ (ap (λ n. cond (nat_eq n 0) a.log.items (a.log.items ++ batch ∷ [])) long
+          ∙ (cond_append (nat_eq (length news) 0) a.log.items batch
+          ∙ ap (λ sent. a.log.items ++ sent) (ap (λ x. cond (nat_eq (length news) 0) [] (x ∷ [])) (sent ∙ sym same) ∙ sym (batches_posted (steps a.journal.items) now news))));
+      closed = closed ∙ sym (or_false a.closed);
+      eight = ap length lanes;
+      lanes = λ lane h. ap (λ lanes. get_or lanes lane false) lanes;
+      room = enough b (ap length lanes ∙ sound.eight) room;
+    })
+
+or_true : (b : Bool) → (b || true) ≡ true
+or_true true = refl
+or_true false = refl
+
+closed_room : (a b : Inside) → vec_len a.journal + open_count a.lanes + cond a.closed 0 1 ≤ vec_capacity a.journal → a.closed ≡ false → b.closed ≡ true → b.lanes ≡ a.lanes
+    → (vec_len b.journal ≡ vec_len a.journal + 1) × (vec_capacity a.journal ≤ vec_capacity b.journal) → vec_len b.journal + open_count b.lanes + cond b.closed 0 1 ≤ vec_capacity b.journal
+closed_room a b old still closed lanes room =
+    let x : cond {A = ℕ} a.closed 0 1 ≡ 1 = ap (λ (b : Bool). cond {A = ℕ} b 0 1) still in
+    let y : cond {A = ℕ} b.closed 0 1 ≡ 0 = ap (λ (b : Bool). cond {A = ℕ} b 0 1) closed in
+    let z : open_count b.lanes ≡ open_count a.lanes = ap open_count lanes in
+    omega arith
+
+pub sound_closed : (a b : Inside) → IsSound a → a.closed ≡ false
+    → b.journal.items ≡ a.journal.items ++ Closed ∷ []
+    → b.stored ≡ a.stored → b.log ≡ a.log → b.lanes ≡ a.lanes → b.closed ≡ true
+    → (vec_len b.journal ≡ vec_len a.journal + 1) × (vec_capacity a.journal ≤ vec_capacity b.journal) → IsSound b
+sound_closed a b sound still journal store log lanes closed room =
+    sound_grown a b Closed sound (sym sound.closed ∙ still) (record {
+      journal = journal;
+      stored = ap (λ s. s.items) store ∙ (sound.kept.stored ∙ ap stored (sym (append-nil (steps a.journal.items))));
+      log = ap (λ s. s.items) log ∙ sym (append-nil a.log.items);
+      closed = closed ∙ sym (or_true a.closed);
+      eight = ap length lanes;
+      lanes = λ lane h. ap (λ lanes. get_or lanes lane false) lanes;
+      room = closed_room a b sound.room still closed lanes room;
+    })

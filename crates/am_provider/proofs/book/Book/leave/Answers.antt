@@ -1,0 +1,32 @@
+use Rattle.std.proofs.Common.{◌≡◌, ◌+◌, ◌<◌, ◌≤◌, length, set, ◌++◌, ◌∷◌, [], ap, sym, subst, refl, ◌∙◌, arith, rules, vec_len, vec_capacity, true, false}
+use Rattle.am_provider.specs.declared.call.Call.TheVariants.{Left}
+use Rattle.am_provider.specs.BookView.{BookView, SubscriptionView, BelongsTo, IsFaithful}
+use Rattle.am_provider.specs.BookInside.{IsSound, view_of}
+use Rattle.am_provider.proofs.Flags.{sound_left, front_of, lane_of, room_to_leave}
+use Rattle.am_provider.proofs.book.Book.leave.Goals as goal
+
+pub bounds-self-inside-lane : goal.bounds-self-inside-lane
+bounds-self-inside-lane c =
+    let of = subst (λ (s : BookView). BelongsTo s c.args.subscription) (sym c.self.view_is) c.requires.given in
+    let lane : c.subscription.inside.lane ≡ c.args.subscription.lane = ap (λ (p : SubscriptionView). p.lane) c.subscription.view_is in
+    omega (arith, lane_of (view_of c.self.inside) c.args.subscription c.self.invariant.kept of)
+
+pub push_reserved-requires : goal.push_reserved-requires
+push_reserved-requires c =
+    let of = subst (λ (s : BookView). BelongsTo s c.args.subscription) (sym c.self.view_is) c.requires.given in
+    room_to_leave c.self.inside c.args.subscription c.self.invariant of
+
+pub invariant_of-self : goal.invariant_of-self
+invariant_of-self c =
+    let of = subst (λ (s : BookView). BelongsTo s c.args.subscription) (sym c.self.view_is) c.requires.given in
+    let lane : c.subscription.inside.lane ≡ c.args.subscription.lane = ap (λ (p : SubscriptionView). p.lane) c.subscription.view_is in
+    let pushed : c.push_reserved.new.self.items ≡ c.self.inside.journal.items ++ Left c.subscription.inside.lane ∷ [] = search rules in
+    let journal = pushed ∙ ap (λ l. c.self.inside.journal.items ++ Left l ∷ []) lane in
+    sound_left c.self.inside (record { stored = c.self.inside.stored; journal = c.push_reserved.new.self; log = c.self.inside.log; lanes = set c.self.inside.lanes c.subscription.inside.lane false; closed = c.self.inside.closed })
+    c.args.subscription c.self.invariant of journal refl refl (ap (λ l. set c.self.inside.lanes l false) lane) refl (c.push_reserved.ensures.len, omega (arith, c.push_reserved.ensures.capacity))
+
+pub returns-clause-kept : goal.returns-clause-kept
+returns-clause-kept c = (invariant_of-self c).kept
+
+pub returns-clause-front : goal.returns-clause-front
+returns-clause-front c = front_of c.args.self.now c.args.subscription (subst IsFaithful c.self.view_is c.self.invariant.kept) c.requires.given

@@ -1,0 +1,21 @@
+use Rattle.std.proofs.Common.{◌≡◌, ◌+◌, true, false, ap, sym, subst, arith, rules, ◌∙◌}
+use Rattle.am_provider.specs.Journal.{is_closed}
+use Rattle.am_provider.specs.BookView.{BookView, SubscriptionView, IsFaithful}
+use Rattle.am_provider.proofs.Items.{shows_item, shows_pending, shows_closed}
+use Rattle.am_provider.proofs.subscription.Subscription.advance.Goals as goal
+
+pub returns-then-has_more : goal.returns-then-has_more
+returns-then-has_more c =
+    shows_item c.args.book.now c.args.self.now _ (ap (λ (p : SubscriptionView). record p { count = p.count + 1 }) c.self.view_is) (sym c.if-has_more.true ∙ c.has_more.ensures)
+
+pub returns-then-book : goal.returns-then-book
+returns-then-book c =
+    let kept = subst IsFaithful c.book.view_is c.book.invariant.kept in
+    let ended = ap (λ (s : BookView). is_closed s.journal) (sym c.book.view_is) ∙ (sym c.book.invariant.closed ∙ c.if-book.true) in
+    shows_closed c.args.book.now c.args.self.now _ kept c.requires.given (ap (λ (p : SubscriptionView). record p { closed_told = true }) c.self.view_is) (sym c.if-has_more.false ∙ c.has_more.ensures) ended
+
+pub returns : goal.returns
+returns c =
+    let kept = subst IsFaithful c.book.view_is c.book.invariant.kept in
+    let still = ap (λ (s : BookView). is_closed s.journal) (sym c.book.view_is) ∙ (sym c.book.invariant.closed ∙ c.if-book.false) in
+    shows_pending c.args.book.now c.args.self.now _ kept c.requires.given (search rules) (sym c.if-has_more.false ∙ c.has_more.ensures) still

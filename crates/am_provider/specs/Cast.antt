@@ -1,0 +1,50 @@
+-- What is sent out, by the journal alone, and what of it is due to a subscription.
+use Rattle.std.specs.Prelude.{◌≡◌, ℕ, List, [], ◌∷◌, ◌++◌, take, drop, Option, Some, None}
+use Rattle.std.specs.List.{flat_map}
+use Rattle.am_alert.specs.declared.alert.Alert.{Alert}
+use Rattle.am_provider.specs.declared.call.Call.{Call}
+use Rattle.am_provider.specs.declared.call.Call.TheVariants.{Posted, Collected, Subscribed, Left, Closed}
+use Rattle.am_provider.specs.Stored.{Step, Report, steps_of, steps, Held, held, stored}
+
+-- the alert held, as a list
+abbrev pub alert_of : Option Held → List Alert
+alert_of None = []
+alert_of (Some held) = held.alert ∷ []
+
+-- what each alert of a post became: what its label set holds just after it (`provider/mem`'s Put: what it hands to
+-- its listeners)
+abbrev pub batch_of : List Step → ℕ → List Alert → List Alert
+batch_of before now [] = []
+batch_of before now (new ∷ news) =
+    alert_of (held new.labels (before ++ Report now new ∷ [])) ++ batch_of (before ++ Report now new ∷ []) now news
+
+-- what one call sends out: one batch, where it is a post with an alert
+abbrev pub batches_of : List Step → Call → List (List Alert)
+batches_of before (Posted now []) = []
+batches_of before (Posted now (new ∷ news)) = batch_of before now (new ∷ news) ∷ []
+batches_of before (Collected now) = []
+batches_of before (Subscribed lane) = []
+batches_of before (Left lane) = []
+batches_of before Closed = []
+
+-- what calls send out after some steps
+abbrev pub cast_from : List Step → List Call → List (List Alert)
+cast_from before [] = []
+cast_from before (call ∷ calls) = batches_of before call ++ cast_from (before ++ steps_of call) calls
+
+-- what a journal sent out: one batch for each post with an alert
+abbrev pub cast : List Call → List (List Alert)
+cast calls = cast_from [] calls
+
+-- the alerts of batches, one after another
+abbrev pub items_of : List (List Alert) → List Alert
+items_of batches = flat_map (λ batch. batch) batches
+
+-- what is due to who subscribed when k calls were made: what was stored then, and what was sent out since
+-- (`provider/mem`'s Subscribe: the alerts there are, then those of its channel)
+abbrev pub due : List Call → ℕ → List Alert
+due calls k = stored (steps (take k calls)) ++ items_of (cast_from (steps (take k calls)) (drop k calls))
+
+-- the first list begins the second
+abbrev pub IsFront : {A : Type 0} → List A → List A → Type 0
+IsFront {A} front whole = (rest : List A) × (front ++ rest ≡ whole)

@@ -1,0 +1,17 @@
+pub use Rattle.am_labels.specs.Texts
+pub use Rattle.am_labels.specs.LabelSets
+pub use Rattle.am_labels.specs.LabelLaws
+pub use Rattle.am_labels.specs.Printing
+pub use Rattle.am_alert.specs.Moments
+pub use Rattle.am_alert.specs.Alerts
+pub use Rattle.am_alert.specs.Merging
+pub mod Journal
+pub mod Stored
+pub mod Cast
+pub mod AlertList
+pub mod BookView
+pub mod Lanes
+pub mod BookInside
+pub mod Advances
+pub mod Answers
+pub mod Laws

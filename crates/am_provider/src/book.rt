@@ -1,0 +1,220 @@
+//! The Book: the stored alerts and the log of what was sent out, for one thread.
+//!
+//! What a Book promises: whatever posts, subscriptions, collections and ends come, the stored alerts and the log are
+//! those that its journal of accepted calls gives. Of each label set it stores what that label set's own reports made
+//! of it, in the order in which the label sets began. A post goes out as one batch, with what each of its alerts
+//! became. A subscriber is shown the alerts that were stored when it came, and then those of every batch since, each
+//! once and in order; told that no more will come, it has seen them all. A refused call changes nothing.
+
+ghost use Rattle.std.specs.Prelude.{◌≡◌, ◌↔◌, ◌≤◌, ◌<◌, [], ◌∷◌, ◌++◌, IfOk, OnOk, OnErr, IsErr, IsErrOf, IsTrue, IfSome, IfNone};
+ghost use Rattle.std.specs.Prelude.{None, Some, false, true, length, nat_eq, if◌then◌else◌, ℕ, slice_index_or};
+ghost use Rattle.std.specs.List.{range_with_len};
+ghost use Rattle.am_provider.specs.Journal.{is_closed, AreAllOpen};
+ghost use Rattle.am_provider.specs.Cast.{due, IsFront};
+ghost use Rattle.am_provider.specs.Lanes.{IsLowestFalse};
+ghost use Rattle.am_provider.specs.BookView.{BookView, IsFaithful, BelongsTo, taken};
+
+use crate::call::Call;
+use crate::ended::Ended;
+use crate::faults::{AlreadyClosed, PutFault, SubFault};
+use crate::pass::Pass;
+use crate::posted::Posted;
+use crate::store::{absorb_each_into, broadcast, copy_each};
+use crate::subscription::Subscription;
+use am_alert::{Alert, Alerts, Moment, Post};
+use std::alloc::{AllocError, Global};
+use std::marker::Model;
+
+// How many lanes there are.
+const LANES: usize = 8;
+
+// An entry of the journal, one to end each lane, and one to end the log.
+const ENTRIES: usize = 10;
+
+/// How many places a log has at most: 1,024 alerts in each are fewer than 2^64.
+const LOG_END: usize = 2_251_799_813_685_248;
+
+/// The stored alerts and the log of batches, with the journal of calls that made them.
+#[derive(Drop)]
+pub struct Book {
+    stored: Vec<Alert>,
+    // It has room for a Left of each open lane and, until the log is ended, for a Closed.
+    journal: Vec<Call>,
+    pub(crate) log: Vec<Alerts>,
+    // Which lanes are open.
+    lanes: [bool; 8],
+    pub(crate) closed: bool,
+}
+
+impl Model for Book {
+    ghost use Rattle.am_provider.specs.contracts.call.Call as call;
+    ghost use Rattle.am_provider.specs.BookView.{BookView, coded_book};
+
+    ghost Value = { BookView };
+
+    ghost coded = { coded_book call.the_row.coded };
+
+    ghost use Rattle.am_provider.specs.BookInside.{view_of, IsSound};
+
+    ghost view = { view_of };
+
+    ghost invariant = { IsSound };
+}
+
+impl Book {
+    /// An empty Book, and a pass for each of so many posters. The log has no limit of places but its own end.
+    pub fn begin(alloc: Global, places: u32, posters: u32) -> Result<(Book, Vec<Pass>), AllocError>
+        requires places { (1 ≤ places) × (places ≤ 256) }
+        requires posters { (1 ≤ posters) × (posters ≤ 64) }
+        ensures empty { IfOk result (λ made. made.0 ≡ record { stored = []; journal = []; log = [] }) }
+        ensures passes { IfOk result (λ made. made.1.items ≡ range_with_len 0 posters) }
+    {
+        let mut journal = Vec::new(alloc);
+        journal.reserve(ENTRIES)?;
+        let mut passes = Vec::with_capacity(alloc, posters as usize)?;
+        for poster in 0..posters {
+            passes.push(Pass::new(poster))?;
+        }
+        let book = Book {
+            stored: Vec::new(alloc),
+            journal,
+            log: Vec::new(alloc),
+            lanes: [false; 8],
+            closed: false,
+        };
+        Ok((book, passes))
+    }
+
+    /// Stores the valid alerts of a post, each into what those before it left, and sends out what they became as one
+    /// batch. A post with no valid alert is accepted and sends nothing out.
+    pub fn post(&mut self, pass: &mut Pass, post: Post, now: Moment) -> Result<Posted, PutFault>
+        ensures journal { OnOk result (self.new.journal ≡ self.old.journal ++ Call.Posted now post.valid ∷ []) }
+        ensures valid { IfOk result (λ posted. posted.valid ≡ length post.valid) }
+        ensures faults { IfOk result (λ posted. posted.faults ≡ post.faults) }
+        ensures place { IfOk result (λ posted. posted.place ≡ (if nat_eq (length post.valid) 0 then None else Some (length self.old.log))) }
+        ensures kept { IsFaithful self.new }
+        ensures pass { pass.new ≡ pass.old }
+
+        ensures closed { IsErrOf result PutFault.Closed ↔ IsTrue (is_closed self.old.journal) }
+        ensures log_end { IsErrOf result PutFault.LogEnd
+            ↔ ((is_closed self.old.journal ≡ false) × (0 < length post.valid) × (LOG_END ≤ length self.old.log)) }
+        ensures err { OnErr result (self.new ≡ self.old) }
+    {
+        if self.closed {
+            return Err(PutFault::Closed);
+        }
+        let Post { valid, faults } = post;
+        let count = valid.as_slice().len();
+        if count > 0 && self.log.len() >= LOG_END {
+            return Err(PutFault::LogEnd);
+        }
+        let alloc = *self.stored.allocator();
+        let mut stored = copy_each(alloc, &self.stored)?;
+        let batch = absorb_each_into(alloc, &mut stored, valid.as_slice(), now)?;
+        self.journal.reserve(ENTRIES)?;
+        self.log.reserve(1)?;
+        self.stored = stored;
+        let place = broadcast(&mut self.log, batch);
+        self.journal
+            .push_reserved(Call::Posted { now, alerts: valid });
+        Ok(Posted {
+            valid: count as u32,
+            place,
+            faults,
+        })
+    }
+
+    /// A subscription on the lowest lane that isn't open, to what is stored and to what comes from now on.
+    pub fn subscribe(&mut self) -> Result<Subscription, SubFault>
+        ensures journal { IfOk result (λ sub. self.new.journal ≡ self.old.journal ++ Call.Subscribed sub.lane ∷ []) }
+        ensures at { IfOk result (λ sub. sub.at ≡ length self.old.journal) }
+        ensures opening { IfOk result (λ sub. sub.opening ≡ self.old.stored) }
+        ensures fresh { IfOk result (λ sub. (sub.count ≡ 0) × (sub.closed_told ≡ false)) }
+        ensures given { IfOk result (BelongsTo self.new) }
+        ensures kept { IsFaithful self.new }
+
+        ensures closed { IsErrOf result SubFault.Closed ↔ IsTrue (is_closed self.old.journal) }
+        ensures no_lane { IsErrOf result SubFault.NoLane ↔ ((is_closed self.old.journal ≡ false) × AreAllOpen self.old.journal) }
+        ensures err { OnErr result (self.new ≡ self.old) }
+    {
+        if self.closed {
+            return Err(SubFault::Closed);
+        }
+        let Some(lane) = idle_lane(&self.lanes) else {
+            return Err(SubFault::NoLane);
+        };
+        let alloc = *self.stored.allocator();
+        let opening = copy_each(alloc, &self.stored)?;
+        self.journal.reserve(ENTRIES)?;
+        let at = self.journal.len() as u64;
+        let start = self.log.len();
+        self.lanes[lane] = true;
+        let lane = lane as u32;
+        self.journal.push_reserved(Call::Subscribed(lane));
+        Ok(Subscription {
+            lane,
+            at,
+            start,
+            opening: Alerts { alerts: opening },
+            count: 0,
+            closed_told: false,
+        })
+    }
+
+    /// Takes a subscription back, and answers what it came to.
+    pub fn leave(&mut self, subscription: Subscription) -> Ended
+        requires given { BelongsTo self.old subscription }
+        ensures journal { self.new.journal ≡ self.old.journal ++ Call.Left subscription.lane ∷ [] }
+        ensures at { result.at ≡ subscription.at }
+        ensures taken { result.taken ≡ length (taken self.old subscription) }
+        ensures closed { result.closed ≡ subscription.closed_told }
+
+        // What was taken begins what was due.
+        ensures front { IsFront (taken self.old subscription) (due self.old.journal subscription.at) }
+        ensures kept { IsFaithful self.new }
+    {
+        let Subscription {
+            lane,
+            at,
+            start: _,
+            opening: _,
+            count,
+            closed_told,
+        } = subscription;
+        self.lanes[lane as usize] = false;
+        self.journal.push_reserved(Call::Left(lane));
+        Ended {
+            at,
+            taken: count as u64,
+            closed: closed_told,
+        }
+    }
+
+    /// Ends the log: no post and no subscription is accepted from now on.
+    pub fn close(&mut self) -> Result<(), AlreadyClosed>
+        ensures journal { OnOk result (self.new.journal ≡ self.old.journal ++ Call.Closed ∷ []) }
+        ensures kept { IsFaithful self.new }
+        ensures closed { IsErr result ↔ IsTrue (is_closed self.old.journal) }
+        ensures err { OnErr result (self.new ≡ self.old) }
+    {
+        if self.closed {
+            return Err(AlreadyClosed);
+        }
+        self.closed = true;
+        self.journal.push_reserved(Call::Closed);
+        Ok(())
+    }
+}
+
+// The lowest lane that isn't open.
+fn idle_lane(lanes: &[bool; 8]) -> Option<usize>
+    ensures some { IfSome result (IsLowestFalse lanes.now) }
+    ensures none { IfNone result ((lane : ℕ) → lane < 8 → slice_index_or lanes.now lane false ≡ true) }
+{
+    for i in 0..8usize {
+        if !lanes[i] {
+            return Some(i);
+        }
+    }
+    None
+}

@@ -1,0 +1,27 @@
+//! The in-memory alert provider for one thread: the Book, its journal, and the subscriptions to it.
+//!
+//! This crate decides nothing about alerts: what two reports of one label set become is said by `am_alert`.
+#![tactic(auto)]
+
+mod advance;
+mod book;
+mod call;
+mod ended;
+mod faults;
+mod laws;
+mod pass;
+mod posted;
+mod reading;
+mod step;
+mod store;
+mod subscription;
+
+pub use book::Book;
+pub use call::Call;
+pub use ended::Ended;
+pub use faults::{AlreadyClosed, PutFault, SubFault};
+pub use laws::stays;
+pub use pass::Pass;
+pub use posted::Posted;
+pub use step::Step;
+pub use subscription::Subscription;

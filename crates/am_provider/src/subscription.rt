@@ -1,0 +1,111 @@
+//! A subscriber's place in a Book.
+
+ghost use Rattle.std.specs.Prelude.{◌≡◌, ◌-◌, ◌<◌, ◌^◌, ⊤, Some, slice_get, length};
+ghost use Rattle.std.specs.Option.{is_some};
+
+use crate::advance::Advance;
+use crate::book::Book;
+use crate::reading::ahead;
+use crate::step::Step;
+use am_alert::{Alert, Alerts};
+use std::marker::Model;
+
+/// One subscriber's place. It is given back to its Book by `leave`.
+pub struct Subscription {
+    pub(crate) lane: u32,
+    pub(crate) at: u64,
+    pub(crate) start: usize,
+    pub(crate) opening: Alerts,
+    pub(crate) count: usize,
+    pub(crate) closed_told: bool,
+}
+
+impl Model for Subscription {
+    ghost use Rattle.am_provider.specs.BookView.{SubscriptionView, coded_subscription};
+
+    ghost Value = { SubscriptionView };
+
+    ghost coded = { coded_subscription };
+
+    ghost view = { λ a. record { lane = a.lane; at = a.at; start = a.start; opening = a.opening; count = a.count; closed_told = a.closed_told } };
+}
+
+impl Subscription {
+    ghost use Rattle.std.specs.Borrow.{sem};
+    ghost use Rattle.am_provider.specs.contracts.subscription.Subscription.{the_row};
+    ghost use mathlib.Core.Option.{none};
+    ghost use denote.Follow.{follows_so};
+    ghost use Rattle.am_provider.specs.BookView.{BelongsTo, all_of};
+    ghost use Rattle.am_provider.specs.Advances.{Advances};
+    ghost use Rattle.am_provider.specs.Answers.{Answers};
+
+    /// The lane that it has in its Book.
+    pub fn lane(&self) -> u32
+        ensures { result ≡ self.now.lane }
+    {
+        self.lane
+    }
+
+    /// How many alerts were stored at the subscription.
+    pub fn opening(&self) -> u64
+        ensures { result ≡ length self.now.opening }
+    {
+        self.opening.as_slice().len() as u64
+    }
+
+    /// Shows the next alert: first those that were stored at the subscription, then those of the log since.
+    pub fn next<'a>(&'a mut self, book: &'a Book) -> Step<'a>
+        requires given { BelongsTo book.now self.old }
+        requires few { length (all_of book.now self.old) < 2 ^ 64 }
+        ensures* after { sem 𝓛 (follows_so the_row the_row self.entry.ghost_name none (λ _ _. ⊤)
+            (λ new. Answers book.now self.old result new)) }
+    {
+        match self.advance(book) {
+            Advance::Item => Step::Item(self.last(book)),
+            Advance::Pending => Step::Pending,
+            Advance::Closed => Step::Closed,
+        }
+    }
+
+    // Counts the next alert as taken, where there is one.
+    fn advance(&mut self, book: &Book) -> Advance
+        requires given { BelongsTo book.now self.old }
+        requires few { length (all_of book.now self.old) < 2 ^ 64 }
+        ensures { Advances book.now self.old result self.new }
+    {
+        if self.has_more(book) {
+            self.count += 1;
+            return Advance::Item;
+        }
+        if book.closed {
+            self.closed_told = true;
+            return Advance::Closed;
+        }
+        Advance::Pending
+    }
+
+    // Whether there is more to take.
+    fn has_more(&self, book: &Book) -> bool
+        requires { BelongsTo book.now self.now }
+        ensures { result ≡ is_some (slice_get (all_of book.now self.now) self.now.count) }
+    {
+        ahead(self.opening.as_slice(), &book.log, self.start, self.count).is_some()
+    }
+
+    // The alert that was taken last.
+    fn last<'b>(&'b self, book: &'b Book) -> &'b Alert
+        requires given { BelongsTo book.now self.now }
+        requires some { 0 < self.now.count }
+        ensures { slice_get (all_of book.now self.now) (self.now.count - 1) ≡ Some result.now }
+    {
+        match ahead(
+            self.opening.as_slice(),
+            &book.log,
+            self.start,
+            self.count - 1,
+        ) {
+            Some(alert) => alert,
+            None => unreachable!(),
+        }
+    }
+}
