@@ -18,7 +18,7 @@ use Rattle.am_provider.specs.Lanes.{IsLowestFalse, open_count}
 use Rattle.am_provider.specs.BookInside.{view_of, IsSound}
 use Rattle.am_provider.proofs.Stored.{by_bool}
 use Rattle.am_provider.proofs.Journals.{cast_parts, open_last}
-use Rattle.am_provider.proofs.Kept.{Grows, sound_grown, or_false, enough}
+use Rattle.am_provider.proofs.Kept.{Grows, sound_grown, or_false, enough, limits_same}
 
 -- ---- what is due to a subscription
 
@@ -65,9 +65,9 @@ or_cond false false = refl
 
 pub sound_subscribed : (a b : Inside) (lane : ℕ) → IsSound a → a.closed ≡ false → IsLowestFalse a.lanes lane
     → b.journal.items ≡ a.journal.items ++ Subscribed lane ∷ []
-    → b.stored ≡ a.stored → b.log ≡ a.log → b.lanes ≡ set a.lanes lane true → b.closed ≡ a.closed
+    → b.stored ≡ a.stored → b.log ≡ a.log → b.lanes ≡ set a.lanes lane true → b.closed ≡ a.closed → b.posts ≡ a.posts
     → vec_len b.journal + 9 ≤ vec_capacity b.journal → IsSound b
-sound_subscribed a b lane sound still low journal store log lanes closed room =
+sound_subscribed a b lane sound still low journal store log lanes closed posts room =
     let within : lane < length a.lanes = omega (arith, low.within, sound.eight) in
     let eight : length b.lanes ≡ length a.lanes = ap length lanes ∙ length-set a.lanes lane true in
     sound_grown a b (Subscribed lane) sound (
@@ -85,6 +85,8 @@ sound_subscribed a b lane sound still low journal store log lanes closed room =
       closed = closed ∙ sym (or_false a.closed);
       eight = eight;
       lanes = λ other h. ap (λ lanes. get_or lanes other false) lanes ∙ (flag_set a.lanes lane other true within ∙ or_cond (get_or a.lanes other false) (nat_eq lane other));
+      posts = omega (arith, posts);
+      limits = limits_same a b sound log;
       room = enough b (eight ∙ sound.eight) room;
     })
 
@@ -128,9 +130,9 @@ cleared_cond was t = refl
 
 pub sound_left : (a b : Inside) (sub : SubscriptionView) → IsSound a → BelongsTo (view_of a) sub
     → b.journal.items ≡ a.journal.items ++ Left sub.lane ∷ []
-    → b.stored ≡ a.stored → b.log ≡ a.log → b.lanes ≡ set a.lanes sub.lane false → b.closed ≡ a.closed
+    → b.stored ≡ a.stored → b.log ≡ a.log → b.lanes ≡ set a.lanes sub.lane false → b.closed ≡ a.closed → b.posts ≡ a.posts
     → (vec_len b.journal ≡ vec_len a.journal + 1) × (vec_capacity a.journal ≤ vec_capacity b.journal) → IsSound b
-sound_left a b sub sound of journal store log lanes closed room =
+sound_left a b sub sound of journal store log lanes closed posts room =
     let low = lane_of (view_of a) sub sound.kept of in
     let within : sub.lane < length a.lanes = omega (arith, low, sound.eight) in
     let eight : length b.lanes ≡ length a.lanes = ap length lanes ∙ length-set a.lanes sub.lane false in
@@ -144,5 +146,7 @@ sound_left a b sub sound of journal store log lanes closed room =
       closed = closed ∙ sym (or_false a.closed);
       eight = eight;
       lanes = λ other h. ap (λ lanes. get_or lanes other false) lanes ∙ flag_set a.lanes sub.lane other false within;
+      posts = omega (arith, posts);
+      limits = limits_same a b sound log;
       room = omega (arith, sound.room, room.0, room.1);
     })

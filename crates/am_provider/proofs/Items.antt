@@ -1,6 +1,9 @@
 -- Items of lists one after another.
-use Rattle.std.proofs.Common.{◌≡◌, ℕ, zero, suc, ◌+◌, ◌-◌, ◌<◌, ◌≤◌, Bool, true, false, List, [], ◌∷◌, ◌++◌, length, take, drop, get_or, Option, Some, None, refl, sym, ap, subst, ◌∙◌, arith}
-use Rattle.std.specs.List.{slice_get}
+use Rattle.std.proofs.Common.{◌≡◌, ℕ, zero, suc, ◌*◌, ◌^◌, length-drop, ◌+◌, ◌-◌, ◌<◌, ◌≤◌, Bool, true, false, List, [], ◌∷◌, ◌++◌, length, take, drop, get_or, Option, Some, None, refl, sym, ap, subst, ◌∙◌, arith}
+use Rattle.std.specs.List.{slice_get, All}
+use Rattle.std.proofs.lemmas.List.Elements.{All-drop}
+use Rattle.am_provider.specs.declared.book.Book.TheInside.{Inside}
+use Rattle.am_provider.specs.BookInside.{view_of, IsWithinLimits, IsSound}
 use Rattle.std.proofs.Math.Seq.{drop-cons}
 use Rattle.am_alert.specs.declared.alert.Alert.{Alert}
 use Rattle.am_provider.specs.Cast.{items_of, due}
@@ -60,6 +63,29 @@ start_within book sub kept of =
     let parts : length book.log ≡ length (cast (take sub.at book.journal)) + length (cast_from (steps (take sub.at book.journal)) (drop sub.at book.journal)) =
     ap length (kept.log ∙ cast_parts book.journal sub.at) ∙ length-append (cast (take sub.at book.journal)) (cast_from (steps (take sub.at book.journal)) (drop sub.at book.journal)) in
     omega (arith, of.start)
+
+-- ---- how much there can be
+
+items_small : (batches : List (List Alert)) → All (λ batch. length batch ≤ 1024) batches → length (items_of batches) ≤ 1024 * length batches
+items_small [] short = omega arith
+items_small (batch ∷ batches) short =
+    let first : length batch ≤ 1024 = short 0 batch (omega arith) in
+    let others : length (items_of batches) ≤ 1024 * length batches = items_small batches (λ k d h. short (suc k) d (omega arith)) in
+    omega (arith, length-append batch (items_of batches), first, others)
+
+-- memory bounds the opening, and the log's limits bound what comes after
+pub all_small : (fields : Inside) (book : BookView) (sub : SubscriptionView) → IsSound fields → view_of fields ≡ book → length sub.opening < 2 ^ 63 → length (all_of book sub) < 2 ^ 64
+all_small fields book sub sound view opening =
+    let limits : IsWithinLimits book.log = subst (λ (seen : BookView). IsWithinLimits seen.log) view sound.limits in
+    let since = items_small (drop sub.start book.log) (All-drop (λ batch. length batch ≤ 1024) sub.start book.log limits.batches) in
+    let fewer : length (drop sub.start book.log) ≤ length book.log = omega (arith, length-drop sub.start book.log) in
+    let places : length book.log ≤ 2251799813685248 = limits.places in
+    omega (arith, length-append sub.opening (items_of (drop sub.start book.log)), since, fewer, places, opening)
+
+pub more_within : (xs : List Alert) (n : ℕ) → true ≡ is_some (slice_get xs n) → n < length xs
+more_within [] n e = (cc)
+more_within (x ∷ xs) zero e = omega arith
+more_within (x ∷ xs) (suc n) e = let h = more_within xs n e in omega arith
 
 pub shows_item : (book : BookView) (old new : SubscriptionView) → new ≡ record old { count = old.count + 1 } → true ≡ is_some (slice_get (all_of book old) old.count) → Advances book old Item new
 shows_item book old new e more =

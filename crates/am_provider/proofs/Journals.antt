@@ -2,13 +2,14 @@
 use Rattle.std.proofs.Common.{◌≡◌, ◌≢◌, ℕ, zero, suc, ◌+◌, ◌<◌, ◌≤◌, Bool, true, false, cond, ◌||◌, nat_eq, List, [], ◌∷◌, ◌++◌, map, length, take, drop, Option, Some, None, refl, sym, ap, subst, ◌∙◌, arith, ◌⊎◌, inl, inr}
 use Rattle.std.specs.List.{slice_get, flat_map, list_any}
 use Rattle.std.proofs.lemmas.List.{append_assoc, append-nil, take_all, take-append-le}
+use Rattle.std.proofs.lemmas.List.Sums.{sum_by-append}
 use Rattle.std.proofs.lemmas.Grind.{flat_map-append, common_steps}
 use Rattle.am_alert.specs.declared.alert.Alert.{Alert}
 use Rattle.am_provider.specs.declared.call.Call.{Call}
 use Rattle.am_provider.specs.declared.call.Call.TheVariants.{Posted, Collected, Subscribed, Left, Closed}
 use Rattle.am_provider.specs.Stored.{Step, Report, Collect, steps_of, steps, stored}
 use Rattle.am_provider.specs.Cast.{batch_of, batches_of, cast_from, cast, items_of, due, IsFront}
-use Rattle.am_provider.specs.Journal.{closes, is_closed, open_after, open_from, is_open, MayFollow, IsLegal}
+use Rattle.am_provider.specs.Journal.{closes, is_closed, is_post, posts_of, open_after, open_from, is_open, MayFollow, IsLegal}
 use Rattle.am_provider.specs.AlertList.{absorb_each_into, batch_by_list}
 use Rattle.am_provider.proofs.Stored.{stored_post, batch_of_post, stored_collect}
 
@@ -27,6 +28,9 @@ cast_last calls c = cast_from_last [] calls c
 pub closed_last : (calls : List Call) (c : Call) → is_closed (calls ++ c ∷ []) ≡ (is_closed calls || closes c)
 closed_last [] c = elim (closes c) as (λ b. (b || false) ≡ b) [ true ↦ refl | false ↦ refl ]
 closed_last (d ∷ calls) c = ap (λ b. closes d || b) (closed_last calls c) ∙ elim (closes d) as (λ b. (b || (is_closed calls || closes c)) ≡ ((b || is_closed calls) || closes c)) [ true ↦ refl | false ↦ refl ]
+
+pub posts_last : (calls : List Call) (c : Call) → posts_of (calls ++ c ∷ []) ≡ posts_of calls + posts_of (c ∷ [])
+posts_last calls c = sum_by-append (λ (call : Call). cond (is_post call) 1 0) calls (c ∷ [])
 
 open_from_last : (lane : ℕ) (was : Bool) (calls : List Call) (c : Call) → open_from lane was (calls ++ c ∷ []) ≡ open_after lane (open_from lane was calls) c
 open_from_last lane was [] c = refl

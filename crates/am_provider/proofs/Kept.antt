@@ -1,8 +1,10 @@
 -- A book stays sound as a call comes.
-use Rattle.std.proofs.Common.{◌≡◌, ◌≢◌, ℕ, zero, suc, ◌+◌, ◌<◌, ◌≤◌, Bool, true, false, not, cond, ◌||◌, ◌&&◌, nat_eq, List, [], ◌∷◌, ◌++◌, length, get_or, Option, Some, None, refl, sym, ap, subst, ◌∙◌, arith, filter}
+use Rattle.std.proofs.Common.{◌≡◌, ◌≢◌, ℕ, zero, suc, ◌+◌, ◌<◌, ◌≤◌, Bool, true, false, not, cond, ◌||◌, ◌&&◌, nat_eq, List, [], ◌∷◌, ◌++◌, length, get_or, Option, Some, None, refl, sym, ap, subst, ◌∙◌, arith, filter, length-append, ◌^◌}
 use Rattle.std.specs.Vec.{vec_len, vec_capacity}
 use Rattle.am_provider.specs.Lanes.{open_count}
 use Rattle.std.proofs.lemmas.List.{append-nil}
+use Rattle.std.proofs.lemmas.List.Elements.{All-append}
+use Rattle.std.proofs.lemmas.List.Sums.{count_by-le-length}
 use Rattle.am_alert.specs.declared.alert.Alert.{Alert}
 use Rattle.am_alert.specs.Merging.{is_resolved_at}
 use Rattle.am_provider.specs.declared.call.Call.{Call}
@@ -10,12 +12,12 @@ use Rattle.am_provider.specs.declared.call.Call.TheVariants.{Posted, Collected, 
 use Rattle.am_provider.specs.declared.book.Book.TheInside.{Inside}
 use Rattle.am_provider.specs.Stored.{Step, Report, Collect, steps_of, steps, stored}
 use Rattle.am_provider.specs.Cast.{batch_of, batches_of, cast}
-use Rattle.am_provider.specs.Journal.{closes, is_closed, open_after, is_open, MayFollow, IsLegal}
+use Rattle.am_provider.specs.Journal.{closes, is_closed, is_post, posts_of, open_after, is_open, MayFollow, IsLegal}
 use Rattle.am_provider.specs.AlertList.{absorb_each_into, batch_by_list}
 use Rattle.am_provider.specs.BookView.{BookView, IsFaithful}
-use Rattle.am_provider.specs.BookInside.{view_of, IsSound}
+use Rattle.am_provider.specs.BookInside.{view_of, IsWithinLimits, IsSound}
 use Rattle.am_provider.proofs.Stored.{stored_post, batch_of_post, stored_collect}
-use Rattle.am_provider.proofs.Journals.{steps_last, cast_last, closed_last, open_last, legal_last}
+use Rattle.am_provider.proofs.Journals.{steps_last, cast_last, posts_last, closed_last, open_last, legal_last}
 
 pub record Grows (a b : Inside) (c : Call) : Type 0 where
   pub journal : b.journal.items ≡ a.journal.items ++ c ∷ []
@@ -24,6 +26,8 @@ pub record Grows (a b : Inside) (c : Call) : Type 0 where
   pub closed : b.closed ≡ (a.closed || closes c)
   pub eight : length b.lanes ≡ length a.lanes
   pub lanes : (lane : ℕ) → lane < 8 → get_or b.lanes lane false ≡ open_after lane (get_or a.lanes lane false) c
+  pub posts : b.posts ≡ a.posts + posts_of (c ∷ [])
+  pub limits : IsWithinLimits b.log.items
   pub room : vec_len b.journal + open_count b.lanes + cond b.closed 0 1 ≤ vec_capacity b.journal
 
 pub sound_grown : (a b : Inside) (c : Call) → IsSound a → MayFollow a.journal.items c → Grows a b c → IsSound b
@@ -36,6 +40,8 @@ sound_grown a b c sound may grows = record {
   eight = grows.eight ∙ sound.eight;
   closed = grows.closed ∙ (ap (λ b. b || closes c) sound.closed ∙ sym (ap is_closed grows.journal ∙ closed_last a.journal.items c));
   lanes = λ lane h. grows.lanes lane h ∙ (ap (λ was. open_after lane was c) (sound.lanes lane h) ∙ sym (ap (λ calls. is_open calls lane) grows.journal ∙ open_last a.journal.items c lane));
+  posts = grows.posts ∙ (ap (λ n. n + posts_of (c ∷ [])) sound.posts ∙ sym (ap posts_of grows.journal ∙ posts_last a.journal.items c));
+  limits = grows.limits;
   room = grows.room;
 }
 
@@ -66,26 +72,80 @@ enough b eight room =
     let y : cond b.closed 0 1 ≤ 1 = at_most_one b.closed in
     omega arith
 
+-- ---- limits
+
+at_most : (k : ℕ) (d batch : List Alert) → length batch ≤ 1024 → k < 1 → length (get_or (batch ∷ []) k d) ≤ 1024
+at_most zero d batch h l = h
+at_most (suc k) d batch h l = absurd (omega arith)
+
+limits_grown : (log : List (List Alert)) (batch : List Alert) → IsWithinLimits log → length batch ≤ 1024 → (0 < length batch → length log < 2251799813685248)
+    → IsWithinLimits (cond (nat_eq (length batch) 0) log (log ++ batch ∷ []))
+limits_grown log [] limits few fits = limits
+limits_grown log (x ∷ xs) limits few fits =
+    let below : length log < 2251799813685248 = fits (omega arith) in
+    let grown : IsWithinLimits (log ++ (x ∷ xs) ∷ []) = record {
+      batches = All-append (λ batch. length batch ≤ 1024) log ((x ∷ xs) ∷ []) limits.batches (λ k d h. at_most k d (x ∷ xs) few h);
+      places = omega (arith, length-append log ((x ∷ xs) ∷ []), below)
+    } in
+    subst (λ b. IsWithinLimits (cond b log (log ++ (x ∷ xs) ∷ []))) (sym (Rattle.std.proofs.Math.Dec.eqb-suc-zero (length xs))) grown
+
+pub limits_same : (a b : Inside) → IsSound a → b.log ≡ a.log → IsWithinLimits b.log.items
+limits_same a b sound log = subst (λ log. IsWithinLimits log.items) (sym log) sound.limits
+
+pub posts_small : (a : Inside) → IsSound a → a.posts + 1 < 2 ^ 64
+posts_small a sound =
+    let le : posts_of a.journal.items ≤ length a.journal.items = count_by-le-length is_post a.journal.items in
+    let long : vec_len a.journal ≡ length a.journal.items = a.journal.ok.0 in
+    let small = a.journal.small in
+    omega (arith, sound.posts, le, long, small)
+
+-- ---- a post
+
 pub sound_posted : (a b : Inside) (now : ℕ) (news batch : List Alert) → IsSound a → a.closed ≡ false
     → b.journal.items ≡ a.journal.items ++ Posted now news ∷ []
     → b.stored.items ≡ absorb_each_into now news a.stored.items
     → b.log.items ≡ cond (nat_eq (length batch) 0) a.log.items (a.log.items ++ batch ∷ [])
     → batch ≡ batch_by_list now news a.stored.items
-    → length batch ≡ length news
-    → b.closed ≡ a.closed → b.lanes ≡ a.lanes → vec_len b.journal + 9 ≤ vec_capacity b.journal → IsSound b
-sound_posted a b now news batch sound still journal store log sent long closed lanes room =
+    → length batch ≡ length news → length news ≤ 1024 → (0 < length news → length a.log.items < 2251799813685248)
+    → b.closed ≡ a.closed → b.lanes ≡ a.lanes → b.posts ≡ a.posts + 1 → vec_len b.journal + 9 ≤ vec_capacity b.journal → IsSound b
+sound_posted a b now news batch sound still journal store log sent long few fits closed lanes posts room =
     let same = batch_of_post (steps a.journal.items) now news ∙ ap (batch_by_list now news) (sym sound.kept.stored) in
+    let short : length batch ≤ 1024 = omega arith in
+    let below : 0 < length batch → length a.log.items < 2251799813685248 = λ h. fits (omega arith) in
     sound_grown a b (Posted now news) sound (sym sound.closed ∙ still) (record {
       journal = journal;
       stored = store ∙ sym (stored_post (steps a.journal.items) now news ∙ ap (absorb_each_into now news) (sym sound.kept.stored));
       log = log ∙ (ap (λ n. cond (nat_eq n 0) a.log.items (a.log.items ++ batch ∷ [])) long
-          ∙ (cond_append (nat_eq (length news) 0) a.log.items batch
-          ∙ ap (λ sent. a.log.items ++ sent) (ap (λ x. cond (nat_eq (length news) 0) [] (x ∷ [])) (sent ∙ sym same) ∙ sym (batches_posted (steps a.journal.items) now news))));
+        ∙ (cond_append (nat_eq (length news) 0) a.log.items batch
+        ∙ ap (λ sent. a.log.items ++ sent) (ap (λ x. cond (nat_eq (length news) 0) [] (x ∷ [])) (sent ∙ sym same) ∙ sym (batches_posted (steps a.journal.items) now news))));
       closed = closed ∙ sym (or_false a.closed);
       eight = ap length lanes;
       lanes = λ lane h. ap (λ lanes. get_or lanes lane false) lanes;
-      room = enough b (ap length lanes ∙ sound.eight) room;
+      posts = posts;
+      limits = subst IsWithinLimits (sym log) (limits_grown a.log.items batch sound.limits short below);
+      room = enough b (ap length lanes ∙ sound.eight) room
     })
+
+-- ---- a collection
+
+pub sound_collected : (a b : Inside) (now : ℕ) → IsSound a
+    → b.journal.items ≡ a.journal.items ++ Collected now ∷ []
+    → b.stored.items ≡ filter (λ alert. not (is_resolved_at now alert)) a.stored.items
+    → b.log ≡ a.log → b.closed ≡ a.closed → b.lanes ≡ a.lanes → b.posts ≡ a.posts → vec_len b.journal + 9 ≤ vec_capacity b.journal → IsSound b
+sound_collected a b now sound journal store log closed lanes posts room =
+    sound_grown a b (Collected now) sound tt (record {
+      journal = journal;
+      stored = store ∙ sym (stored_collect (steps a.journal.items) now ∙ ap (filter (λ alert. not (is_resolved_at now alert))) (sym sound.kept.stored));
+      log = ap (λ log. log.items) log ∙ sym (append-nil a.log.items);
+      closed = closed ∙ sym (or_false a.closed);
+      eight = ap length lanes;
+      lanes = λ lane h. ap (λ lanes. get_or lanes lane false) lanes;
+      posts = omega (arith, posts);
+      limits = limits_same a b sound log;
+      room = enough b (ap length lanes ∙ sound.eight) room
+    })
+
+-- ---- the end of the log
 
 or_true : (b : Bool) → (b || true) ≡ true
 or_true true = refl
@@ -101,9 +161,9 @@ closed_room a b old still closed lanes room =
 
 pub sound_closed : (a b : Inside) → IsSound a → a.closed ≡ false
     → b.journal.items ≡ a.journal.items ++ Closed ∷ []
-    → b.stored ≡ a.stored → b.log ≡ a.log → b.lanes ≡ a.lanes → b.closed ≡ true
+    → b.stored ≡ a.stored → b.log ≡ a.log → b.lanes ≡ a.lanes → b.posts ≡ a.posts → b.closed ≡ true
     → (vec_len b.journal ≡ vec_len a.journal + 1) × (vec_capacity a.journal ≤ vec_capacity b.journal) → IsSound b
-sound_closed a b sound still journal store log lanes closed room =
+sound_closed a b sound still journal store log lanes posts closed room =
     sound_grown a b Closed sound (sym sound.closed ∙ still) (record {
       journal = journal;
       stored = ap (λ s. s.items) store ∙ (sound.kept.stored ∙ ap stored (sym (append-nil (steps a.journal.items))));
@@ -111,5 +171,7 @@ sound_closed a b sound still journal store log lanes closed room =
       closed = closed ∙ sym (or_true a.closed);
       eight = ap length lanes;
       lanes = λ lane h. ap (λ lanes. get_or lanes lane false) lanes;
+      posts = omega (arith, posts);
+      limits = limits_same a b sound log;
       room = closed_room a b sound.room still closed lanes room;
     })

@@ -1,14 +1,22 @@
 -- The fields of a Book, and what always holds of them.
-use Rattle.std.specs.Prelude.{◌≡◌, ℕ, ◌<◌, ◌≤◌, ◌+◌, false, if◌then◌else◌, length, slice_index_or}
+use Rattle.std.specs.Prelude.{◌≡◌, ℕ, ◌<◌, ◌≤◌, ◌+◌, false, List, if◌then◌else◌, length, slice_index_or}
+use Rattle.std.specs.List.{All}
 use Rattle.std.specs.Vec.{vec_len, vec_capacity}
 use Rattle.am_provider.specs.declared.book.Book.TheInside.{Inside}
+use Rattle.am_alert.specs.declared.alert.Alert.{Alert}
+use Rattle.am_provider.specs.declared.book.TheConstants.{LOG_END}
 use Rattle.am_provider.specs.Lanes.{open_count}
-use Rattle.am_provider.specs.Journal.{is_closed, is_open}
+use Rattle.am_provider.specs.Journal.{is_closed, is_open, posts_of}
 use Rattle.am_provider.specs.BookView.{BookView, IsFaithful}
 
 -- a Book's fields as contracts see them
 abbrev pub view_of : Inside → BookView
 view_of fields = record { stored = fields.stored.items; journal = fields.journal.items; log = fields.log.items }
+
+-- a log within its limits: 1,024 alerts in a batch, and no place past the end
+pub record IsWithinLimits (log : List (List Alert)) : Type 0 where
+  pub batches : All (λ batch. length batch ≤ 1024) log
+  pub places : length log ≤ LOG_END
 
 -- the fields agree with the journal, and the journal has room for what may come without memory: a Left for each
 -- open lane, and a Closed
@@ -17,4 +25,6 @@ pub record IsSound (fields : Inside) : Type 0 where
   pub eight : length fields.lanes ≡ 8
   pub closed : fields.closed ≡ is_closed fields.journal.items
   pub lanes : (lane : ℕ) → lane < 8 → slice_index_or fields.lanes lane false ≡ is_open fields.journal.items lane
+  pub posts : fields.posts ≡ posts_of fields.journal.items
+  pub limits : IsWithinLimits fields.log.items
   pub room : vec_len fields.journal + open_count fields.lanes + (if fields.closed then 0 else 1) ≤ vec_capacity fields.journal

@@ -1,6 +1,6 @@
 -- The journal of accepted calls: when its log is closed, which lanes are open, and which call may come next.
 use Rattle.std.specs.Prelude.{◌≡◌, ℕ, ◌<◌, Bool, true, false, ◌||◌, if◌then◌else◌, nat_eq, List, [], ◌∷◌, take, slice_get, Some}
-use Rattle.std.specs.List.{list_any}
+use Rattle.std.specs.List.{count_by, list_any}
 use Rattle.am_provider.specs.declared.call.Call.{Call}
 use Rattle.am_provider.specs.declared.call.Call.TheVariants.{Posted, Collected, Subscribed, Left, Closed}
 
@@ -15,6 +15,18 @@ closes Closed = true
 -- whether the log was ended
 abbrev pub is_closed : List Call → Bool
 is_closed calls = list_any closes calls
+
+-- whether a call is a post
+abbrev pub is_post : Call → Bool
+is_post (Posted now alerts) = true
+is_post (Collected now) = false
+is_post (Subscribed lane) = false
+is_post (Left lane) = false
+is_post Closed = false
+
+-- how many posts there were, with an alert or without
+abbrev pub posts_of : List Call → ℕ
+posts_of calls = count_by is_post calls
 
 -- whether a lane is open after one more call
 abbrev pub open_after : ℕ → Bool → Call → Bool

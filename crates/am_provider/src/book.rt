@@ -8,18 +8,21 @@
 
 ghost use Rattle.std.specs.Prelude.{◌≡◌, ◌↔◌, ◌≤◌, ◌<◌, [], ◌∷◌, ◌++◌, IfOk, OnOk, OnErr, IsErr, IsErrOf, IsTrue, IfSome, IfNone};
 ghost use Rattle.std.specs.Prelude.{None, Some, false, true, length, nat_eq, if◌then◌else◌, ℕ, slice_index_or};
+ghost use Rattle.std.specs.Prelude.{not, filter, count_by};
 ghost use Rattle.std.specs.List.{range_with_len};
-ghost use Rattle.am_provider.specs.Journal.{is_closed, AreAllOpen};
+ghost use Rattle.am_alert.specs.Merging.{is_resolved_at};
+ghost use Rattle.am_provider.specs.Journal.{is_closed, posts_of, AreAllOpen};
 ghost use Rattle.am_provider.specs.Cast.{due, IsFront};
 ghost use Rattle.am_provider.specs.Lanes.{IsLowestFalse};
 ghost use Rattle.am_provider.specs.BookView.{BookView, IsFaithful, BelongsTo, taken};
 
 use crate::call::Call;
+use crate::counts::Counts;
 use crate::ended::Ended;
 use crate::faults::{AlreadyClosed, PutFault, SubFault};
 use crate::pass::Pass;
 use crate::posted::Posted;
-use crate::store::{absorb_each_into, broadcast, copy_each};
+use crate::store::{absorb_each_into, broadcast, copy_each, remove_resolved};
 use crate::subscription::Subscription;
 use am_alert::{Alert, Alerts, Moment, Post};
 use std::alloc::{AllocError, Global};
@@ -41,8 +44,10 @@ pub struct Book {
     // It has room for a Left of each open lane and, until the log is ended, for a Closed.
     journal: Vec<Call>,
     pub(crate) log: Vec<Alerts>,
+    // How many posts the journal has.
+    posts: u64,
     // Which lanes are open.
-    lanes: [bool; 8],
+    lanes: [bool; LANES],
     pub(crate) closed: bool,
 }
 
@@ -79,7 +84,8 @@ impl Book {
             stored: Vec::new(alloc),
             journal,
             log: Vec::new(alloc),
-            lanes: [false; 8],
+            posts: 0,
+            lanes: [false; LANES],
             closed: false,
         };
         Ok((book, passes))
@@ -97,7 +103,7 @@ impl Book {
 
         ensures closed { IsErrOf result PutFault.Closed ↔ IsTrue (is_closed self.old.journal) }
         ensures log_end { IsErrOf result PutFault.LogEnd
-            ↔ ((is_closed self.old.journal ≡ false) × (0 < length post.valid) × (LOG_END ≤ length self.old.log)) }
+            ↔ ((is_closed self.old.journal ≡ false) × (0 < length post.valid) × (length self.old.log ≡ LOG_END)) }
         ensures err { OnErr result (self.new ≡ self.old) }
     {
         if self.closed {
@@ -117,6 +123,7 @@ impl Book {
         let place = broadcast(&mut self.log, batch);
         self.journal
             .push_reserved(Call::Posted { now, alerts: valid });
+        self.posts += 1;
         Ok(Posted {
             valid: count as u32,
             place,
@@ -190,6 +197,35 @@ impl Book {
         }
     }
 
+    /// Removes the stored alerts that are resolved, and answers how many. Subscribers are not told. It is accepted
+    /// after the log's end too.
+    pub fn collect_resolved(&mut self, now: Moment) -> Result<u64, AllocError>
+        ensures journal { OnOk result (self.new.journal ≡ self.old.journal ++ Call.Collected now ∷ []) }
+        ensures removed { IfOk result (λ removed. removed ≡ count_by (is_resolved_at now) self.old.stored) }
+        ensures stored {
+            OnOk result (self.new.stored ≡ filter (λ alert. not (is_resolved_at now alert)) self.old.stored) }
+        ensures kept { IsFaithful self.new }
+        ensures err { OnErr result (self.new ≡ self.old) }
+    {
+        self.journal.reserve(ENTRIES)?;
+        let removed = remove_resolved(&mut self.stored, now);
+        self.journal.push_reserved(Call::Collected(now));
+        Ok(removed)
+    }
+
+    /// How many places, posts and stored alerts there are.
+    pub fn counts(&self) -> Counts
+        ensures places { result.places ≡ length self.now.log }
+        ensures posts { result.posts ≡ posts_of self.now.journal }
+        ensures stored { result.stored ≡ length self.now.stored }
+    {
+        Counts {
+            places: self.log.len() as u64,
+            posts: self.posts,
+            stored: self.stored.len() as u64,
+        }
+    }
+
     /// Ends the log: no post and no subscription is accepted from now on.
     pub fn close(&mut self) -> Result<(), AlreadyClosed>
         ensures journal { OnOk result (self.new.journal ≡ self.old.journal ++ Call.Closed ∷ []) }
@@ -207,11 +243,11 @@ impl Book {
 }
 
 // The lowest lane that isn't open.
-fn idle_lane(lanes: &[bool; 8]) -> Option<usize>
+fn idle_lane(lanes: &[bool; LANES]) -> Option<usize>
     ensures some { IfSome result (IsLowestFalse lanes.now) }
     ensures none { IfNone result ((lane : ℕ) → lane < 8 → slice_index_or lanes.now lane false ≡ true) }
 {
-    for i in 0..8usize {
+    for i in 0..LANES {
         if !lanes[i] {
             return Some(i);
         }

@@ -6,6 +6,7 @@
 mod advance;
 mod book;
 mod call;
+mod counts;
 mod ended;
 mod faults;
 mod laws;
@@ -18,6 +19,7 @@ mod subscription;
 
 pub use book::Book;
 pub use call::Call;
+pub use counts::Counts;
 pub use ended::Ended;
 pub use faults::{AlreadyClosed, PutFault, SubFault};
 pub use laws::stays;

@@ -1,7 +1,7 @@
 //! The stored alerts as a list, and the log that batches go to.
 
-ghost use Rattle.std.specs.Prelude.{◌≡◌, ◌<◌, ◌++◌, ◌∷◌, [], IfOk, IfSome, IfNone, true, Some, None, if◌then◌else◌, nat_eq, length, vec_len, vec_capacity};
-ghost use Rattle.am_alert.specs.Merging.{absorbed};
+ghost use Rattle.std.specs.Prelude.{◌≡◌, ◌<◌, ◌++◌, ◌∷◌, [], IfOk, IfSome, IfNone, true, Some, None, if◌then◌else◌, nat_eq, length, vec_len, vec_capacity, not, filter, count_by};
+ghost use Rattle.am_alert.specs.Merging.{absorbed, is_resolved_at};
 ghost use Rattle.am_provider.specs.AlertList.{lookup, absorb_into, absorb_each_into, batch_by_list, absent, IsPositionOf};
 
 use am_alert::{Alert, Alerts, Moment, absorb};
@@ -73,6 +73,16 @@ pub(crate) fn copy_each(alloc: Global, alerts: &[Alert]) -> Result<Vec<Alert>, A
         copy.push(alert.copy()?)?;
     }
     Ok(copy)
+}
+
+// Removes what is resolved, and answers how many alerts that were.
+pub(crate) fn remove_resolved(store: &mut Vec<Alert>, now: Moment) -> u64
+    ensures store { store.new.items ≡ filter (λ alert. not (is_resolved_at now alert)) store.old.items }
+    ensures removed { result ≡ count_by (is_resolved_at now) store.old.items }
+{
+    let before = store.len();
+    store.retain(|alert| !alert.resolved_at(now));
+    (before - store.len()) as u64
 }
 
 // Adds a batch to the log, where it has an alert, and answers its place.

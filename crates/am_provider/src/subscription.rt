@@ -21,6 +21,7 @@ pub struct Subscription {
 }
 
 impl Model for Subscription {
+    ghost use Rattle.std.specs.Prelude.{◌<◌, ◌^◌, length};
     ghost use Rattle.am_provider.specs.BookView.{SubscriptionView, coded_subscription};
 
     ghost Value = { SubscriptionView };
@@ -28,6 +29,9 @@ impl Model for Subscription {
     ghost coded = { coded_subscription };
 
     ghost view = { λ a. record { lane = a.lane; at = a.at; start = a.start; opening = a.opening; count = a.count; closed_told = a.closed_told } };
+
+    // What is stored fits in memory.
+    ghost invariant = { λ a. length a.opening < 2 ^ 63 };
 }
 
 impl Subscription {
@@ -55,8 +59,7 @@ impl Subscription {
 
     /// Shows the next alert: first those that were stored at the subscription, then those of the log since.
     pub fn next<'a>(&'a mut self, book: &'a Book) -> Step<'a>
-        requires given { BelongsTo book.now self.old }
-        requires few { length (all_of book.now self.old) < 2 ^ 64 }
+        requires { BelongsTo book.now self.old }
         ensures* after { sem 𝓛 (follows_so the_row the_row self.entry.ghost_name none (λ _ _. ⊤)
             (λ new. Answers book.now self.old result new)) }
     {
@@ -69,8 +72,7 @@ impl Subscription {
 
     // Counts the next alert as taken, where there is one.
     fn advance(&mut self, book: &Book) -> Advance
-        requires given { BelongsTo book.now self.old }
-        requires few { length (all_of book.now self.old) < 2 ^ 64 }
+        requires { BelongsTo book.now self.old }
         ensures { Advances book.now self.old result self.new }
     {
         if self.has_more(book) {
@@ -87,7 +89,8 @@ impl Subscription {
     // Whether there is more to take.
     fn has_more(&self, book: &Book) -> bool
         requires { BelongsTo book.now self.now }
-        ensures { result ≡ is_some (slice_get (all_of book.now self.now) self.now.count) }
+        ensures more { result ≡ is_some (slice_get (all_of book.now self.now) self.now.count) }
+        ensures countable { length (all_of book.now self.now) < 2 ^ 64 }
     {
         ahead(self.opening.as_slice(), &book.log, self.start, self.count).is_some()
     }

@@ -22,8 +22,8 @@ invariant_of-self c =
     let lane : c.subscription.inside.lane ≡ c.args.subscription.lane = ap (λ (p : SubscriptionView). p.lane) c.subscription.view_is in
     let pushed : c.push_reserved.new.self.items ≡ c.self.inside.journal.items ++ Left c.subscription.inside.lane ∷ [] = search rules in
     let journal = pushed ∙ ap (λ l. c.self.inside.journal.items ++ Left l ∷ []) lane in
-    sound_left c.self.inside (record { stored = c.self.inside.stored; journal = c.push_reserved.new.self; log = c.self.inside.log; lanes = set c.self.inside.lanes c.subscription.inside.lane false; closed = c.self.inside.closed })
-    c.args.subscription c.self.invariant of journal refl refl (ap (λ l. set c.self.inside.lanes l false) lane) refl (c.push_reserved.ensures.len, omega (arith, c.push_reserved.ensures.capacity))
+    sound_left c.self.inside (record { stored = c.self.inside.stored; journal = c.push_reserved.new.self; log = c.self.inside.log; posts = c.self.inside.posts; lanes = set c.self.inside.lanes c.subscription.inside.lane false; closed = c.self.inside.closed })
+    c.args.subscription c.self.invariant of journal refl refl (ap (λ l. set c.self.inside.lanes l false) lane) refl refl (c.push_reserved.ensures.len, omega (arith, c.push_reserved.ensures.capacity))
 
 pub returns-clause-kept : goal.returns-clause-kept
 returns-clause-kept c = (invariant_of-self c).kept

@@ -1,21 +1,27 @@
-use Rattle.std.proofs.Common.{◌≡◌, ◌+◌, true, false, ap, sym, subst, arith, rules, ◌∙◌}
+use Rattle.std.proofs.Common.{◌≡◌, ◌+◌, ◌<◌, ◌^◌, length, true, false, ap, sym, subst, arith, rules, ◌∙◌}
 use Rattle.am_provider.specs.Journal.{is_closed}
-use Rattle.am_provider.specs.BookView.{BookView, SubscriptionView, IsFaithful}
-use Rattle.am_provider.proofs.Items.{shows_item, shows_pending, shows_closed}
+use Rattle.am_provider.specs.BookView.{BookView, SubscriptionView, IsFaithful, all_of}
+use Rattle.am_provider.proofs.Items.{more_within, shows_item, shows_pending, shows_closed}
 use Rattle.am_provider.proofs.subscription.Subscription.advance.Goals as goal
+
+pub overflow_add-self : goal.overflow_add-self
+overflow_add-self c =
+    let within = more_within (all_of c.args.book.now c.args.self.now) c.args.self.now.count (sym c.if-has_more.true ∙ c.has_more.ensures.more) in
+    let count : c.self.inside.count ≡ c.args.self.now.count = ap (λ (p : SubscriptionView). p.count) c.self.view_is in
+    omega (arith, c.has_more.ensures.countable, within, count)
 
 pub returns-then-has_more : goal.returns-then-has_more
 returns-then-has_more c =
-    shows_item c.args.book.now c.args.self.now _ (ap (λ (p : SubscriptionView). record p { count = p.count + 1 }) c.self.view_is) (sym c.if-has_more.true ∙ c.has_more.ensures)
+    shows_item c.args.book.now c.args.self.now _ (ap (λ (p : SubscriptionView). record p { count = p.count + 1 }) c.self.view_is) (sym c.if-has_more.true ∙ c.has_more.ensures.more)
 
 pub returns-then-book : goal.returns-then-book
 returns-then-book c =
     let kept = subst IsFaithful c.book.view_is c.book.invariant.kept in
     let ended = ap (λ (s : BookView). is_closed s.journal) (sym c.book.view_is) ∙ (sym c.book.invariant.closed ∙ c.if-book.true) in
-    shows_closed c.args.book.now c.args.self.now _ kept c.requires.given (ap (λ (p : SubscriptionView). record p { closed_told = true }) c.self.view_is) (sym c.if-has_more.false ∙ c.has_more.ensures) ended
+    shows_closed c.args.book.now c.args.self.now _ kept c.requires (ap (λ (p : SubscriptionView). record p { closed_told = true }) c.self.view_is) (sym c.if-has_more.false ∙ c.has_more.ensures.more) ended
 
 pub returns : goal.returns
 returns c =
     let kept = subst IsFaithful c.book.view_is c.book.invariant.kept in
     let still = ap (λ (s : BookView). is_closed s.journal) (sym c.book.view_is) ∙ (sym c.book.invariant.closed ∙ c.if-book.false) in
-    shows_pending c.args.book.now c.args.self.now _ kept c.requires.given (search rules) (sym c.if-has_more.false ∙ c.has_more.ensures) still
+    shows_pending c.args.book.now c.args.self.now _ kept c.requires (search rules) (sym c.if-has_more.false ∙ c.has_more.ensures.more) still

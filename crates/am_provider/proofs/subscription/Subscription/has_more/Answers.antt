@@ -1,7 +1,7 @@
-use Rattle.std.proofs.Common.{◌≡◌, ◌≤◌, length, ap, sym, subst, arith, rules, ◌∙◌}
+use Rattle.std.proofs.Common.{◌≡◌, ◌≤◌, ◌<◌, ◌^◌, length, ap, sym, subst, arith, rules, ◌∙◌}
 use Rattle.am_alert.specs.declared.alert.Alert.{Alert}
 use Rattle.am_provider.specs.BookView.{BookView, SubscriptionView, IsFaithful}
-use Rattle.am_provider.proofs.Items.{start_within}
+use Rattle.am_provider.proofs.Items.{all_small, start_within}
 use Rattle.am_provider.proofs.subscription.Subscription.has_more.Goals as goal
 
 pub ahead-requires : goal.ahead-requires
@@ -11,3 +11,8 @@ ahead-requires c =
     let start : c.self.inside.start ≡ c.args.self.now.start = ap (λ (p : SubscriptionView). p.start) c.self.view_is in
     let log : length c.deref.result.now ≡ length c.args.book.now.log = ap length (c.deref.ensures.value ∙ ap (λ (s : BookView). s.log) c.book.view_is) in
     omega (arith, within, start, log)
+
+pub returns-clause-countable : goal.returns-clause-countable
+returns-clause-countable c =
+    all_small c.book.inside c.args.book.now c.args.self.now c.book.invariant c.book.view_is
+    (subst (λ (p : SubscriptionView). length p.opening < 2 ^ 63) c.self.view_is c.self.invariant)
