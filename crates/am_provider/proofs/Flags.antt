@@ -1,24 +1,21 @@
 -- Subscriptions and the flags of their lanes.
-use Rattle.std.proofs.Common.{◌≡◌, ◌≢◌, ℕ, zero, suc, ◌+◌, ◌<◌, ◌≤◌, Bool, true, false, not, cond, ◌||◌, ◌&&◌, nat_eq, List, [], ◌∷◌, ◌++◌, length, take, drop, get_or, set, Option, Some, None, refl, sym, ap, subst, inl, inr, ◌∙◌, arith, eq-eqb, get_or-set_same, get_or-set_other, length-set}
+use Rattle.std.proofs.Common.{◌≡◌, ℕ, zero, suc, ◌+◌, ◌<◌, ◌≤◌, Bool, true, false, cond, ◌||◌, nat_eq, List, [], ◌∷◌, ◌++◌, length, take, drop, get_or, set, Some, refl, sym, ap, inl, inr, ◌∙◌, arith, eq-eqb, get_or-set_same, get_or-set_other, length-set}
 use Rattle.std.specs.Vec.{vec_len, vec_capacity}
 use Rattle.std.specs.List.{slice_get}
-use Rattle.std.proofs.lemmas.List.{append-nil, take-append-drop, take_all, append_assoc, take-append-le}
-use Rattle.std.proofs.lemmas.Bool.{ne_eqb}
+use Rattle.std.proofs.lemmas.List.{append-nil, take-append-drop}
 use Rattle.std.proofs.lemmas.Bool.Decides.{eqb_tells}
-use Rattle.std.proofs.Math.Seq.{drop-append_seam, take-append_seam, get_or-append_seam}
-use Rattle.am_alert.specs.declared.alert.Alert.{Alert}
+use Rattle.std.proofs.Math.Seq.{drop-append_seam, take-append_seam}
 use Rattle.am_provider.specs.declared.call.Call.{Call}
-use Rattle.am_provider.specs.declared.call.Call.TheVariants.{Posted, Collected, Subscribed, Left, Closed}
+use Rattle.am_provider.specs.declared.call.Call.TheVariants.{Subscribed, Left}
 use Rattle.am_provider.specs.declared.book.Book.TheInside.{Inside}
-use Rattle.am_provider.specs.Stored.{Step, steps_of, steps, stored}
-use Rattle.am_provider.specs.Cast.{batches_of, cast, cast_from, items_of, due, IsFront}
-use Rattle.am_provider.specs.Journal.{closes, is_closed, open_after, is_open, MayFollow, IsLegal, IsLowestIdle}
+use Rattle.am_provider.specs.Stored.{steps, stored}
+use Rattle.am_provider.specs.Cast.{cast, cast_from, items_of, due, IsFront}
+use Rattle.am_provider.specs.Journal.{is_open}
 use Rattle.am_provider.specs.BookView.{BookView, IsFaithful, SubscriptionView, taken, BelongsTo}
 use Rattle.am_provider.specs.Lanes.{IsLowestFalse, open_count}
 use Rattle.am_provider.specs.BookInside.{view_of, IsSound}
-use Rattle.am_provider.proofs.Stored.{by_bool}
 use Rattle.am_provider.proofs.Journals.{cast_parts, open_last}
-use Rattle.am_provider.proofs.Kept.{Grows, sound_grown, or_false, enough, limits_same}
+use Rattle.am_provider.proofs.Kept.{sound_grown, or_false, enough, limits_same}
 
 -- ---- what is due to a subscription
 

@@ -1,5 +1,5 @@
 -- What stays as the journal grows.
-use Rattle.std.proofs.Common.{◌≡◌, ℕ, zero, suc, ◌+◌, ◌<◌, ◌≤◌, true, List, [], ◌∷◌, ◌++◌, length, take, drop, Option, Some, None, refl, sym, ap, subst, ◌∙◌, arith, length-append}
+use Rattle.std.proofs.Common.{◌≡◌, ℕ, zero, suc, ◌+◌, ◌<◌, ◌≤◌, List, [], ◌∷◌, ◌++◌, length, take, drop, Some, refl, sym, ap, ◌∙◌, arith, length-append}
 use Rattle.std.specs.List.{slice_get}
 use Rattle.std.proofs.lemmas.List.{append_assoc, take-append-le}
 use Rattle.std.proofs.lemmas.Grind.{flat_map-append}
@@ -7,9 +7,9 @@ use Rattle.am_alert.specs.declared.alert.Alert.{Alert}
 use Rattle.am_provider.specs.declared.call.Call.{Call}
 use Rattle.am_provider.specs.declared.call.Call.TheVariants.{Subscribed}
 use Rattle.am_provider.specs.Stored.{steps, stored}
-use Rattle.am_provider.specs.Cast.{cast, items_of, due, batches_of, IsFront}
+use Rattle.am_provider.specs.Cast.{cast, items_of, batches_of}
 use Rattle.am_provider.specs.Journal.{is_open, open_after}
-use Rattle.am_provider.specs.BookView.{BookView, IsFaithful, SubscriptionView, taken, BelongsTo}
+use Rattle.am_provider.specs.BookView.{BookView, IsFaithful, SubscriptionView, BelongsTo}
 use Rattle.am_provider.specs.BookView.{all_of}
 use Rattle.am_provider.specs.Laws.{StaysGiven, StaysFront}
 use Rattle.am_provider.proofs.Journals.{due_last, open_last, cast_last}

@@ -1,17 +1,13 @@
 -- One more call in a journal.
-use Rattle.std.proofs.Common.{◌≡◌, ◌≢◌, ℕ, zero, suc, ◌+◌, ◌<◌, ◌≤◌, Bool, true, false, cond, ◌||◌, nat_eq, List, [], ◌∷◌, ◌++◌, map, length, take, drop, Option, Some, None, refl, sym, ap, subst, ◌∙◌, arith, ◌⊎◌, inl, inr}
-use Rattle.std.specs.List.{slice_get, flat_map, list_any}
+use Rattle.std.proofs.Common.{◌≡◌, ℕ, zero, suc, ◌+◌, ◌<◌, ◌≤◌, Bool, true, false, cond, ◌||◌, List, [], ◌∷◌, ◌++◌, length, take, drop, Some, refl, sym, ap, subst, ◌∙◌, arith, ◌⊎◌, inl, inr}
+use Rattle.std.specs.List.{slice_get}
 use Rattle.std.proofs.lemmas.List.{append_assoc, append-nil, take_all, take-append-le}
 use Rattle.std.proofs.lemmas.List.Sums.{sum_by-append}
-use Rattle.std.proofs.lemmas.Grind.{flat_map-append, common_steps}
-use Rattle.am_alert.specs.declared.alert.Alert.{Alert}
+use Rattle.std.proofs.lemmas.Grind.{flat_map-append}
 use Rattle.am_provider.specs.declared.call.Call.{Call}
-use Rattle.am_provider.specs.declared.call.Call.TheVariants.{Posted, Collected, Subscribed, Left, Closed}
-use Rattle.am_provider.specs.Stored.{Step, Report, Collect, steps_of, steps, stored}
-use Rattle.am_provider.specs.Cast.{batch_of, batches_of, cast_from, cast, items_of, due, IsFront}
+use Rattle.am_provider.specs.Stored.{Step, steps_of, steps, stored}
+use Rattle.am_provider.specs.Cast.{batches_of, cast_from, cast, items_of, due}
 use Rattle.am_provider.specs.Journal.{closes, is_closed, is_post, posts_of, open_after, open_from, is_open, MayFollow, IsLegal}
-use Rattle.am_provider.specs.AlertList.{absorb_each_into, batch_by_list}
-use Rattle.am_provider.proofs.Stored.{stored_post, batch_of_post, stored_collect}
 
 pub steps_last : (calls : List Call) (c : Call) → steps (calls ++ c ∷ []) ≡ steps calls ++ steps_of c
 steps_last calls c = flat_map-append steps_of calls (c ∷ []) ∙ ap (λ ss. steps calls ++ ss) (append-nil (steps_of c))

@@ -1,5 +1,5 @@
 -- A book stays sound as a call comes.
-use Rattle.std.proofs.Common.{◌≡◌, ◌≢◌, ℕ, zero, suc, ◌+◌, ◌<◌, ◌≤◌, Bool, true, false, not, cond, ◌||◌, ◌&&◌, nat_eq, List, [], ◌∷◌, ◌++◌, length, get_or, Option, Some, None, refl, sym, ap, subst, ◌∙◌, arith, filter, length-append, ◌^◌}
+use Rattle.std.proofs.Common.{◌≡◌, ℕ, zero, suc, ◌+◌, ◌<◌, ◌≤◌, Bool, true, false, not, cond, ◌||◌, nat_eq, List, [], ◌∷◌, ◌++◌, length, get_or, refl, sym, ap, subst, ◌∙◌, arith, filter, length-append, ◌^◌}
 use Rattle.std.specs.Vec.{vec_len, vec_capacity}
 use Rattle.am_provider.specs.Lanes.{open_count}
 use Rattle.std.proofs.lemmas.List.{append-nil}
@@ -8,14 +8,13 @@ use Rattle.std.proofs.lemmas.List.Sums.{count_by-le-length}
 use Rattle.am_alert.specs.declared.alert.Alert.{Alert}
 use Rattle.am_alert.specs.Merging.{is_resolved_at}
 use Rattle.am_provider.specs.declared.call.Call.{Call}
-use Rattle.am_provider.specs.declared.call.Call.TheVariants.{Posted, Collected, Subscribed, Left, Closed}
+use Rattle.am_provider.specs.declared.call.Call.TheVariants.{Posted, Collected, Closed}
 use Rattle.am_provider.specs.declared.book.Book.TheInside.{Inside}
-use Rattle.am_provider.specs.Stored.{Step, Report, Collect, steps_of, steps, stored}
+use Rattle.am_provider.specs.Stored.{Step, steps_of, steps, stored}
 use Rattle.am_provider.specs.Cast.{batch_of, batches_of, cast}
 use Rattle.am_provider.specs.Journal.{closes, is_closed, is_post, posts_of, open_after, is_open, MayFollow, IsLegal}
-use Rattle.am_provider.specs.AlertList.{absorb_each_into, batch_by_list}
-use Rattle.am_provider.specs.BookView.{BookView, IsFaithful}
-use Rattle.am_provider.specs.BookInside.{view_of, IsWithinLimits, IsSound}
+use Rattle.am_provider.specs.AlertList.{with_alerts, batch_by_list}
+use Rattle.am_provider.specs.BookInside.{IsWithinLimits, IsSound}
 use Rattle.am_provider.proofs.Stored.{stored_post, batch_of_post, stored_collect}
 use Rattle.am_provider.proofs.Journals.{steps_last, cast_last, posts_last, closed_last, open_last, legal_last}
 
@@ -85,7 +84,7 @@ limits_grown log (x ∷ xs) limits few fits =
     let below : length log < 2251799813685248 = fits (omega arith) in
     let grown : IsWithinLimits (log ++ (x ∷ xs) ∷ []) = record {
       batches = All-append (λ batch. length batch ≤ 1024) log ((x ∷ xs) ∷ []) limits.batches (λ k d h. at_most k d (x ∷ xs) few h);
-      places = omega (arith, length-append log ((x ∷ xs) ∷ []), below)
+      places = omega (arith, length-append log ((x ∷ xs) ∷ []), below);
     } in
     subst (λ b. IsWithinLimits (cond b log (log ++ (x ∷ xs) ∷ []))) (sym (Rattle.std.proofs.Math.Dec.eqb-suc-zero (length xs))) grown
 
@@ -103,7 +102,7 @@ posts_small a sound =
 
 pub sound_posted : (a b : Inside) (now : ℕ) (news batch : List Alert) → IsSound a → a.closed ≡ false
     → b.journal.items ≡ a.journal.items ++ Posted now news ∷ []
-    → b.stored.items ≡ absorb_each_into now news a.stored.items
+    → b.stored.items ≡ with_alerts batch a.stored.items
     → b.log.items ≡ cond (nat_eq (length batch) 0) a.log.items (a.log.items ++ batch ∷ [])
     → batch ≡ batch_by_list now news a.stored.items
     → length batch ≡ length news → length news ≤ 1024 → (0 < length news → length a.log.items < 2251799813685248)
@@ -114,16 +113,16 @@ sound_posted a b now news batch sound still journal store log sent long few fits
     let below : 0 < length batch → length a.log.items < 2251799813685248 = λ h. fits (omega arith) in
     sound_grown a b (Posted now news) sound (sym sound.closed ∙ still) (record {
       journal = journal;
-      stored = store ∙ sym (stored_post (steps a.journal.items) now news ∙ ap (absorb_each_into now news) (sym sound.kept.stored));
+      stored = store ∙ (ap (λ batch. with_alerts batch a.stored.items) sent ∙ sym (stored_post (steps a.journal.items) now news ∙ ap (λ olds. with_alerts (batch_by_list now news olds) olds) (sym sound.kept.stored)));
       log = log ∙ (ap (λ n. cond (nat_eq n 0) a.log.items (a.log.items ++ batch ∷ [])) long
-        ∙ (cond_append (nat_eq (length news) 0) a.log.items batch
-        ∙ ap (λ sent. a.log.items ++ sent) (ap (λ x. cond (nat_eq (length news) 0) [] (x ∷ [])) (sent ∙ sym same) ∙ sym (batches_posted (steps a.journal.items) now news))));
+          ∙ (cond_append (nat_eq (length news) 0) a.log.items batch
+          ∙ ap (λ sent. a.log.items ++ sent) (ap (λ x. cond (nat_eq (length news) 0) [] (x ∷ [])) (sent ∙ sym same) ∙ sym (batches_posted (steps a.journal.items) now news))));
       closed = closed ∙ sym (or_false a.closed);
       eight = ap length lanes;
       lanes = λ lane h. ap (λ lanes. get_or lanes lane false) lanes;
       posts = posts;
       limits = subst IsWithinLimits (sym log) (limits_grown a.log.items batch sound.limits short below);
-      room = enough b (ap length lanes ∙ sound.eight) room
+      room = enough b (ap length lanes ∙ sound.eight) room;
     })
 
 -- ---- a collection
@@ -142,7 +141,7 @@ sound_collected a b now sound journal store log closed lanes posts room =
       lanes = λ lane h. ap (λ lanes. get_or lanes lane false) lanes;
       posts = omega (arith, posts);
       limits = limits_same a b sound log;
-      room = enough b (ap length lanes ∙ sound.eight) room
+      room = enough b (ap length lanes ∙ sound.eight) room;
     })
 
 -- ---- the end of the log

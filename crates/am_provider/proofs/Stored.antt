@@ -6,10 +6,10 @@ use Rattle.std.proofs.lemmas.Bool.{ne_eqb}
 use Rattle.am_alert.specs.declared.alert.Alert.{Alert}
 use Rattle.am_labels.specs.LabelSets.{Labels, same_labels}
 use Rattle.am_labels.specs.LabelLaws.{labels_equiv, labels_decide}
-use Rattle.am_alert.specs.Merging.{absorbed, is_resolved_at, merged, combined, overlap, older_end_wins}
+use Rattle.am_alert.specs.Merging.{absorbed, is_resolved_at, merged, combined, overlap}
 use Rattle.am_provider.specs.Stored.{Step, Report, Collect, Held, after_report, after_collection, after_step, held_from, held, begun_at, stored_at, gathered, stored}
 use Rattle.am_provider.specs.Cast.{alert_of, batch_of}
-use Rattle.am_provider.specs.AlertList.{lookup, absorb_into, absorb_each_into, batch_by_list, absent, AreDistinct}
+use Rattle.am_provider.specs.AlertList.{lookup, with_alert, with_alerts, absorb_into, batch_by_list, absent, AreDistinct}
 
 pub by_bool : {P : Type 0} (b : Bool) → (b ≡ true → P) → (b ≡ false → P) → P
 by_bool true p q = p refl
@@ -383,12 +383,15 @@ agrees ss = agree_more [] ss (record { found = λ labels. refl; distinct = tt })
 
 -- ---- the plain program's steps
 
-pub absorb_into_absent : (now : ℕ) (new : Alert) (olds : List Alert) → lookup new.labels olds ≡ None → absorb_into now new olds ≡ olds ++ new ∷ []
-absorb_into_absent now new [] e = refl
-absorb_into_absent now new (a ∷ olds) e =
-    by_bool (same_labels new.labels a.labels)
-    (λ t. let some : Some a ≡ None = sym (ap (λ b. cond b (Some a) (lookup new.labels olds)) t) ∙ e in (cc))
-    (λ f. ap (λ b. cond b (absorbed now (Some a) new ∷ olds) (a ∷ absorb_into now new olds)) f ∙ ap (λ rest. a ∷ rest) (absorb_into_absent now new olds (sym (ap (λ b. cond b (Some a) (lookup new.labels olds)) f) ∙ e)))
+pub with_alert_absent : (alert : Alert) (olds : List Alert) → lookup alert.labels olds ≡ None → with_alert alert olds ≡ olds ++ alert ∷ []
+with_alert_absent alert [] e = refl
+with_alert_absent alert (a ∷ olds) e =
+    by_bool (same_labels alert.labels a.labels)
+    (λ t. let some : Some a ≡ None = sym (ap (λ b. cond b (Some a) (lookup alert.labels olds)) t) ∙ e in (cc))
+    (λ f. ap (λ b. cond b (alert ∷ olds) (a ∷ with_alert alert olds)) f ∙ ap (λ rest. a ∷ rest) (with_alert_absent alert olds (sym (ap (λ b. cond b (Some a) (lookup alert.labels olds)) f) ∙ e)))
+
+absorb_into_absent : (now : ℕ) (new : Alert) (olds : List Alert) → lookup new.labels olds ≡ None → absorb_into now new olds ≡ olds ++ new ∷ []
+absorb_into_absent now new olds e = ap (λ o. with_alert (absorbed now o new) olds) e ∙ with_alert_absent new olds e
 
 update_absent : (now : ℕ) (new : Alert) (olds : List Alert) → absent new.labels olds ≡ true → map (update now new) olds ≡ olds
 update_absent now new [] e = refl
@@ -397,17 +400,25 @@ update_absent now new (a ∷ olds) e =
     (λ t. let no : false ≡ true = sym (ap (λ b. not b && absent new.labels olds) t) ∙ e in (cc))
     (λ f. ap (λ b. b ∷ map (update now new) olds) (update_other now new a f) ∙ ap (λ rest. a ∷ rest) (update_absent now new olds (sym (ap (λ b. not b && absent new.labels olds) f) ∙ e)))
 
-absorb_into_present : (now : ℕ) (new : Alert) (olds : List Alert) (x : Alert) → AreDistinct olds → lookup new.labels olds ≡ Some x → absorb_into now new olds ≡ map (update now new) olds
-absorb_into_present now new [] x d e = (cc)
-absorb_into_present now new (a ∷ olds) x d e =
+with_alert_present : (now : ℕ) (new y x : Alert) (olds : List Alert) → y.labels ≡ new.labels → y ≡ absorbed now (Some x) new → AreDistinct olds → lookup new.labels olds ≡ Some x → with_alert y olds ≡ map (update now new) olds
+with_alert_present now new y x [] l is d e = (cc)
+with_alert_present now new y x (a ∷ olds) l is d e =
     by_bool (same_labels new.labels a.labels)
     (λ t.
     let own = (labels_decide new.labels a.labels).0 t in
-    ap (λ b. cond b (absorbed now (Some a) new ∷ olds) (a ∷ absorb_into now new olds)) t
-    ∙ sym (ap (λ b. b ∷ map (update now new) olds) (update_own now new a (sym own)) ∙ ap (λ rest. absorbed now (Some a) new ∷ rest) (update_absent now new olds (ap (λ l. absent l olds) own ∙ d.0))))
+    let some : Some a ≡ Some x = sym (ap (λ b. cond b (Some a) (lookup new.labels olds)) t) ∙ e in
+    let same : a ≡ x = (cc) in
+    ap (λ b. cond b (y ∷ olds) (a ∷ with_alert y olds)) (ap (λ l. same_labels l a.labels) l ∙ t)
+    ∙ (ap (λ z. z ∷ olds) (is ∙ ap (λ z. absorbed now (Some z) new) (sym same))
+    ∙ sym (ap (λ b. b ∷ map (update now new) olds) (update_own now new a (sym own)) ∙ ap (λ rest. absorbed now (Some a) new ∷ rest) (update_absent now new olds (ap (λ l. absent l olds) own ∙ d.0)))))
     (λ f.
-    ap (λ b. cond b (absorbed now (Some a) new ∷ olds) (a ∷ absorb_into now new olds)) f
-    ∙ (ap (λ rest. a ∷ rest) (absorb_into_present now new olds x d.1 (sym (ap (λ b. cond b (Some a) (lookup new.labels olds)) f) ∙ e)) ∙ ap (λ b. b ∷ map (update now new) olds) (sym (update_other now new a f))))
+    ap (λ b. cond b (y ∷ olds) (a ∷ with_alert y olds)) (ap (λ l. same_labels l a.labels) l ∙ f)
+    ∙ (ap (λ rest. a ∷ rest) (with_alert_present now new y x olds l is d.1 (sym (ap (λ b. cond b (Some a) (lookup new.labels olds)) f) ∙ e)) ∙ ap (λ b. b ∷ map (update now new) olds) (sym (update_other now new a f))))
+
+absorb_into_present : (now : ℕ) (new : Alert) (olds : List Alert) (x : Alert) → x.labels ≡ new.labels → AreDistinct olds → lookup new.labels olds ≡ Some x → absorb_into now new olds ≡ map (update now new) olds
+absorb_into_present now new olds x own d e =
+    ap (λ o. with_alert (absorbed now o new) olds) e
+    ∙ with_alert_present now new (absorbed now (Some x) new) x olds (absorbed_labels now x new own) refl d e
 
 -- a report puts the alert in
 pub stored_report : (ss : List Step) (now : ℕ) (new : Alert) → stored (ss ++ Report now new ∷ []) ≡ absorb_into now new (stored ss)
@@ -415,7 +426,7 @@ unfolding alert_in
 stored_report ss now new =
     by_option (held new.labels ss)
     (λ none. stored_new ss now new none ∙ sym (absorb_into_absent now new (stored ss) ((agrees ss).found new.labels ∙ ap alert_in none)))
-    (λ h some. stored_old ss now new h some ∙ sym (absorb_into_present now new (stored ss) h.alert (agrees ss).distinct ((agrees ss).found new.labels ∙ ap alert_in some)))
+    (λ h some. stored_old ss now new h some ∙ sym (absorb_into_present now new (stored ss) h.alert (sits_at new.labels ss h some).own (agrees ss).distinct ((agrees ss).found new.labels ∙ ap alert_in some)))
 
 after_report_alert : (n now : ℕ) (new : Alert) (o : Option Held) → (after_report n now new o).alert ≡ absorbed now (alert_in o) new
 unfolding alert_in
@@ -428,11 +439,11 @@ batch_of_one ss now new =
     ap alert_of (held_own ss now new) ∙ ap (λ a. a ∷ []) (after_report_alert (length ss) now new (held new.labels ss) ∙ ap (λ o. absorbed now o new) (sym ((agrees ss).found new.labels)))
 
 -- a post puts its alerts in, and sends out what each batch_of
-pub stored_post : (ss : List Step) (now : ℕ) (news : List Alert) → stored (ss ++ map (Report now) news) ≡ absorb_each_into now news (stored ss)
+pub stored_post : (ss : List Step) (now : ℕ) (news : List Alert) → stored (ss ++ map (Report now) news) ≡ with_alerts (batch_by_list now news (stored ss)) (stored ss)
 stored_post ss now [] = ap stored (append-nil ss)
 stored_post ss now (new ∷ news) =
     ap stored (sym (append_assoc ss (Report now new ∷ []) (map (Report now) news)))
-    ∙ (stored_post (ss ++ Report now new ∷ []) now news ∙ ap (absorb_each_into now news) (stored_report ss now new))
+    ∙ (stored_post (ss ++ Report now new ∷ []) now news ∙ ap (λ olds. with_alerts (batch_by_list now news olds) olds) (stored_report ss now new))
 
 pub batch_of_post : (ss : List Step) (now : ℕ) (news : List Alert) → batch_of ss now news ≡ batch_by_list now news (stored ss)
 batch_of_post ss now [] = refl

@@ -1,5 +1,5 @@
 -- How a subscription moves on over what there is for it.
-use Rattle.std.specs.Prelude.{◌≡◌, ◌+◌, true, false, List, [], ◌∷◌, ◌++◌}
+use Rattle.std.specs.Prelude.{◌≡◌, ◌+◌, true, false, [], ◌∷◌, ◌++◌}
 use Rattle.am_alert.specs.declared.alert.Alert.{Alert}
 use Rattle.am_provider.specs.declared.advance.Advance.{Advance}
 use Rattle.am_provider.specs.declared.advance.Advance.TheVariants.{Item, Pending, Closed}

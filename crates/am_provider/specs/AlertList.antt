@@ -1,4 +1,4 @@
--- The stored alerts as a list that each report is absorbed into.
+-- The stored alerts as a list that reports are absorbed into, one after another.
 use Rattle.std.specs.Prelude.{◌≡◌, ℕ, Bool, true, not, ◌&&◌, if◌then◌else◌, List, [], ◌∷◌, Option, Some, None, ◌<◌, take, length}
 use Rattle.std.specs.List.{HoldsAt}
 use Rattle.am_alert.specs.declared.alert.Alert.{Alert}
@@ -10,18 +10,21 @@ abbrev pub lookup : Labels → List Alert → Option Alert
 lookup labels [] = None
 lookup labels (old ∷ olds) = if same_labels labels old.labels then Some old else lookup labels olds
 
--- the stored alerts after a report: in its label set's place, else at the end (`provider/mem`'s Put and `store.Alerts.Set`)
+-- the stored alerts with an alert set: in its label set's place, else at the end (`store.Alerts.Set`)
+abbrev pub with_alert : Alert → List Alert → List Alert
+with_alert alert [] = alert ∷ []
+with_alert alert (old ∷ olds) = if same_labels alert.labels old.labels then alert ∷ olds else old ∷ with_alert alert olds
+
+-- the stored alerts with each of some alerts set
+abbrev pub with_alerts : List Alert → List Alert → List Alert
+with_alerts [] olds = olds
+with_alerts (alert ∷ alerts) olds = with_alerts alerts (with_alert alert olds)
+
+-- the stored alerts after a report (`provider/mem`'s Put, one turn of its loop)
 abbrev pub absorb_into : ℕ → Alert → List Alert → List Alert
-absorb_into now new [] = new ∷ []
-absorb_into now new (old ∷ olds) =
-    if same_labels new.labels old.labels then absorbed now (Some old) new ∷ olds else old ∷ absorb_into now new olds
+absorb_into now new olds = with_alert (absorbed now (lookup new.labels olds) new) olds
 
--- the stored alerts after reports
-abbrev pub absorb_each_into : ℕ → List Alert → List Alert → List Alert
-absorb_each_into now [] olds = olds
-absorb_each_into now (new ∷ news) olds = absorb_each_into now news (absorb_into now new olds)
-
--- what each report became
+-- what each report became, over what those before it left (`provider/mem`'s Put)
 abbrev pub batch_by_list : ℕ → List Alert → List Alert → List Alert
 batch_by_list now [] olds = []
 batch_by_list now (new ∷ news) olds =

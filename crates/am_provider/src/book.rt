@@ -22,7 +22,7 @@ use crate::ended::Ended;
 use crate::faults::{AlreadyClosed, PutFault, SubFault};
 use crate::pass::Pass;
 use crate::posted::Posted;
-use crate::store::{absorb_each_into, broadcast, copy_each, remove_resolved};
+use crate::store::{batch_of, broadcast, copy_each, remove_resolved, set_each};
 use crate::subscription::Subscription;
 use am_alert::{Alert, Alerts, Moment, Post};
 use std::alloc::{AllocError, Global};
@@ -115,11 +115,12 @@ impl Book {
             return Err(PutFault::LogEnd);
         }
         let alloc = *self.stored.allocator();
-        let mut stored = copy_each(alloc, &self.stored)?;
-        let batch = absorb_each_into(alloc, &mut stored, valid.as_slice(), now)?;
+        let batch = batch_of(alloc, &self.stored, valid.as_slice(), now)?;
+        let copies = copy_each(alloc, &batch)?;
+        self.stored.reserve(count)?;
         self.journal.reserve(ENTRIES)?;
         self.log.reserve(1)?;
-        self.stored = stored;
+        set_each(&mut self.stored, copies);
         let place = broadcast(&mut self.log, batch);
         self.journal
             .push_reserved(Call::Posted { now, alerts: valid });
@@ -202,8 +203,7 @@ impl Book {
     pub fn collect_resolved(&mut self, now: Moment) -> Result<u64, AllocError>
         ensures journal { OnOk result (self.new.journal ≡ self.old.journal ++ Call.Collected now ∷ []) }
         ensures removed { IfOk result (λ removed. removed ≡ count_by (is_resolved_at now) self.old.stored) }
-        ensures stored {
-            OnOk result (self.new.stored ≡ filter (λ alert. not (is_resolved_at now alert)) self.old.stored) }
+        ensures stored { OnOk result (self.new.stored ≡ filter (λ alert. not (is_resolved_at now alert)) self.old.stored) }
         ensures kept { IsFaithful self.new }
         ensures err { OnErr result (self.new ≡ self.old) }
     {

@@ -1,8 +1,9 @@
 //! The stored alerts as a list, and the log that batches go to.
 
-ghost use Rattle.std.specs.Prelude.{◌≡◌, ◌<◌, ◌++◌, ◌∷◌, [], IfOk, IfSome, IfNone, true, Some, None, if◌then◌else◌, nat_eq, length, vec_len, vec_capacity, not, filter, count_by};
-ghost use Rattle.am_alert.specs.Merging.{absorbed, is_resolved_at};
-ghost use Rattle.am_provider.specs.AlertList.{lookup, absorb_into, absorb_each_into, batch_by_list, absent, IsPositionOf};
+ghost use Rattle.std.specs.Prelude.{◌≡◌, ◌<◌, ◌≤◌, ◌+◌, ◌++◌, ◌∷◌, [], IfOk, IfSome, IfNone, true, Some, None, if◌then◌else◌, nat_eq, length, vec_len, vec_capacity, not, filter, count_by};
+ghost use Rattle.std.specs.Option.{option_copied};
+ghost use Rattle.am_alert.specs.Merging.{is_resolved_at};
+ghost use Rattle.am_provider.specs.AlertList.{lookup, with_alert, with_alerts, batch_by_list, absent, IsPositionOf};
 
 use am_alert::{Alert, Alerts, Moment, absorb};
 use am_labels::LabelSet;
@@ -21,47 +22,62 @@ fn position_of(alerts: &[Alert], labels: &LabelSet) -> Option<usize>
     None
 }
 
-// Takes a report in, and answers what it became.
-fn absorb_into(
-    alloc: Global,
-    store: &mut Vec<Alert>,
-    new: &Alert,
-    now: Moment,
-) -> Result<Alert, AllocError>
-    ensures store { IfOk result (λ became. store.new.items ≡ absorb_into now new.now store.old.items) }
-    ensures became { IfOk result (λ became. became ≡ absorbed now (lookup new.now.labels store.old.items) new.now) }
+// What a label set holds: what its last report of this post became, else its stored alert.
+fn current<'a>(batch: &'a [Alert], stored: &'a [Alert], labels: &LabelSet) -> Option<&'a Alert>
+    ensures { option_copied result ≡ lookup labels.now (with_alerts batch.now stored.now) }
 {
-    match position_of(store, &new.labels) {
-        Some(at) => {
-            let became = absorb(Some(&store[at]), new, now)?;
-            let copy = became.copy()?;
-            store[at] = became;
-            Ok(copy)
+    let mut rest = batch;
+    while let Some((last, front)) = rest.split_last() {
+        if *labels == last.labels {
+            return Some(last);
         }
-        None => {
-            let copy = new.copy()?;
-            store.push(new.copy()?)?;
-            Ok(copy)
-        }
+        rest = front;
+    }
+    match position_of(stored, labels) {
+        Some(at) => Some(&stored[at]),
+        None => None,
     }
 }
 
-// Takes reports in, and answers what each became.
-pub(crate) fn absorb_each_into(
+// What each report becomes. What is stored stays.
+pub(crate) fn batch_of(
     alloc: Global,
-    store: &mut Vec<Alert>,
+    stored: &[Alert],
     news: &[Alert],
     now: Moment,
 ) -> Result<Vec<Alert>, AllocError>
-    ensures store { IfOk result (λ batch. store.new.items ≡ absorb_each_into now news.now store.old.items) }
-    ensures batch { IfOk result (λ batch. batch.items ≡ batch_by_list now news.now store.old.items) }
+    ensures batch { IfOk result (λ batch. batch.items ≡ batch_by_list now news.now stored.now) }
     ensures len { IfOk result (λ batch. length batch.items ≡ length news.now) }
 {
-    let mut batch = Vec::new(alloc);
+    let mut batch = Vec::with_capacity(alloc, news.len())?;
     for new in news {
-        batch.push(absorb_into(alloc, store, new, now)?)?;
+        let became = absorb(current(&batch, stored, &new.labels), new, now)?;
+        batch.push(became)?;
     }
     Ok(batch)
+}
+
+// Sets an alert in its label set's place, else at the end.
+fn set(store: &mut Vec<Alert>, alert: Alert)
+    requires { vec_len store.old < vec_capacity store.old }
+    ensures store { store.new.items ≡ with_alert alert store.old.items }
+    ensures len { vec_len store.new ≤ vec_len store.old + 1 }
+    ensures capacity { vec_capacity store.new ≡ vec_capacity store.old }
+{
+    match position_of(store, &alert.labels) {
+        Some(at) => store[at] = alert,
+        None => store.push_reserved(alert),
+    }
+}
+
+// Sets each alert in its label set's place, else at the end.
+pub(crate) fn set_each(store: &mut Vec<Alert>, alerts: Vec<Alert>)
+    requires { vec_len store.old + vec_len alerts ≤ vec_capacity store.old }
+    ensures { store.new.items ≡ with_alerts alerts.items store.old.items }
+{
+    for alert in alerts {
+        set(store, alert);
+    }
 }
 
 // The same alerts once more.

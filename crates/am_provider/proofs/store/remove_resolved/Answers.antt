@@ -1,4 +1,4 @@
-use Rattle.std.proofs.Common.{◌≡◌, ◌+◌, length, not, refl, ap, arith, rules, filter, vec_len}
+use Rattle.std.proofs.Common.{◌≡◌, length, not, refl, ap, arith, rules, filter}
 use Rattle.std.specs.List.{count_by}
 use Rattle.std.proofs.lemmas.Fn.{filter_same}
 use Rattle.std.proofs.lemmas.List.Sums.{length-filter}

@@ -1,5 +1,4 @@
-use Rattle.std.proofs.Common.{◌≡◌, ◌+◌, ◌++◌, ◌∷◌, [], refl, true, rules}
-use Rattle.am_provider.specs.declared.call.Call.TheVariants.{Closed}
+use Rattle.std.proofs.Common.{refl, true, rules}
 use Rattle.am_provider.proofs.Kept.{sound_closed}
 use Rattle.am_provider.proofs.book.Book.close.Goals as goal
 

@@ -1,7 +1,7 @@
-use Rattle.std.proofs.Common.{◌≡◌, ◌+◌, ◌<◌, ◌≤◌, length, set, ◌++◌, ◌∷◌, [], ap, sym, subst, refl, ◌∙◌, arith, rules, vec_len, vec_capacity, true, false}
+use Rattle.std.proofs.Common.{◌≡◌, set, ◌++◌, ◌∷◌, [], ap, sym, subst, refl, ◌∙◌, arith, rules, false}
 use Rattle.am_provider.specs.declared.call.Call.TheVariants.{Left}
 use Rattle.am_provider.specs.BookView.{BookView, SubscriptionView, BelongsTo, IsFaithful}
-use Rattle.am_provider.specs.BookInside.{IsSound, view_of}
+use Rattle.am_provider.specs.BookInside.{view_of}
 use Rattle.am_provider.proofs.Flags.{sound_left, front_of, lane_of, room_to_leave}
 use Rattle.am_provider.proofs.book.Book.leave.Goals as goal
 

@@ -1,7 +1,6 @@
-use Rattle.std.proofs.Common.{◌≡◌, ◌+◌, ◌≤◌, length, set, ◌++◌, ◌∷◌, [], ap, sym, refl, ◌∙◌, arith, rules, vec_len, vec_capacity, true}
+use Rattle.std.proofs.Common.{◌≡◌, ◌+◌, ◌≤◌, length, set, ◌++◌, ◌∷◌, [], refl, arith, rules, vec_len, vec_capacity, true}
 use Rattle.am_provider.specs.declared.call.Call.TheVariants.{Subscribed}
-use Rattle.am_provider.specs.declared.book.Book.TheInside.{Inside}
-use Rattle.am_provider.specs.BookInside.{IsSound, view_of}
+use Rattle.am_provider.specs.BookInside.{view_of}
 use Rattle.am_provider.specs.Lanes.{IsLowestFalse}
 use Rattle.am_provider.proofs.Flags.{sound_subscribed, given_subscribed}
 use Rattle.am_provider.proofs.book.Book.subscribe.Goals as goal

@@ -1,4 +1,4 @@
-use Rattle.std.proofs.Common.{◌≡◌, ◌+◌, ◌<◌, ◌^◌, length, true, false, ap, sym, subst, arith, rules, ◌∙◌}
+use Rattle.std.proofs.Common.{◌≡◌, ◌+◌, true, ap, sym, subst, arith, rules, ◌∙◌}
 use Rattle.am_provider.specs.Journal.{is_closed}
 use Rattle.am_provider.specs.BookView.{BookView, SubscriptionView, IsFaithful, all_of}
 use Rattle.am_provider.proofs.Items.{more_within, shows_item, shows_pending, shows_closed}

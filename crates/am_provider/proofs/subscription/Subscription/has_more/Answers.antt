@@ -1,5 +1,4 @@
-use Rattle.std.proofs.Common.{◌≡◌, ◌≤◌, ◌<◌, ◌^◌, length, ap, sym, subst, arith, rules, ◌∙◌}
-use Rattle.am_alert.specs.declared.alert.Alert.{Alert}
+use Rattle.std.proofs.Common.{◌≡◌, ◌<◌, ◌^◌, length, ap, subst, arith, ◌∙◌}
 use Rattle.am_provider.specs.BookView.{BookView, SubscriptionView, IsFaithful}
 use Rattle.am_provider.proofs.Items.{all_small, start_within}
 use Rattle.am_provider.proofs.subscription.Subscription.has_more.Goals as goal
