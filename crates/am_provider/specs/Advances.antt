@@ -9,6 +9,14 @@ use Rattle.am_provider.specs.BookView.{BookView, SubscriptionView, taken}
 
 -- what an advance of a subscription came to, and what the subscription is then
 abbrev pub Advances : BookView → SubscriptionView → Advance → SubscriptionView → Type 0
-Advances book old Item new = (new ≡ record old { count = old.count + 1 }) × (alert : Alert) × (taken book new ≡ taken book old ++ alert ∷ [])
-Advances book old Pending new = (new ≡ old) × (is_closed book.journal ≡ false) × (taken book old ≡ due book.journal old.at)
-Advances book old Closed new = (new ≡ record old { closed_told = true }) × (is_closed book.journal ≡ true) × (taken book old ≡ due book.journal old.at)
+Advances book old Item new =
+    (new ≡ record old { count = old.count + 1 })
+    × (alert : Alert) × (taken book new ≡ taken book old ++ alert ∷ [])
+Advances book old Pending new =
+    (new ≡ old)
+    × (is_closed book.journal ≡ false)
+    × (taken book old ≡ due book.journal old.at)
+Advances book old Closed new =
+    (new ≡ record old { closed_told = true })
+    × (is_closed book.journal ≡ true)
+    × (taken book old ≡ due book.journal old.at)

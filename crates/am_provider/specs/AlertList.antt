@@ -10,10 +10,12 @@ abbrev pub lookup : Labels → List Alert → Option Alert
 lookup labels [] = None
 lookup labels (old ∷ olds) = if same_labels labels old.labels then Some old else lookup labels olds
 
--- the stored alerts with an alert set: in its label set's place, else at the end (`store.Alerts.Set`)
+-- the stored alerts with an alert set: in its label set's place, else at the end
+-- (`store.Alerts.Set`)
 abbrev pub with_alert : Alert → List Alert → List Alert
 with_alert alert [] = alert ∷ []
-with_alert alert (old ∷ olds) = if same_labels alert.labels old.labels then alert ∷ olds else old ∷ with_alert alert olds
+with_alert alert (old ∷ olds) =
+    if same_labels alert.labels old.labels then alert ∷ olds else old ∷ with_alert alert olds
 
 -- the stored alerts with each of some alerts set
 abbrev pub with_alerts : List Alert → List Alert → List Alert

@@ -11,20 +11,26 @@ use Rattle.am_provider.specs.BookView.{BookView, IsFaithful}
 
 -- a Book's fields as contracts see them
 abbrev pub view_of : Inside → BookView
-view_of fields = record { stored = fields.stored.items; journal = fields.journal.items; log = fields.log.items }
+view_of fields = record {
+  stored = fields.stored.items;
+  journal = fields.journal.items;
+  log = fields.log.items;
+}
 
 -- a log within its limits: 1,024 alerts in a batch, and no place past the end
 pub record IsWithinLimits (log : List (List Alert)) : Type 0 where
   pub batches : All (λ batch. length batch ≤ 1024) log
   pub places : length log ≤ LOG_END
 
--- the fields agree with the journal, and the journal has room for what may come without memory: a Left for each
--- open lane, and a Closed
+-- the fields agree with the journal, and the journal has room for what may come without memory: a
+-- Left for each open lane, and a Closed
 pub record IsSound (fields : Inside) : Type 0 where
   pub kept : IsFaithful (view_of fields)
   pub eight : length fields.lanes ≡ 8
   pub closed : fields.closed ≡ is_closed fields.journal.items
-  pub lanes : (lane : ℕ) → lane < 8 → slice_index_or fields.lanes lane false ≡ is_open fields.journal.items lane
+  pub lanes : (lane : ℕ) → lane < 8
+      → slice_index_or fields.lanes lane false ≡ is_open fields.journal.items lane
   pub posts : fields.posts ≡ posts_of fields.journal.items
   pub limits : IsWithinLimits fields.log.items
-  pub room : vec_len fields.journal + open_count fields.lanes + (if fields.closed then 0 else 1) ≤ vec_capacity fields.journal
+  pub room : vec_len fields.journal + open_count fields.lanes + (if fields.closed then 0 else 1)
+      ≤ vec_capacity fields.journal

@@ -9,7 +9,8 @@ use Rattle.am_provider.specs.Journal.{is_open, IsLegal}
 use Rattle.am_provider.specs.Stored.{steps, stored}
 use Rattle.am_provider.specs.Cast.{cast, items_of}
 
--- a Book: its stored alerts in order, its journal of accepted calls, and the log of batches sent out
+-- a Book: its stored alerts in order, its journal of accepted calls, and the log of batches sent
+-- out
 pub record BookView : Type 0 where
   pub stored : List Alert
   pub journal : List Call
@@ -19,8 +20,11 @@ pub record BookView : Type 0 where
 abbrev pub coded_book : Coded Call → Coded BookView
 coded_book call =
     code_by (List Alert × (List Call × List (List Alert)))
-    (coded× (coded_list coded_alert) (coded× (coded_list call) (coded_list (coded_list coded_alert))))
-    (λ book. (book.stored, (book.journal, book.log))) (λ p. record { stored = p.0; journal = p.1.0; log = p.1.1 }) (λ _. refl)
+    (coded× (coded_list coded_alert)
+    (coded× (coded_list call) (coded_list (coded_list coded_alert))))
+    (λ b. (b.stored, (b.journal, b.log)))
+    (λ p. record { stored = p.0; journal = p.1.0; log = p.1.1 })
+    (λ _. refl)
 
 -- what is stored and what was sent out follow from the journal, and the journal is legal
 pub record IsFaithful (book : BookView) : Type 0 where
@@ -28,8 +32,8 @@ pub record IsFaithful (book : BookView) : Type 0 where
   pub log : book.log ≡ cast book.journal
   pub legal : IsLegal book.journal
 
--- a subscription: its lane, how many calls and batches there were before it, what was stored then, how many
--- alerts it has taken, and whether it was told that no more will come
+-- a subscription: its lane, how many calls and batches there were before it, what was stored then,
+-- how many alerts it has taken, and whether it was told that no more will come
 pub record SubscriptionView : Type 0 where
   pub lane : ℕ
   pub at : ℕ
@@ -42,23 +46,32 @@ pub record SubscriptionView : Type 0 where
 abbrev pub coded_subscription : Coded SubscriptionView
 coded_subscription =
     code_by (ℕ × (ℕ × (ℕ × (List Alert × (ℕ × Bool)))))
-    (coded× coded_ℕ (coded× coded_ℕ (coded× coded_ℕ (coded× (coded_list coded_alert) (coded× coded_ℕ coded_bool)))))
-    (λ sub. (sub.lane, (sub.at, (sub.start, (sub.opening, (sub.count, sub.closed_told))))))
-    (λ p. record { lane = p.0; at = p.1.0; start = p.1.1.0; opening = p.1.1.1.0; count = p.1.1.1.1.0; closed_told = p.1.1.1.1.1 })
+    (coded× coded_ℕ (coded× coded_ℕ (coded× coded_ℕ
+    (coded× (coded_list coded_alert) (coded× coded_ℕ coded_bool)))))
+    (λ s. (s.lane, (s.at, (s.start, (s.opening, (s.count, s.closed_told))))))
+    (λ p. record {
+      lane = p.0;
+      at = p.1.0;
+      start = p.1.1.0;
+      opening = p.1.1.1.0;
+      count = p.1.1.1.1.0;
+      closed_told = p.1.1.1.1.1;
+    })
     (λ _. refl)
 
--- all that there is for a subscription so far: its opening, then the alerts of the log from its start on
+-- all that there is for a subscription so far: its opening, then the alerts of the log from its
+-- start on
 abbrev pub all_of : BookView → SubscriptionView → List Alert
-all_of book sub = sub.opening ++ items_of (drop sub.start book.log)
+all_of book subscription = subscription.opening ++ items_of (drop subscription.start book.log)
 
 -- what a subscription has taken
 abbrev pub taken : BookView → SubscriptionView → List Alert
-taken book sub = take sub.count (all_of book sub)
+taken book subscription = take subscription.count (all_of book subscription)
 
 -- the subscription was given by the Book, and has not been given back
-pub record BelongsTo (book : BookView) (sub : SubscriptionView) : Type 0 where
-  pub entry : slice_get book.journal sub.at ≡ Some (Subscribed sub.lane)
-  pub opening : sub.opening ≡ stored (steps (take sub.at book.journal))
-  pub start : sub.start ≡ length (cast (take sub.at book.journal))
-  pub still : is_open book.journal sub.lane ≡ true
-  pub within : sub.count ≤ length (all_of book sub)
+pub record BelongsTo (book : BookView) (subscription : SubscriptionView) : Type 0 where
+  pub entry : slice_get book.journal subscription.at ≡ Some (Subscribed subscription.lane)
+  pub opening : subscription.opening ≡ stored (steps (take subscription.at book.journal))
+  pub start : subscription.start ≡ length (cast (take subscription.at book.journal))
+  pub still : is_open book.journal subscription.lane ≡ true
+  pub within : subscription.count ≤ length (all_of book subscription)

@@ -11,12 +11,13 @@ abbrev pub alert_of : Option Held → List Alert
 alert_of None = []
 alert_of (Some held) = held.alert ∷ []
 
--- what each alert of a post became: what its label set holds just after it (`provider/mem`'s Put: what it hands to
--- its listeners)
+-- what each alert of a post became: what its label set holds just after it (`provider/mem`'s Put:
+-- what it hands to its listeners)
 abbrev pub batch_of : List Step → ℕ → List Alert → List Alert
 batch_of before now [] = []
 batch_of before now (new ∷ news) =
-    alert_of (held new.labels (before ++ Report now new ∷ [])) ++ batch_of (before ++ Report now new ∷ []) now news
+    alert_of (held new.labels (before ++ Report now new ∷ []))
+    ++ batch_of (before ++ Report now new ∷ []) now news
 
 -- what one call sends out: one batch, where it is a post with an alert
 abbrev pub batches_of : List Step → Call → List (List Alert)
@@ -30,7 +31,8 @@ batches_of before Closed = []
 -- what calls send out after some steps
 abbrev pub cast_from : List Step → List Call → List (List Alert)
 cast_from before [] = []
-cast_from before (call ∷ calls) = batches_of before call ++ cast_from (before ++ steps_of call) calls
+cast_from before (call ∷ calls) =
+    batches_of before call ++ cast_from (before ++ steps_of call) calls
 
 -- what a journal sent out: one batch for each post with an alert
 abbrev pub cast : List Call → List (List Alert)
@@ -40,10 +42,11 @@ cast calls = cast_from [] calls
 abbrev pub items_of : List (List Alert) → List Alert
 items_of batches = flat_map (λ batch. batch) batches
 
--- what is due to who subscribed when k calls were made: what was stored then, and what was sent out since
--- (`provider/mem`'s Subscribe: the alerts there are, then those of its channel)
+-- what is due to who subscribed when so many calls were made: what was stored then, and what was
+-- sent out since (`provider/mem`'s Subscribe: the alerts there are, then those of its channel)
 abbrev pub due : List Call → ℕ → List Alert
-due calls k = stored (steps (take k calls)) ++ items_of (cast_from (steps (take k calls)) (drop k calls))
+due calls at =
+    stored (steps (take at calls)) ++ items_of (cast_from (steps (take at calls)) (drop at calls))
 
 -- the first list begins the second
 abbrev pub IsFront : {A : Type 0} → List A → List A → Type 0

@@ -1,4 +1,5 @@
--- The journal of accepted calls: when its log is closed, which lanes are open, and which call may come next.
+-- The journal of accepted calls: when its log is closed, which lanes are open, and which call may
+-- come next.
 use Rattle.std.specs.Prelude.{◌≡◌, ℕ, ◌<◌, Bool, true, false, ◌||◌, if◌then◌else◌, nat_eq, List, [], ◌∷◌, take, slice_get, Some}
 use Rattle.std.specs.List.{count_by, list_any}
 use Rattle.am_provider.specs.declared.call.Call.{Call}
@@ -55,7 +56,8 @@ pub record IsLowestIdle (calls : List Call) (lane : ℕ) : Type 0 where
 abbrev pub AreAllOpen : List Call → Type 0
 AreAllOpen calls = (lane : ℕ) → lane < 8 → is_open calls lane ≡ true
 
--- the call may come after those: once the log is closed only a collection or the end of a subscription may
+-- the call may come after those: once the log is closed only a collection or the end of a
+-- subscription may
 abbrev pub MayFollow : List Call → Call → Type 0
 MayFollow calls (Posted now alerts) = is_closed calls ≡ false
 MayFollow calls (Collected now) = Unit {0}
@@ -65,4 +67,5 @@ MayFollow calls Closed = is_closed calls ≡ false
 
 -- each call of the journal might follow those before it
 abbrev pub IsLegal : List Call → Type 0
-IsLegal calls = (k : ℕ) (call : Call) → slice_get calls k ≡ Some call → MayFollow (take k calls) call
+IsLegal calls =
+    (at : ℕ) (call : Call) → slice_get calls at ≡ Some call → MayFollow (take at calls) call

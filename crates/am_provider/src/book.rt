@@ -1,12 +1,15 @@
 //! The Book: the stored alerts and the log of what was sent out, for one thread.
 //!
-//! What a Book promises: whatever posts, subscriptions, collections and ends come, the stored alerts and the log are
-//! those that its journal of accepted calls gives. Of each label set it stores what that label set's own reports made
-//! of it, in the order in which the label sets began. A post goes out as one batch, with what each of its alerts
-//! became. A subscriber is shown the alerts that were stored when it came, and then those of every batch since, each
-//! once and in order; told that no more will come, it has seen them all. A refused call changes nothing.
+//! What a Book promises: whatever posts, subscriptions, collections and ends come, the stored
+//! alerts and the log are those that its journal of accepted calls gives. Of each label set it
+//! stores what that label set's own reports made of it, in the order in which the label sets began.
+//! A post goes out as one batch, with what each of its alerts became. A subscriber is shown the
+//! alerts that were stored when it came, and then those of every batch since, each once and in
+//! order. Where it was told that no more will come, it was shown them all. A refused call changes
+//! nothing.
 
-ghost use Rattle.std.specs.Prelude.{◌≡◌, ◌↔◌, ◌≤◌, ◌<◌, [], ◌∷◌, ◌++◌, IfOk, OnOk, OnErr, IsErr, IsErrOf, IsTrue, IfSome, IfNone};
+ghost use Rattle.std.specs.Prelude.{◌≡◌, ◌↔◌, ◌≤◌, ◌<◌, [], ◌∷◌, ◌++◌, IsTrue, IfSome, IfNone};
+ghost use Rattle.std.specs.Prelude.{IfOk, OnOk, OnErr, IsErr, IsErrOf};
 ghost use Rattle.std.specs.Prelude.{None, Some, false, true, length, nat_eq, if◌then◌else◌, ℕ, slice_index_or};
 ghost use Rattle.std.specs.Prelude.{not, filter, count_by};
 ghost use Rattle.std.specs.List.{range_with_len};
@@ -34,8 +37,9 @@ const LANES: usize = 8;
 // An entry of the journal, one to end each lane, and one to end the log.
 const ENTRIES: usize = 10;
 
-/// How many places a log has at most: 1,024 alerts in each are fewer than 2^64.
-const LOG_END: usize = 2_251_799_813_685_248;
+/// How many places a log has at most. With 1,024 alerts in each and an opening before, a
+/// subscription's alerts are fewer than 2^64.
+pub const LOG_END: usize = 2_251_799_813_685_248;
 
 /// The stored alerts and the log of batches, with the journal of calls that made them.
 #[derive(Drop)]
@@ -67,11 +71,13 @@ impl Model for Book {
 }
 
 impl Book {
-    /// An empty Book, and a pass for each of so many posters. The log has no limit of places but its own end.
+    /// An empty Book, and the passes of so many posters in order. The log takes as many places as
+    /// memory has, whatever `places` says, up to `LOG_END`.
     pub fn begin(alloc: Global, places: u32, posters: u32) -> Result<(Book, Vec<Pass>), AllocError>
         requires places { (1 ≤ places) × (places ≤ 256) }
         requires posters { (1 ≤ posters) × (posters ≤ 64) }
-        ensures empty { IfOk result (λ made. made.0 ≡ record { stored = []; journal = []; log = [] }) }
+        ensures empty { IfOk result
+            (λ made. made.0 ≡ record { stored = []; journal = []; log = [] }) }
         ensures passes { IfOk result (λ made. made.1.items ≡ range_with_len 0 posters) }
     {
         let mut journal = Vec::new(alloc);
@@ -91,19 +97,23 @@ impl Book {
         Ok((book, passes))
     }
 
-    /// Stores the valid alerts of a post, each into what those before it left, and sends out what they became as one
-    /// batch. A post with no valid alert is accepted and sends nothing out.
+    /// Stores the valid alerts of a post, each into what those before it left, and sends out what
+    /// they became as one batch. A post with no valid alert is accepted and sends nothing out.
     pub fn post(&mut self, pass: &mut Pass, post: Post, now: Moment) -> Result<Posted, PutFault>
-        ensures journal { OnOk result (self.new.journal ≡ self.old.journal ++ Call.Posted now post.valid ∷ []) }
+        ensures journal { OnOk result
+            (self.new.journal ≡ self.old.journal ++ Call.Posted now post.valid ∷ []) }
         ensures valid { IfOk result (λ posted. posted.valid ≡ length post.valid) }
         ensures faults { IfOk result (λ posted. posted.faults ≡ post.faults) }
-        ensures place { IfOk result (λ posted. posted.place ≡ (if nat_eq (length post.valid) 0 then None else Some (length self.old.log))) }
+        ensures place { IfOk result (λ posted. posted.place
+            ≡ (if nat_eq (length post.valid) 0 then None else Some (length self.old.log))) }
         ensures kept { IsFaithful self.new }
         ensures pass { pass.new ≡ pass.old }
 
         ensures closed { IsErrOf result PutFault.Closed ↔ IsTrue (is_closed self.old.journal) }
         ensures log_end { IsErrOf result PutFault.LogEnd
-            ↔ ((is_closed self.old.journal ≡ false) × (0 < length post.valid) × (length self.old.log ≡ LOG_END)) }
+            ↔ ((is_closed self.old.journal ≡ false)
+            × (0 < length post.valid)
+            × (length self.old.log ≡ LOG_END)) }
         ensures err { OnErr result (self.new ≡ self.old) }
     {
         if self.closed {
@@ -132,17 +142,20 @@ impl Book {
         })
     }
 
-    /// A subscription on the lowest lane that isn't open, to what is stored and to what comes from now on.
+    /// A subscription on the lowest lane that isn't open, to what is stored and to what comes from
+    /// now on.
     pub fn subscribe(&mut self) -> Result<Subscription, SubFault>
-        ensures journal { IfOk result (λ sub. self.new.journal ≡ self.old.journal ++ Call.Subscribed sub.lane ∷ []) }
-        ensures at { IfOk result (λ sub. sub.at ≡ length self.old.journal) }
-        ensures opening { IfOk result (λ sub. sub.opening ≡ self.old.stored) }
-        ensures fresh { IfOk result (λ sub. (sub.count ≡ 0) × (sub.closed_told ≡ false)) }
+        ensures journal { IfOk result
+            (λ made. self.new.journal ≡ self.old.journal ++ Call.Subscribed made.lane ∷ []) }
+        ensures at { IfOk result (λ made. made.at ≡ length self.old.journal) }
+        ensures opening { IfOk result (λ made. made.opening ≡ self.old.stored) }
+        ensures fresh { IfOk result (λ made. (made.count ≡ 0) × (made.closed_told ≡ false)) }
         ensures given { IfOk result (BelongsTo self.new) }
         ensures kept { IsFaithful self.new }
 
         ensures closed { IsErrOf result SubFault.Closed ↔ IsTrue (is_closed self.old.journal) }
-        ensures no_lane { IsErrOf result SubFault.NoLane ↔ ((is_closed self.old.journal ≡ false) × AreAllOpen self.old.journal) }
+        ensures no_lane { IsErrOf result SubFault.NoLane
+            ↔ ((is_closed self.old.journal ≡ false) × AreAllOpen self.old.journal) }
         ensures err { OnErr result (self.new ≡ self.old) }
     {
         if self.closed {
@@ -178,7 +191,8 @@ impl Book {
         ensures closed { result.closed ≡ subscription.closed_told }
 
         // What was taken begins what was due.
-        ensures front { IsFront (taken self.old subscription) (due self.old.journal subscription.at) }
+        ensures front { IsFront (taken self.old subscription)
+            (due self.old.journal subscription.at) }
         ensures kept { IsFaithful self.new }
     {
         let Subscription {
@@ -198,12 +212,15 @@ impl Book {
         }
     }
 
-    /// Removes the stored alerts that are resolved, and answers how many. Subscribers are not told. It is accepted
-    /// after the log's end too.
+    /// Removes the stored alerts that are resolved, and answers how many. Subscribers are not told.
+    /// It is accepted after the log's end too.
     pub fn collect_resolved(&mut self, now: Moment) -> Result<u64, AllocError>
-        ensures journal { OnOk result (self.new.journal ≡ self.old.journal ++ Call.Collected now ∷ []) }
-        ensures removed { IfOk result (λ removed. removed ≡ count_by (is_resolved_at now) self.old.stored) }
-        ensures stored { OnOk result (self.new.stored ≡ filter (λ alert. not (is_resolved_at now alert)) self.old.stored) }
+        ensures journal { OnOk result
+            (self.new.journal ≡ self.old.journal ++ Call.Collected now ∷ []) }
+        ensures removed { IfOk result
+            (λ removed. removed ≡ count_by (is_resolved_at now) self.old.stored) }
+        ensures stored { OnOk result
+            (self.new.stored ≡ filter (λ alert. not (is_resolved_at now alert)) self.old.stored) }
         ensures kept { IsFaithful self.new }
         ensures err { OnErr result (self.new ≡ self.old) }
     {
@@ -245,11 +262,12 @@ impl Book {
 // The lowest lane that isn't open.
 fn idle_lane(lanes: &[bool; LANES]) -> Option<usize>
     ensures some { IfSome result (IsLowestFalse lanes.now) }
-    ensures none { IfNone result ((lane : ℕ) → lane < 8 → slice_index_or lanes.now lane false ≡ true) }
+    ensures none { IfNone result
+        ((lane : ℕ) → lane < 8 → slice_index_or lanes.now lane false ≡ true) }
 {
-    for i in 0..LANES {
-        if !lanes[i] {
-            return Some(i);
+    for (lane, is_open) in lanes.iter().enumerate() {
+        if !*is_open {
+            return Some(lane);
         }
     }
     None

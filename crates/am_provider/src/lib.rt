@@ -1,6 +1,7 @@
 //! The in-memory alert provider for one thread: the Book, its journal, and the subscriptions to it.
 //!
-//! This crate decides nothing about alerts: what two reports of one label set become is said by `am_alert`.
+//! This crate decides nothing about alerts: `am_alert` says what two reports of one label set
+//! become.
 #![tactic(auto)]
 
 mod advance;
@@ -17,7 +18,7 @@ mod step;
 mod store;
 mod subscription;
 
-pub use book::Book;
+pub use book::{Book, LOG_END};
 pub use call::Call;
 pub use counts::Counts;
 pub use ended::Ended;

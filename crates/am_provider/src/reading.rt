@@ -28,7 +28,8 @@ pub(crate) fn ahead<'b>(
     index: usize,
 ) -> Option<&'b Alert>
     requires { start ≤ length log.now }
-    ensures { option_copied result ≡ slice_get (opening.now ++ items_of (drop start log.now)) index }
+    ensures { option_copied result
+        ≡ slice_get (opening.now ++ items_of (drop start log.now)) index }
 {
     let opened = opening.len();
     if index < opened {

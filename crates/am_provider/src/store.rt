@@ -1,9 +1,12 @@
 //! The stored alerts as a list, and the log that batches go to.
 
-ghost use Rattle.std.specs.Prelude.{◌≡◌, ◌<◌, ◌≤◌, ◌+◌, ◌++◌, ◌∷◌, [], IfOk, IfSome, IfNone, true, Some, None, if◌then◌else◌, nat_eq, length, vec_len, vec_capacity, not, filter, count_by};
+ghost use Rattle.std.specs.Prelude.{◌≡◌, ◌<◌, ◌≤◌, ◌+◌, ◌++◌, ◌∷◌, [], IfOk, IfSome, IfNone};
+ghost use Rattle.std.specs.Prelude.{true, Some, None, if◌then◌else◌, nat_eq, not, length, filter};
+ghost use Rattle.std.specs.Prelude.{count_by, vec_len, vec_capacity};
 ghost use Rattle.std.specs.Option.{option_copied};
 ghost use Rattle.am_alert.specs.Merging.{is_resolved_at};
-ghost use Rattle.am_provider.specs.AlertList.{lookup, with_alert, with_alerts, batch_by_list, absent, IsPositionOf};
+ghost use Rattle.am_provider.specs.AlertList.{lookup, with_alert, with_alerts};
+ghost use Rattle.am_provider.specs.AlertList.{batch_by_list, absent, IsPositionOf};
 
 use am_alert::{Alert, Alerts, Moment, absorb};
 use am_labels::LabelSet;
@@ -14,9 +17,9 @@ fn position_of(alerts: &[Alert], labels: &LabelSet) -> Option<usize>
     ensures found { IfSome result (IsPositionOf labels.now alerts.now) }
     ensures none { IfNone result (absent labels.now alerts.now ≡ true) }
 {
-    for (i, alert) in alerts.iter().enumerate() {
+    for (at, alert) in alerts.iter().enumerate() {
         if *labels == alert.labels {
-            return Some(i);
+            return Some(at);
         }
     }
     None
@@ -93,7 +96,8 @@ pub(crate) fn copy_each(alloc: Global, alerts: &[Alert]) -> Result<Vec<Alert>, A
 
 // Removes what is resolved, and answers how many alerts that were.
 pub(crate) fn remove_resolved(store: &mut Vec<Alert>, now: Moment) -> u64
-    ensures store { store.new.items ≡ filter (λ alert. not (is_resolved_at now alert)) store.old.items }
+    ensures store { store.new.items
+        ≡ filter (λ alert. not (is_resolved_at now alert)) store.old.items }
     ensures removed { result ≡ count_by (is_resolved_at now) store.old.items }
 {
     let before = store.len();
@@ -104,8 +108,11 @@ pub(crate) fn remove_resolved(store: &mut Vec<Alert>, now: Moment) -> u64
 // Adds a batch to the log, where it has an alert, and answers its place.
 pub(crate) fn broadcast(log: &mut Vec<Alerts>, batch: Vec<Alert>) -> Option<u64>
     requires { vec_len log.old < vec_capacity log.old }
-    ensures log { log.new.items ≡ (if nat_eq (length batch.items) 0 then log.old.items else log.old.items ++ batch.items ∷ []) }
-    ensures place { result ≡ (if nat_eq (length batch.items) 0 then None else Some (length log.old.items)) }
+    ensures log { log.new.items
+        ≡ (if nat_eq (length batch.items) 0 then log.old.items
+        else log.old.items ++ batch.items ∷ []) }
+    ensures place { result
+        ≡ (if nat_eq (length batch.items) 0 then None else Some (length log.old.items)) }
 {
     if batch.is_empty() {
         return None;

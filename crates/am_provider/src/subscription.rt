@@ -28,7 +28,14 @@ impl Model for Subscription {
 
     ghost coded = { coded_subscription };
 
-    ghost view = { λ a. record { lane = a.lane; at = a.at; start = a.start; opening = a.opening; count = a.count; closed_told = a.closed_told } };
+    ghost view = { λ a. record {
+      lane = a.lane;
+      at = a.at;
+      start = a.start;
+      opening = a.opening;
+      count = a.count;
+      closed_told = a.closed_told;
+    } };
 
     // What is stored fits in memory.
     ghost invariant = { λ a. length a.opening < 2 ^ 63 };
@@ -57,7 +64,8 @@ impl Subscription {
         self.opening.as_slice().len() as u64
     }
 
-    /// Shows the next alert: first those that were stored at the subscription, then those of the log since.
+    /// Shows the next alert: first those that were stored at the subscription, then those of the
+    /// log since.
     pub fn next<'a>(&'a mut self, book: &'a Book) -> Step<'a>
         requires { BelongsTo book.now self.old }
         ensures* after { sem 𝓛 (follows_so the_row the_row self.entry.ghost_name none (λ _ _. ⊤)
