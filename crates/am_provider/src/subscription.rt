@@ -69,7 +69,7 @@ impl Subscription {
     pub fn next<'a>(&'a mut self, book: &'a Book) -> Step<'a>
         requires { BelongsTo book.now self.old }
         ensures* after { sem 𝓛 (follows_so the_row the_row self.entry.ghost_name none (λ _ _. ⊤)
-            (λ new. Answers book.now self.old result new)) }
+            (λ new. Answers book.now self.old result new × BelongsTo book.now new)) }
     {
         match self.advance(book) {
             Advance::Item => Step::Item(self.last(book)),
@@ -81,7 +81,8 @@ impl Subscription {
     // Counts the next alert as taken, where there is one.
     fn advance(&mut self, book: &Book) -> Advance
         requires { BelongsTo book.now self.old }
-        ensures { Advances book.now self.old result self.new }
+        ensures advances { Advances book.now self.old result self.new }
+        ensures given { BelongsTo book.now self.new }
     {
         if self.has_more(book) {
             self.count += 1;

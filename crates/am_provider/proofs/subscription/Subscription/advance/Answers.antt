@@ -10,18 +10,18 @@ overflow_add-self c =
     let count : c.self.inside.count ≡ c.args.self.now.count = ap (λ (p : SubscriptionView). p.count) c.self.view_is in
     omega (arith, c.has_more.ensures.countable, within, count)
 
-pub returns-then-has_more : goal.returns-then-has_more
-returns-then-has_more c =
+pub returns-then-has_more-clause-advances : goal.returns-then-has_more-clause-advances
+returns-then-has_more-clause-advances c =
     shows_item c.args.book.now c.args.self.now _ (ap (λ (p : SubscriptionView). record p { count = p.count + 1 }) c.self.view_is) (sym c.if-has_more.true ∙ c.has_more.ensures.more)
 
-pub returns-then-book : goal.returns-then-book
-returns-then-book c =
+pub returns-then-book-clause-advances : goal.returns-then-book-clause-advances
+returns-then-book-clause-advances c =
     let kept = subst IsFaithful c.book.view_is c.book.invariant.kept in
     let ended = ap (λ (s : BookView). is_closed s.journal) (sym c.book.view_is) ∙ (sym c.book.invariant.closed ∙ c.if-book.true) in
     shows_closed c.args.book.now c.args.self.now _ kept c.requires (ap (λ (p : SubscriptionView). record p { closed_told = true }) c.self.view_is) (sym c.if-has_more.false ∙ c.has_more.ensures.more) ended
 
-pub returns : goal.returns
-returns c =
+pub returns-clause-advances : goal.returns-clause-advances
+returns-clause-advances c =
     let kept = subst IsFaithful c.book.view_is c.book.invariant.kept in
     let still = ap (λ (s : BookView). is_closed s.journal) (sym c.book.view_is) ∙ (sym c.book.invariant.closed ∙ c.if-book.false) in
     shows_pending c.args.book.now c.args.self.now _ kept c.requires (search rules) (sym c.if-has_more.false ∙ c.has_more.ensures.more) still
