@@ -28,3 +28,6 @@ pub use pass::Pass;
 pub use posted::Posted;
 pub use step::Step;
 pub use subscription::Subscription;
+
+#[cfg(test)]
+mod tests;

@@ -3,6 +3,7 @@
 use am_alert::Alert;
 
 /// What a subscription shows next.
+#[derive(Clone, Copy, Debug)]
 pub enum Step<'a> {
     /// The next alert, lent by the Book or the subscription.
     Item(&'a Alert),
