@@ -2,7 +2,7 @@
 use Rattle.std.proofs.Common.{◌≡◌, ℕ, zero, suc, ◌+◌, ◌<◌, ◌≤◌, Bool, true, false, cond, ◌||◌, nat_eq, List, [], ◌∷◌, ◌++◌, length, take, drop, get_or, set, Some, refl, sym, ap, inl, inr, ◌∙◌, arith, eq-eqb, get_or-set_same, get_or-set_other, length-set}
 use Rattle.std.specs.Vec.{vec_len, vec_capacity}
 use Rattle.std.specs.List.{slice_get}
-use Rattle.std.proofs.lemmas.List.{append-nil, take-append-drop}
+use Rattle.std.proofs.lemmas.List.{append-nil, take-append-drop, take_all}
 use Rattle.std.proofs.lemmas.Bool.Decides.{eqb_tells}
 use Rattle.std.proofs.Math.Seq.{drop-append_seam, take-append_seam}
 use Rattle.am_provider.specs.declared.call.Call.{Call}
@@ -31,6 +31,11 @@ pub front_of : (book : BookView) (sub : SubscriptionView) → IsFaithful book �
 front_of book sub kept of =
     let all = sub.opening ++ items_of (drop sub.start book.log) in
     (drop sub.count all, take-append-drop sub.count all ∙ due_of book sub kept of)
+
+pub complete_of : (book : BookView) (sub : SubscriptionView) → IsFaithful book → BelongsTo book sub → sub.closed_told ≡ true → taken book sub ≡ due book.journal sub.at
+complete_of book sub kept of told =
+    let all : length (sub.opening ++ items_of (drop sub.start book.log)) ≤ sub.count = omega (arith, (of.told told).all) in
+    take_all sub.count (sub.opening ++ items_of (drop sub.start book.log)) all ∙ due_of book sub kept of
 
 -- ---- flags
 
@@ -87,11 +92,11 @@ sound_subscribed a b lane sound still low journal store log lanes closed posts r
       room = enough b (eight ∙ sound.eight) room;
     })
 
-get_end : (calls : List Call) (c : Call) → slice_get (calls ++ c ∷ []) (length calls) ≡ Some c
+pub get_end : (calls : List Call) (c : Call) → slice_get (calls ++ c ∷ []) (length calls) ≡ Some c
 get_end [] c = refl
 get_end (d ∷ calls) c = get_end calls c
 
-take_end : (calls : List Call) (c : Call) → take (length calls) (calls ++ c ∷ []) ≡ calls
+pub take_end : (calls : List Call) (c : Call) → take (length calls) (calls ++ c ∷ []) ≡ calls
 take_end calls c = take-append_seam calls (c ∷ [])
 
 or_true : (b : Bool) → (b || true) ≡ true
@@ -99,8 +104,8 @@ or_true true = refl
 or_true false = refl
 
 pub given_subscribed : (old new : BookView) (sub : SubscriptionView) → IsFaithful old → new.journal ≡ old.journal ++ Subscribed sub.lane ∷ []
-    → sub.at ≡ length old.journal → sub.start ≡ length old.log → sub.opening ≡ old.stored → sub.count ≡ 0 → BelongsTo new sub
-given_subscribed old new sub kept journal at start opening count =
+    → sub.at ≡ length old.journal → sub.start ≡ length old.log → sub.opening ≡ old.stored → sub.count ≡ 0 → sub.closed_told ≡ false → BelongsTo new sub
+given_subscribed old new sub kept journal at start opening count untold =
     let before : take sub.at new.journal ≡ old.journal = ap (λ n. take n new.journal) at ∙ (ap (take (length old.journal)) journal ∙ take_end old.journal (Subscribed sub.lane)) in
     record {
       entry = ap (λ n. slice_get new.journal n) at ∙ (ap (λ calls. slice_get calls (length old.journal)) journal ∙ get_end old.journal (Subscribed sub.lane));
@@ -108,6 +113,7 @@ given_subscribed old new sub kept journal at start opening count =
       start = start ∙ (ap length kept.log ∙ ap (λ calls. length (cast calls)) (sym before));
       still = ap (λ calls. is_open calls sub.lane) journal ∙ (open_last old.journal (Subscribed sub.lane) sub.lane ∙ (ap (λ t. is_open old.journal sub.lane || t) (nat_eq_refl sub.lane) ∙ or_true (is_open old.journal sub.lane)));
       within = omega (arith, count);
+      told = λ told. absurd (let no : false ≡ true = sym untold ∙ told in (cc));
     }
 
 -- ---- a lane is left

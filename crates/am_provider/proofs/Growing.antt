@@ -1,18 +1,19 @@
 -- What stays as the journal grows.
-use Rattle.std.proofs.Common.{◌≡◌, ℕ, zero, suc, ◌+◌, ◌<◌, ◌≤◌, List, [], ◌∷◌, ◌++◌, length, take, drop, Some, refl, sym, ap, ◌∙◌, arith, length-append}
+use Rattle.std.proofs.Common.{◌≡◌, ℕ, zero, suc, ◌+◌, ◌<◌, ◌≤◌, List, [], ◌∷◌, ◌++◌, length, take, drop, Some, true, false, ◌||◌, refl, sym, ap, subst, ◌∙◌, arith, length-append}
 use Rattle.std.specs.List.{slice_get}
 use Rattle.std.proofs.lemmas.List.{append_assoc, take-append-le}
 use Rattle.std.proofs.lemmas.Grind.{flat_map-append}
 use Rattle.am_alert.specs.declared.alert.Alert.{Alert}
 use Rattle.am_provider.specs.declared.call.Call.{Call}
-use Rattle.am_provider.specs.declared.call.Call.TheVariants.{Subscribed}
-use Rattle.am_provider.specs.Stored.{steps, stored}
+use Rattle.am_provider.specs.declared.call.Call.TheVariants.{Posted, Collected, Subscribed, Left, Closed}
+use Rattle.am_provider.specs.Stored.{Step, steps, stored}
 use Rattle.am_provider.specs.Cast.{cast, items_of, batches_of}
-use Rattle.am_provider.specs.Journal.{is_open, open_after}
+use Rattle.am_provider.specs.Journal.{closes, is_closed, is_open, open_after, MayFollow}
 use Rattle.am_provider.specs.BookView.{BookView, IsFaithful, SubscriptionView, BelongsTo}
 use Rattle.am_provider.specs.BookView.{all_of}
 use Rattle.am_provider.specs.Laws.{StaysGiven, StaysFront}
-use Rattle.am_provider.proofs.Journals.{due_last, open_last, cast_last}
+use Rattle.am_provider.proofs.Journals.{due_last, open_last, closed_last, cast_last}
+use Rattle.am_provider.proofs.Flags.{get_end, take_end}
 use Rattle.am_provider.proofs.Items.{get_front, start_within}
 
 within : (calls : List Call) (d : Call) (k : ℕ) → slice_get calls k ≡ Some d → k < length calls
@@ -32,6 +33,19 @@ all_grows old new sub more kept of log =
     ∙ (ap (λ rest. sub.opening ++ rest) (flat_map-append (λ batch. batch) (drop sub.start old.log) more)
     ∙ sym (append_assoc sub.opening (items_of (drop sub.start old.log)) (items_of more)))
 
+-- once the log is closed nothing is sent out
+silent : (before : List Step) (calls : List Call) (call : Call) → is_closed calls ≡ true → MayFollow calls call → batches_of before call ≡ []
+silent before calls (Posted now news) ended may = absurd (let no : false ≡ true = sym may ∙ ended in (cc))
+silent before calls (Collected now) ended may = refl
+silent before calls (Subscribed lane) ended may = refl
+silent before calls (Left lane) ended may = refl
+silent before calls Closed ended may = refl
+
+may_last : (old new : BookView) (call : Call) → IsFaithful new → new.journal ≡ old.journal ++ call ∷ [] → MayFollow old.journal call
+may_last old new call later journal =
+    subst (λ calls. MayFollow calls call) (ap (take (length old.journal)) journal ∙ take_end old.journal call)
+    (later.legal (length old.journal) call (ap (λ calls. slice_get calls (length old.journal)) journal ∙ get_end old.journal call))
+
 pub stays_given : StaysGiven
 stays_given old new sub call kept later of journal goes =
     let more = batches_of (steps old.journal) call in
@@ -48,6 +62,14 @@ stays_given old new sub call kept later of journal goes =
         start = of.start ∙ ap (λ calls. length (cast calls)) (sym before);
         still = ap (λ calls. is_open calls sub.lane) journal ∙ (open_last old.journal call sub.lane ∙ (ap (λ was. open_after sub.lane was call) of.still ∙ goes));
         within = omega (arith, of.within, long);
+        told = λ told.
+            let done = of.told told in
+            let none = silent (steps old.journal) old.journal call done.ended (may_last old new call later journal) in
+            let quiet : length (items_of more) ≡ 0 = ap (λ batches. length (items_of batches)) none in
+            record {
+              ended = ap is_closed journal ∙ (closed_last old.journal call ∙ ap (λ ended. ended || closes call) done.ended);
+              all = omega (arith, done.all, long, quiet);
+            };
       },
       ap (take sub.count) all ∙ take-append-le sub.count (all_of old sub) (items_of more) of.within,
     )

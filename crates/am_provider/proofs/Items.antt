@@ -93,6 +93,18 @@ shows_item book old new e more =
     (λ none. absurd (let no : true ≡ false = more ∙ ap is_some none in (cc)))
     (λ a some. (e, a, ap (taken book) e ∙ taken_more (all_of book old) old.count a some))
 
+pub given_item : (book : BookView) (old new : SubscriptionView) → BelongsTo book old → new ≡ record old { count = old.count + 1 } → true ≡ is_some (slice_get (all_of book old) old.count) → BelongsTo book new
+given_item book old new of e more =
+    let below = more_within (all_of book old) old.count more in
+    subst (BelongsTo book) (sym e) (record {
+      entry = of.entry;
+      opening = of.opening;
+      start = of.start;
+      still = of.still;
+      within = omega arith;
+      told = λ told. let all = (of.told told).all in absurd (omega arith);
+    })
+
 none_of : {A : Type 0} (o : Option A) → false ≡ is_some o → o ≡ None
 none_of None e = refl
 none_of (Some x) e = (cc)
@@ -107,3 +119,15 @@ pub none_past : (xs : List Alert) (n : ℕ) → slice_get xs n ≡ None → leng
 none_past [] n e = omega arith
 none_past (x ∷ xs) zero e = (cc)
 none_past (x ∷ xs) (suc n) e = let h = none_past xs n e in omega arith
+
+pub given_closed : (book : BookView) (old new : SubscriptionView) → BelongsTo book old → new ≡ record old { closed_told = true } → false ≡ is_some (slice_get (all_of book old) old.count) → is_closed book.journal ≡ true → BelongsTo book new
+given_closed book old new of e more ended =
+    let past = none_past (all_of book old) old.count (none_of (slice_get (all_of book old) old.count) more) in
+    subst (BelongsTo book) (sym e) (record {
+      entry = of.entry;
+      opening = of.opening;
+      start = of.start;
+      still = of.still;
+      within = of.within;
+      told = λ told. record { ended = ended; all = omega (arith, past, of.within) };
+    })

@@ -5,7 +5,7 @@ use Rattle.am_alert.specs.declared.alert.Alert.{Alert}
 use Rattle.am_alert.specs.Alerts.{coded_alert}
 use Rattle.am_provider.specs.declared.call.Call.{Call}
 use Rattle.am_provider.specs.declared.call.Call.TheVariants.{Subscribed}
-use Rattle.am_provider.specs.Journal.{is_open, IsLegal}
+use Rattle.am_provider.specs.Journal.{is_closed, is_open, IsLegal}
 use Rattle.am_provider.specs.Stored.{steps, stored}
 use Rattle.am_provider.specs.Cast.{cast, items_of}
 
@@ -68,10 +68,17 @@ all_of book subscription = subscription.opening ++ items_of (drop subscription.s
 abbrev pub taken : BookView → SubscriptionView → List Alert
 taken book subscription = take subscription.count (all_of book subscription)
 
--- the subscription was given by the Book, and has not been given back
+-- the log was ended, and the subscription has taken all that there is
+pub record IsComplete (book : BookView) (subscription : SubscriptionView) : Type 0 where
+  pub ended : is_closed book.journal ≡ true
+  pub all : subscription.count ≡ length (all_of book subscription)
+
+-- the subscription was given by the Book, and has not been given back. Where it was told that no more
+-- will come, none will
 pub record BelongsTo (book : BookView) (subscription : SubscriptionView) : Type 0 where
   pub entry : slice_get book.journal subscription.at ≡ Some (Subscribed subscription.lane)
   pub opening : subscription.opening ≡ stored (steps (take subscription.at book.journal))
   pub start : subscription.start ≡ length (cast (take subscription.at book.journal))
   pub still : is_open book.journal subscription.lane ≡ true
   pub within : subscription.count ≤ length (all_of book subscription)
+  pub told : subscription.closed_told ≡ true → IsComplete book subscription

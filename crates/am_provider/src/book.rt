@@ -35,7 +35,7 @@ use std::marker::Model;
 const LANES: usize = 8;
 
 // An entry of the journal, one to end each lane, and one to end the log.
-const ENTRIES: usize = 10;
+const ENTRIES: usize = LANES + 2;
 
 /// How many places a log has at most. With 1,024 alerts in each and an opening before, a
 /// subscription's alerts are fewer than 2^64.
@@ -78,6 +78,7 @@ impl Book {
         requires posters { (1 ≤ posters) × (posters ≤ 64) }
         ensures empty { IfOk result
             (λ made. made.0 ≡ record { stored = []; journal = []; log = [] }) }
+        ensures kept { IfOk result (λ made. IsFaithful made.0) }
         ensures passes { IfOk result (λ made. made.1.items ≡ range_with_len 0 posters) }
     {
         let mut journal = Vec::new(alloc);
@@ -190,9 +191,11 @@ impl Book {
         ensures taken { result.taken ≡ length (taken self.old subscription) }
         ensures closed { result.closed ≡ subscription.closed_told }
 
-        // What was taken begins what was due.
+        // What was taken begins what was due, and is all of it where no more was to come.
         ensures front { IsFront (taken self.old subscription)
             (due self.old.journal subscription.at) }
+        ensures complete { IsTrue subscription.closed_told
+            → taken self.old subscription ≡ due self.old.journal subscription.at }
         ensures kept { IsFaithful self.new }
     {
         let Subscription {

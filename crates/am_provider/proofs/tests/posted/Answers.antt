@@ -6,4 +6,4 @@ pub returns-clause-given : goal.returns-clause-given
 returns-clause-given c =
     let journal : c.post.new.self.journal ≡ c.args.book.now.journal ++ Posted c.args.now c.args.post.valid ∷ [] = search rules in
     (c.stays.ensures.given c.args.book.now c.post.new.self c.args.subscription.now (Posted c.args.now c.args.post.valid)
-      c.requires.kept c.post.ensures.kept c.requires.given journal refl).0
+    c.requires.kept c.post.ensures.kept c.requires.given journal refl).0

@@ -2,7 +2,7 @@ use Rattle.std.proofs.Common.{◌≡◌, set, ◌++◌, ◌∷◌, [], ap, sym, 
 use Rattle.am_provider.specs.declared.call.Call.TheVariants.{Left}
 use Rattle.am_provider.specs.BookView.{BookView, SubscriptionView, BelongsTo, IsFaithful}
 use Rattle.am_provider.specs.BookInside.{view_of}
-use Rattle.am_provider.proofs.Flags.{sound_left, front_of, lane_of, room_to_leave}
+use Rattle.am_provider.proofs.Flags.{sound_left, front_of, complete_of, lane_of, room_to_leave}
 use Rattle.am_provider.proofs.book.Book.leave.Goals as goal
 
 pub bounds-self-inside-lane : goal.bounds-self-inside-lane
@@ -30,3 +30,7 @@ returns-clause-kept c = (invariant_of-self c).kept
 
 pub returns-clause-front : goal.returns-clause-front
 returns-clause-front c = front_of c.args.self.now c.args.subscription (subst IsFaithful c.self.view_is c.self.invariant.kept) c.requires.given
+
+pub returns-clause-complete : goal.returns-clause-complete
+returns-clause-complete c = λ told.
+    complete_of c.args.self.now c.args.subscription (subst IsFaithful c.self.view_is c.self.invariant.kept) c.requires.given told

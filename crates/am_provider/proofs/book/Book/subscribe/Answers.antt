@@ -22,4 +22,4 @@ returns-clause-given c =
     let at : c.len-at.result ≡ length c.self.inside.journal.items = search rules in
     let start : c.len-start.result ≡ length c.self.inside.log.items = search rules in
     let opening : c.in_ok-opening.opening.items ≡ c.self.inside.stored.items = search rules in
-    given_subscribed (view_of c.self.inside) _ _ c.self.invariant.kept journal at start opening refl
+    given_subscribed (view_of c.self.inside) _ _ c.self.invariant.kept journal at start opening refl refl

@@ -1,7 +1,7 @@
 use Rattle.std.proofs.Common.{◌≡◌, ◌+◌, true, ap, sym, subst, arith, rules, ◌∙◌}
 use Rattle.am_provider.specs.Journal.{is_closed}
 use Rattle.am_provider.specs.BookView.{BookView, SubscriptionView, IsFaithful, all_of}
-use Rattle.am_provider.proofs.Items.{more_within, shows_item, shows_pending, shows_closed}
+use Rattle.am_provider.proofs.Items.{more_within, given_item, given_closed, shows_item, shows_pending, shows_closed}
 use Rattle.am_provider.proofs.subscription.Subscription.advance.Goals as goal
 
 pub overflow_add-self : goal.overflow_add-self
@@ -25,3 +25,12 @@ returns-clause-advances c =
     let kept = subst IsFaithful c.book.view_is c.book.invariant.kept in
     let still = ap (λ (s : BookView). is_closed s.journal) (sym c.book.view_is) ∙ (sym c.book.invariant.closed ∙ c.if-book.false) in
     shows_pending c.args.book.now c.args.self.now _ kept c.requires (search rules) (sym c.if-has_more.false ∙ c.has_more.ensures.more) still
+
+pub returns-then-has_more-clause-given : goal.returns-then-has_more-clause-given
+returns-then-has_more-clause-given c =
+    given_item c.args.book.now c.args.self.now _ c.requires (ap (λ (p : SubscriptionView). record p { count = p.count + 1 }) c.self.view_is) (sym c.if-has_more.true ∙ c.has_more.ensures.more)
+
+pub returns-then-book-clause-given : goal.returns-then-book-clause-given
+returns-then-book-clause-given c =
+    let ended = ap (λ (s : BookView). is_closed s.journal) (sym c.book.view_is) ∙ (sym c.book.invariant.closed ∙ c.if-book.true) in
+    given_closed c.args.book.now c.args.self.now _ c.requires (ap (λ (p : SubscriptionView). record p { closed_told = true }) c.self.view_is) (sym c.if-has_more.false ∙ c.has_more.ensures.more) ended
