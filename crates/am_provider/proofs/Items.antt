@@ -1,24 +1,21 @@
 -- Items of lists one after another.
-use Rattle.std.proofs.Common.{◌≡◌, ℕ, zero, suc, ◌*◌, ◌^◌, length-drop, ◌+◌, ◌<◌, ◌≤◌, true, false, List, [], ◌∷◌, ◌++◌, length, take, drop, get_or, Option, Some, None, refl, sym, ap, subst, ◌∙◌, arith}
+use Rattle.std.proofs.Common.{◌≡◌, ℕ, zero, suc, ◌*◌, ◌^◌, length-append, length-drop, ◌+◌, ◌<◌, ◌≤◌, true, false, List, [], ◌∷◌, ◌++◌, length, take, drop, get_or, Option, Some, None, refl, sym, ap, subst, ◌∙◌, arith}
 use Rattle.std.specs.List.{slice_get, All}
 use Rattle.std.proofs.lemmas.List.Elements.{All-drop}
+use Rattle.am_provider.specs.declared.book.TheConstants.{LOG_END}
 use Rattle.am_provider.specs.declared.book.Book.TheInside.{Inside}
 use Rattle.am_provider.specs.BookInside.{view_of, IsWithinLimits, IsSound}
 use Rattle.std.proofs.Math.Seq.{drop-cons}
 use Rattle.am_alert.specs.declared.alert.Alert.{Alert}
-use Rattle.am_provider.specs.Cast.{items_of, due}
+use Rattle.am_provider.specs.Cast.{cast, cast_from, items_of, due}
 use Rattle.am_provider.specs.Journal.{is_closed}
-use Rattle.am_provider.specs.BookView.{BookView, SubscriptionView, taken, BelongsTo, IsFaithful}
-use Rattle.am_provider.specs.Cast.{items_of}
-use Rattle.am_provider.specs.BookView.{all_of}
+use Rattle.am_provider.specs.BookView.{BookView, SubscriptionView, all_of, taken, BelongsTo, IsFaithful}
 use Rattle.am_provider.specs.Advances.{Advances}
 use Rattle.std.specs.Option.{is_some}
 use Rattle.am_provider.specs.declared.advance.Advance.TheVariants.{Item, Pending, Closed}
 use Rattle.am_provider.specs.Stored.{steps}
-use Rattle.am_provider.specs.Cast.{cast, cast_from}
 use Rattle.am_provider.proofs.Journals.{cast_parts}
 use Rattle.am_provider.proofs.Stored.{by_option}
-use Rattle.std.proofs.Common.{length-append}
 use Rattle.am_provider.proofs.Flags.{due_of}
 
 pub get_front : {A : Type 0} (xs ys : List A) (i : ℕ) → i < length xs → slice_get (xs ++ ys) i ≡ slice_get xs i
@@ -79,7 +76,7 @@ all_small fields book sub sound view opening =
     let limits : IsWithinLimits book.log = subst (λ (seen : BookView). IsWithinLimits seen.log) view sound.limits in
     let since = items_small (drop sub.start book.log) (All-drop (λ batch. length batch ≤ 1024) sub.start book.log limits.batches) in
     let fewer : length (drop sub.start book.log) ≤ length book.log = omega (arith, length-drop sub.start book.log) in
-    let places : length book.log ≤ 2251799813685248 = limits.places in
+    let places : length book.log ≤ LOG_END = limits.places in
     omega (arith, length-append sub.opening (items_of (drop sub.start book.log)), since, fewer, places, opening)
 
 pub more_within : (xs : List Alert) (n : ℕ) → true ≡ is_some (slice_get xs n) → n < length xs

@@ -9,6 +9,7 @@ use Rattle.am_alert.specs.declared.alert.Alert.{Alert}
 use Rattle.am_alert.specs.Merging.{is_resolved_at}
 use Rattle.am_provider.specs.declared.call.Call.{Call}
 use Rattle.am_provider.specs.declared.call.Call.TheVariants.{Posted, Collected, Closed}
+use Rattle.am_provider.specs.declared.book.TheConstants.{LOG_END}
 use Rattle.am_provider.specs.declared.book.Book.TheInside.{Inside}
 use Rattle.am_provider.specs.Stored.{Step, steps_of, steps, stored}
 use Rattle.am_provider.specs.Cast.{batch_of, batches_of, cast}
@@ -77,11 +78,11 @@ at_most : (k : ℕ) (d batch : List Alert) → length batch ≤ 1024 → k < 1 �
 at_most zero d batch h l = h
 at_most (suc k) d batch h l = absurd (omega arith)
 
-limits_grown : (log : List (List Alert)) (batch : List Alert) → IsWithinLimits log → length batch ≤ 1024 → (0 < length batch → length log < 2251799813685248)
+limits_grown : (log : List (List Alert)) (batch : List Alert) → IsWithinLimits log → length batch ≤ 1024 → (0 < length batch → length log < LOG_END)
     → IsWithinLimits (cond (nat_eq (length batch) 0) log (log ++ batch ∷ []))
 limits_grown log [] limits few fits = limits
 limits_grown log (x ∷ xs) limits few fits =
-    let below : length log < 2251799813685248 = fits (omega arith) in
+    let below : length log < LOG_END = fits (omega arith) in
     let grown : IsWithinLimits (log ++ (x ∷ xs) ∷ []) = record {
       batches = All-append (λ batch. length batch ≤ 1024) log ((x ∷ xs) ∷ []) limits.batches (λ k d h. at_most k d (x ∷ xs) few h);
       places = omega (arith, length-append log ((x ∷ xs) ∷ []), below);
@@ -105,12 +106,12 @@ pub sound_posted : (a b : Inside) (now : ℕ) (news batch : List Alert) → IsSo
     → b.stored.items ≡ with_alerts batch a.stored.items
     → b.log.items ≡ cond (nat_eq (length batch) 0) a.log.items (a.log.items ++ batch ∷ [])
     → batch ≡ batch_by_list now news a.stored.items
-    → length batch ≡ length news → length news ≤ 1024 → (0 < length news → length a.log.items < 2251799813685248)
+    → length batch ≡ length news → length news ≤ 1024 → (0 < length news → length a.log.items < LOG_END)
     → b.closed ≡ a.closed → b.lanes ≡ a.lanes → b.posts ≡ a.posts + 1 → vec_len b.journal + 9 ≤ vec_capacity b.journal → IsSound b
 sound_posted a b now news batch sound still journal store log sent long few fits closed lanes posts room =
     let same = batch_of_post (steps a.journal.items) now news ∙ ap (batch_by_list now news) (sym sound.kept.stored) in
     let short : length batch ≤ 1024 = omega arith in
-    let below : 0 < length batch → length a.log.items < 2251799813685248 = λ h. fits (omega arith) in
+    let below : 0 < length batch → length a.log.items < LOG_END = λ h. fits (omega arith) in
     sound_grown a b (Posted now news) sound (sym sound.closed ∙ still) (record {
       journal = journal;
       stored = store ∙ (ap (λ batch. with_alerts batch a.stored.items) sent ∙ sym (stored_post (steps a.journal.items) now news ∙ ap (λ olds. with_alerts (batch_by_list now news olds) olds) (sym sound.kept.stored)));

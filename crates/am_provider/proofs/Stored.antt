@@ -1,4 +1,4 @@
--- The stored list goes on by the plain program's steps.
+-- The stored list goes on step by step: a report is absorbed into it, a collection filters it.
 use Rattle.std.proofs.Common.{◌≡◌, ◌≢◌, ℕ, zero, suc, ◌+◌, ◌<◌, ◌≤◌, Bool, true, false, not, ◌&&◌, cond, nat_eq, List, [], ◌∷◌, ◌++◌, map, filter, length, Option, Some, None, refl, sym, ap, subst, ◌∙◌, arith}
 use Rattle.std.specs.Option.{option_to_list, option_map, IfSome}
 use Rattle.std.proofs.lemmas.List.{append_assoc, append-nil}
@@ -381,7 +381,7 @@ agree_more before (s ∷ ss) agree = subst Agree (append_assoc before (s ∷ [])
 pub agrees : (ss : List Step) → Agree ss
 agrees ss = agree_more [] ss (record { found = λ labels. refl; distinct = tt })
 
--- ---- the plain program's steps
+-- ---- reports absorbed into a list
 
 pub with_alert_absent : (alert : Alert) (olds : List Alert) → lookup alert.labels olds ≡ None → with_alert alert olds ≡ olds ++ alert ∷ []
 with_alert_absent alert [] e = refl
@@ -420,7 +420,7 @@ absorb_into_present now new olds x own d e =
     ap (λ o. with_alert (absorbed now o new) olds) e
     ∙ with_alert_present now new (absorbed now (Some x) new) x olds (absorbed_labels now x new own) refl d e
 
--- a report puts the alert in
+-- a report is absorbed into the stored list
 pub stored_report : (ss : List Step) (now : ℕ) (new : Alert) → stored (ss ++ Report now new ∷ []) ≡ absorb_into now new (stored ss)
 unfolding alert_in
 stored_report ss now new =
@@ -438,7 +438,7 @@ unfolding alert_in
 batch_of_one ss now new =
     ap alert_of (held_own ss now new) ∙ ap (λ a. a ∷ []) (after_report_alert (length ss) now new (held new.labels ss) ∙ ap (λ o. absorbed now o new) (sym ((agrees ss).found new.labels)))
 
--- a post puts its alerts in, and sends out what each batch_of
+-- the reports of a post are absorbed one after another, and its batch is what each became
 pub stored_post : (ss : List Step) (now : ℕ) (news : List Alert) → stored (ss ++ map (Report now) news) ≡ with_alerts (batch_by_list now news (stored ss)) (stored ss)
 stored_post ss now [] = ap stored (append-nil ss)
 stored_post ss now (new ∷ news) =

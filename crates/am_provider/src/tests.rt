@@ -1,6 +1,6 @@
 //! What the calls of a Book answer, against values worked out by hand.
 
-ghost use Rattle.std.specs.Prelude.{◌≡◌, ◌+◌, ◌≤◌, ◌++◌, ◌∷◌, [], true, length, vec_len, IfOk};
+ghost use Rattle.std.specs.Prelude.{◌≤◌, vec_len};
 ghost use Rattle.am_provider.specs.BookView.{IsFaithful, BelongsTo};
 
 use crate::{Book, Ended, Pass, PutFault, Step, SubFault, Subscription, stays};

@@ -1,4 +1,5 @@
 use Rattle.std.proofs.Common.{◌≡◌, ◌+◌, ◌<◌, ◌≤◌, nat_eq, cond, length, ◌++◌, ◌∷◌, [], ap, refl, ◌∙◌, arith, rules, vec_len, vec_capacity}
+use Rattle.am_provider.specs.declared.book.TheConstants.{LOG_END}
 use Rattle.am_provider.specs.declared.call.Call.TheVariants.{Posted}
 use Rattle.am_provider.specs.AlertList.{with_alerts, batch_by_list}
 use Rattle.am_provider.proofs.Kept.{sound_posted}
@@ -20,7 +21,7 @@ invariant_of-self-2 c =
     let room : vec_len c.push_reserved.new.self + 9 ≤ vec_capacity c.push_reserved.new.self = omega (arith, c.in_ok-reserve-2.ensures.ok, c.push_reserved.ensures.len, c.push_reserved.ensures.capacity) in
     let few : length c.args.post.valid ≤ 1024 = omega (arith, c.args.post.few) in
     let long : length c.as_slice-count.result.now ≡ length c.args.post.valid = search rules in
-    let fits : 0 < length c.args.post.valid → length c.self.inside.log.items < 2251799813685248 =
+    let fits : 0 < length c.args.post.valid → length c.self.inside.log.items < LOG_END =
     elim c.else-count-gt0.branch [
       | else-count-gt0-via-then-count-gt0+else-len-ge-LOG_END w ↦ λ h. omega (arith, w.if-len-ge-LOG_END.false, w.len.ensures, c.self.inside.log.ok)
       | else-count-gt0-via-else-count-gt0 w ↦ λ h. absurd (omega (arith, w.if-count-gt0.false, long))
