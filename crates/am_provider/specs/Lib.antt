@@ -15,3 +15,4 @@ pub mod BookInside
 pub mod Advances
 pub mod Answers
 pub mod Laws
+pub mod FaultTexts
