@@ -4,9 +4,10 @@ ghost use Rattle.std.specs.Prelude.{◌≡◌, ◌+◌, ◌≤◌, length};
 
 use crate::alerts::Alerts;
 use std::marker::Model;
+use thiserror::Error;
 
 /// Why one alert of a post is invalid. The others of the post stay valid.
-#[derive(Clone, Copy, Debug, PartialEq, Eq)]
+#[derive(Clone, Copy, Debug, PartialEq, Eq, Error)]
 pub enum AlertFault {
     /// No label has a value.
     NoLabels,
@@ -49,7 +50,7 @@ pub struct Post {
 }
 
 /// Why a post was refused as a whole: nothing of it is stored.
-#[derive(Clone, Copy, Debug, PartialEq, Eq)]
+#[derive(Clone, Copy, Debug, PartialEq, Eq, Error)]
 pub enum PostFault {
     NoMemory,
     /// The bytes aren't JSON.

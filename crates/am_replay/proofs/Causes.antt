@@ -1,0 +1,28 @@
+-- Why the Book refuses a call.
+use Rattle.std.proofs.Common.{◌≡◌, ◌<◌, false, List, length, Err, refl, IsTrue}
+use Rattle.std.specs.Prelude.{◌↔◌, IsErrOf}
+use Rattle.am_alert.specs.declared.alert.Alert.{Alert}
+use Rattle.am_provider.specs.BookView.{BookView}
+use Rattle.am_provider.specs.Journal.{AreAllOpen, is_closed}
+use Rattle.am_provider.specs.declared.book.TheConstants.{LOG_END}
+use Rattle.am_provider.specs.declared.faults.PutFault.{PutFault}
+use Rattle.am_provider.specs.declared.faults.PutFault.TheVariants as put_fault
+use Rattle.am_provider.specs.declared.faults.SubFault.{SubFault}
+use Rattle.am_provider.specs.declared.faults.SubFault.TheVariants as sub_fault
+use Rattle.am_replay.specs.Runs.{IsPutCause, IsSubCause}
+
+pub put_cause : {T : Type 0} (book : BookView) (valid : List Alert) (why : PutFault)
+    → (IsErrOf {T = T} (Err why) put_fault.Closed ↔ IsTrue (is_closed book.journal))
+    → (IsErrOf {T = T} (Err why) put_fault.LogEnd ↔ ((is_closed book.journal ≡ false) × (0 < length valid) × (length book.log ≡ LOG_END)))
+    → IsPutCause why book
+put_cause book valid put_fault.NoMemory closed full = tt
+put_cause book valid put_fault.Closed closed full = closed.0 refl
+put_cause book valid put_fault.LogEnd closed full = let why = full.0 refl in (why.0, why.2)
+
+pub sub_cause : {T : Type 0} (book : BookView) (why : SubFault)
+    → (IsErrOf {T = T} (Err why) sub_fault.Closed ↔ IsTrue (is_closed book.journal))
+    → (IsErrOf {T = T} (Err why) sub_fault.NoLane ↔ ((is_closed book.journal ≡ false) × AreAllOpen book.journal))
+    → IsSubCause why book
+sub_cause book sub_fault.NoMemory closed full = tt
+sub_cause book sub_fault.Closed closed full = closed.0 refl
+sub_cause book sub_fault.NoLane closed full = full.0 refl

@@ -1,0 +1,11 @@
+pub mod Answers
+pub mod Bytes
+pub mod Commands
+pub mod Intakes
+pub mod Names
+pub mod Next
+pub mod Printing
+pub mod Replays
+pub mod Runs
+pub mod Script
+pub mod Sessions

@@ -1,0 +1,75 @@
+//! Running a script's lines in their order.
+
+ghost use Rattle.std.specs.Prelude.{◌≡◌, ◌++◌, IfOk, OnOk};
+ghost use Rattle.am_replay.specs.Runs.{Desk, Does, Runs, counts_of, empty_desk, numbered};
+ghost use Rattle.am_replay.specs.Sessions.{IsReady, desk_of};
+
+use crate::answer::{Answer, Answered};
+use crate::command::{Command, Line};
+use crate::report::Report;
+use crate::session::{Session, one};
+use std::alloc::{AllocError, Global};
+
+/// Runs the lines in their order. At the end the subscriptions that are still open are left.
+pub fn run_script(alloc: Global, lines: &[Line]) -> Result<Report, AllocError>
+    ensures { IfOk result (λ report. (desk : Desk)
+        × Runs empty_desk lines.now desk report.answers.items
+        × (report.counts ≡ counts_of desk.book)) }
+{
+    let mut session = Session::begin(alloc)?;
+    let ran = run_lines(alloc, &mut session, lines);
+    let counts = session.counts();
+    session.end();
+    match ran {
+        Ok(answers) => Ok(Report { answers, counts }),
+        Err(error) => Err(error),
+    }
+}
+
+fn run_lines(
+    alloc: Global,
+    session: &mut Session,
+    lines: &[Line],
+) -> Result<Vec<Answered>, AllocError>
+    requires { IsReady session.old }
+    ensures ready { IsReady session.new }
+    ensures runs { IfOk result
+        (λ answers. Runs (desk_of session.old) lines.now (desk_of session.new) answers.items) }
+{
+    let mut answers = Vec::new(alloc);
+    for line in lines {
+        let given = run_line(alloc, session, line)?;
+        add_answers(&mut answers, line.number, given)?;
+    }
+    Ok(answers)
+}
+
+fn add_answers(
+    answers: &mut Vec<Answered>,
+    number: u32,
+    given: Vec<Answer>,
+) -> Result<(), AllocError>
+    ensures { OnOk result (answers.new.items ≡ answers.old.items ++ numbered number given.items) }
+{
+    for answer in given {
+        answers.push(Answered { number, answer })?;
+    }
+    Ok(())
+}
+
+fn run_line(alloc: Global, session: &mut Session, line: &Line) -> Result<Vec<Answer>, AllocError>
+    requires { IsReady session.old }
+    ensures ready { IsReady session.new }
+    ensures does { IfOk result (λ answers. Does (desk_of session.old) line.now.thread
+        line.now.command (desk_of session.new) answers.items) }
+{
+    let thread = line.thread;
+    match &line.command {
+        Command::Post { at, body } => session.post(alloc, thread, *at, body),
+        Command::Read { name, max } => session.read(alloc, thread, name, *max),
+        Command::Subscribe { name } => one(alloc, session.subscribe(thread, name)?),
+        Command::Leave { name } => one(alloc, session.leave(thread, name)),
+        Command::Collect { at } => one(alloc, session.collect(*at)),
+        Command::Close => one(alloc, session.close()),
+    }
+}
