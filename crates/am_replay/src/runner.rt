@@ -18,8 +18,7 @@ pub fn run_script(alloc: Global, lines: &[Line]) -> Result<Report, AllocError>
 {
     let mut session = Session::begin(alloc)?;
     let ran = run_lines(alloc, &mut session, lines);
-    let counts = session.counts();
-    session.end();
+    let counts = session.end();
     match ran {
         Ok(answers) => Ok(Report { answers, counts }),
         Err(error) => Err(error),

@@ -169,16 +169,12 @@ impl Session {
         }
     }
 
-    pub fn counts(&self) -> Counts
-        ensures { result ≡ counts_of (desk_of self.now).book }
-    {
-        self.book.counts()
-    }
-
-    /// Leaves the open subscriptions, by thread and then by their order.
-    pub fn end(mut self)
+    /// The Book's counts. Then the open subscriptions are left, by thread and then by their order.
+    pub fn end(mut self) -> Counts
         requires { IsReady self }
+        ensures { result ≡ counts_of (desk_of self).book }
     {
+        let counts = self.book.counts();
         while !self.opened.is_empty() {
             let at = first_to_leave(&self.opened);
             let _left = self.leave_at(at);
@@ -189,6 +185,7 @@ impl Session {
             opened,
         } = self;
         opened.destroy_empty();
+        counts
     }
 }
 
