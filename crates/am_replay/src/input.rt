@@ -15,7 +15,8 @@ pub const TRIES: u32 = 1_001;
 /// How many bytes one read takes at most.
 const CHUNK: usize = 4_096;
 
-/// The input's bytes, to its end or to the first excess over a script's limits.
+/// The input's bytes, to its end or to the first excess over a script's limits. No contract says
+/// when a read fails, so that this doesn't fail without cause is tested.
 pub fn read_input<R: Read>(alloc: Global, input: &mut R) -> Result<Vec<u8>, Failure>
     ensures { IfOk result (λ text. IsReadOf (R.remaining input.old) text.items) }
 {

@@ -27,7 +27,7 @@ use std::alloc::AllocError;
 use std::env;
 use std::process::ExitCode;
 
-// The words of the command line, without the program's name.
+// The words of the command line, without the program's name. No contract knows what they really are.
 fn words(rt: &HostRuntime) -> Result<Vec<String>, AllocError> {
     let mut words = Vec::new(rt.alloc());
     match env::args(rt) {

@@ -8,7 +8,8 @@ use crate::failure::Failure;
 use crate::input::TRIES;
 use std::io::{ErrorKind, Write};
 
-/// Writes the whole text. After a failure a beginning of it was written.
+/// Writes the whole text. After a failure a beginning of it was written. No contract says when a
+/// write fails, so that this doesn't fail without cause is tested.
 pub fn write_text<W: Write>(out: &mut W, text: &[u8]) -> Result<(), Failure>
     ensures { WritesText (W.contents out.old) (W.contents out.new) result text.now }
 {

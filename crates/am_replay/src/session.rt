@@ -198,7 +198,7 @@ fn position(opened: &[Opened], thread: Thread, name: &Text) -> Option<usize>
         .position(|open| open.thread == thread && open.name == *name)
 }
 
-// The first of the least thread.
+// The first of the least thread. What is printed doesn't show this order, so no contract states it.
 fn first_to_leave(opened: &[Opened]) -> usize
     requires { 0 < length opened.now }
     ensures { result < length opened.now }
