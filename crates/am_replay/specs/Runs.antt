@@ -1,5 +1,5 @@
 -- Running a script's lines in their order: what each does to the Book, and what it answers.
-use Rattle.std.specs.Prelude.{◌≡◌, ◌≢◌, ◌<◌, ◌+◌, ℕ, ◌&&◌, ◌==◌, Bool, true, false, List, [], ◌∷◌, ◌++◌, length, map, All, AllPairs, remove, slice_get, slice_set, position, Option, Some, None, Ok, Err, if◌then◌else◌, IsTrue, ⊤}
+use Rattle.std.specs.Prelude.{◌≡◌, ◌≢◌, ◌<◌, ◌+◌, ℕ, ◌&&◌, ◌==◌, Bool, true, false, List, [], ◌∷◌, ◌++◌, length, map, All, AllPairs, remove, slice_get, slice_set, position, Option, Some, None, Ok, Err, if◌then◌else◌, IsTrue}
 use Rattle.std.specs.List.{count_by}
 use Rattle.std.specs.Str.{bytes_eq}
 use Rattle.am_alert.specs.declared.alert.Alert.{Alert}
@@ -57,17 +57,20 @@ abbrev pub posted_answers : Posted → List Answer
 posted_answers posted = answer.Posted posted.valid posted.place ∷ map
     (λ fault. answer.Invalid fault.0 fault.1) posted.faults
 
--- why a post is refused: the log was ended, or it is full; memory may run out
-abbrev pub IsPutCause : PutFault → BookView → Type 0
-IsPutCause put_fault.Closed book = IsTrue (is_closed book.journal)
-IsPutCause put_fault.LogEnd book = (is_closed book.journal ≡ false) × (length book.log ≡ LOG_END)
-IsPutCause put_fault.NoMemory book = ⊤
+-- why a post of these valid alerts is refused: the log was ended, or an alert has no place in it;
+-- memory may run out where the log wasn't ended
+abbrev pub IsPutCause : PutFault → List Alert → BookView → Type 0
+IsPutCause put_fault.Closed valid book = IsTrue (is_closed book.journal)
+IsPutCause put_fault.LogEnd valid book =
+    (is_closed book.journal ≡ false) × (0 < length valid) × (length book.log ≡ LOG_END)
+IsPutCause put_fault.NoMemory valid book = IsTrue (is_closed book.journal) → ⊥
 
--- why a subscription is refused: the log was ended, or every lane is open; memory may run out
+-- why a subscription is refused: the log was ended, or every lane is open; memory may run out where
+-- the log wasn't ended
 abbrev pub IsSubCause : SubFault → BookView → Type 0
 IsSubCause sub_fault.Closed book = IsTrue (is_closed book.journal)
 IsSubCause sub_fault.NoLane book = (is_closed book.journal ≡ false) × AreAllOpen book.journal
-IsSubCause sub_fault.NoMemory book = ⊤
+IsSubCause sub_fault.NoMemory book = IsTrue (is_closed book.journal) → ⊥
 
 -- a subscription that has shown some alerts more
 abbrev pub past : SubscriptionView → List Alert → SubscriptionView
@@ -107,7 +110,7 @@ pub data Does : Desk → ℕ → Command → Desk → List Answer → Type 0 whe
       → new.opened ≡ old.opened
       → Does old thread (Post at body) new (posted_answers (posted_of post old.book.log))
   post_refused : {desk : Desk} {thread at : ℕ} {body : List ℕ} {why : PutFault} (post : Posting)
-      → IsPostOf at resolve_timeout body (Ok post) → IsPutCause why desk.book
+      → IsPostOf at resolve_timeout body (Ok post) → IsPutCause why post.valid desk.book
       → Does desk thread (Post at body) desk (answer.PostRefused why ∷ [])
   subscribed : {old new : Desk} {thread : ℕ} {name : List ℕ} (one : Opened)
       → new.book.journal ≡ old.book.journal ++ call.Subscribed one.subscription.lane ∷ []
