@@ -1,5 +1,13 @@
 //! The Book: the stored alerts and the log of what was sent out, for one thread.
 //!
+//! The promise of the whole provider, of which this crate proves what one thread can see:
+//!
+//! > Whatever posts, subscriptions, reads, leaves, collections and close come, from whichever
+//! > threads and in whatever interleaving, what a subscription has taken begins the alerts stored at
+//! > its subscription followed by every alert accepted since, merged as stored, each once and in
+//! > journal order; one that was told 'closed' has taken them all; and no segment is freed that an
+//! > open cursor has not passed.
+//!
 //! What a Book promises: whatever posts, subscriptions, collections and ends come, the stored
 //! alerts and the log are those that its journal of accepted calls gives. Of each label set it
 //! stores what that label set's own reports made of it, in the order in which the label sets began.
