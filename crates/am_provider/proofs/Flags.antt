@@ -1,5 +1,5 @@
 -- Subscriptions and the flags of their lanes.
-use Rattle.std.proofs.Common.{◌≡◌, ℕ, zero, suc, ◌+◌, ◌<◌, ◌≤◌, Bool, true, false, cond, ◌||◌, nat_eq, List, [], ◌∷◌, ◌++◌, length, take, drop, get_or, set, Some, refl, sym, ap, inl, inr, ◌∙◌, arith, eq-eqb, get_or-set_same, get_or-set_other, length-set}
+use Rattle.std.proofs.Common.{◌≡◌, ℕ, zero, suc, ◌+◌, ◌<◌, ◌≤◌, Bool, true, false, cond, ◌||◌, nat_eq, List, [], ◌∷◌, ◌++◌, length, take, drop, get_or, set, Some, refl, sym, ap, subst, inl, inr, ◌∙◌, arith, eq-eqb, get_or-set_same, get_or-set_other, length-set}
 use Rattle.std.specs.Vec.{vec_len, vec_capacity}
 use Rattle.std.specs.List.{slice_get}
 use Rattle.std.proofs.lemmas.List.{append-nil, take-append-drop, take_all}
@@ -13,6 +13,7 @@ use Rattle.am_provider.specs.Cast.{cast, cast_from, items_of, due, IsFront}
 use Rattle.am_provider.specs.Journal.{is_open}
 use Rattle.am_provider.specs.BookView.{BookView, IsFaithful, SubscriptionView, taken, BelongsTo}
 use Rattle.am_provider.specs.Lanes.{IsLowestFalse, open_count}
+use Rattle.am_provider.specs.Batches.{batches_in, AreEnds}
 use Rattle.am_provider.specs.BookInside.{view_of, IsSound}
 use Rattle.am_provider.proofs.Journals.{cast_parts, open_last}
 use Rattle.am_provider.proofs.Kept.{sound_grown, or_false, enough, limits_same}
@@ -82,12 +83,13 @@ sound_subscribed a b lane sound still low journal store log lanes closed posts r
     )
     (record {
       journal = journal;
-      stored = ap (λ s. s.items) store ∙ (sound.kept.stored ∙ ap stored (sym (append-nil (steps a.journal.items))));
-      log = ap (λ s. s.items) log ∙ sym (append-nil a.log.items);
+      stored = store ∙ (sound.kept.stored ∙ ap stored (sym (append-nil (steps a.journal.items))));
+      log = ap batches_in log ∙ sym (append-nil (batches_in a.log));
       closed = closed ∙ sym (or_false a.closed);
       eight = eight;
       lanes = λ other h. ap (λ lanes. get_or lanes other false) lanes ∙ (flag_set a.lanes lane other true within ∙ or_cond (get_or a.lanes other false) (nat_eq lane other));
       posts = omega (arith, posts);
+      ends = subst AreEnds (sym log) sound.ends;
       limits = limits_same a b sound log;
       room = enough b (eight ∙ sound.eight) room;
     })
@@ -144,12 +146,13 @@ sound_left a b sub sound of journal store log lanes closed posts room =
     sound_grown a b (Left sub.lane) sound of.still
     (record {
       journal = journal;
-      stored = ap (λ s. s.items) store ∙ (sound.kept.stored ∙ ap stored (sym (append-nil (steps a.journal.items))));
-      log = ap (λ s. s.items) log ∙ sym (append-nil a.log.items);
+      stored = store ∙ (sound.kept.stored ∙ ap stored (sym (append-nil (steps a.journal.items))));
+      log = ap batches_in log ∙ sym (append-nil (batches_in a.log));
       closed = closed ∙ sym (or_false a.closed);
       eight = eight;
       lanes = λ other h. ap (λ lanes. get_or lanes other false) lanes ∙ flag_set a.lanes sub.lane other false within;
       posts = omega (arith, posts);
+      ends = subst AreEnds (sym log) sound.ends;
       limits = limits_same a b sound log;
       room = omega (arith, sound.room, room.0, room.1);
     })

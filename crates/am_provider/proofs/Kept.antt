@@ -15,19 +15,21 @@ use Rattle.am_provider.specs.Stored.{Step, steps_of, steps, stored}
 use Rattle.am_provider.specs.Cast.{batch_of, batches_of, cast}
 use Rattle.am_provider.specs.Journal.{closes, is_closed, is_post, posts_of, open_after, is_open, MayFollow, IsLegal}
 use Rattle.am_provider.specs.AlertList.{with_alerts, batch_by_list}
+use Rattle.am_provider.specs.Batches.{batches_in, AreEnds}
 use Rattle.am_provider.specs.BookInside.{IsWithinLimits, IsSound}
 use Rattle.am_provider.proofs.Stored.{stored_post, batch_of_post, stored_collect}
 use Rattle.am_provider.proofs.Journals.{steps_last, cast_last, posts_last, closed_last, open_last, legal_last}
 
 pub record Grows (a b : Inside) (c : Call) : Type 0 where
   pub journal : b.journal.items ≡ a.journal.items ++ c ∷ []
-  pub stored : b.stored.items ≡ stored (steps a.journal.items ++ steps_of c)
-  pub log : b.log.items ≡ a.log.items ++ batches_of (steps a.journal.items) c
+  pub stored : b.stored ≡ stored (steps a.journal.items ++ steps_of c)
+  pub log : (batches_in b.log) ≡ (batches_in a.log) ++ batches_of (steps a.journal.items) c
   pub closed : b.closed ≡ (a.closed || closes c)
   pub eight : length b.lanes ≡ length a.lanes
   pub lanes : (lane : ℕ) → lane < 8 → get_or b.lanes lane false ≡ open_after lane (get_or a.lanes lane false) c
   pub posts : b.posts ≡ a.posts + posts_of (c ∷ [])
-  pub limits : IsWithinLimits b.log.items
+  pub ends : AreEnds b.log
+  pub limits : IsWithinLimits (batches_in b.log)
   pub room : vec_len b.journal + open_count b.lanes + cond b.closed 0 1 ≤ vec_capacity b.journal
 
 pub sound_grown : (a b : Inside) (c : Call) → IsSound a → MayFollow a.journal.items c → Grows a b c → IsSound b
@@ -41,6 +43,7 @@ sound_grown a b c sound may grows = record {
   closed = grows.closed ∙ (ap (λ b. b || closes c) sound.closed ∙ sym (ap is_closed grows.journal ∙ closed_last a.journal.items c));
   lanes = λ lane h. grows.lanes lane h ∙ (ap (λ was. open_after lane was c) (sound.lanes lane h) ∙ sym (ap (λ calls. is_open calls lane) grows.journal ∙ open_last a.journal.items c lane));
   posts = grows.posts ∙ (ap (λ n. n + posts_of (c ∷ [])) sound.posts ∙ sym (ap posts_of grows.journal ∙ posts_last a.journal.items c));
+  ends = grows.ends;
   limits = grows.limits;
   room = grows.room;
 }
@@ -89,8 +92,8 @@ limits_grown log (x ∷ xs) limits few fits =
     } in
     subst (λ b. IsWithinLimits (cond b log (log ++ (x ∷ xs) ∷ []))) (sym (Rattle.std.proofs.Math.Dec.eqb-suc-zero (length xs))) grown
 
-pub limits_same : (a b : Inside) → IsSound a → b.log ≡ a.log → IsWithinLimits b.log.items
-limits_same a b sound log = subst (λ log. IsWithinLimits log.items) (sym log) sound.limits
+pub limits_same : (a b : Inside) → IsSound a → b.log ≡ a.log → IsWithinLimits (batches_in b.log)
+limits_same a b sound log = subst (λ log. IsWithinLimits (batches_in log)) (sym log) sound.limits
 
 pub posts_small : (a : Inside) → IsSound a → a.posts + 1 < 2 ^ 64
 posts_small a sound =
@@ -103,26 +106,28 @@ posts_small a sound =
 
 pub sound_posted : (a b : Inside) (now : ℕ) (news batch : List Alert) → IsSound a → a.closed ≡ false
     → b.journal.items ≡ a.journal.items ++ Posted now news ∷ []
-    → b.stored.items ≡ with_alerts batch a.stored.items
-    → b.log.items ≡ cond (nat_eq (length batch) 0) a.log.items (a.log.items ++ batch ∷ [])
-    → batch ≡ batch_by_list now news a.stored.items
-    → length batch ≡ length news → length news ≤ 1024 → (0 < length news → length a.log.items < LOG_END)
+    → b.stored ≡ with_alerts batch a.stored
+    → (batches_in b.log) ≡ cond (nat_eq (length batch) 0) (batches_in a.log) ((batches_in a.log) ++ batch ∷ [])
+    → AreEnds b.log
+    → batch ≡ batch_by_list now news a.stored
+    → length batch ≡ length news → length news ≤ 1024 → (0 < length news → length (batches_in a.log) < LOG_END)
     → b.closed ≡ a.closed → b.lanes ≡ a.lanes → b.posts ≡ a.posts + 1 → vec_len b.journal + 9 ≤ vec_capacity b.journal → IsSound b
-sound_posted a b now news batch sound still journal store log sent long few fits closed lanes posts room =
+sound_posted a b now news batch sound still journal store log ends sent long few fits closed lanes posts room =
     let same = batch_of_post (steps a.journal.items) now news ∙ ap (batch_by_list now news) (sym sound.kept.stored) in
     let short : length batch ≤ 1024 = omega arith in
-    let below : 0 < length batch → length a.log.items < LOG_END = λ h. fits (omega arith) in
+    let below : 0 < length batch → length (batches_in a.log) < LOG_END = λ h. fits (omega arith) in
     sound_grown a b (Posted now news) sound (sym sound.closed ∙ still) (record {
       journal = journal;
-      stored = store ∙ (ap (λ batch. with_alerts batch a.stored.items) sent ∙ sym (stored_post (steps a.journal.items) now news ∙ ap (λ olds. with_alerts (batch_by_list now news olds) olds) (sym sound.kept.stored)));
-      log = log ∙ (ap (λ n. cond (nat_eq n 0) a.log.items (a.log.items ++ batch ∷ [])) long
-          ∙ (cond_append (nat_eq (length news) 0) a.log.items batch
-          ∙ ap (λ sent. a.log.items ++ sent) (ap (λ x. cond (nat_eq (length news) 0) [] (x ∷ [])) (sent ∙ sym same) ∙ sym (batches_posted (steps a.journal.items) now news))));
+      stored = store ∙ (ap (λ batch. with_alerts batch a.stored) sent ∙ sym (stored_post (steps a.journal.items) now news ∙ ap (λ olds. with_alerts (batch_by_list now news olds) olds) (sym sound.kept.stored)));
+      log = log ∙ (ap (λ n. cond (nat_eq n 0) (batches_in a.log) ((batches_in a.log) ++ batch ∷ [])) long
+          ∙ (cond_append (nat_eq (length news) 0) (batches_in a.log) batch
+          ∙ ap (λ sent. (batches_in a.log) ++ sent) (ap (λ x. cond (nat_eq (length news) 0) [] (x ∷ [])) (sent ∙ sym same) ∙ sym (batches_posted (steps a.journal.items) now news))));
       closed = closed ∙ sym (or_false a.closed);
       eight = ap length lanes;
       lanes = λ lane h. ap (λ lanes. get_or lanes lane false) lanes;
       posts = posts;
-      limits = subst IsWithinLimits (sym log) (limits_grown a.log.items batch sound.limits short below);
+      ends = ends;
+      limits = subst IsWithinLimits (sym log) (limits_grown (batches_in a.log) batch sound.limits short below);
       room = enough b (ap length lanes ∙ sound.eight) room;
     })
 
@@ -130,17 +135,18 @@ sound_posted a b now news batch sound still journal store log sent long few fits
 
 pub sound_collected : (a b : Inside) (now : ℕ) → IsSound a
     → b.journal.items ≡ a.journal.items ++ Collected now ∷ []
-    → b.stored.items ≡ filter (λ alert. not (is_resolved_at now alert)) a.stored.items
+    → b.stored ≡ filter (λ alert. not (is_resolved_at now alert)) a.stored
     → b.log ≡ a.log → b.closed ≡ a.closed → b.lanes ≡ a.lanes → b.posts ≡ a.posts → vec_len b.journal + 9 ≤ vec_capacity b.journal → IsSound b
 sound_collected a b now sound journal store log closed lanes posts room =
     sound_grown a b (Collected now) sound tt (record {
       journal = journal;
       stored = store ∙ sym (stored_collect (steps a.journal.items) now ∙ ap (filter (λ alert. not (is_resolved_at now alert))) (sym sound.kept.stored));
-      log = ap (λ log. log.items) log ∙ sym (append-nil a.log.items);
+      log = ap batches_in log ∙ sym (append-nil (batches_in a.log));
       closed = closed ∙ sym (or_false a.closed);
       eight = ap length lanes;
       lanes = λ lane h. ap (λ lanes. get_or lanes lane false) lanes;
       posts = omega (arith, posts);
+      ends = subst AreEnds (sym log) sound.ends;
       limits = limits_same a b sound log;
       room = enough b (ap length lanes ∙ sound.eight) room;
     })
@@ -166,12 +172,13 @@ pub sound_closed : (a b : Inside) → IsSound a → a.closed ≡ false
 sound_closed a b sound still journal store log lanes posts closed room =
     sound_grown a b Closed sound (sym sound.closed ∙ still) (record {
       journal = journal;
-      stored = ap (λ s. s.items) store ∙ (sound.kept.stored ∙ ap stored (sym (append-nil (steps a.journal.items))));
-      log = ap (λ s. s.items) log ∙ sym (append-nil a.log.items);
+      stored = store ∙ (sound.kept.stored ∙ ap stored (sym (append-nil (steps a.journal.items))));
+      log = ap batches_in log ∙ sym (append-nil (batches_in a.log));
       closed = closed ∙ sym (or_true a.closed);
       eight = ap length lanes;
       lanes = λ lane h. ap (λ lanes. get_or lanes lane false) lanes;
       posts = omega (arith, posts);
+      ends = subst AreEnds (sym log) sound.ends;
       limits = limits_same a b sound log;
       room = closed_room a b sound.room still closed lanes room;
     })

@@ -74,7 +74,7 @@ gathered_filter f g q n e place (s ∷ ss) l =
 
 -- ---- what a label set holds has its labels, and began before now
 
-absorbed_labels : (now : ℕ) (old new : Alert) → old.labels ≡ new.labels → (absorbed now (Some old) new).labels ≡ new.labels
+pub absorbed_labels : (now : ℕ) (old new : Alert) → old.labels ≡ new.labels → (absorbed now (Some old) new).labels ≡ new.labels
 absorbed_labels now old new e =
     elim (overlap old new) as (λ b. (cond b (merged now old new) new).labels ≡ new.labels) [
       | true ↦ elim (Rattle.std.proofs.Common.nat_lt new.updated old.updated) as (λ b. (cond b (combined now new old) (combined now old new)).labels ≡ new.labels) [ true ↦ e | false ↦ refl ]

@@ -8,13 +8,14 @@ use Rattle.am_provider.specs.declared.book.TheConstants.{LOG_END}
 use Rattle.am_provider.specs.Lanes.{open_count}
 use Rattle.am_provider.specs.Journal.{is_closed, is_open, posts_of}
 use Rattle.am_provider.specs.BookView.{BookView, IsFaithful}
+use Rattle.am_provider.specs.Batches.{batches_in, AreEnds}
 
 -- a Book's fields as contracts see them
 abbrev pub view_of : Inside → BookView
 view_of fields = record {
-  stored = fields.stored.items;
+  stored = fields.stored;
   journal = fields.journal.items;
-  log = fields.log.items;
+  log = batches_in fields.log;
 }
 
 -- a log within its limits: 1,024 alerts in a batch, and no place past the end
@@ -31,6 +32,7 @@ pub record IsSound (fields : Inside) : Type 0 where
   pub lanes : (lane : ℕ) → lane < 8
       → slice_index_or fields.lanes lane false ≡ is_open fields.journal.items lane
   pub posts : fields.posts ≡ posts_of fields.journal.items
-  pub limits : IsWithinLimits fields.log.items
+  pub ends : AreEnds fields.log
+  pub limits : IsWithinLimits (batches_in fields.log)
   pub room : vec_len fields.journal + open_count fields.lanes + (if fields.closed then 0 else 1)
       ≤ vec_capacity fields.journal

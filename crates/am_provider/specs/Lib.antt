@@ -9,6 +9,8 @@ pub mod Journal
 pub mod Stored
 pub mod Cast
 pub mod AlertList
+pub mod Shared
+pub mod Batches
 pub mod BookView
 pub mod Lanes
 pub mod BookInside

@@ -31,11 +31,12 @@ use crate::call::Call;
 use crate::counts::Counts;
 use crate::ended::Ended;
 use crate::faults::{AlreadyClosed, PutFault, SubFault};
+use crate::log::Log;
 use crate::pass::Pass;
 use crate::posted::Posted;
-use crate::store::{batch_of, broadcast, copy_each, remove_resolved, set_each};
+use crate::store::Store;
 use crate::subscription::Subscription;
-use am_alert::{Alert, Alerts, Moment, Post};
+use am_alert::{Moment, Post};
 use std::alloc::{AllocError, Global};
 use std::marker::Model;
 
@@ -52,10 +53,10 @@ pub const LOG_END: usize = 2_251_799_813_685_248;
 /// The stored alerts and the log of batches, with the journal of calls that made them.
 #[derive(Drop)]
 pub struct Book {
-    stored: Vec<Alert>,
+    stored: Store,
     // It has room for a Left of each open lane and, until the log is ended, for a Closed.
     journal: Vec<Call>,
-    pub(crate) log: Vec<Alerts>,
+    pub(crate) log: Log,
     // How many posts the journal has.
     posts: u64,
     // Which lanes are open.
@@ -96,9 +97,9 @@ impl Book {
             passes.push(Pass::new(poster))?;
         }
         let book = Book {
-            stored: Vec::new(alloc),
+            stored: Store::new(alloc),
             journal,
-            log: Vec::new(alloc),
+            log: Log::new(alloc),
             posts: 0,
             lanes: [false; LANES],
             closed: false,
@@ -130,17 +131,13 @@ impl Book {
         }
         let Post { valid, faults } = post;
         let count = valid.as_slice().len();
-        if count > 0 && self.log.len() >= LOG_END {
+        if count > 0 && self.log.places() >= LOG_END {
             return Err(PutFault::LogEnd);
         }
-        let alloc = *self.stored.allocator();
-        let batch = batch_of(alloc, &self.stored, valid.as_slice(), now)?;
-        let copies = copy_each(alloc, &batch)?;
-        self.stored.reserve(count)?;
         self.journal.reserve(ENTRIES)?;
-        self.log.reserve(1)?;
-        set_each(&mut self.stored, copies);
-        let place = broadcast(&mut self.log, batch);
+        self.log.reserve(count)?;
+        let batch = self.stored.absorb(valid.as_slice(), now)?;
+        let place = self.log.push_reserved(batch);
         self.journal
             .push_reserved(Call::Posted { now, alerts: valid });
         self.posts += 1;
@@ -173,11 +170,10 @@ impl Book {
         let Some(lane) = idle_lane(&self.lanes) else {
             return Err(SubFault::NoLane);
         };
-        let alloc = *self.stored.allocator();
-        let opening = copy_each(alloc, &self.stored)?;
+        let opening = self.stored.share()?;
         self.journal.reserve(ENTRIES)?;
         let at = self.journal.len() as u64;
-        let start = self.log.len();
+        let start = self.log.places();
         self.lanes[lane] = true;
         let lane = lane as u32;
         self.journal.push_reserved(Call::Subscribed(lane));
@@ -185,7 +181,7 @@ impl Book {
             lane,
             at,
             start,
-            opening: Alerts { alerts: opening },
+            opening,
             count: 0,
             closed_told: false,
         })
@@ -236,7 +232,7 @@ impl Book {
         ensures err { OnErr result (self.new ≡ self.old) }
     {
         self.journal.reserve(ENTRIES)?;
-        let removed = remove_resolved(&mut self.stored, now);
+        let removed = self.stored.remove_resolved(now);
         self.journal.push_reserved(Call::Collected(now));
         Ok(removed)
     }
@@ -248,7 +244,7 @@ impl Book {
         ensures stored { result.stored ≡ length self.now.stored }
     {
         Counts {
-            places: self.log.len() as u64,
+            places: self.log.places() as u64,
             posts: self.posts,
             stored: self.stored.len() as u64,
         }

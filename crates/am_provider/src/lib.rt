@@ -4,6 +4,7 @@
 //! become.
 #![tactic(auto)]
 
+mod absorbing;
 mod advance;
 mod book;
 mod call;
@@ -11,9 +12,10 @@ mod counts;
 mod ended;
 mod faults;
 mod laws;
+mod log;
 mod pass;
 mod posted;
-mod reading;
+mod shared;
 mod step;
 mod store;
 mod subscription;
@@ -29,5 +31,7 @@ pub use posted::Posted;
 pub use step::Step;
 pub use subscription::Subscription;
 
+#[cfg(test)]
+mod plain;
 #[cfg(test)]
 mod tests;

@@ -1,13 +1,17 @@
 //! A subscriber's place in a Book.
 
-ghost use Rattle.std.specs.Prelude.{◌≡◌, ◌-◌, ◌<◌, ◌^◌, ⊤, Some, slice_get, length};
-ghost use Rattle.std.specs.Option.{is_some};
+ghost use Rattle.std.specs.Prelude.{◌≡◌, ◌-◌, ◌<◌, ◌≤◌, ◌^◌, ◌++◌, ⊤, Some, slice_get, length, drop};
+ghost use Rattle.std.specs.Option.{is_some, option_copied};
+ghost use Rattle.am_provider.specs.Cast.{items_of};
+ghost use Rattle.am_provider.specs.Shared.{alerts_in};
+ghost use Rattle.am_provider.specs.Batches.{batches_in, AreEnds};
 
 use crate::advance::Advance;
 use crate::book::Book;
-use crate::reading::ahead;
+use crate::log::Log;
+use crate::shared::SharedAlert;
 use crate::step::Step;
-use am_alert::{Alert, Alerts};
+use am_alert::Alert;
 use std::marker::Model;
 
 /// One subscriber's place. It is given back to its Book by `leave`.
@@ -15,7 +19,7 @@ pub struct Subscription {
     pub(crate) lane: u32,
     pub(crate) at: u64,
     pub(crate) start: usize,
-    pub(crate) opening: Alerts,
+    pub(crate) opening: Vec<SharedAlert>,
     pub(crate) count: usize,
     pub(crate) closed_told: bool,
 }
@@ -23,6 +27,7 @@ pub struct Subscription {
 impl Model for Subscription {
     ghost use Rattle.std.specs.Prelude.{◌<◌, ◌^◌, length};
     ghost use Rattle.am_provider.specs.BookView.{SubscriptionView, coded_subscription};
+    ghost use Rattle.am_provider.specs.Shared.{alerts_in};
 
     ghost Value = { SubscriptionView };
 
@@ -32,13 +37,13 @@ impl Model for Subscription {
       lane = a.lane;
       at = a.at;
       start = a.start;
-      opening = a.opening;
+      opening = alerts_in a.opening.items;
       count = a.count;
       closed_told = a.closed_told;
     } };
 
     // What is stored fits in memory.
-    ghost invariant = { λ a. length a.opening < 2 ^ 63 };
+    ghost invariant = { λ a. length a.opening.items < 2 ^ 63 };
 }
 
 impl Subscription {
@@ -61,7 +66,7 @@ impl Subscription {
     pub fn opening(&self) -> u64
         ensures { result ≡ length self.now.opening }
     {
-        self.opening.as_slice().len() as u64
+        self.opening.len() as u64
     }
 
     /// Shows the next alert: first those that were stored at the subscription, then those of the
@@ -101,7 +106,7 @@ impl Subscription {
         ensures more { result ≡ is_some (slice_get (all_of book.now self.now) self.now.count) }
         ensures countable { length (all_of book.now self.now) < 2 ^ 64 }
     {
-        ahead(self.opening.as_slice(), &book.log, self.start, self.count).is_some()
+        ahead(&self.opening, &book.log, self.start, self.count).is_some()
     }
 
     // The alert that was taken last.
@@ -110,14 +115,28 @@ impl Subscription {
         requires some { 0 < self.now.count }
         ensures { slice_get (all_of book.now self.now) (self.now.count - 1) ≡ Some result.now }
     {
-        match ahead(
-            self.opening.as_slice(),
-            &book.log,
-            self.start,
-            self.count - 1,
-        ) {
+        match ahead(&self.opening, &book.log, self.start, self.count - 1) {
             Some(alert) => alert,
             None => unreachable!(),
         }
     }
+}
+
+// The alert at an index, over an opening and then the batches of the log from a place on.
+fn ahead<'b>(
+    opening: &'b [SharedAlert],
+    log: &'b Log,
+    start: usize,
+    index: usize,
+) -> Option<&'b Alert>
+    requires start { start ≤ length (batches_in log.now) }
+    requires ends { AreEnds log.now }
+    ensures { option_copied result
+        ≡ slice_get (alerts_in opening.now ++ items_of (drop start (batches_in log.now))) index }
+{
+    let opened = opening.len();
+    if index < opened {
+        return Some(&*opening[index]);
+    }
+    log.get(start, index - opened)
 }

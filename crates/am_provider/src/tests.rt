@@ -3,6 +3,7 @@
 ghost use Rattle.std.specs.Prelude.{◌≤◌, vec_len};
 ghost use Rattle.am_provider.specs.BookView.{IsFaithful, BelongsTo};
 
+use crate::plain::{absorb_each, remove_resolved};
 use crate::{Book, Ended, Pass, PutFault, Step, SubFault, Subscription, stays};
 use am_alert::{Alert, Alerts, Faults, Moment, Post};
 use am_labels::{LabelSet, Text};
@@ -160,6 +161,128 @@ fn collections_and_the_end(rt: HostRuntime) -> Result<(), Fail> {
         Ok(subscription) => {
             let _ended = book.leave(subscription);
             return Err(Fail::from("subscribed"));
+        }
+    }
+    Ok(())
+}
+
+// Whether two alerts have the same fields.
+fn same(one: &Alert, other: &Alert) -> bool {
+    one.labels == other.labels
+        && one.annotations == other.annotations
+        && (one.start, one.end, one.updated) == (other.start, other.end, other.updated)
+        && one.timeout == other.timeout
+        && one.generator == other.generator
+}
+
+// Whether the subscription shows these alerts next.
+fn shows(subscription: &mut Subscription, book: &Book, alerts: &[Alert]) -> bool
+    requires { BelongsTo book.now subscription.old }
+    ensures { BelongsTo book.now subscription.new }
+{
+    for alert in alerts {
+        match subscription.next(book) {
+            Step::Item(shown) if same(shown, alert) => {}
+            _ => return false,
+        }
+    }
+    true
+}
+
+// A number below a bound, from a fixed sequence.
+fn below(seed: &mut u64, bound: u64) -> u64 {
+    *seed = seed
+        .wrapping_mul(6_364_136_223_846_793_005)
+        .wrapping_add(1_442_695_040_888_963_407);
+    (*seed >> 33).checked_rem(bound).unwrap_or(0)
+}
+
+// One to four reports of eight label sets around a moment, some of them late.
+fn reports(alloc: Global, seed: &mut u64, now: u64) -> Result<Vec<Alert>, AllocError> {
+    let mut reports = Vec::new(alloc);
+    for _ in 0..=below(seed, 4) {
+        let names = ["a", "b", "c", "d", "e", "f", "g", "h"];
+        let name = names[below(seed, 8) as usize % 8];
+        let start = now.saturating_add(below(seed, 40));
+        let end = start.saturating_add(below(seed, 60));
+        let mut alert = report(alloc, name, start, end)?;
+        alert.updated = Moment::new(now.saturating_sub(below(seed, 20)) as u128);
+        alert.timeout = below(seed, 2) == 0;
+        reports.push(alert)?;
+    }
+    Ok(reports)
+}
+
+// Takes so many alerts, whatever they are.
+fn skip(subscription: &mut Subscription, book: &Book, count: u64)
+    requires { BelongsTo book.now subscription.old }
+    ensures { BelongsTo book.now subscription.new }
+{
+    for _ in 0..count {
+        let _step = subscription.next(book);
+    }
+}
+
+// Whether the Book stores exactly these alerts.
+fn stores(book: &mut Book, alerts: &[Alert]) -> bool {
+    let Ok(mut subscription) = book.subscribe() else {
+        return false;
+    };
+    let shown = shows(&mut subscription, book, alerts)
+        && matches!(subscription.next(book), Step::Pending);
+    let _ended = book.leave(subscription);
+    shown
+}
+
+// Whether the Book sends out exactly these alerts for a post.
+fn sends(book: &mut Book, pass: &mut Pass, post: Post, now: u64, batch: &[Alert]) -> bool {
+    let Ok(mut subscription) = book.subscribe() else {
+        return false;
+    };
+    let opening = subscription.opening();
+    skip(&mut subscription, book, opening);
+    let posted = posted(book, pass, &subscription, post, now).is_ok();
+    let shown = shows(&mut subscription, book, batch)
+        && matches!(subscription.next(book), Step::Pending);
+    let _ended = book.leave(subscription);
+    posted && shown
+}
+
+// Whether a Book and a plain list agree on a post.
+fn agree(
+    alloc: Global,
+    book: &mut Book,
+    pass: &mut Pass,
+    list: &mut Vec<Alert>,
+    seed: &mut u64,
+    now: u64,
+) -> Result<bool, AllocError> {
+    let news = reports(alloc, seed, now)?;
+    if news.len() > 1024 {
+        return Ok(false);
+    }
+    let batch = absorb_each(alloc, list, &news, Moment::new(now as u128))?;
+    Ok(sends(book, pass, post_of(alloc, news), now, &batch) && stores(book, list))
+}
+
+#[test]
+fn agrees_with_a_plain_list(rt: HostRuntime) -> Result<(), Fail> {
+    let alloc = rt.alloc();
+    let (mut book, mut passes) = Book::begin(alloc, 4, 1)?;
+    let Some(mut pass) = passes.pop() else {
+        return Err(Fail::from("no pass"));
+    };
+    let mut list = Vec::new(alloc);
+    let mut seed = 1;
+    for turn in 0..400_u64 {
+        let now = turn * 10;
+        assert!(rt; agree(alloc, &mut book, &mut pass, &mut list, &mut seed, now)?);
+        if turn % 7 == 0 {
+            let before = list.len();
+            remove_resolved(&mut list, Moment::new(now as u128));
+            let removed = book.collect_resolved(Moment::new(now as u128))?;
+            assert_eq!(rt; removed, before.saturating_sub(list.len()) as u64);
+            assert!(rt; stores(&mut book, &list));
         }
     }
     Ok(())

@@ -1,5 +1,7 @@
 use Rattle.std.proofs.Common.{◌≡◌, ◌+◌, ◌≤◌, length, set, ◌++◌, ◌∷◌, [], refl, arith, rules, vec_len, vec_capacity, true}
 use Rattle.am_provider.specs.declared.call.Call.TheVariants.{Subscribed}
+use Rattle.am_provider.specs.Shared.{alerts_in}
+use Rattle.am_provider.specs.Batches.{batches_in}
 use Rattle.am_provider.specs.BookInside.{view_of}
 use Rattle.am_provider.specs.Lanes.{IsLowestFalse}
 use Rattle.am_provider.proofs.Flags.{sound_subscribed, given_subscribed}
@@ -20,6 +22,6 @@ pub returns-clause-given : goal.returns-clause-given
 returns-clause-given c =
     let journal : c.push_reserved.new.self.items ≡ c.self.inside.journal.items ++ Subscribed c.in-Some.lane ∷ [] = search rules in
     let at : c.len-at.result ≡ length c.self.inside.journal.items = search rules in
-    let start : c.len-start.result ≡ length c.self.inside.log.items = search rules in
-    let opening : c.in_ok-opening.opening.items ≡ c.self.inside.stored.items = search rules in
+    let start : c.places-start.result ≡ length (batches_in c.self.inside.log) = search rules in
+    let opening : alerts_in c.in_ok-opening.opening.items ≡ c.self.inside.stored = search rules in
     given_subscribed (view_of c.self.inside) _ _ c.self.invariant.kept journal at start opening refl refl
