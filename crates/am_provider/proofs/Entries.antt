@@ -1,5 +1,5 @@
 -- The map of stored alerts, seen as the list of its alerts.
-use Rattle.std.proofs.Common.{◌≡◌, ℕ, zero, suc, ◌+◌, ◌-◌, ◌<◌, ◌≤◌, Bool, true, false, not, cond, List, [], ◌∷◌, ◌++◌, filter, length, take, Option, None, Some, refl, sym, ap, subst, ◌∙◌, arith, length-append}
+use Rattle.std.proofs.Common.{◌≡◌, ℕ, zero, suc, ◌-◌, ◌<◌, ◌≤◌, Bool, true, false, cond, List, [], ◌∷◌, ◌++◌, filter, length, take, Some, refl, sym, ap, subst, ◌∙◌, arith, length-append}
 use Rattle.std.specs.Arc.{arc_value}
 use Rattle.std.specs.declared.sync.Arc.{Arc}
 use Rattle.std.specs.declared.alloc.Global.{Global}
@@ -14,7 +14,7 @@ use Rattle.indexmap.proofs.MapLemmas.{Found-position, insert_entry-first}
 use Rattle.am_labels.specs.LabelSets.{Labels, same_labels}
 use Rattle.am_labels.specs.LabelLaws.{labels_decide}
 use Rattle.am_alert.specs.declared.alert.Alert.{Alert}
-use Rattle.am_alert.specs.Merging.{absorbed, is_resolved_at}
+use Rattle.am_alert.specs.Merging.{absorbed}
 use Rattle.am_provider.specs.declared.absorbing.Change.{Change}
 use Rattle.am_provider.specs.AlertList.{lookup, with_alert, absorb_into, batch_by_list}
 use Rattle.am_provider.specs.Shared.{alerts_in, stored_in, AreKeptByLabels, taken_back, all_taken_back}

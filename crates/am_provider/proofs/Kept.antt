@@ -23,7 +23,7 @@ use Rattle.am_provider.proofs.Journals.{steps_last, cast_last, posts_last, close
 pub record Grows (a b : Inside) (c : Call) : Type 0 where
   pub journal : b.journal.items ≡ a.journal.items ++ c ∷ []
   pub stored : b.stored ≡ stored (steps a.journal.items ++ steps_of c)
-  pub log : (batches_in b.log) ≡ (batches_in a.log) ++ batches_of (steps a.journal.items) c
+  pub log : batches_in b.log ≡ batches_in a.log ++ batches_of (steps a.journal.items) c
   pub closed : b.closed ≡ (a.closed || closes c)
   pub eight : length b.lanes ≡ length a.lanes
   pub lanes : (lane : ℕ) → lane < 8 → get_or b.lanes lane false ≡ open_after lane (get_or a.lanes lane false) c
@@ -107,7 +107,7 @@ posts_small a sound =
 pub sound_posted : (a b : Inside) (now : ℕ) (news batch : List Alert) → IsSound a → a.closed ≡ false
     → b.journal.items ≡ a.journal.items ++ Posted now news ∷ []
     → b.stored ≡ with_alerts batch a.stored
-    → (batches_in b.log) ≡ cond (nat_eq (length batch) 0) (batches_in a.log) ((batches_in a.log) ++ batch ∷ [])
+    → batches_in b.log ≡ cond (nat_eq (length batch) 0) (batches_in a.log) (batches_in a.log ++ batch ∷ [])
     → AreEnds b.log
     → batch ≡ batch_by_list now news a.stored
     → length batch ≡ length news → length news ≤ 1024 → (0 < length news → length (batches_in a.log) < LOG_END)
@@ -119,9 +119,9 @@ sound_posted a b now news batch sound still journal store log ends sent long few
     sound_grown a b (Posted now news) sound (sym sound.closed ∙ still) (record {
       journal = journal;
       stored = store ∙ (ap (λ batch. with_alerts batch a.stored) sent ∙ sym (stored_post (steps a.journal.items) now news ∙ ap (λ olds. with_alerts (batch_by_list now news olds) olds) (sym sound.kept.stored)));
-      log = log ∙ (ap (λ n. cond (nat_eq n 0) (batches_in a.log) ((batches_in a.log) ++ batch ∷ [])) long
+      log = log ∙ (ap (λ n. cond (nat_eq n 0) (batches_in a.log) (batches_in a.log ++ batch ∷ [])) long
           ∙ (cond_append (nat_eq (length news) 0) (batches_in a.log) batch
-          ∙ ap (λ sent. (batches_in a.log) ++ sent) (ap (λ x. cond (nat_eq (length news) 0) [] (x ∷ [])) (sent ∙ sym same) ∙ sym (batches_posted (steps a.journal.items) now news))));
+          ∙ ap (λ sent. batches_in a.log ++ sent) (ap (λ x. cond (nat_eq (length news) 0) [] (x ∷ [])) (sent ∙ sym same) ∙ sym (batches_posted (steps a.journal.items) now news))));
       closed = closed ∙ sym (or_false a.closed);
       eight = ap length lanes;
       lanes = λ lane h. ap (λ lanes. get_or lanes lane false) lanes;

@@ -1,8 +1,8 @@
-use Rattle.std.proofs.Common.{◌≡◌, ◌+◌, ◌++◌, ◌∷◌, [], length, length-drop, drop, sym, ap, ◌∙◌, arith, rules}
+use Rattle.std.proofs.Common.{◌≡◌, ◌+◌, ◌++◌, ◌∷◌, [], length, length-drop, drop, sym, ap, ◌∙◌, arith}
 use Rattle.std.specs.Arc.{arc_value}
 use Rattle.am_alert.specs.Merging.{absorbed}
 use Rattle.am_provider.specs.AlertList.{lookup, with_alert, with_alerts, batch_by_list}
-use Rattle.am_provider.specs.Shared.{alerts_in, stored_in, taken_back, all_taken_back}
+use Rattle.am_provider.specs.Shared.{alerts_in, stored_in, all_taken_back}
 use Rattle.am_provider.proofs.Places.{with_alerts_last, batch_more}
 use Rattle.am_provider.proofs.Entries.{all_back_last, alerts_in_last}
 use Rattle.am_provider.proofs.absorbing.absorb_each.Goals as goal

@@ -1,4 +1,4 @@
-use Rattle.std.proofs.Common.{◌≡◌, ◌≤◌, length, sym, ap, ◌∙◌}
+use Rattle.std.proofs.Common.{◌≤◌, length, sym, ap, ◌∙◌}
 use Rattle.am_provider.specs.Shared.{taken_back}
 use Rattle.am_provider.proofs.Entries.{outside, written_past}
 use Rattle.am_provider.proofs.absorbing.take_one_back.Goals as goal

@@ -1,4 +1,4 @@
-use Rattle.std.proofs.Common.{◌≡◌, ◌≤◌, ◌<◌, ◌+◌, ◌-◌, suc, length, sym, ap, ◌∙◌, arith, rules, vec_len}
+use Rattle.std.proofs.Common.{◌≡◌, ◌<◌, ◌-◌, suc, length, sym, ap, ◌∙◌, arith, rules, vec_len}
 use Rattle.am_provider.specs.Batches.{begins}
 use Rattle.am_provider.proofs.Cuts.{begins_at, begins_within}
 use Rattle.am_provider.proofs.log.Log.beginning.Goals as goal

@@ -1,4 +1,4 @@
-use Rattle.std.proofs.Common.{◌≡◌, ◌-◌, length, ap, subst, arith, rules, ◌∙◌, None}
+use Rattle.std.proofs.Common.{◌≡◌, ◌-◌, length, ap, subst, arith, rules, None}
 use Rattle.std.specs.List.{slice_get}
 use Rattle.am_provider.specs.BookView.{BookView, SubscriptionView, IsFaithful}
 use Rattle.am_provider.specs.BookView.{all_of}
