@@ -1,5 +1,5 @@
 -- Why the Book refuses a call.
-use Rattle.std.proofs.Common.{◌≡◌, ◌<◌, false, List, length, Result, Ok, Err, refl, subst, IsTrue}
+use Rattle.std.proofs.Common.{◌≡◌, ◌<◌, Bool, true, false, List, length, Result, Ok, Err, refl, subst, IsTrue}
 use Rattle.std.specs.Prelude.{◌↔◌, IsErrOf, ⊤}
 use Rattle.am_alert.specs.declared.alert.Alert.{Alert}
 use Rattle.am_provider.specs.BookView.{BookView}
@@ -23,11 +23,17 @@ SubMemory (Err sub_fault.NoMemory) = ⊤
 SubMemory (Err sub_fault.Closed) = ⊥
 SubMemory (Err sub_fault.NoLane) = ⊥
 
+else_false : (b : Bool) → (b ≡ true → ⊥) → b ≡ false
+else_false true never = absurd (never refl)
+else_false false never = refl
+
 pub put_cause : {T : Type 0} (book : BookView) (valid : List Alert) (why : PutFault)
     → (IsErrOf {T = T} (Err why) put_fault.Closed ↔ IsTrue (is_closed book.journal))
     → (IsErrOf {T = T} (Err why) put_fault.LogEnd ↔ ((is_closed book.journal ≡ false) × (0 < length valid) × (length book.log ≡ LOG_END)))
     → IsPutCause why valid book
-put_cause {T = T} book valid put_fault.NoMemory closed full = λ ended. subst (λ (r : Result T PutFault). PutMemory r) (closed.1 ended) tt
+put_cause {T = T} book valid put_fault.NoMemory closed full =
+    let still = else_false (is_closed book.journal) (λ ended. subst (λ (r : Result T PutFault). PutMemory r) (closed.1 ended) tt) in
+    (still, λ some ends. subst (λ (r : Result T PutFault). PutMemory r) (full.1 (still, some, ends)) tt)
 put_cause book valid put_fault.Closed closed full = closed.0 refl
 put_cause book valid put_fault.LogEnd closed full = full.0 refl
 
@@ -35,6 +41,8 @@ pub sub_cause : {T : Type 0} (book : BookView) (why : SubFault)
     → (IsErrOf {T = T} (Err why) sub_fault.Closed ↔ IsTrue (is_closed book.journal))
     → (IsErrOf {T = T} (Err why) sub_fault.NoLane ↔ ((is_closed book.journal ≡ false) × AreAllOpen book.journal))
     → IsSubCause why book
-sub_cause {T = T} book sub_fault.NoMemory closed full = λ ended. subst (λ (r : Result T SubFault). SubMemory r) (closed.1 ended) tt
+sub_cause {T = T} book sub_fault.NoMemory closed full =
+    let still = else_false (is_closed book.journal) (λ ended. subst (λ (r : Result T SubFault). SubMemory r) (closed.1 ended) tt) in
+    (still, λ all. subst (λ (r : Result T SubFault). SubMemory r) (full.1 (still, all)) tt)
 sub_cause book sub_fault.Closed closed full = closed.0 refl
 sub_cause book sub_fault.NoLane closed full = full.0 refl

@@ -58,19 +58,21 @@ posted_answers posted = answer.Posted posted.valid posted.place ∷ map
     (λ fault. answer.Invalid fault.0 fault.1) posted.faults
 
 -- why a post of these valid alerts is refused: the log was ended, or an alert has no place in it;
--- memory may run out where the log wasn't ended
+-- want of memory is told where neither holds
 abbrev pub IsPutCause : PutFault → List Alert → BookView → Type 0
 IsPutCause put_fault.Closed valid book = IsTrue (is_closed book.journal)
 IsPutCause put_fault.LogEnd valid book =
     (is_closed book.journal ≡ false) × (0 < length valid) × (length book.log ≡ LOG_END)
-IsPutCause put_fault.NoMemory valid book = IsTrue (is_closed book.journal) → ⊥
+IsPutCause put_fault.NoMemory valid book =
+    (is_closed book.journal ≡ false) × (0 < length valid → length book.log ≢ LOG_END)
 
--- why a subscription is refused: the log was ended, or every lane is open; memory may run out where
--- the log wasn't ended
+-- why a subscription is refused: the log was ended, or every lane is open; want of memory is told
+-- where neither holds
 abbrev pub IsSubCause : SubFault → BookView → Type 0
 IsSubCause sub_fault.Closed book = IsTrue (is_closed book.journal)
 IsSubCause sub_fault.NoLane book = (is_closed book.journal ≡ false) × AreAllOpen book.journal
-IsSubCause sub_fault.NoMemory book = IsTrue (is_closed book.journal) → ⊥
+IsSubCause sub_fault.NoMemory book =
+    (is_closed book.journal ≡ false) × (AreAllOpen book.journal → ⊥)
 
 -- a subscription that has shown some alerts more
 abbrev pub past : SubscriptionView → List Alert → SubscriptionView
