@@ -4,6 +4,7 @@
 NAME is one of
   distinct   one alert a post, each of a label set of its own
   repeated   one alert a post, of 1,000 label sets reported again and again, each report overlapping the last
+  replaced   the same, but each report begins when the last has ended, so that none is merged
   batches    posts of 100 alerts, each of a label set of its own
   followed   as distinct, with a subscriber that reads each alert after its post; every second line is a read
 """
@@ -51,8 +52,8 @@ def commands(name, lines):
     if name == "followed":
         yield {"do": "subscribe", "thread": 0, "sub": "reader"}
     for line in range(lines // 2 if name == "followed" else lines):
-        if name == "repeated":
-            yield post(line, [alert(line % 1000, line // 1000 * 60)])
+        if name in ("repeated", "replaced"):
+            yield post(line, [alert(line % 1000, line // 1000 * (60 if name == "repeated" else 600))])
         elif name == "batches":
             yield post(line, [alert(line * 100 + place, line) for place in range(100)])
         else:
