@@ -8,3 +8,6 @@ pub mod Letters
 pub mod Values
 pub mod Splits
 pub mod Readings
+pub mod RoundTrip
+pub mod Parts
+pub mod EachText

@@ -1,8 +1,9 @@
 -- How a value may be written, in quotes and without.
-use Rattle.std.proofs.Common.{◌≡◌, ◌≢◌, ℕ, ◌||◌, Bool, true, false, cond, List, [], ◌∷◌, ◌++◌, Option, Some, None, Result, Ok, Err, MatchOption, IfOk, refl, sym, ap, ◌∙◌, subst, arith, inl, inr, ⊎_elim}
+use Rattle.std.proofs.Common.{◌≡◌, ◌≢◌, ℕ, ◌||◌, Bool, true, false, cond, List, [], ◌∷◌, ◌++◌, map, Option, Some, None, Result, Ok, Err, MatchOption, IfOk, refl, sym, ap, ◌∙◌, subst, arith, inl, inr, ⊎_elim}
 use Rattle.std.specs.List.{list_any}
 use Rattle.std.proofs.lemmas.Bool.{false≢true}
-use Rattle.am_labels.specs.MatcherTexts.{Letter, plain, letters, is_bare_quote, IsMeantUntil, IsQuoted, IsUnquoted, IsValue, IsNoValue}
+use Rattle.am_labels.specs.MatcherTexts.{Letter, plain, letters, meant, is_bare_quote, IsMeantUntil, IsQuoted, IsUnquoted, IsValue, IsNoValue, meant}
+use Rattle.am_labels.specs.MatcherLaws.{HasOneValue}
 use Rattle.am_labels.proofs.Letters.{letters-plain}
 
 either : (a b : Bool) → (a || b) ≡ false → (a ≡ false) × (b ≡ false)
@@ -22,7 +23,7 @@ first_bare (x ∷ xs) (y ∷ ys) rest left no_x no_y e =
     let head : x ≡ y = cc in
     let tail : xs ++ (plain 34 ∷ rest) ≡ ys ++ (plain 34 ∷ left) = cc in
     let more = first_bare xs ys rest left (either _ _ no_x).1 (either _ _ no_y).1 tail in
-    (let same : xs ≡ ys = more.0 in cc, more.1)
+    (ap (λ (first : Letter). first ∷ xs) head ∙ ap (λ (end : List Letter). y ∷ end) more.0, more.1)
 
 or_true : (b : Bool) → (b || true) ≡ true
 or_true true = refl
@@ -81,3 +82,27 @@ module _ {E : Type 0} where
   pub read_without_quotes : (raw : List ℕ) (result : Result (Option (List ℕ)) E) → ((rest : List ℕ) → raw ≢ 34 ∷ rest) → IfOk result (λ read. MatchOption read ((value : List ℕ) → IsUnquoted raw value → ⊥) (IsUnquoted raw)) → IfOk result (λ read. MatchOption read (IsNoValue raw) (IsValue raw))
   read_without_quotes raw (Ok read) no_quote h = without_quotes raw read no_quote h
   read_without_quotes raw (Err e) no_quote h = h
+
+-- a quoted text and one without quotes have no value in common: they are different texts
+apart : (raw value other : List ℕ) → IsQuoted raw value → IsUnquoted raw other → ⊥
+apart raw value other quoted unquoted =
+    false≢true (sym unquoted.1.0 ∙ (ap (λ (bytes : List ℕ). list_any is_bare_quote (letters bytes)) quoted.1 ∙ ap (list_any is_bare_quote) (quote_first quoted.0)))
+
+same_quoted : (raw value other : List ℕ) → IsQuoted raw value → IsQuoted raw other → value ≡ other
+same_quoted raw value other a b =
+    let behind : a.0 ≡ b.0 = let e : 34 ∷ a.0 ≡ 34 ∷ b.0 = sym a.1 ∙ b.1 in cc in
+    let inner = (first_bare a.2.0 b.2.0 [] [] a.2.2 b.2.2 (sym a.2.1 ∙ (ap letters behind ∙ b.2.1))).0 in
+    a.2.3 ∙ (ap (map meant) inner ∙ sym b.2.3)
+
+pub one_value : HasOneValue
+one_value raw value other a b =
+    ⊎_elim
+    (λ (quoted : IsQuoted raw value). ⊎_elim
+    (λ (again : IsQuoted raw other). same_quoted raw value other quoted again)
+    (λ (unquoted : IsUnquoted raw other). absurd (apart raw value other quoted unquoted))
+    b)
+    (λ (unquoted : IsUnquoted raw value). ⊎_elim
+    (λ (quoted : IsQuoted raw other). absurd (apart raw other value quoted unquoted))
+    (λ (again : IsUnquoted raw other). unquoted.1.1 ∙ sym again.1.1)
+    b)
+    a

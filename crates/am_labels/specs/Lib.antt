@@ -7,3 +7,4 @@ pub mod MatcherTexts
 pub mod MatcherParts
 pub mod Comparisons
 pub mod Matchers
+pub mod MatcherLaws

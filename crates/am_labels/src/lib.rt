@@ -5,6 +5,7 @@
 
 mod comparison;
 mod label_set;
+mod laws;
 mod match_fault;
 mod matcher;
 mod matcher_text;
@@ -14,6 +15,7 @@ mod quoted;
 mod text;
 
 pub use label_set::LabelSet;
+pub use laws::one_reading;
 pub use match_fault::MatchFault;
 pub use matcher::Matcher;
 pub use matchers::Matchers;
