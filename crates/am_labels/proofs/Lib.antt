@@ -11,3 +11,4 @@ pub mod Readings
 pub mod RoundTrip
 pub mod Parts
 pub mod EachText
+pub mod OneMeaning

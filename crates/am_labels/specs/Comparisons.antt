@@ -35,11 +35,11 @@ accepts NotEqual value found = not (same_text found value)
 accepts (Matches regex) value found = is_some (find_str (regex_pattern regex) found 0)
 accepts (NotMatches regex) value found = not (is_some (find_str (regex_pattern regex) found 0))
 
--- the pattern that matches just the texts which the value's pattern matches as a whole
+-- the pattern of a value: `^(?:value)$`, as Alertmanager compiles it
 abbrev pub anchored : List ℕ → List ℕ
 anchored value = codes "^(?:" ++ (value ++ codes ")$")
 
--- the regex is what its grammar reads in the anchored value, under the default options
+-- the regex is what the grammar of `regex` reads in that pattern, under the default options
 abbrev pub IsPatternOf : List ℕ → Regex → Type 0
 IsPatternOf value regex =
     (regex_source regex ≡ anchored value) × (regex_config regex ≡ default_config) × IsReadFromSource regex
@@ -51,7 +51,7 @@ IsComparisonWith value NotEqual = Unit {0}
 IsComparisonWith value (Matches regex) = IsPatternOf value regex
 IsComparisonWith value (NotMatches regex) = IsPatternOf value regex
 
--- regex refuses the anchored value, and not for want of memory: it is no pattern, nests too deep, or is too big
+-- `regex` refuses that pattern, and not for want of memory: it isn't well formed, nests too deep, or is too big
 abbrev pub IsRefusedPattern : List ℕ → Type 0
 IsRefusedPattern value =
     (cause : Error) × (cause ≢ OutOfMemory) × (cause ≢ Internal)

@@ -3,7 +3,7 @@
 ghost use Rattle.std.specs.Prelude.{◌≡◌, ◌++◌, [], IfOk, OnOk, MatchOption, List, false, map, string_bytes};
 ghost use Rattle.std.specs.List.{prefix_len};
 ghost use Rattle.am_labels.specs.Printing.{is_name_byte, is_name_start};
-ghost use Rattle.am_labels.specs.MatcherTexts.{after_backslash, begins, HasNoName, HasNoOperator, IsNameThen, IsOperatorThen, IsSpaceThen, IsMeantUntil, IsMeantWhole, IsNoValue, IsTrimmedTo, IsUnquoted, IsValue, meant, operator_text};
+ghost use Rattle.am_labels.specs.MatcherTexts.{after_backslash, begins, IsNameThen, IsOperatorThen, IsSpaceThen, IsMeantUntil, IsMeantWhole, IsNoValue, IsTrimmedTo, IsUnquoted, IsValue, meant, operator_text};
 ghost use Rattle.am_labels.specs.MatcherParts.{IsSplitOf};
 
 use crate::match_fault::MatchFault;

@@ -7,8 +7,8 @@ pub enum Operator {
     Equal,
     /// `!=`: they differ.
     NotEqual,
-    /// `=~`: the pattern matches the whole of the label's value.
+    /// `=~`: the pattern `^(?:value)$` finds a match in the label's value.
     Matches,
-    /// `!~`: it doesn't.
+    /// `!~`: it finds none.
     NotMatches,
 }

@@ -1,4 +1,5 @@
 use Rattle.am_labels.proofs.EachText.{each_split}
+use Rattle.am_labels.proofs.OneMeaning.{one_meaning}
 use Rattle.am_labels.proofs.RoundTrip.{reads_quoted}
 use Rattle.am_labels.proofs.Splits.{one_split, no_name_alone, no_operator_alone}
 use Rattle.am_labels.proofs.Values.{one_value}
@@ -11,5 +12,6 @@ returns c = record {
   each = each_split;
   no_name = no_name_alone;
   no_operator = no_operator_alone;
+  meaning = one_meaning;
   quoted = reads_quoted;
 }
