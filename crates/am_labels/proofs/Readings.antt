@@ -14,7 +14,7 @@ text_of text name raw value same op like e f split written =
     (raw, subst (λ n. IsSplit text n like raw) (sym e) (subst (λ o. IsSplit text name o raw) (sym f) split), written)
 
 fault_of : (text name raw value : List ℕ) (op : Operator) (fault : MatchFault) → IsSplit text name op raw → IsValue raw value → IsComparisonOf op value (Err fault) → IsReadingOf text (Err fault)
-fault_of text name raw value op NoMemory split written h = h
+fault_of text name raw value op NoMemory split written h = (name, op, raw, split)
 fault_of text name raw value op NoOperator split written h = absurd h
 fault_of text name raw value op BadName split written h = absurd h
 fault_of text name raw value op BadQuote split written h = absurd h

@@ -4,7 +4,7 @@ use Rattle.am_labels.specs.declared.operator.Operator.{Operator}
 use Rattle.am_labels.specs.declared.matcher.Matcher.{Matcher}
 use Rattle.am_labels.specs.LabelSets.{Labels, value_of}
 use Rattle.am_labels.specs.Matchers.{IsTextOf, IsReadingOf, admitted, matcher_name}
-use Rattle.am_labels.specs.MatcherTexts.{IsSplit, IsValue, HasNoName, HasNoOperator, operator_text}
+use Rattle.am_labels.specs.MatcherTexts.{IsSplit, IsValue, HasParts, HasNoName, HasNoOperator, operator_text}
 use Rattle.am_labels.specs.Printing.{is_classic_name, quoted}
 
 -- a text has at most one name, operator and way to write the value
@@ -30,10 +30,7 @@ NoOperatorStandsAlone =
 
 -- each text lacks its name, or its operator, or has parts
 abbrev pub EachTextIsSplit : Type 0
-EachTextIsSplit =
-    (text : List ℕ)
-    → HasNoName text ⊎ (HasNoOperator text
-    ⊎ ((name : List ℕ) × (op : Operator) × (raw : List ℕ) × IsSplit text name op raw))
+EachTextIsSplit = (text : List ℕ) → HasNoName text ⊎ (HasNoOperator text ⊎ HasParts text)
 
 -- a name, an operator and any value in quotes, as label sets are printed, are the text of that matcher
 abbrev pub ReadsQuoted : Type 0

@@ -55,6 +55,10 @@ IsSplit text name op raw =
     (rest : List ℕ) × (behind : List ℕ)
     × IsNamed text name rest × IsOperatorThen rest op behind × IsTrimmedTo behind raw
 
+-- a text that has its parts
+abbrev pub HasParts : List ℕ → Type 0
+HasParts text = (name : List ℕ) × (op : Operator) × (raw : List ℕ) × IsSplit text name op raw
+
 -- white space, and then nothing or a byte that begins no name
 abbrev pub HasNoName : List ℕ → Type 0
 HasNoName text = (rest : List ℕ) × IsSpaceThen text rest × (begins is_name_start rest ≡ false)

@@ -7,7 +7,7 @@ use Rattle.am_labels.specs.declared.matcher.Matcher.{Matcher}
 use Rattle.am_labels.specs.declared.operator.Operator.{Operator}
 use Rattle.am_labels.specs.Comparisons.{accepts, operator_of, is_of_pattern, IsComparisonWith, IsRefusedPattern}
 use Rattle.am_labels.specs.LabelSets.{Labels, value_of}
-use Rattle.am_labels.specs.MatcherTexts.{IsSplit, HasNoName, HasNoOperator, IsValue, IsNoValue}
+use Rattle.am_labels.specs.MatcherTexts.{IsSplit, HasParts, HasNoName, HasNoOperator, IsValue, IsNoValue}
 
 -- the name of the label that it looks at
 abbrev pub matcher_name : Matcher → List ℕ
@@ -33,12 +33,12 @@ all_admitted matchers labels = list_all (λ matcher. admitted matcher labels) ma
 abbrev pub IsTextOf : List ℕ → List ℕ → Operator → List ℕ → Type 0
 IsTextOf text name op value = (raw : List ℕ) × IsSplit text name op raw × IsValue raw value
 
--- what reading a text answers
+-- what reading a text answers; memory can be wanting only for a text that has its parts
 abbrev pub IsReadingOf : List ℕ → Result Matcher MatchFault → Type 0
 IsReadingOf text (Ok matcher) =
     IsTextOf text (matcher_name matcher) (matcher_operator matcher) (matcher_value matcher)
     × IsComparisonWith matcher.value matcher.comparison
-IsReadingOf text (Err NoMemory) = Unit {0}
+IsReadingOf text (Err NoMemory) = HasParts text
 IsReadingOf text (Err BadName) = HasNoName text
 IsReadingOf text (Err NoOperator) = HasNoOperator text
 IsReadingOf text (Err BadQuote) =

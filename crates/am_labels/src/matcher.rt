@@ -60,7 +60,8 @@ impl Matcher {
         self.value.as_str()
     }
 
-    /// Whether it admits a label set. A missing label counts as empty. Only a pattern takes memory.
+    /// Whether it admits a label set. A missing label counts as empty. Only a pattern takes memory;
+    /// asking twice answers the same.
     pub fn admits(&mut self, labels: &LabelSet) -> Result<bool, AllocError>
         ensures answer { IfOk result (λ answer. answer ≡ admitted self.old labels.now) }
         ensures memory { OnErr result (is_of_pattern (matcher_operator self.old) ≡ true) }

@@ -36,7 +36,8 @@ impl Matchers {
         &self.matchers
     }
 
-    /// Whether each of them admits a label set; none admit every one. Only a pattern takes memory.
+    /// Whether each of them admits a label set; none admit every one. Only a pattern takes memory;
+    /// asking twice answers the same.
     pub fn admits(&mut self, labels: &LabelSet) -> Result<bool, AllocError>
         ensures answer { IfOk result (λ answer. answer ≡ all_admitted self.old labels.now) }
         ensures memory { OnErr result
