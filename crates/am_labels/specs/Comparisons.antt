@@ -15,6 +15,7 @@ use Rattle.am_labels.specs.declared.operator.Operator.{Operator}
 use Rattle.am_labels.specs.declared.operator.Operator.TheVariants as operator
 use Rattle.am_labels.specs.Texts.{same_text}
 
+-- the operator of a comparison
 abbrev pub operator_of : Comparison → Operator
 operator_of Equal = operator.Equal
 operator_of NotEqual = operator.NotEqual
