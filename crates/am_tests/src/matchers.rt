@@ -66,7 +66,15 @@ fn admits(alloc: Global, text: &str, value: &str) -> Result<bool, Fail> {
 fn parts(rt: HostRuntime) {
     let alloc = rt.alloc();
     assert!(rt; is_read(alloc, "foo=bar", "foo", Operator::Equal, "bar"));
-    assert!(rt; is_read(alloc, " foo != \"b\\\"r\" ", "foo", Operator::NotEqual, "b\"r"));
+    assert!(rt;
+        is_read(
+            alloc,
+            " foo != \"b\\\"r\" ",
+            "foo",
+            Operator::NotEqual,
+            "b\"r"
+        )
+    );
     assert!(rt; is_read(alloc, "foo=~\"a|b\"", "foo", Operator::Matches, "a|b"));
     assert!(rt; is_read(alloc, "foo!~a", "foo", Operator::NotMatches, "a"));
     assert!(rt; is_read(alloc, "foo=", "foo", Operator::Equal, ""));
@@ -90,7 +98,15 @@ fn white_space(rt: HostRuntime) {
     let alloc = rt.alloc();
     let text = " \t\n\x0c\rfoo\r\x0c\n\t =\t \n\r\x0cbar baz\x0c\n \t\r";
     assert!(rt; is_read(alloc, text, "foo", Operator::Equal, "bar baz"));
-    assert!(rt; is_read(alloc, "foo=\u{a0}bar\u{a0}", "foo", Operator::Equal, "\u{a0}bar\u{a0}"));
+    assert!(rt;
+        is_read(
+            alloc,
+            "foo=\u{a0}bar\u{a0}",
+            "foo",
+            Operator::Equal,
+            "\u{a0}bar\u{a0}"
+        )
+    );
     assert!(rt; is_refused(alloc, "\u{a0}foo=bar", MatchFault::BadName));
     assert!(rt; is_refused(alloc, "foo\u{a0}=bar", MatchFault::NoOperator));
     assert!(rt; is_refused(alloc, "foo\x0b=bar", MatchFault::NoOperator));
