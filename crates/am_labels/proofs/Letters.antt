@@ -1,12 +1,14 @@
 -- The letters of a text, one after another.
-use Rattle.std.proofs.Common.{◌≡◌, ◌≢◌, ℕ, suc, ◌<◌, Bool, true, false, cond, List, [], ◌∷◌, ◌++◌, length, get_or, map, encode_utf8, refl, sym, ap, ◌∙◌, arith, append-nil, append_assoc}
-use Rattle.std.specs.List.{list_any}
+use Rattle.std.proofs.Common.{◌≡◌, ◌≢◌, ℕ, suc, ◌<◌, Bool, true, false, cond, List, [], ◌∷◌, ◌++◌, length, get_or, map, encode_utf8, refl, sym, ap, ◌∙◌, arith, append-nil, append_assoc, ◌==◌, ◌&&◌}
+use Rattle.std.specs.List.{list_any, flat_map}
 use Rattle.std.proofs.lemmas.Bool.{ne_eqb, false≢true}
-use Rattle.std.proofs.lemmas.Bool.Decides.{nat_tests}
+use Rattle.std.proofs.lemmas.Bool.Decides.{nat_tests, Decides-eqb}
 use Rattle.std.proofs.lemmas.List.{map-append}
 use Rattle.std.proofs.lemmas.List.Folds.{list_any-append}
 use Rattle.std.proofs.lemmas.Str.{inside_one, encode_ascii, length-encode, len_utf8_bounds}
-use Rattle.am_labels.specs.MatcherTexts.{Letter, plain, escape, letters, meant, is_escapable, is_bare_quote, after_backslash, IsMeantUntil, IsMeantWhole}
+use Rattle.am_labels.specs.MatcherLaws.{LettersSpellTheText}
+use Rattle.am_labels.proofs.Spaces.{both}
+use Rattle.am_labels.specs.MatcherTexts.{spelled, Letter, plain, escape, letters, meant, is_escapable, is_bare_quote, after_backslash, IsMeantUntil, IsMeantWhole}
 
 -- a byte that is no backslash stands for itself
 pub letters-plain : (byte : ℕ) (rest : List ℕ) → byte ≢ 92 → letters (byte ∷ rest) ≡ plain byte ∷ letters rest
@@ -131,3 +133,16 @@ pub meant-after : (c : ℕ) → c ≢ 110 → c ≢ 34 → c ≢ 92 → map mean
 meant-after c no_n no_quote no_backslash =
     ap (λ b. map meant (cond b (escape c ∷ []) (plain 92 ∷ map plain (encode_utf8 c)))) (escapable_special c no_n no_quote no_backslash)
     ∙ ap (λ (bytes : List ℕ). 92 ∷ bytes) (meant-plains (encode_utf8 c))
+
+spell_step : (b : Bool) (byte next : ℕ) (rest : List ℕ) → (byte == 92 && is_escapable next) ≡ b → flat_map spelled (letters rest) ≡ rest → flat_map spelled (letters (next ∷ rest)) ≡ next ∷ rest
+    → flat_map spelled (cond b (escape next ∷ letters rest) (plain byte ∷ letters (next ∷ rest))) ≡ byte ∷ next ∷ rest
+spell_step true byte next rest e past here =
+    ap (λ (end : List ℕ). 92 ∷ next ∷ end) past
+    ∙ ap (λ (first : ℕ). first ∷ next ∷ rest) (sym ((Decides-eqb byte 92).0 (both (byte == 92) (is_escapable next) e).0))
+spell_step false byte next rest e past here = ap (λ (end : List ℕ). byte ∷ end) here
+
+pub letters_spell : LettersSpellTheText
+letters_spell [] = refl
+letters_spell (byte ∷ []) = refl
+letters_spell (byte ∷ next ∷ rest) =
+    spell_step (byte == 92 && is_escapable next) byte next rest refl (letters_spell rest) (letters_spell (next ∷ rest))

@@ -1,10 +1,11 @@
 -- What the grammar of a matcher's text fixes.
 use Rattle.std.specs.Prelude.{◌≡◌, ◌⊎◌, true, ℕ, ◌<◌, All, List, ◌++◌, Ok}
 use Rattle.am_labels.specs.declared.operator.Operator.{Operator}
+use Rattle.std.specs.List.{flat_map}
 use Rattle.am_labels.specs.declared.matcher.Matcher.{Matcher}
 use Rattle.am_labels.specs.LabelSets.{Labels, value_of}
 use Rattle.am_labels.specs.Matchers.{IsTextOf, IsReadingOf, admitted, matcher_name}
-use Rattle.am_labels.specs.MatcherTexts.{IsSplit, IsValue, HasParts, HasNoName, HasNoOperator, operator_text}
+use Rattle.am_labels.specs.MatcherTexts.{IsSplit, IsValue, HasParts, HasNoName, HasNoOperator, letters, operator_text, spelled}
 use Rattle.am_labels.specs.Printing.{is_classic_name, quoted}
 
 -- a text has at most one name, operator and way to write the value
@@ -13,7 +14,11 @@ HasOneSplit =
     (text name other raw rest : List ℕ) (op like : Operator)
     → IsSplit text name op raw → IsSplit text other like rest → (name ≡ other) × (op ≡ like) × (raw ≡ rest)
 
--- and stands for at most one value
+-- the letters of a text are written as that text
+abbrev pub LettersSpellTheText : Type 0
+LettersSpellTheText = (text : List ℕ) → flat_map spelled (letters text) ≡ text
+
+-- what is written for a value is written for no other
 abbrev pub HasOneValue : Type 0
 HasOneValue = (raw value other : List ℕ) → IsValue raw value → IsValue raw other → value ≡ other
 

@@ -85,6 +85,11 @@ letters (byte ∷ []) = plain byte ∷ []
 letters (byte ∷ next ∷ rest) =
     if byte == 92 && is_escapable next then escape next ∷ letters rest else plain byte ∷ letters (next ∷ rest)
 
+-- how a letter is written
+abbrev pub spelled : Letter → List ℕ
+spelled (plain byte) = byte ∷ []
+spelled (escape byte) = 92 ∷ byte ∷ []
+
 -- the byte that a letter stands for: `\n` for a line feed
 abbrev pub meant : Letter → ℕ
 meant (plain byte) = byte

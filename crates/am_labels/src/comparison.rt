@@ -64,7 +64,7 @@ impl Comparison {
     }
 }
 
-// The value as a pattern that has to match the whole of a text.
+// The pattern of a value, anchored at both ends.
 fn compile(alloc: Global, value: &str) -> Result<Regex, MatchFault>
     ensures { IsCompiledOf value.now result }
 {

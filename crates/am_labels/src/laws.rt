@@ -1,6 +1,6 @@
 //! Laws of a matcher's text that callers may cite.
 
-ghost use Rattle.am_labels.specs.MatcherLaws.{EachTextIsSplit, HasOneSplit, HasOneValue, NoNameStandsAlone, NoOperatorStandsAlone, ReadsQuoted, TextsMeanOneThing};
+ghost use Rattle.am_labels.specs.MatcherLaws.{EachTextIsSplit, HasOneSplit, HasOneValue, LettersSpellTheText, NoNameStandsAlone, NoOperatorStandsAlone, ReadsQuoted, TextsMeanOneThing};
 
 /// Each text lacks its name, or its operator, or has one name, operator and way to write its
 /// value, and stands for one value at most; the matchers that are read of it admit the same label
@@ -8,6 +8,7 @@ ghost use Rattle.am_labels.specs.MatcherLaws.{EachTextIsSplit, HasOneSplit, HasO
 pub fn one_reading()
     ensures split { HasOneSplit }
     ensures value { HasOneValue }
+    ensures letters { LettersSpellTheText }
     ensures each { EachTextIsSplit }
     ensures no_name { NoNameStandsAlone }
     ensures no_operator { NoOperatorStandsAlone }

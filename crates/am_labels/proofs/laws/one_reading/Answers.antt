@@ -1,4 +1,5 @@
 use Rattle.am_labels.proofs.EachText.{each_split}
+use Rattle.am_labels.proofs.Letters.{letters_spell}
 use Rattle.am_labels.proofs.OneMeaning.{one_meaning}
 use Rattle.am_labels.proofs.RoundTrip.{reads_quoted}
 use Rattle.am_labels.proofs.Splits.{one_split, no_name_alone, no_operator_alone}
@@ -9,6 +10,7 @@ pub returns : goal.returns
 returns c = record {
   split = one_split;
   value = one_value;
+  letters = letters_spell;
   each = each_split;
   no_name = no_name_alone;
   no_operator = no_operator_alone;
