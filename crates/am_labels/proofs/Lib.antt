@@ -2,3 +2,13 @@ pub mod LabelMaps
 pub mod Searches
 pub mod Escapes
 pub mod Joins
+pub mod Spaces
+pub mod Names
+pub mod Letters
+pub mod Values
+pub mod Splits
+pub mod Readings
+pub mod RoundTrip
+pub mod Parts
+pub mod EachText
+pub mod OneMeaning

@@ -2,3 +2,9 @@ pub mod Texts
 pub mod LabelSets
 pub mod LabelLaws
 pub mod Printing
+pub mod FaultTexts
+pub mod MatcherTexts
+pub mod MatcherParts
+pub mod Comparisons
+pub mod Matchers
+pub mod MatcherLaws

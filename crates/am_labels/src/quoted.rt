@@ -60,13 +60,13 @@ impl fmt::Display for LabelName<'_> {
     }
 }
 
-fn is_name_start(byte: u8) -> bool
+pub(crate) fn is_name_start(byte: u8) -> bool
     ensures { result ≡ is_name_start byte }
 {
     byte.is_ascii_alphabetic() || byte == b'_' || byte == b':'
 }
 
-fn is_name_byte(byte: u8) -> bool
+pub(crate) fn is_name_byte(byte: u8) -> bool
     ensures { result ≡ is_name_byte byte }
 {
     is_name_start(byte) || byte.is_ascii_digit()

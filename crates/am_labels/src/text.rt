@@ -38,6 +38,10 @@ impl Text {
         self.text.as_str()
     }
 
+    pub(crate) fn allocator(&self) -> Global {
+        *self.text.allocator()
+    }
+
     pub fn is_empty(&self) -> bool
         ensures { IsTrue result ↔ (self.now ≡ []) }
     {

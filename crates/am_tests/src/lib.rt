@@ -7,4 +7,6 @@ mod alerts;
 #[cfg(test)]
 mod label_sets;
 #[cfg(test)]
+mod matchers;
+#[cfg(test)]
 mod posts;

@@ -1,0 +1,50 @@
+-- What the grammar of a matcher's text fixes.
+use Rattle.std.specs.Prelude.{◌≡◌, ◌⊎◌, true, ℕ, ◌<◌, All, List, ◌++◌, Ok}
+use Rattle.am_labels.specs.declared.operator.Operator.{Operator}
+use Rattle.std.specs.List.{flat_map}
+use Rattle.am_labels.specs.declared.matcher.Matcher.{Matcher}
+use Rattle.am_labels.specs.LabelSets.{Labels, value_of}
+use Rattle.am_labels.specs.Matchers.{IsTextOf, IsReadingOf, admitted, matcher_name}
+use Rattle.am_labels.specs.MatcherTexts.{IsSplit, IsValue, HasParts, HasNoName, HasNoOperator, letters, operator_text, spelled}
+use Rattle.am_labels.specs.Printing.{is_classic_name, quoted}
+
+-- a text has at most one name, operator and way to write the value
+abbrev pub HasOneSplit : Type 0
+HasOneSplit =
+    (text name other raw rest : List ℕ) (op like : Operator)
+    → IsSplit text name op raw → IsSplit text other like rest → (name ≡ other) × (op ≡ like) × (raw ≡ rest)
+
+-- the letters of a text are written as that text
+abbrev pub LettersSpellTheText : Type 0
+LettersSpellTheText = (text : List ℕ) → flat_map spelled (letters text) ≡ text
+
+-- what is written for a value is written for no other
+abbrev pub HasOneValue : Type 0
+HasOneValue = (raw value other : List ℕ) → IsValue raw value → IsValue raw other → value ≡ other
+
+-- a text without a name doesn't lack its operator, and has no parts
+abbrev pub NoNameStandsAlone : Type 0
+NoNameStandsAlone =
+    (text : List ℕ) → HasNoName text
+    → (HasNoOperator text → ⊥) × ((name raw : List ℕ) (op : Operator) → IsSplit text name op raw → ⊥)
+
+-- a text without an operator has no parts
+abbrev pub NoOperatorStandsAlone : Type 0
+NoOperatorStandsAlone =
+    (text : List ℕ) → HasNoOperator text → (name raw : List ℕ) (op : Operator) → IsSplit text name op raw → ⊥
+
+-- each text lacks its name, or its operator, or has parts
+abbrev pub EachTextIsSplit : Type 0
+EachTextIsSplit = (text : List ℕ) → HasNoName text ⊎ (HasNoOperator text ⊎ HasParts text)
+
+-- a name, an operator and any value in quotes, as label sets are printed, are the text of that matcher
+abbrev pub ReadsQuoted : Type 0
+ReadsQuoted =
+    (name value : List ℕ) (op : Operator) → is_classic_name name ≡ true
+    → IsTextOf (name ++ (operator_text op ++ quoted value)) name op value
+
+-- matchers that are read of one text admit the same label sets
+abbrev pub TextsMeanOneThing : Type 0
+TextsMeanOneThing =
+    (text : List ℕ) (a b : Matcher) (labels : Labels) → IsReadingOf text (Ok a) → IsReadingOf text (Ok b)
+    → All (λ byte. byte < 256) (value_of labels (matcher_name a)) → admitted a labels ≡ admitted b labels

@@ -1,0 +1,81 @@
+//! Matchers: conditions on the value of one label.
+
+ghost use Rattle.std.specs.Prelude.{◌≡◌, IfOk, OnErr, true};
+ghost use Rattle.am_labels.specs.Comparisons.{IsComparisonWith, is_of_pattern};
+
+use crate::comparison::Comparison;
+use crate::label_set::LabelSet;
+use crate::match_fault::MatchFault;
+use crate::matcher_text::{read_value, split};
+use crate::operator::Operator;
+use crate::text::Text;
+use std::alloc::{AllocError, Global};
+
+/// A condition on the value of one label, as `name="value"`.
+#[derive(Debug, Drop)]
+pub struct Matcher {
+    name: Text,
+    value: Text,
+    comparison: Comparison,
+    ghost pattern: { ∥ IsComparisonWith value comparison ∥₁ },
+}
+
+impl Matcher {
+    ghost use Rattle.am_labels.specs.Matchers.{admitted, IsReadingOf, matcher_name, matcher_operator, matcher_value};
+
+    /// The matcher of a text. The value of `=~` and `!~` is a pattern of `regex`, which is compiled
+    /// here.
+    pub fn read(alloc: Global, text: &str) -> Result<Matcher, MatchFault>
+        ensures { IsReadingOf text.now result }
+    {
+        let parts = split(text)?;
+        let Some(value) = read_value(alloc, parts.raw)? else {
+            return Err(MatchFault::BadQuote);
+        };
+        let comparison = Comparison::new(alloc, parts.operator, value.as_str())?;
+        Ok(Matcher {
+            name: Text::from_str(alloc, parts.name)?,
+            value,
+            comparison,
+        })
+    }
+
+    /// The name of the label that it looks at.
+    pub fn name(&self) -> &str
+        ensures { result.now ≡ matcher_name self.now }
+    {
+        self.name.as_str()
+    }
+
+    pub fn operator(&self) -> Operator
+        ensures { result ≡ matcher_operator self.now }
+    {
+        self.comparison.operator()
+    }
+
+    /// The text or the pattern that it compares the label's value with.
+    pub fn value(&self) -> &str
+        ensures { result.now ≡ matcher_value self.now }
+    {
+        self.value.as_str()
+    }
+
+    /// Whether it admits a label set. A missing label counts as empty. Only a pattern takes memory;
+    /// asking twice answers the same.
+    pub fn admits(&mut self, labels: &LabelSet) -> Result<bool, AllocError>
+        ensures answer { IfOk result (λ answer. answer ≡ admitted self.old labels.now) }
+        ensures memory { OnErr result (is_of_pattern (matcher_operator self.old) ≡ true) }
+        ensures same { self.new ≡ self.old }
+    {
+        self.accepts(labels)
+    }
+
+    pub(crate) fn accepts(&self, labels: &LabelSet) -> Result<bool, AllocError>
+        ensures answer { IfOk result (λ answer. answer ≡ admitted self.now labels.now) }
+        ensures memory { OnErr result (is_of_pattern (matcher_operator self.now) ≡ true) }
+    {
+        let found = labels.get(self.name.as_str());
+        self.comparison
+            .accepts(self.value.allocator(), self.value.as_str(), found)
+    }
+}

@@ -1,0 +1,54 @@
+//! A list of matchers.
+
+ghost use Rattle.std.specs.Prelude.{◌≡◌, IfOk, OnErr, true};
+ghost use Rattle.std.specs.List.{list_any};
+ghost use Rattle.am_labels.specs.Comparisons.{is_of_pattern};
+ghost use Rattle.am_labels.specs.Matchers.{all_admitted, matcher_operator};
+
+use crate::label_set::LabelSet;
+use crate::matcher::Matcher;
+use std::alloc::AllocError;
+use std::marker::Model;
+
+/// Matchers in order, seen by contracts as their list.
+#[derive(Debug, Drop)]
+pub struct Matchers {
+    pub matchers: Vec<Matcher>,
+}
+
+impl Model for Matchers {
+    ghost use Rattle.std.specs.Prelude.{List};
+    ghost use Rattle.std.specs.Coded.{coded_list};
+    ghost use Rattle.am_labels.specs.contracts.matcher.Matcher as matcher;
+    ghost use Rattle.am_labels.specs.declared.matcher.Matcher.{Matcher};
+
+    ghost Value = { List Matcher };
+
+    ghost coded = { coded_list matcher.the_row.coded };
+
+    ghost view = { λ a. a.matchers.items };
+}
+
+impl Matchers {
+    pub fn as_slice(&self) -> &[Matcher]
+        ensures { result.now ≡ self.now }
+    {
+        &self.matchers
+    }
+
+    /// Whether each of them admits a label set; none admit every one. Only a pattern takes memory;
+    /// asking twice answers the same.
+    pub fn admits(&mut self, labels: &LabelSet) -> Result<bool, AllocError>
+        ensures answer { IfOk result (λ answer. answer ≡ all_admitted self.old labels.now) }
+        ensures memory { OnErr result
+            (list_any (λ matcher. is_of_pattern (matcher_operator matcher)) self.old ≡ true) }
+        ensures same { self.new ≡ self.old }
+    {
+        for matcher in self.as_slice() {
+            if !matcher.accepts(labels)? {
+                return Ok(false);
+            }
+        }
+        Ok(true)
+    }
+}
