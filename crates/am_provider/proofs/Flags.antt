@@ -16,7 +16,7 @@ use Rattle.am_provider.specs.Lanes.{IsLowestFalse, open_count}
 use Rattle.am_provider.specs.Batches.{batches_in, AreEnds}
 use Rattle.am_provider.specs.BookInside.{view_of, IsSound}
 use Rattle.am_provider.proofs.Journals.{cast_parts, open_last}
-use Rattle.am_provider.proofs.Kept.{sound_grown, or_false, enough, limits_same}
+use Rattle.am_provider.proofs.Kept.{sound_grown, or_false, enough, limits_same, spent_none}
 
 -- ---- what is due to a subscription
 
@@ -69,8 +69,8 @@ or_cond false false = refl
 pub sound_subscribed : (a b : Inside) (lane : ℕ) → IsSound a → a.closed ≡ false → IsLowestFalse a.lanes lane
     → b.journal.items ≡ a.journal.items ++ Subscribed lane ∷ []
     → b.stored ≡ a.stored → b.log ≡ a.log → b.lanes ≡ set a.lanes lane true → b.closed ≡ a.closed → b.posts ≡ a.posts
-    → vec_len b.journal + 9 ≤ vec_capacity b.journal → IsSound b
-sound_subscribed a b lane sound still low journal store log lanes closed posts room =
+    → vec_len b.journal + 9 ≤ vec_capacity b.journal → (vec_len b.spent ≡ 0) × (8 ≤ vec_capacity b.spent) → IsSound b
+sound_subscribed a b lane sound still low journal store log lanes closed posts room spent =
     let within : lane < length a.lanes = omega (arith, low.within, sound.eight) in
     let eight : length b.lanes ≡ length a.lanes = ap length lanes ∙ length-set a.lanes lane true in
     sound_grown a b (Subscribed lane) sound (
@@ -92,6 +92,7 @@ sound_subscribed a b lane sound still low journal store log lanes closed posts r
       ends = subst AreEnds (sym log) sound.ends;
       limits = limits_same a b sound log;
       room = enough b (eight ∙ sound.eight) room;
+      spent = spent_none b (eight ∙ sound.eight) spent.0 spent.1;
     })
 
 pub get_end : (calls : List Call) (c : Call) → slice_get (calls ++ c ∷ []) (length calls) ≡ Some c
@@ -130,14 +131,22 @@ room_to_leave a sub sound of =
     let e : open_count (set a.lanes sub.lane false) + 1 ≡ open_count a.lanes = open_count_cleared a.lanes sub.lane within (flag_of a sub sound of) in
     omega (arith, sound.room)
 
+pub room_for_opening : (a : Inside) (sub : SubscriptionView) → IsSound a → BelongsTo (view_of a) sub → vec_len a.spent < vec_capacity a.spent
+room_for_opening a sub sound of =
+    let low = lane_of (view_of a) sub sound.kept of in
+    let within : sub.lane < length a.lanes = omega (arith, low, sound.eight) in
+    let e : open_count (set a.lanes sub.lane false) + 1 ≡ open_count a.lanes = open_count_cleared a.lanes sub.lane within (flag_of a sub sound of) in
+    omega (arith, sound.spent, e)
+
 cleared_cond : (was t : Bool) → cond t false was ≡ cond t false was
 cleared_cond was t = refl
 
 pub sound_left : (a b : Inside) (sub : SubscriptionView) → IsSound a → BelongsTo (view_of a) sub
     → b.journal.items ≡ a.journal.items ++ Left sub.lane ∷ []
     → b.stored ≡ a.stored → b.log ≡ a.log → b.lanes ≡ set a.lanes sub.lane false → b.closed ≡ a.closed → b.posts ≡ a.posts
-    → (vec_len b.journal ≡ vec_len a.journal + 1) × (vec_capacity a.journal ≤ vec_capacity b.journal) → IsSound b
-sound_left a b sub sound of journal store log lanes closed posts room =
+    → (vec_len b.journal ≡ vec_len a.journal + 1) × (vec_capacity a.journal ≤ vec_capacity b.journal)
+    → (vec_len b.spent ≡ vec_len a.spent + 1) × (vec_capacity a.spent ≤ vec_capacity b.spent) → IsSound b
+sound_left a b sub sound of journal store log lanes closed posts room spent =
     let low = lane_of (view_of a) sub sound.kept of in
     let within : sub.lane < length a.lanes = omega (arith, low, sound.eight) in
     let eight : length b.lanes ≡ length a.lanes = ap length lanes ∙ length-set a.lanes sub.lane false in
@@ -155,4 +164,5 @@ sound_left a b sub sound of journal store log lanes closed posts room =
       ends = subst AreEnds (sym log) sound.ends;
       limits = limits_same a b sound log;
       room = omega (arith, sound.room, room.0, room.1);
+      spent = omega (arith, sound.spent, spent.0, spent.1, fewer);
     })

@@ -31,6 +31,7 @@ pub record Grows (a b : Inside) (c : Call) : Type 0 where
   pub ends : AreEnds b.log
   pub limits : IsWithinLimits (batches_in b.log)
   pub room : vec_len b.journal + open_count b.lanes + cond b.closed 0 1 ≤ vec_capacity b.journal
+  pub spent : vec_len b.spent + open_count b.lanes ≤ vec_capacity b.spent
 
 pub sound_grown : (a b : Inside) (c : Call) → IsSound a → MayFollow a.journal.items c → Grows a b c → IsSound b
 sound_grown a b c sound may grows = record {
@@ -46,6 +47,7 @@ sound_grown a b c sound may grows = record {
   ends = grows.ends;
   limits = grows.limits;
   room = grows.room;
+  spent = grows.spent;
 }
 
 pub or_false : (b : Bool) → (b || false) ≡ b
@@ -74,6 +76,12 @@ enough b eight room =
     let x : open_count b.lanes ≤ length b.lanes = few b.lanes in
     let y : cond b.closed 0 1 ≤ 1 = at_most_one b.closed in
     omega arith
+
+-- no opening waits to be let go
+pub spent_none : (b : Inside) → length b.lanes ≡ 8 → vec_len b.spent ≡ 0 → 8 ≤ vec_capacity b.spent → vec_len b.spent + open_count b.lanes ≤ vec_capacity b.spent
+spent_none b eight none room =
+    let lanes : open_count b.lanes ≤ length b.lanes = few b.lanes in
+    omega (arith, lanes, eight, none, room)
 
 -- ---- limits
 
@@ -111,8 +119,9 @@ pub sound_posted : (a b : Inside) (now : ℕ) (news batch : List Alert) → IsSo
     → AreEnds b.log
     → batch ≡ batch_by_list now news a.stored
     → length batch ≡ length news → length news ≤ 1024 → (0 < length news → length (batches_in a.log) < LOG_END)
-    → b.closed ≡ a.closed → b.lanes ≡ a.lanes → b.posts ≡ a.posts + 1 → vec_len b.journal + 9 ≤ vec_capacity b.journal → IsSound b
-sound_posted a b now news batch sound still journal store log ends sent long few fits closed lanes posts room =
+    → b.closed ≡ a.closed → b.lanes ≡ a.lanes → b.posts ≡ a.posts + 1 → vec_len b.journal + 9 ≤ vec_capacity b.journal
+    → vec_len b.spent + open_count b.lanes ≤ vec_capacity b.spent → IsSound b
+sound_posted a b now news batch sound still journal store log ends sent long few fits closed lanes posts room spent =
     let same = batch_of_post (steps a.journal.items) now news ∙ ap (batch_by_list now news) (sym sound.kept.stored) in
     let short : length batch ≤ 1024 = omega arith in
     let below : 0 < length batch → length (batches_in a.log) < LOG_END = λ h. fits (omega arith) in
@@ -129,6 +138,7 @@ sound_posted a b now news batch sound still journal store log ends sent long few
       ends = ends;
       limits = subst IsWithinLimits (sym log) (limits_grown (batches_in a.log) batch sound.limits short below);
       room = enough b (ap length lanes ∙ sound.eight) room;
+      spent = spent;
     })
 
 -- ---- a collection
@@ -136,8 +146,9 @@ sound_posted a b now news batch sound still journal store log ends sent long few
 pub sound_collected : (a b : Inside) (now : ℕ) → IsSound a
     → b.journal.items ≡ a.journal.items ++ Collected now ∷ []
     → b.stored ≡ filter (λ alert. not (is_resolved_at now alert)) a.stored
-    → b.log ≡ a.log → b.closed ≡ a.closed → b.lanes ≡ a.lanes → b.posts ≡ a.posts → vec_len b.journal + 9 ≤ vec_capacity b.journal → IsSound b
-sound_collected a b now sound journal store log closed lanes posts room =
+    → b.log ≡ a.log → b.closed ≡ a.closed → b.lanes ≡ a.lanes → b.posts ≡ a.posts → vec_len b.journal + 9 ≤ vec_capacity b.journal
+    → vec_len b.spent + open_count b.lanes ≤ vec_capacity b.spent → IsSound b
+sound_collected a b now sound journal store log closed lanes posts room spent =
     sound_grown a b (Collected now) sound tt (record {
       journal = journal;
       stored = store ∙ sym (stored_collect (steps a.journal.items) now ∙ ap (filter (λ alert. not (is_resolved_at now alert))) (sym sound.kept.stored));
@@ -149,6 +160,7 @@ sound_collected a b now sound journal store log closed lanes posts room =
       ends = subst AreEnds (sym log) sound.ends;
       limits = limits_same a b sound log;
       room = enough b (ap length lanes ∙ sound.eight) room;
+      spent = spent;
     })
 
 -- ---- the end of the log
@@ -168,8 +180,9 @@ closed_room a b old still closed lanes room =
 pub sound_closed : (a b : Inside) → IsSound a → a.closed ≡ false
     → b.journal.items ≡ a.journal.items ++ Closed ∷ []
     → b.stored ≡ a.stored → b.log ≡ a.log → b.lanes ≡ a.lanes → b.posts ≡ a.posts → b.closed ≡ true
-    → (vec_len b.journal ≡ vec_len a.journal + 1) × (vec_capacity a.journal ≤ vec_capacity b.journal) → IsSound b
-sound_closed a b sound still journal store log lanes posts closed room =
+    → (vec_len b.journal ≡ vec_len a.journal + 1) × (vec_capacity a.journal ≤ vec_capacity b.journal)
+    → vec_len b.spent + open_count b.lanes ≤ vec_capacity b.spent → IsSound b
+sound_closed a b sound still journal store log lanes posts closed room spent =
     sound_grown a b Closed sound (sym sound.closed ∙ still) (record {
       journal = journal;
       stored = store ∙ (sound.kept.stored ∙ ap stored (sym (append-nil (steps a.journal.items))));
@@ -181,4 +194,5 @@ sound_closed a b sound still journal store log lanes posts closed room =
       ends = subst AreEnds (sym log) sound.ends;
       limits = limits_same a b sound log;
       room = closed_room a b sound.room still closed lanes room;
+      spent = spent;
     })

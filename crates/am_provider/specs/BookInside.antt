@@ -23,8 +23,8 @@ pub record IsWithinLimits (log : List (List Alert)) : Type 0 where
   pub batches : All (λ batch. length batch ≤ 1024) log
   pub places : length log ≤ LOG_END
 
--- the fields agree with the journal, and the journal has room for what may come without memory: a
--- Left for each open lane, and a Closed
+-- the fields agree with the journal, and there is room for what may come without memory: in the
+-- journal a Left for each open lane and a Closed, and for the opening of each open lane
 pub record IsSound (fields : Inside) : Type 0 where
   pub kept : IsFaithful (view_of fields)
   pub eight : length fields.lanes ≡ 8
@@ -36,3 +36,4 @@ pub record IsSound (fields : Inside) : Type 0 where
   pub limits : IsWithinLimits (batches_in fields.log)
   pub room : vec_len fields.journal + open_count fields.lanes + (if fields.closed then 0 else 1)
       ≤ vec_capacity fields.journal
+  pub spent : vec_len fields.spent + open_count fields.lanes ≤ vec_capacity fields.spent

@@ -34,6 +34,7 @@ use crate::faults::{AlreadyClosed, PutFault, SubFault};
 use crate::log::Log;
 use crate::pass::Pass;
 use crate::posted::Posted;
+use crate::shared::SharedAlert;
 use crate::store::Store;
 use crate::subscription::Subscription;
 use am_alert::{Moment, Post};
@@ -61,6 +62,9 @@ pub struct Book {
     posts: u64,
     // Which lanes are open.
     lanes: [bool; LANES],
+    // The openings of subscriptions that were left. They are let go by the next call that goes
+    // through the store, so that leaving takes no time. It has room for that of each open lane.
+    spent: Vec<Vec<SharedAlert>>,
     pub(crate) closed: bool,
 }
 
@@ -102,6 +106,7 @@ impl Book {
             log: Log::new(alloc),
             posts: 0,
             lanes: [false; LANES],
+            spent: Vec::new(alloc),
             closed: false,
         };
         Ok((book, passes))
@@ -172,6 +177,8 @@ impl Book {
         };
         let opening = self.stored.share()?;
         self.journal.reserve(ENTRIES)?;
+        self.spent.reserve(LANES)?;
+        self.spent.clear();
         let at = self.journal.len() as u64;
         let start = self.log.places();
         self.lanes[lane] = true;
@@ -206,11 +213,12 @@ impl Book {
             lane,
             at,
             start: _,
-            opening: _,
+            opening,
             count,
             closed_told,
         } = subscription;
         self.lanes[lane as usize] = false;
+        self.spent.push_reserved(opening);
         self.journal.push_reserved(Call::Left(lane));
         Ended {
             at,
@@ -232,6 +240,7 @@ impl Book {
         ensures err { OnErr result (self.new ≡ self.old) }
     {
         self.journal.reserve(ENTRIES)?;
+        self.spent.clear();
         let removed = self.stored.remove_resolved(now);
         self.journal.push_reserved(Call::Collected(now));
         Ok(removed)

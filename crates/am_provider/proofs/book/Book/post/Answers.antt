@@ -49,8 +49,8 @@ invariant_of-self-2 c =
     ] in
     let journal : c.push_reserved.new.self.items ≡ c.self.inside.journal.items ++ Posted c.args.now c.args.post.valid ∷ [] = search rules in
     let count : length batch ≡ length c.args.post.valid = ap length sent ∙ length_batch c.args.now c.args.post.valid c.self.inside.stored in
-    sound_posted c.self.inside (record { stored = c.absorb.new.self; journal = c.push_reserved.new.self; log = c.push_reserved-place.new.self; posts = c.self.inside.posts + 1; lanes = c.self.inside.lanes; closed = c.self.inside.closed })
-    c.args.now c.args.post.valid batch c.self.invariant c.if-self.false journal store log ends sent count few fits refl refl refl room
+    sound_posted c.self.inside (record { stored = c.absorb.new.self; journal = c.push_reserved.new.self; log = c.push_reserved-place.new.self; posts = c.self.inside.posts + 1; lanes = c.self.inside.lanes; spent = c.self.inside.spent; closed = c.self.inside.closed })
+    c.args.now c.args.post.valid batch c.self.invariant c.if-self.false journal store log ends sent count few fits refl refl refl room c.self.invariant.spent
 
 pub returns-clause-kept : goal.returns-clause-kept
 returns-clause-kept c = (invariant_of-self-2 c).kept

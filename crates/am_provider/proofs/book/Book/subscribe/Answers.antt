@@ -12,8 +12,9 @@ invariant_of-self-2 c =
     let low : IsLowestFalse c.self.inside.lanes c.in-Some.lane = search rules in
     let room : vec_len c.push_reserved.new.self + 9 ≤ vec_capacity c.push_reserved.new.self = omega (arith, c.in_ok-reserve.ensures.ok, c.push_reserved.ensures.len, c.push_reserved.ensures.capacity) in
     let journal : c.push_reserved.new.self.items ≡ c.self.inside.journal.items ++ Subscribed c.in-Some.lane ∷ [] = search rules in
-    sound_subscribed c.self.inside (record { stored = c.self.inside.stored; journal = c.push_reserved.new.self; log = c.self.inside.log; posts = c.self.inside.posts; lanes = set c.self.inside.lanes c.in-Some.lane true; closed = c.self.inside.closed })
+    sound_subscribed c.self.inside (record { stored = c.self.inside.stored; journal = c.push_reserved.new.self; log = c.self.inside.log; posts = c.self.inside.posts; lanes = set c.self.inside.lanes c.in-Some.lane true; spent = c.clear.new.self; closed = c.self.inside.closed })
     c.in-Some.lane c.self.invariant c.if-self.false low journal refl refl refl refl refl room
+    (c.clear.ensures.len, omega (arith, c.in_ok-reserve-2.ensures.ok, c.clear.ensures.capacity))
 
 pub returns-clause-kept : goal.returns-clause-kept
 returns-clause-kept c = (invariant_of-self-2 c).kept
