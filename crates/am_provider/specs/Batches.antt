@@ -25,6 +25,7 @@ begins from (end ∷ ends) (suc place) = begins end ends place
 abbrev pub batches_in : Log → List (List Alert)
 batches_in log = cut 0 log.ends.items (alerts_in log.alerts.items)
 
+-- each alert of the log is in a batch
 abbrev pub AreEnds : Log → Type 0
 AreEnds log = IsCutInOrder 0 log.ends.items (length log.alerts.items)
 
