@@ -15,7 +15,7 @@ use am_provider::{AlreadyClosed, Book, Counts, Pass, Posted, stays};
 use std::alloc::{AllocError, Global};
 use std::time::Duration;
 
-/// How many places of the log a subscription may be behind.
+/// How many places the Book is asked for. Its log has no such bound yet.
 const PLACES: u32 = 256;
 
 /// How many seconds a report without an end lasts.
