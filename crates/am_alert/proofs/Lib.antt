@@ -1,3 +1,6 @@
 pub mod Dates
 pub mod MemberPairs
 pub mod Arrays
+pub mod ValidAlerts
+pub mod MergingRules
+pub mod Printing

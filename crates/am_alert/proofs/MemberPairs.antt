@@ -6,7 +6,7 @@ use Rattle.std.proofs.lemmas.List.{map-append}
 use Rattle.serde_json.specs.Data.{Data, Members, member}
 use Rattle.serde_json.specs.Find.{as_str}
 use Rattle.am_labels.specs.LabelSets.{bytes_of}
-use Rattle.am_alert.specs.Members.{pairs_of, has_value}
+use Rattle.am_alert.specs.Postables.{pairs_of, has_value}
 
 pushed : (front : List (List ℕ × List ℕ)) (pair : List ℕ × List ℕ) (rest : Option (List (List ℕ × List ℕ))) → option_map (λ pairs. (front ++ pair ∷ []) ++ pairs) rest ≡ option_map (λ pairs. front ++ pairs) (option_map (λ pairs. pair ∷ pairs) rest)
 pushed front pair None = refl

@@ -6,6 +6,8 @@ pub mod Calendar
 pub mod Alerts
 pub mod Merging
 pub mod Printing
-pub mod Times
-pub mod Members
+pub mod TimeTexts
+pub mod Postables
 pub mod Posts
+pub mod ValidAlerts
+pub mod Laws

@@ -4,23 +4,20 @@ use Rattle.std.specs.FinMap.{contains_key, len}
 use Rattle.serde_json.specs.Data.{Data, array, Items, no_items, item}
 use Rattle.serde_json.specs.Find.{as_array}
 use Rattle.serde_json.specs.Read.{read}
-use Rattle.am_alert.specs.Moments.{moments}
-use Rattle.am_alert.specs.Members.{postable_of}
+use Rattle.am_alert.specs.Moments.{later}
+use Rattle.am_alert.specs.Postables.{postable_of}
 use Rattle.am_alert.specs.declared.alert.Alert.{Alert}
-use Rattle.am_alert.specs.declared.members.Postable.{Postable}
-use Rattle.am_alert.specs.declared.reading.Element.{Element}
-use Rattle.am_alert.specs.declared.reading.Element.TheVariants.{Valid, Invalid, BadMember, OutOfRange}
+use Rattle.am_alert.specs.declared.postable.Postable.{Postable}
+use Rattle.am_alert.specs.declared.post_reader.Element.{Element}
+use Rattle.am_alert.specs.declared.post_reader.Element.TheVariants.{Valid, Invalid, BadMember, OutOfRange}
 use Rattle.am_alert.specs.declared.post.AlertFault.{AlertFault}
 use Rattle.am_alert.specs.declared.post.AlertFault.TheVariants.{NoLabels, EndBeforeStart, EmptyName}
+use Rattle.am_alert.specs.declared.post.TheConstants.{MAX_ALERTS, MAX_BYTES}
 use Rattle.am_alert.specs.declared.post.Post.{Post}
 use Rattle.am_alert.specs.declared.post.PostFault.{PostFault}
 use Rattle.am_alert.specs.declared.post.PostFault.TheVariants as fault
 
 -- ---- one element
-
--- the instant so many nanoseconds later, where it is one
-abbrev pub later : ℕ → ℕ → Option ℕ
-later now nanoseconds = if nat_lt (now + nanoseconds) moments then Some (now + nanoseconds) else None
 
 -- the first of two that is there
 abbrev pub first_given : Option ℕ → Option ℕ → Option ℕ
@@ -93,17 +90,18 @@ count (item d ds) = count ds + 1
 
 -- few enough bytes that are the JSON of an array of these items
 abbrev pub IsArray : List ℕ → Items → Type 0
-IsArray bytes ds = (length bytes ≤ 4194304) × (read bytes ≡ Some (array ds))
+IsArray bytes ds = (length bytes ≤ MAX_BYTES) × IsUtf8 bytes × (read bytes ≡ Some (array ds))
 
--- what reading a post answers. Want of memory may come at any point after the test of the number of bytes
+-- what reading a post answers. Memory may run out at any point after the test of the number of bytes, where there
+-- are bytes
 abbrev pub IsPostOf : ℕ → ℕ → List ℕ → Result Post PostFault → Type 0
-IsPostOf now timeout bytes (Ok post) = (ds : Items) × IsArray bytes ds × (count ds ≤ 1024) × (elements_of now timeout 0 ds ≡ Ok (post.valid, post.faults))
-IsPostOf now timeout bytes (Err fault.TooMany) = (4194304 < length bytes) ⊎ ((ds : Items) × IsArray bytes ds × (1024 < count ds))
-IsPostOf now timeout bytes (Err fault.NotJson) = (length bytes ≤ 4194304) × (IsUtf8 bytes → read bytes ≡ None)
-IsPostOf now timeout bytes (Err fault.NotAnArray) = (length bytes ≤ 4194304) × (d : Data) × (read bytes ≡ Some d) × (as_array d ≡ None)
-IsPostOf now timeout bytes (Err (fault.BadMember i)) = (ds : Items) × IsArray bytes ds × (count ds ≤ 1024) × (elements_of now timeout 0 ds ≡ Err (fault.BadMember i))
-IsPostOf now timeout bytes (Err (fault.OutOfRange i)) = (ds : Items) × IsArray bytes ds × (count ds ≤ 1024) × (elements_of now timeout 0 ds ≡ Err (fault.OutOfRange i))
-IsPostOf now timeout bytes (Err fault.NoMemory) = length bytes ≤ 4194304
+IsPostOf now timeout bytes (Ok post) = (ds : Items) × IsArray bytes ds × (count ds ≤ MAX_ALERTS) × (elements_of now timeout 0 ds ≡ Ok (post.valid, post.faults))
+IsPostOf now timeout bytes (Err fault.TooMany) = (MAX_BYTES < length bytes) ⊎ ((ds : Items) × IsArray bytes ds × (MAX_ALERTS < count ds))
+IsPostOf now timeout bytes (Err fault.NotJson) = (length bytes ≤ MAX_BYTES) × (IsUtf8 bytes → read bytes ≡ None)
+IsPostOf now timeout bytes (Err fault.NotAnArray) = (length bytes ≤ MAX_BYTES) × IsUtf8 bytes × (d : Data) × (read bytes ≡ Some d) × (as_array d ≡ None)
+IsPostOf now timeout bytes (Err (fault.BadMember i)) = (ds : Items) × IsArray bytes ds × (count ds ≤ MAX_ALERTS) × (elements_of now timeout 0 ds ≡ Err (fault.BadMember i))
+IsPostOf now timeout bytes (Err (fault.OutOfRange i)) = (ds : Items) × IsArray bytes ds × (count ds ≤ MAX_ALERTS) × (elements_of now timeout 0 ds ≡ Err (fault.OutOfRange i))
+IsPostOf now timeout bytes (Err fault.NoMemory) = (0 < length bytes) × (length bytes ≤ MAX_BYTES)
 
 -- what reading the elements answered is what the definition gives, unless memory ran out
 abbrev pub ReadsEach : Result Post PostFault → Result Entries PostFault → Type 0

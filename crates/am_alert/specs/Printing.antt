@@ -1,22 +1,21 @@
 -- How moments, alerts and faults are printed.
-use Rattle.std.specs.Prelude.{ℕ, ◌-◌, ◌^◌, ◌==◌, false, if◌then◌else◌, List, [], ◌∷◌, ◌++◌, codes}
-use Rattle.std.specs.Fmt.{decimal, format_spec}
-use Rattle.std.specs.Fmt.{padded_integral}
+use Rattle.std.specs.Prelude.{ℕ, ◌-◌, ◌==◌, if◌then◌else◌, List, [], ◌∷◌, ◌++◌, codes, length, replicate}
+use Rattle.std.specs.Fmt.{decimal}
 use Rattle.am_labels.specs.Printing.{labels_text}
 use Rattle.am_alert.specs.Calendar.{parts_of}
 use Rattle.am_alert.specs.declared.alert.Alert.{Alert}
-use Rattle.am_alert.specs.declared.parts.Parts.{Parts}
+use Rattle.am_alert.specs.declared.civil_time.CivilTime.{CivilTime}
 use Rattle.am_alert.specs.declared.post.AlertFault.{AlertFault}
 use Rattle.am_alert.specs.declared.post.AlertFault.TheVariants as alert_fault
 use Rattle.am_alert.specs.declared.post.PostFault.{PostFault}
 use Rattle.am_alert.specs.declared.post.PostFault.TheVariants as post_fault
 
--- a number in decimal, with zeros before it up to the width: what std's `{:0width}` writes
+-- a number in decimal, with as many zeros before it as it lacks digits
 abbrev pub zero_padded : ℕ → ℕ → List ℕ
-zero_padded width n = padded_integral (format_spec 32 0 4 width (2 ^ 64 - 1)) false [] (decimal n)
+zero_padded width n = replicate (width - length (decimal n)) 48 ++ decimal n
 
 -- `2024-01-01T10:00:00`
-abbrev pub second_text : Parts → List ℕ
+abbrev pub second_text : CivilTime → List ℕ
 second_text p =
     zero_padded 4 p.year ++ (45 ∷ zero_padded 2 p.month ++ (45 ∷ zero_padded 2 p.day
     ++ (84 ∷ zero_padded 2 p.hour ++ (58 ∷ zero_padded 2 p.minute ++ (58 ∷ zero_padded 2 p.second)))))

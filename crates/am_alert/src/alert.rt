@@ -1,13 +1,15 @@
-//! One alert.
+//! One alert, and how it is printed.
 
-ghost use Rattle.std.specs.Prelude.{◌≡◌, IfOk};
+ghost use Rattle.std.specs.Prelude.{◌≡◌, IfOk, Some};
+ghost use Rattle.am_alert.specs.Printing.{alert_text};
 
 use crate::moment::Moment;
 use am_labels::{LabelSet, Text};
 use std::alloc::AllocError;
+use std::fmt;
 
 /// What was reported of one label set.
-#[derive(Debug, Drop)]
+#[derive(Debug, Drop, PartialEq)]
 pub struct Alert {
     /// What the alert is known by.
     pub labels: LabelSet,
@@ -44,5 +46,19 @@ impl Alert {
             timeout: self.timeout,
             generator: self.generator.copy()?,
         })
+    }
+}
+
+// Printed as `{labels} start end given {annotations}`; the generator isn't printed.
+impl fmt::Display for Alert {
+    ghost output = { λ alert. Some (alert_text alert) };
+
+    fn fmt<W: fmt::Write>(&self, f: &mut fmt::Formatter<W>) -> fmt::Result {
+        let end_is = if self.timeout { "timeout" } else { "given" };
+        write!(
+            f,
+            "{} {} {} {end_is} {}",
+            self.labels, self.start, self.end, self.annotations
+        )
     }
 }

@@ -6,20 +6,21 @@
 
 mod alert;
 mod alerts;
-mod members;
+mod civil_time;
+mod laws;
 mod merging;
 mod moment;
-mod parts;
 mod post;
-mod printing;
-mod reading;
-mod times;
+mod post_reader;
+mod postable;
+mod time_text;
 
 pub use alert::Alert;
 pub use alerts::Alerts;
+pub use civil_time::CivilTime;
+pub use laws::{merging_laws, post_laws};
 pub use merging::{absorb, merge, overlaps};
 pub use moment::Moment;
-pub use parts::Parts;
-pub use post::{AlertFault, Faults, Post, PostFault};
-pub use reading::{MAX_ALERTS, MAX_BYTES, read_post};
-pub use times::{TimeFault, read_time};
+pub use post::{AlertFault, Faults, MAX_ALERTS, MAX_BYTES, Post, PostFault};
+pub use post_reader::read_post;
+pub use time_text::{TimeFault, read_time};

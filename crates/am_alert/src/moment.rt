@@ -1,16 +1,21 @@
-//! Instants.
+//! Instants, and how they are printed.
 
-ghost use Rattle.std.specs.Prelude.{◌≡◌, ◌<◌};
-ghost use Rattle.am_alert.specs.Moments.{moments};
+ghost use Rattle.std.specs.Prelude.{◌≡◌, ◌<◌, ◌-◌, Some, None, if◌then◌else◌, nat_lt};
+ghost use Rattle.std.specs.Duration.{as_nanos};
+ghost use Rattle.std.specs.Fmt.{DisplaysOnOk};
+ghost use Rattle.am_alert.specs.Moments.{moments, later};
 ghost use Rattle.am_alert.specs.Calendar.{parts_of};
+ghost use Rattle.am_alert.specs.Printing.{fraction_text, moment_text, second_text};
 
-use crate::parts::Parts;
+use crate::civil_time::CivilTime;
 use jiff::Timestamp;
 use jiff::tz::Offset;
+use std::fmt;
 use std::marker::Model;
+use std::time::Duration;
 
 // How many instants there are.
-pub(crate) const MOMENTS: u128 = 315_537_804_001_000_000_000;
+const MOMENTS: u128 = 315_537_804_001_000_000_000;
 
 // The nanoseconds from 0001-01-01T00:00:00Z to 1970-01-01T00:00:00Z.
 pub(crate) const YEAR_1970: i128 = 62_135_596_800_000_000_000;
@@ -44,6 +49,34 @@ impl Moment {
         Moment { nanoseconds }
     }
 
+    /// The instant that many nanoseconds after 0001-01-01T00:00:00Z, where it isn't past the last
+    /// one.
+    pub fn try_new(nanoseconds: u128) -> Option<Moment>
+        ensures { result ≡ (if nat_lt nanoseconds moments then Some nanoseconds else None) }
+    {
+        if nanoseconds < MOMENTS {
+            Some(Moment { nanoseconds })
+        } else {
+            None
+        }
+    }
+
+    /// The last instant, 9999-12-30T22:00:00.999999999Z.
+    pub fn last() -> Moment
+        ensures { result ≡ moments - 1 }
+    {
+        Moment {
+            nanoseconds: MOMENTS - 1,
+        }
+    }
+
+    /// The instant that much later, where there is one.
+    pub fn checked_add(self, duration: Duration) -> Option<Moment>
+        ensures { result ≡ later self (as_nanos duration) }
+    {
+        Moment::try_new(self.nanoseconds + duration.as_nanos())
+    }
+
     /// The nanoseconds since 0001-01-01T00:00:00Z.
     pub fn nanoseconds(self) -> u128
         ensures value { result ≡ self }
@@ -53,13 +86,13 @@ impl Moment {
     }
 
     /// What a calendar and a clock in UTC show.
-    pub fn parts(&self) -> Parts
+    pub fn parts(&self) -> CivilTime
         ensures { result ≡ parts_of self.now }
     {
         let since_1970 = self.nanoseconds as i128 - YEAR_1970;
         let instant = Timestamp::from_nanosecond(since_1970).unwrap();
         let shown = Offset::UTC.to_datetime(instant).to_plain();
-        Parts {
+        CivilTime {
             year: shown.date.year as u16,
             month: shown.date.month,
             day: shown.date.day,
@@ -69,4 +102,43 @@ impl Moment {
             nanosecond: shown.time.subsec_nanosecond,
         }
     }
+}
+
+// In UTC, as `2024-01-01T10:00:00Z`, with nine digits of a second where it isn't whole.
+impl fmt::Display for Moment {
+    ghost output = { λ moment. Some (moment_text moment) };
+
+    fn fmt<W: fmt::Write>(&self, f: &mut fmt::Formatter<W>) -> fmt::Result {
+        let parts = self.parts();
+        write_second(parts, f)?;
+        write_fraction(parts.nanosecond, f)?;
+        f.write_str("Z")
+    }
+}
+
+fn write_second<W: fmt::Write>(parts: CivilTime, f: &mut fmt::Formatter<W>) -> fmt::Result
+    ensures { DisplaysOnOk W.write_str_gives f.old result (Some (second_text parts)) f.new }
+{
+    let CivilTime {
+        year,
+        month,
+        day,
+        hour,
+        minute,
+        second,
+        nanosecond: _,
+    } = parts;
+    write!(
+        f,
+        "{year:04}-{month:02}-{day:02}T{hour:02}:{minute:02}:{second:02}"
+    )
+}
+
+fn write_fraction<W: fmt::Write>(nanosecond: u32, f: &mut fmt::Formatter<W>) -> fmt::Result
+    ensures { DisplaysOnOk W.write_str_gives f.old result (Some (fraction_text nanosecond)) f.new }
+{
+    if nanosecond == 0 {
+        return Ok(());
+    }
+    write!(f, ".{nanosecond:09}")
 }

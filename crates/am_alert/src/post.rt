@@ -1,10 +1,21 @@
-//! A post: the alerts of one request to `/api/v2/alerts`.
+//! A post: the alerts of one request to `/api/v2/alerts`, its limits, and why it or an alert of it
+//! is refused.
 
-ghost use Rattle.std.specs.Prelude.{◌≡◌, ◌+◌, ◌≤◌, length};
+ghost use Rattle.std.specs.Prelude.{◌≡◌, ◌+◌, ◌≤◌, All, Some, length};
+ghost use Rattle.am_alert.specs.ValidAlerts.{IsWellFormed, indices_of, Rises};
+ghost use Rattle.am_alert.specs.Printing.{alert_fault_text, post_fault_text};
+ghost use Rattle.am_alert.specs.declared.post.TheConstants.{MAX_ALERTS};
 
 use crate::alerts::Alerts;
+use std::alloc::{AllocError, AllocFailed};
+use std::fmt;
 use std::marker::Model;
 use thiserror::Error;
+
+/// At most so many bytes in a post.
+pub const MAX_BYTES: usize = 4_194_304;
+/// At most so many alerts in a post.
+pub const MAX_ALERTS: usize = 1_024;
 
 /// Why one alert of a post is invalid. The others of the post stay valid.
 #[derive(Clone, Copy, Debug, PartialEq, Eq, Error)]
@@ -40,13 +51,16 @@ impl Faults {
     }
 }
 
-/// A post that was read: its valid alerts and its faults, both in the order of the post, together
-/// 1,024 at most.
+/// A post that was read: its valid alerts and its faults, both in the order of the post. Each valid
+/// alert has a label, none without a value, names that aren't empty, and an end that isn't before
+/// its start.
 #[derive(Debug, Drop)]
 pub struct Post {
     pub valid: Alerts,
     pub faults: Faults,
-    pub ghost few: { length valid + length faults ≤ 1024 },
+    pub ghost few: { length valid + length faults ≤ MAX_ALERTS },
+    pub ghost well_formed: { All IsWellFormed valid },
+    pub ghost rising: { Rises (indices_of faults) },
 }
 
 /// Why a post was refused as a whole: nothing of it is stored.
@@ -62,4 +76,51 @@ pub enum PostFault {
     BadMember(u32),
     /// The element gives no end, and the moment and the resolve timeout are no instant.
     OutOfRange(u32),
+}
+
+impl From<AllocError> for PostFault {
+    ghost use Rattle.am_alert.specs.declared.post.PostFault.TheVariants.{NoMemory};
+
+    ghost from_gives = { λ _ e. e ≡ NoMemory };
+
+    fn from(_e: AllocError) -> PostFault {
+        PostFault::NoMemory
+    }
+}
+
+impl<T: Drop> From<AllocFailed<T>> for PostFault {
+    ghost use Rattle.am_alert.specs.declared.post.PostFault.TheVariants.{NoMemory};
+
+    ghost from_gives = { λ _ e. e ≡ NoMemory };
+
+    fn from(_e: AllocFailed<T>) -> PostFault {
+        PostFault::NoMemory
+    }
+}
+
+impl fmt::Display for AlertFault {
+    ghost output = { λ fault. Some (alert_fault_text fault) };
+
+    fn fmt<W: fmt::Write>(&self, f: &mut fmt::Formatter<W>) -> fmt::Result {
+        f.write_str(match self {
+            AlertFault::NoLabels => "E10 NoLabels",
+            AlertFault::EndBeforeStart => "E11 EndBeforeStart",
+            AlertFault::EmptyName => "E12 EmptyName",
+        })
+    }
+}
+
+impl fmt::Display for PostFault {
+    ghost output = { λ fault. Some (post_fault_text fault) };
+
+    fn fmt<W: fmt::Write>(&self, f: &mut fmt::Formatter<W>) -> fmt::Result {
+        match self {
+            PostFault::NoMemory => f.write_str("E0 NoMemory"),
+            PostFault::NotJson => f.write_str("E5 NotJson"),
+            PostFault::NotAnArray => f.write_str("E6 NotAnArray"),
+            PostFault::TooMany => f.write_str("E8 TooMany"),
+            PostFault::BadMember(index) => write!(f, "E7 BadMember {index}"),
+            PostFault::OutOfRange(index) => write!(f, "E9 OutOfRange {index}"),
+        }
+    }
 }

@@ -4,7 +4,6 @@ pub mod LabelLaws
 pub mod Printing
 pub mod FaultTexts
 pub mod MatcherTexts
-pub mod MatcherParts
-pub mod Comparisons
 pub mod Matchers
 pub mod MatcherLaws
+pub mod inside

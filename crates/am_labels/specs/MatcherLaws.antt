@@ -1,10 +1,8 @@
 -- What the grammar of a matcher's text fixes.
-use Rattle.std.specs.Prelude.{◌≡◌, ◌⊎◌, true, ℕ, ◌<◌, All, List, ◌++◌, Ok}
+use Rattle.std.specs.Prelude.{◌≡◌, ◌⊎◌, true, ℕ, List, ◌++◌, Ok}
 use Rattle.am_labels.specs.declared.operator.Operator.{Operator}
 use Rattle.std.specs.List.{flat_map}
-use Rattle.am_labels.specs.declared.matcher.Matcher.{Matcher}
-use Rattle.am_labels.specs.LabelSets.{Labels, value_of}
-use Rattle.am_labels.specs.Matchers.{IsTextOf, IsReadingOf, admitted, matcher_name}
+use Rattle.am_labels.specs.Matchers.{MatcherView, IsTextOf, IsReadingOf}
 use Rattle.am_labels.specs.MatcherTexts.{IsSplit, IsValue, HasParts, HasNoName, HasNoOperator, letters, operator_text, spelled}
 use Rattle.am_labels.specs.Printing.{is_classic_name, quoted}
 
@@ -43,8 +41,7 @@ ReadsQuoted =
     (name value : List ℕ) (op : Operator) → is_classic_name name ≡ true
     → IsTextOf (name ++ (operator_text op ++ quoted value)) name op value
 
--- matchers that are read of one text admit the same label sets
-abbrev pub TextsMeanOneThing : Type 0
-TextsMeanOneThing =
-    (text : List ℕ) (a b : Matcher) (labels : Labels) → IsReadingOf text (Ok a) → IsReadingOf text (Ok b)
-    → All (λ byte. byte < 256) (value_of labels (matcher_name a)) → admitted a labels ≡ admitted b labels
+-- the matchers that are read of one text are the same
+abbrev pub TextIsOfOneMatcher : Type 0
+TextIsOfOneMatcher =
+    (text : List ℕ) (a b : MatcherView) → IsReadingOf text (Ok a) → IsReadingOf text (Ok b) → a ≡ b

@@ -10,8 +10,8 @@ use Rattle.am_labels.specs.declared.operator.Operator.TheVariants as operator
 abbrev pub operator_text : Operator → List ℕ
 operator_text operator.Equal = codes "="
 operator_text operator.NotEqual = codes "!="
-operator_text operator.Matches = codes "=~"
-operator_text operator.NotMatches = codes "!~"
+operator_text operator.MatchRegexp = codes "=~"
+operator_text operator.MatchNotRegexp = codes "!~"
 
 -- white space and nothing else: spaces, tabs, line feeds, form feeds, carriage returns (Go's `\s`)
 abbrev pub IsSpace : List ℕ → Type 0

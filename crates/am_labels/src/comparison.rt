@@ -1,9 +1,9 @@
-//! How a matcher compares, with its compiled pattern.
+//! How a matcher compares, with its compiled pattern. Only `matcher.rt` uses it.
 
-ghost use Rattle.std.specs.Prelude.{◌≡◌, IfOk, OnErr, is_some, true};
-ghost use Rattle.regex.specs.Patterns.{find_str};
-ghost use Rattle.regex.specs.Strings.{regex_pattern};
-ghost use Rattle.am_labels.specs.Comparisons.{accepts, IsComparisonOf, IsCompiledOf, is_of_pattern, operator_of};
+ghost use Rattle.std.specs.Prelude.{◌≡◌, IfOk, OnErr, true};
+ghost use Rattle.am_labels.specs.Matchers.{accepts, anchored, finds, is_of_pattern};
+ghost use Rattle.am_labels.specs.inside.Comparisons.{IsComparisonOf, IsComparisonWith};
+ghost use Rattle.am_labels.specs.inside.Comparisons.{IsCompiledOf, IsPatternOf, operator_of};
 
 use crate::match_fault::MatchFault;
 use crate::operator::Operator;
@@ -14,8 +14,8 @@ use std::alloc::{AllocError, Global};
 pub(crate) enum Comparison {
     Equal,
     NotEqual,
-    Matches(Regex),
-    NotMatches(Regex),
+    MatchRegexp(Regex),
+    MatchNotRegexp(Regex),
 }
 
 impl Comparison {
@@ -29,8 +29,8 @@ impl Comparison {
         Ok(match operator {
             Operator::Equal => Comparison::Equal,
             Operator::NotEqual => Comparison::NotEqual,
-            Operator::Matches => Comparison::Matches(compile(alloc, value)?),
-            Operator::NotMatches => Comparison::NotMatches(compile(alloc, value)?),
+            Operator::MatchRegexp => Comparison::MatchRegexp(compile(alloc, value)?),
+            Operator::MatchNotRegexp => Comparison::MatchNotRegexp(compile(alloc, value)?),
         })
     }
 
@@ -40,8 +40,8 @@ impl Comparison {
         match self {
             Comparison::Equal => Operator::Equal,
             Comparison::NotEqual => Operator::NotEqual,
-            Comparison::Matches(_) => Operator::Matches,
-            Comparison::NotMatches(_) => Operator::NotMatches,
+            Comparison::MatchRegexp(_) => Operator::MatchRegexp,
+            Comparison::MatchNotRegexp(_) => Operator::MatchNotRegexp,
         }
     }
 
@@ -52,14 +52,16 @@ impl Comparison {
         value: &str,
         found: &str,
     ) -> Result<bool, AllocError>
-        ensures answer { IfOk result (λ answer. answer ≡ accepts self.now value.now found.now) }
+        requires { IsComparisonWith value.now self.now }
+        ensures answer { IfOk result
+            (λ answer. answer ≡ accepts (operator_of self.now) value.now found.now) }
         ensures memory { OnErr result (is_of_pattern (operator_of self.now) ≡ true) }
     {
         match self {
             Comparison::Equal => Ok(found == value),
             Comparison::NotEqual => Ok(found != value),
-            Comparison::Matches(regex) => matches(alloc, regex, found),
-            Comparison::NotMatches(regex) => Ok(!matches(alloc, regex, found)?),
+            Comparison::MatchRegexp(regex) => is_match(alloc, regex, value, found),
+            Comparison::MatchNotRegexp(regex) => Ok(!is_match(alloc, regex, value, found)?),
         }
     }
 }
@@ -76,9 +78,16 @@ fn compile(alloc: Global, value: &str) -> Result<Regex, MatchFault>
     }
 }
 
-fn matches(alloc: Global, regex: &Regex, text: &str) -> Result<bool, AllocError>
-    ensures { IfOk result (λ found. found ≡ is_some (find_str (regex_pattern regex.now) text.now 0)) }
+// Whether the pattern of a value matches a whole text.
+fn is_match(
+    alloc: Global,
+    regex: &Regex,
+    value: &str,
+    text: &str,
+) -> Result<bool, AllocError>
+    requires { IsPatternOf value.now regex.now }
+    ensures { IfOk result (λ found. found ≡ finds (anchored value.now) text.now) }
 {
-    let mut matcher = regex.matcher(alloc)?;
-    Ok(matcher.is_match(text))
+    let mut search = regex.matcher(alloc)?;
+    Ok(search.is_match(text))
 }

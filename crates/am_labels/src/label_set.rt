@@ -10,7 +10,8 @@ ghost use Rattle.am_labels.specs.LabelSets.{Labels, bytes_of, last_holds, same_l
 ghost use Rattle.std.specs.Fmt.{DisplaysOnOk};
 ghost use Rattle.am_labels.specs.Printing.{labels_text, pair_text, pairs_text};
 
-use crate::quoted::{LabelName, Quoted};
+use crate::label_name::LabelName;
+use crate::quoted::Quoted;
 use crate::text::Text;
 use std::alloc::{AllocError, Global};
 use std::cmp::Ordering;

@@ -1,17 +1,19 @@
 //! Laws of a matcher's text that callers may cite.
 
-ghost use Rattle.am_labels.specs.MatcherLaws.{EachTextIsSplit, HasOneSplit, HasOneValue, LettersSpellTheText, NoNameStandsAlone, NoOperatorStandsAlone, ReadsQuoted, TextsMeanOneThing};
+ghost use Rattle.am_labels.specs.MatcherLaws.{EachTextIsSplit, HasOneSplit, HasOneValue};
+ghost use Rattle.am_labels.specs.MatcherLaws.{LettersSpellTheText, NoNameStandsAlone};
+ghost use Rattle.am_labels.specs.MatcherLaws.{NoOperatorStandsAlone, ReadsQuoted, TextIsOfOneMatcher};
 
 /// Each text lacks its name, or its operator, or has one name, operator and way to write its
-/// value, and stands for one value at most; the matchers that are read of it admit the same label
-/// sets. A value in quotes, as label sets are printed, is read back.
-pub fn one_reading()
+/// value, and stands for one value at most: so it is the text of one matcher at most. A value in
+/// quotes, as label sets are printed, is read back.
+pub fn matcher_grammar_laws()
     ensures split { HasOneSplit }
     ensures value { HasOneValue }
     ensures letters { LettersSpellTheText }
     ensures each { EachTextIsSplit }
     ensures no_name { NoNameStandsAlone }
     ensures no_operator { NoOperatorStandsAlone }
-    ensures meaning { TextsMeanOneThing }
+    ensures one_matcher { TextIsOfOneMatcher }
     ensures quoted { ReadsQuoted }
 {}

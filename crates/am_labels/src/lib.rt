@@ -4,6 +4,7 @@
 #![tactic(auto)]
 
 mod comparison;
+mod label_name;
 mod label_set;
 mod laws;
 mod match_fault;
@@ -14,11 +15,12 @@ mod operator;
 mod quoted;
 mod text;
 
+pub use label_name::LabelName;
 pub use label_set::LabelSet;
-pub use laws::one_reading;
+pub use laws::matcher_grammar_laws;
 pub use match_fault::MatchFault;
 pub use matcher::Matcher;
 pub use matchers::Matchers;
 pub use operator::Operator;
-pub use quoted::{LabelName, Quoted};
+pub use quoted::Quoted;
 pub use text::Text;

@@ -1,7 +1,6 @@
 //! Matchers: conditions on the value of one label.
 
 ghost use Rattle.std.specs.Prelude.{◌≡◌, IfOk, OnErr, true};
-ghost use Rattle.am_labels.specs.Comparisons.{IsComparisonWith, is_of_pattern};
 
 use crate::comparison::Comparison;
 use crate::label_set::LabelSet;
@@ -10,18 +9,37 @@ use crate::matcher_text::{read_value, split};
 use crate::operator::Operator;
 use crate::text::Text;
 use std::alloc::{AllocError, Global};
+use std::marker::Model;
 
-/// A condition on the value of one label, as `name="value"`.
+/// A condition on the value of one label, as `name="value"`. Contracts see it as its name, its
+/// operator and its value; that its compiled pattern is the one of its value always holds.
 #[derive(Debug, Drop)]
 pub struct Matcher {
     name: Text,
     value: Text,
     comparison: Comparison,
-    ghost pattern: { ∥ IsComparisonWith value comparison ∥₁ },
+}
+
+impl Model for Matcher {
+    ghost use Rattle.am_labels.specs.contracts.operator.Operator as operator;
+    ghost use Rattle.am_labels.specs.Matchers.{MatcherView, coded_matcher};
+    ghost use Rattle.am_labels.specs.inside.Comparisons.{IsComparisonWith, operator_of};
+
+    ghost Value = { MatcherView };
+
+    ghost coded = { coded_matcher operator.the_row.coded };
+
+    ghost view = { λ m. record {
+      name = m.name;
+      operator = operator_of m.comparison;
+      value = m.value;
+    } };
+
+    ghost invariant = { λ m. IsComparisonWith m.value m.comparison };
 }
 
 impl Matcher {
-    ghost use Rattle.am_labels.specs.Matchers.{admitted, IsReadingOf, matcher_name, matcher_operator, matcher_value};
+    ghost use Rattle.am_labels.specs.Matchers.{admitted, is_of_pattern, IsReadable, IsReadingOf};
 
     /// The matcher of a text. The value of `=~` and `!~` is a pattern of `regex`, which is compiled
     /// here.
@@ -42,20 +60,20 @@ impl Matcher {
 
     /// The name of the label that it looks at.
     pub fn name(&self) -> &str
-        ensures { result.now ≡ matcher_name self.now }
+        ensures { result.now ≡ self.now.name }
     {
         self.name.as_str()
     }
 
     pub fn operator(&self) -> Operator
-        ensures { result ≡ matcher_operator self.now }
+        ensures { result ≡ self.now.operator }
     {
         self.comparison.operator()
     }
 
     /// The text or the pattern that it compares the label's value with.
     pub fn value(&self) -> &str
-        ensures { result.now ≡ matcher_value self.now }
+        ensures { result.now ≡ self.now.value }
     {
         self.value.as_str()
     }
@@ -64,7 +82,7 @@ impl Matcher {
     /// asking twice answers the same.
     pub fn admits(&mut self, labels: &LabelSet) -> Result<bool, AllocError>
         ensures answer { IfOk result (λ answer. answer ≡ admitted self.old labels.now) }
-        ensures memory { OnErr result (is_of_pattern (matcher_operator self.old) ≡ true) }
+        ensures memory { OnErr result (is_of_pattern self.old.operator ≡ true) }
         ensures same { self.new ≡ self.old }
     {
         self.accepts(labels)
@@ -72,7 +90,7 @@ impl Matcher {
 
     pub(crate) fn accepts(&self, labels: &LabelSet) -> Result<bool, AllocError>
         ensures answer { IfOk result (λ answer. answer ≡ admitted self.now labels.now) }
-        ensures memory { OnErr result (is_of_pattern (matcher_operator self.now) ≡ true) }
+        ensures memory { OnErr result (is_of_pattern self.now.operator ≡ true) }
     {
         let found = labels.get(self.name.as_str());
         self.comparison

@@ -4,23 +4,23 @@ ghost use Rattle.std.specs.Prelude.{◌≡◌, ◌++◌, [], IfOk, OnOk, MatchOp
 ghost use Rattle.std.specs.List.{prefix_len};
 ghost use Rattle.am_labels.specs.Printing.{is_name_byte, is_name_start};
 ghost use Rattle.am_labels.specs.MatcherTexts.{after_backslash, begins, IsNameThen, IsOperatorThen, IsSpaceThen, IsMeantUntil, IsMeantWhole, IsNoValue, IsTrimmedTo, IsUnquoted, IsValue, meant, operator_text};
-ghost use Rattle.am_labels.specs.MatcherParts.{IsSplitOf};
+ghost use Rattle.am_labels.specs.inside.SplitAnswers.{IsSplitOf};
 
 use crate::match_fault::MatchFault;
 use crate::operator::Operator;
-use crate::quoted::{is_name_byte, is_name_start};
+use crate::label_name::{is_name_byte, is_name_start};
 use crate::text::Text;
 use std::alloc::{AllocError, Global};
 
 /// The parts of a matcher's text; `raw` is how its value is written.
 #[derive(Clone, Copy)]
-pub(crate) struct Parts<'a> {
+pub(crate) struct MatcherParts<'a> {
     pub name: &'a str,
     pub operator: Operator,
     pub raw: &'a str,
 }
 
-pub(crate) fn split(text: &str) -> Result<Parts<'_>, MatchFault>
+pub(crate) fn split(text: &str) -> Result<MatcherParts<'_>, MatchFault>
     ensures { IsSplitOf text.now result }
 {
     let Some((name, rest)) = split_name(skip_space(text)) else {
@@ -29,7 +29,7 @@ pub(crate) fn split(text: &str) -> Result<Parts<'_>, MatchFault>
     let Some((operator, behind)) = split_operator(skip_space(rest)) else {
         return Err(MatchFault::NoOperator);
     };
-    Ok(Parts {
+    Ok(MatcherParts {
         name,
         operator,
         raw: trim_space(behind),
@@ -86,13 +86,13 @@ fn split_operator(text: &str) -> Option<(Operator, &str)>
         (λ parts. IsOperatorThen text.now parts.0 parts.1.now) }
 {
     if let Some(behind) = text.strip_prefix("=~") {
-        return Some((Operator::Matches, behind));
+        return Some((Operator::MatchRegexp, behind));
     }
     if let Some(behind) = text.strip_prefix("!=") {
         return Some((Operator::NotEqual, behind));
     }
     if let Some(behind) = text.strip_prefix("!~") {
-        return Some((Operator::NotMatches, behind));
+        return Some((Operator::MatchNotRegexp, behind));
     }
     let behind = text.strip_prefix("=")?;
     Some((Operator::Equal, behind))

@@ -2,8 +2,7 @@
 
 ghost use Rattle.std.specs.Prelude.{◌≡◌, IfOk, OnErr, true};
 ghost use Rattle.std.specs.List.{list_any};
-ghost use Rattle.am_labels.specs.Comparisons.{is_of_pattern};
-ghost use Rattle.am_labels.specs.Matchers.{all_admitted, matcher_operator};
+ghost use Rattle.am_labels.specs.Matchers.{all_admitted, is_of_pattern};
 
 use crate::label_set::LabelSet;
 use crate::matcher::Matcher;
@@ -20,9 +19,9 @@ impl Model for Matchers {
     ghost use Rattle.std.specs.Prelude.{List};
     ghost use Rattle.std.specs.Coded.{coded_list};
     ghost use Rattle.am_labels.specs.contracts.matcher.Matcher as matcher;
-    ghost use Rattle.am_labels.specs.declared.matcher.Matcher.{Matcher};
+    ghost use Rattle.am_labels.specs.Matchers.{MatcherView};
 
-    ghost Value = { List Matcher };
+    ghost Value = { List MatcherView };
 
     ghost coded = { coded_list matcher.the_row.coded };
 
@@ -41,7 +40,7 @@ impl Matchers {
     pub fn admits(&mut self, labels: &LabelSet) -> Result<bool, AllocError>
         ensures answer { IfOk result (λ answer. answer ≡ all_admitted self.old labels.now) }
         ensures memory { OnErr result
-            (list_any (λ matcher. is_of_pattern (matcher_operator matcher)) self.old ≡ true) }
+            (list_any (λ matcher. is_of_pattern matcher.operator) self.old ≡ true) }
         ensures same { self.new ≡ self.old }
     {
         for matcher in self.as_slice() {

@@ -1,4 +1,4 @@
-//! How a matcher compares.
+//! The four ways in which a matcher compares.
 
 /// How a matcher compares a label's value with its own (Alertmanager's `MatchType`).
 #[derive(Clone, Copy, Debug, PartialEq, Eq)]
@@ -8,7 +8,7 @@ pub enum Operator {
     /// `!=`: they differ.
     NotEqual,
     /// `=~`: the pattern `^(?:value)$` finds a match in the label's value.
-    Matches,
+    MatchRegexp,
     /// `!~`: it finds none.
-    NotMatches,
+    MatchNotRegexp,
 }

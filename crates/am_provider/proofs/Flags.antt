@@ -10,7 +10,8 @@ use Rattle.am_provider.specs.declared.call.Call.TheVariants.{Subscribed, Left}
 use Rattle.am_provider.specs.declared.book.Book.TheInside.{Inside}
 use Rattle.am_provider.specs.Stored.{steps, stored}
 use Rattle.am_provider.specs.Cast.{cast, cast_from, items_of, due, IsFront}
-use Rattle.am_provider.specs.Journal.{is_open}
+use Rattle.am_provider.specs.Journal.{is_open, open_after, IsKept}
+use Rattle.std.proofs.lemmas.List.Elements.{All-push, All-nil}
 use Rattle.am_provider.specs.BookView.{BookView, IsFaithful, SubscriptionView, taken, BelongsTo}
 use Rattle.am_provider.specs.Lanes.{IsLowestFalse, open_count}
 use Rattle.am_provider.specs.Batches.{batches_in, AreEnds}
@@ -115,6 +116,8 @@ given_subscribed old new sub kept journal at start opening count untold =
       opening = opening ∙ (kept.stored ∙ ap (λ calls. stored (steps calls)) (sym before));
       start = start ∙ (ap length kept.log ∙ ap (λ calls. length (cast calls)) (sym before));
       still = ap (λ calls. is_open calls sub.lane) journal ∙ (open_last old.journal (Subscribed sub.lane) sub.lane ∙ (ap (λ t. is_open old.journal sub.lane || t) (nat_eq_refl sub.lane) ∙ or_true (is_open old.journal sub.lane)));
+      since = subst (IsKept sub.lane) (sym (ap (λ n. drop n new.journal) at ∙ (ap (drop (length old.journal)) journal ∙ drop-append_seam old.journal (Subscribed sub.lane ∷ []))))
+          (All-push (λ one. open_after sub.lane true one ≡ true) [] (Subscribed sub.lane) (All-nil (λ one. open_after sub.lane true one ≡ true)) refl);
       within = omega (arith, count);
       told = λ told. absurd (let no : false ≡ true = sym untold ∙ told in (cc));
     }

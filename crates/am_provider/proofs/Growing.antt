@@ -3,12 +3,13 @@ use Rattle.std.proofs.Common.{◌≡◌, ℕ, zero, suc, ◌+◌, ◌<◌, ◌�
 use Rattle.std.specs.List.{slice_get}
 use Rattle.std.proofs.lemmas.List.{append_assoc, take-append-le}
 use Rattle.std.proofs.lemmas.Grind.{flat_map-append}
+use Rattle.std.proofs.lemmas.List.Elements.{All-push}
 use Rattle.am_alert.specs.declared.alert.Alert.{Alert}
 use Rattle.am_provider.specs.declared.call.Call.{Call}
 use Rattle.am_provider.specs.declared.call.Call.TheVariants.{Posted, Collected, Subscribed, Left, Closed}
 use Rattle.am_provider.specs.Stored.{Step, steps, stored}
 use Rattle.am_provider.specs.Cast.{cast, items_of, batches_of}
-use Rattle.am_provider.specs.Journal.{closes, is_closed, is_open, open_after, MayFollow}
+use Rattle.am_provider.specs.Journal.{closes, is_closed, is_open, open_after, IsKept, MayFollow}
 use Rattle.am_provider.specs.BookView.{BookView, IsFaithful, SubscriptionView, BelongsTo}
 use Rattle.am_provider.specs.BookView.{all_of}
 use Rattle.am_provider.specs.Laws.{StaysGiven, StaysFront}
@@ -61,6 +62,8 @@ stays_given old new sub call kept later of journal goes =
         opening = of.opening ∙ ap (λ calls. stored (steps calls)) (sym before);
         start = of.start ∙ ap (λ calls. length (cast calls)) (sym before);
         still = ap (λ calls. is_open calls sub.lane) journal ∙ (open_last old.journal call sub.lane ∙ (ap (λ was. open_after sub.lane was call) of.still ∙ goes));
+        since = subst (IsKept sub.lane) (sym (ap (drop sub.at) journal ∙ drop_front old.journal (call ∷ []) sub.at le))
+            (All-push (λ one. open_after sub.lane true one ≡ true) (drop sub.at old.journal) call of.since goes);
         within = omega (arith, of.within, long);
         told = λ told.
             let done = of.told told in

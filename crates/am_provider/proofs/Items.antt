@@ -98,6 +98,7 @@ given_item book old new of e more =
       opening = of.opening;
       start = of.start;
       still = of.still;
+      since = of.since;
       within = omega arith;
       told = λ told. let all = (of.told told).all in absurd (omega arith);
     })
@@ -125,6 +126,7 @@ given_closed book old new of e more ended =
       opening = of.opening;
       start = of.start;
       still = of.still;
+      since = of.since;
       within = of.within;
       told = λ told. record { ended = ended; all = omega (arith, past, of.within) };
     })

@@ -5,7 +5,7 @@ use Rattle.am_alert.specs.declared.alert.Alert.{Alert}
 use Rattle.am_alert.specs.Alerts.{coded_alert}
 use Rattle.am_provider.specs.declared.call.Call.{Call}
 use Rattle.am_provider.specs.declared.call.Call.TheVariants.{Subscribed}
-use Rattle.am_provider.specs.Journal.{is_closed, is_open, IsLegal}
+use Rattle.am_provider.specs.Journal.{is_closed, is_open, IsKept, IsLegal}
 use Rattle.am_provider.specs.Stored.{steps, stored}
 use Rattle.am_provider.specs.Cast.{cast, items_of}
 
@@ -80,5 +80,6 @@ pub record BelongsTo (book : BookView) (subscription : SubscriptionView) : Type 
   pub opening : subscription.opening ≡ stored (steps (take subscription.at book.journal))
   pub start : subscription.start ≡ length (cast (take subscription.at book.journal))
   pub still : is_open book.journal subscription.lane ≡ true
+  pub since : IsKept subscription.lane (drop subscription.at book.journal)
   pub within : subscription.count ≤ length (all_of book subscription)
   pub told : subscription.closed_told ≡ true → IsComplete book subscription

@@ -1,7 +1,7 @@
 -- The journal of accepted calls: when its log is closed, which lanes are open, and which call may
 -- come next.
 use Rattle.std.specs.Prelude.{◌≡◌, ℕ, ◌<◌, Bool, true, false, ◌||◌, if◌then◌else◌, nat_eq, List, [], ◌∷◌, take, slice_get, Some}
-use Rattle.std.specs.List.{count_by, list_any}
+use Rattle.std.specs.List.{All, count_by, list_any}
 use Rattle.am_provider.specs.declared.call.Call.{Call}
 use Rattle.am_provider.specs.declared.call.Call.TheVariants.{Posted, Collected, Subscribed, Left, Closed}
 
@@ -45,6 +45,10 @@ open_from lane was (call ∷ calls) = open_from lane (open_after lane was call) 
 -- whether a lane is open: it was subscribed and not left since
 abbrev pub is_open : List Call → ℕ → Bool
 is_open calls lane = open_from lane false calls
+
+-- none of the calls leaves the lane
+abbrev pub IsKept : ℕ → List Call → Type 0
+IsKept lane calls = All (λ call. open_after lane true call ≡ true) calls
 
 -- the lane is the lowest of the eight that isn't open
 pub record IsLowestIdle (calls : List Call) (lane : ℕ) : Type 0 where

@@ -117,7 +117,7 @@ pub data Does : Desk → ℕ → Command → Desk → List Answer → Type 0 whe
   subscribed : {old new : Desk} {thread : ℕ} {name : List ℕ} (one : Opened)
       → new.book.journal ≡ old.book.journal ++ call.Subscribed one.subscription.lane ∷ []
       → one.thread ≡ thread → one.name ≡ name → IsFresh new.book one.subscription
-      → one.subscription.opening ≡ old.book.stored
+      → one.subscription.at ≡ length old.book.journal → one.subscription.opening ≡ old.book.stored
       → new.opened ≡ old.opened ++ one ∷ []
       → Does old thread (Subscribe name) new (answer.Subscribed one.subscription.lane (length old.book.stored) ∷ [])
   subscribe_refused : {desk : Desk} {thread : ℕ} {name : List ℕ} {why : SubFault}

@@ -1,7 +1,7 @@
 use Rattle.std.proofs.Common.{sym, rules}
 use Rattle.std.proofs.lemmas.Fn.{always_returns_same}
 use Rattle.am_labels.specs.Texts.{text_cmp}
-use Rattle.am_labels.proofs.Searches.{find_there, find_between, searchable, tied}
+use Rattle.am_labels.proofs.LabelSets.Searches.{find_there, find_between, searchable, tied}
 use Rattle.am_labels.proofs.label_set.find.Goals as goal
 
 pub returns-in-Ok : goal.returns-in-Ok

@@ -3,7 +3,7 @@ use Rattle.std.proofs.Output.{has_written_append, has_written_of_eq}
 use Rattle.std.specs.List.{flat_map}
 use Rattle.std.proofs.lemmas.List.{take_all}
 use Rattle.am_labels.specs.Printing.{pair_text, pairs_text}
-use Rattle.am_labels.proofs.Joins.{pairs_text-first}
+use Rattle.am_labels.proofs.Printing.Joins.{pairs_text-first}
 use Rattle.am_labels.proofs.label_set.write_pairs.Goals as goal
 
 pub returns : goal.returns

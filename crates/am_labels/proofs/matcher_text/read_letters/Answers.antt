@@ -1,7 +1,7 @@
 use Rattle.std.proofs.Common.{◌≡◌, ◌++◌, ◌∷◌, List, ℕ, encode_utf8, sym, ap, ◌∙◌, rules, lit<}
 use Rattle.std.specs.Str.Iter.{chars_rest}
 use Rattle.std.proofs.lemmas.Str.{encode_ascii}
-use Rattle.am_labels.proofs.Letters.{read_after, read_char, read_quote}
+use Rattle.am_labels.proofs.MatcherTexts.Letters.{read_after, read_char, read_quote}
 use Rattle.am_labels.proofs.matcher_text.read_letters.Goals as goal
 
 pub loop-c-preserved-then-is_escaped : goal.loop-c-preserved-then-is_escaped

@@ -1,6 +1,6 @@
 use Rattle.std.proofs.Common.{◌∷◌, cond, string_bytes}
 use Rattle.std.specs.Str.Iter.{chars_rest}
-use Rattle.am_labels.proofs.Letters.{IsReadTo}
+use Rattle.am_labels.proofs.MatcherTexts.Letters.{IsReadTo}
 use Rattle.am_labels.proofs.matcher_text.read_letters.Given as goal
 
 abbrev pub invariant-loop-c : goal.invariant-loop-c

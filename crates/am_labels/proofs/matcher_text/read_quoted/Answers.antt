@@ -1,6 +1,6 @@
 use Rattle.std.proofs.Common.{◌≡◌, length, ap, rules}
 use Rattle.am_labels.specs.MatcherTexts.{IsMeantUntil}
-use Rattle.am_labels.proofs.Values.{no_quoted_more}
+use Rattle.am_labels.proofs.MatcherTexts.Values.{no_quoted_more}
 use Rattle.am_labels.proofs.matcher_text.read_quoted.Goals as goal
 
 pub returns-then-not-is_empty : goal.returns-then-not-is_empty

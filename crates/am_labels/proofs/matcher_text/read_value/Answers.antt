@@ -1,6 +1,6 @@
 use Rattle.std.proofs.Common.{Some, None, lit<}
 use Rattle.std.proofs.lemmas.Str.Pattern.{strip_prefix_char}
-use Rattle.am_labels.proofs.Values.{read_in_quotes, read_without_quotes}
+use Rattle.am_labels.proofs.MatcherTexts.Values.{read_in_quotes, read_without_quotes}
 use Rattle.am_labels.proofs.matcher_text.read_value.Goals as goal
 
 pub returns-in-Some : goal.returns-in-Some

@@ -1,5 +1,5 @@
 use Rattle.std.proofs.lemmas.Str.Ascii.{trim_ascii_start_is}
-use Rattle.am_labels.proofs.Parts.{space_then}
+use Rattle.am_labels.proofs.MatcherTexts.Cuts.{space_then}
 use Rattle.am_labels.proofs.matcher_text.skip_space.Goals as goal
 
 pub returns : goal.returns

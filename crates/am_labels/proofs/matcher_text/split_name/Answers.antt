@@ -1,6 +1,6 @@
 use Rattle.std.proofs.Common.{rules}
-use Rattle.am_labels.proofs.Names.{name_boundary}
-use Rattle.am_labels.proofs.Parts.{name_then}
+use Rattle.am_labels.proofs.MatcherTexts.Names.{name_boundary}
+use Rattle.am_labels.proofs.MatcherTexts.Cuts.{name_then}
 use Rattle.am_labels.proofs.matcher_text.split_name.Goals as goal
 
 pub split_at-requires : goal.split_at-requires

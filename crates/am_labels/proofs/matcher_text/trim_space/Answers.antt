@@ -2,7 +2,7 @@ use Rattle.std.proofs.Common.{refl, drop}
 use Rattle.std.specs.List.{prefix_len}
 use Rattle.std.specs.Char.{is_ascii_whitespace}
 use Rattle.std.proofs.lemmas.Str.Ascii.{trim_ascii_is}
-use Rattle.am_labels.proofs.Parts.{trimmed_to}
+use Rattle.am_labels.proofs.MatcherTexts.Cuts.{trimmed_to}
 use Rattle.am_labels.proofs.matcher_text.trim_space.Goals as goal
 
 pub returns : goal.returns

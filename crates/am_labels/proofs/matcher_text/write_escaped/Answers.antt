@@ -1,5 +1,5 @@
 use Rattle.std.proofs.Common.{◌≡◌, ◌++◌, ◌∷◌, [], List, ℕ, sym, ap, ◌∙◌, rules, string_bytes, encode_utf8, append_assoc}
-use Rattle.am_labels.proofs.Letters.{meant-after}
+use Rattle.am_labels.proofs.MatcherTexts.Letters.{meant-after}
 use Rattle.am_labels.proofs.matcher_text.write_escaped.Goals as goal
 
 pub returns-in_ok-push-in_default-2 : goal.returns-in_ok-push-in_default-2

@@ -1,6 +1,6 @@
 use Rattle.std.proofs.Common.{rules}
 use Rattle.std.proofs.Output.{has_written_of_eq}
-use Rattle.am_labels.proofs.Escapes.{escaped_char}
+use Rattle.am_labels.proofs.Printing.Escapes.{escaped_char}
 use Rattle.am_labels.proofs.quoted.write_char_escaped.Goals as goal
 
 pub returns-in_default : goal.returns-in_default

@@ -3,7 +3,7 @@ use Rattle.std.proofs.Output.{has_written_append, has_written_of_eq}
 use Rattle.std.specs.Str.Iter.{chars_rest}
 use Rattle.std.proofs.lemmas.List.{nil_from_length}
 use Rattle.am_labels.specs.Printing.{escaped_all}
-use Rattle.am_labels.proofs.Escapes.{escaped_more}
+use Rattle.am_labels.proofs.Printing.Escapes.{escaped_more}
 use Rattle.am_labels.proofs.quoted.write_escaped.Goals as goal
 
 pub loop-c-init : goal.loop-c-init

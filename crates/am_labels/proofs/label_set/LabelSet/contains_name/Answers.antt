@@ -1,6 +1,6 @@
 use Rattle.std.proofs.Common.{◌≡◌, ◌∙◌, refl, Option, Some, None, Bor, rules, List, ℕ}
 use Rattle.std.specs.Option.{is_some, option_copied}
-use Rattle.am_labels.proofs.LabelMaps.{contains_found}
+use Rattle.am_labels.proofs.LabelSets.LabelMaps.{contains_found}
 use Rattle.am_labels.proofs.label_set.LabelSet.contains_name.Goals as goal
 
 copied_variant : (o : Option (Bor (List ℕ))) → is_some o ≡ is_some (option_copied o)

@@ -5,7 +5,7 @@ use Rattle.std.proofs.lemmas.Iterator.Consumers.{YieldsList-end}
 use Rattle.std.proofs.iter.runs.Made.{chains}
 use Rattle.am_labels.specs.Texts.{text_cmp}
 use Rattle.am_labels.specs.LabelSets.{bytes_of, last_holds}
-use Rattle.am_labels.proofs.LabelMaps.{entries_empty, last_push, sorted_entries, map_of_entries}
+use Rattle.am_labels.proofs.LabelSets.LabelMaps.{entries_empty, last_push, sorted_entries, map_of_entries}
 use Rattle.am_labels.proofs.label_set.LabelSet.from_pairs.Goals as goal
 
 pub loop-name-init : goal.loop-name-init

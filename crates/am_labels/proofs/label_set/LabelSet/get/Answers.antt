@@ -1,5 +1,5 @@
 use Rattle.std.proofs.Common.{sym, ◌∙◌, Some, None, rules}
-use Rattle.am_labels.proofs.LabelMaps.{value_found}
+use Rattle.am_labels.proofs.LabelSets.LabelMaps.{value_found}
 use Rattle.am_labels.proofs.label_set.LabelSet.get.Goals as goal
 
 pub returns-in-Some : goal.returns-in-Some

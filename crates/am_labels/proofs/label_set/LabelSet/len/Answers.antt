@@ -1,6 +1,6 @@
 use Rattle.std.proofs.Common.{◌≡◌, sym, ◌∙◌, ap, rules, length, vec_len}
 use Rattle.std.specs.FinMap as map_of
-use Rattle.am_labels.proofs.LabelMaps.{len_sorted}
+use Rattle.am_labels.proofs.LabelSets.LabelMaps.{len_sorted}
 use Rattle.am_labels.proofs.label_set.LabelSet.len.Goals as goal
 
 pub returns : goal.returns

@@ -1,5 +1,5 @@
 use Rattle.std.proofs.Common.{sym, ◌∙◌}
-use Rattle.am_labels.proofs.LabelMaps.{entries_of}
+use Rattle.am_labels.proofs.LabelSets.LabelMaps.{entries_of}
 use Rattle.am_labels.proofs.label_set.LabelSet.names_and_values.Goals as goal
 
 pub returns : goal.returns

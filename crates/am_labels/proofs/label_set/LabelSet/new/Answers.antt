@@ -1,4 +1,4 @@
-use Rattle.am_labels.proofs.LabelMaps.{from_none}
+use Rattle.am_labels.proofs.LabelSets.LabelMaps.{from_none}
 use Rattle.am_labels.proofs.label_set.LabelSet.new.Goals as goal
 
 pub returns : goal.returns

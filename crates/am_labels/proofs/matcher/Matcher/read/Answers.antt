@@ -1,7 +1,8 @@
 use Rattle.std.proofs.Common.{Ok, rules}
-use Rattle.am_labels.specs.Comparisons.{IsComparisonOf, operator_of}
+use Rattle.am_labels.specs.inside.Comparisons.{IsComparisonOf, operator_of}
 use Rattle.am_labels.specs.MatcherTexts.{IsSplit, IsValue}
-use Rattle.am_labels.proofs.Readings.{text_of, not_made}
+use Rattle.am_labels.proofs.MatcherMeaning.Readings.{text_of, not_made}
+use Rattle.am_labels.proofs.MatcherMeaning.Patterns.{readable}
 use Rattle.am_labels.proofs.matcher.Matcher.read.Goals as goal
 
 pub returns-in_err-comparison : goal.returns-in_err-comparison
@@ -16,5 +17,5 @@ returns c =
     let written : IsValue c.in_ok-parts.parts.raw.now c.in-Some.value = search rules in
     let made : IsComparisonOf c.in_ok-parts.parts.operator c.in-Some.value (Ok c.in_ok-comparison.comparison) = search rules in (
       text_of c.args.text.now c.in_ok-parts.parts.name.now c.in_ok-parts.parts.raw.now c.in-Some.value c.in_ok-from_str.field-0 c.in_ok-parts.parts.operator (operator_of c.in_ok-comparison.comparison) c.in_ok-from_str.ensures made.0 split written,
-      made.1,
+      readable c.in-Some.value c.in_ok-comparison.comparison made.1,
     )

@@ -30,7 +30,7 @@ returns-in-Ok-clause-does c =
     let same = sym (ap (λ (lane : ℕ). answer.Subscribed lane c.opening.result) c.lane.ensures
     ∙ ap (λ (count : ℕ). answer.Subscribed c.in-Ok.subscription.lane count) (c.opening.ensures ∙ ap length c.in-Ok.ensures.opening)) in
     subst (λ given. Does old c.args.thread (Subscribe c.args.name.now) new (given ∷ [])) same
-    (subscribed {old = old} {new = new} one c.in-Ok.ensures.journal refl c.in_ok-name.ensures fresh c.in-Ok.ensures.opening grew)
+    (subscribed {old = old} {new = new} one c.in-Ok.ensures.journal refl c.in_ok-name.ensures fresh c.in-Ok.ensures.at c.in-Ok.ensures.opening grew)
 
 pub returns-in-Err-clause-does : goal.returns-in-Err-clause-does
 returns-in-Err-clause-does c =

@@ -1,0 +1,4 @@
+-- Facts about the words of specs/Matchers.antt.
+pub mod Readings
+pub mod OneMatcher
+pub mod Patterns

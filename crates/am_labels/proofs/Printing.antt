@@ -1,0 +1,3 @@
+-- Facts about the words of specs/Printing.antt.
+pub mod Escapes
+pub mod Joins
