@@ -9,9 +9,9 @@ use Rattle.std.proofs.lemmas.List.{take_all, take-append-drop, take-append-le, l
 use Rattle.std.proofs.lemmas.Option.{slice_get-map}
 use Rattle.std.proofs.Math.Seq.{drop-length, drop-nil, drop-append_seam}
 use Rattle.am_alert.specs.declared.alert.Alert.{Alert}
-use Rattle.am_provider.specs.Cast.{items_of}
-use Rattle.am_provider.specs.Shared.{alerts_in}
-use Rattle.am_provider.specs.Batches.{cut, begins, IsCutInOrder}
+use Rattle.am_provider.specs.Broadcast.{items_of}
+use Rattle.am_provider.specs.inside.Shared.{alerts_in}
+use Rattle.am_provider.specs.inside.Cuts.{cut, IsCutInOrder, batch_start}
 
 pub cut_length : (from : ℕ) (ends : List ℕ) (alerts : List Alert) → length (cut from ends alerts) ≡ length ends
 cut_length from [] alerts = refl
@@ -50,12 +50,12 @@ pub order_more : (from : ℕ) (ends : List ℕ) (count more last : ℕ) → IsCu
 order_more from [] count more last order grows end = (omega (arith, order, grows, end), end)
 order_more from (end ∷ ends) count more last order grows at = (order.0, order_more end ends count more last order.1 grows at)
 
-pub begins_at : (from : ℕ) (ends : List ℕ) (place d : ℕ) → place < length ends → begins from ends (suc place) ≡ get_or ends place d
+pub begins_at : (from : ℕ) (ends : List ℕ) (place d : ℕ) → place < length ends → batch_start from ends (suc place) ≡ get_or ends place d
 begins_at from [] place d h = absurd (omega arith)
 begins_at from (end ∷ ends) zero d h = refl
 begins_at from (end ∷ ends) (suc place) d h = begins_at end ends place d (omega arith)
 
-pub begins_within : (from : ℕ) (ends : List ℕ) (count place : ℕ) → IsCutInOrder from ends count → begins from ends place ≤ count
+pub begins_within : (from : ℕ) (ends : List ℕ) (count place : ℕ) → IsCutInOrder from ends count → batch_start from ends place ≤ count
 begins_within from ends count zero order = in_order from ends count order
 begins_within from [] count (suc place) order = omega (arith, order)
 begins_within from (end ∷ ends) count (suc place) order = begins_within end ends count place order.1
@@ -69,18 +69,18 @@ items_cut from (end ∷ ends) alerts order =
 
 -- the alerts of the batches from a place on
 pub items_from : (from : ℕ) (ends : List ℕ) (alerts : List Alert) (place : ℕ) → IsCutInOrder from ends (length alerts) → place ≤ length ends
-    → items_of (drop place (cut from ends alerts)) ≡ drop (begins from ends place) alerts
+    → items_of (drop place (cut from ends alerts)) ≡ drop (batch_start from ends place) alerts
 items_from from ends alerts zero order within = items_cut from ends alerts order
 items_from from [] alerts (suc place) order within = absurd (omega arith)
 items_from from (end ∷ ends) alerts (suc place) order within = items_from end ends alerts place order.1 (omega arith)
 
 -- the alert at an index among those of the batches from a place on
 pub found_from : (ends : List ℕ) (shared : List (Arc Alert Global)) (place index : ℕ) → IsCutInOrder 0 ends (length shared) → place ≤ length ends
-    → option_map arc_value (slice_get (drop (begins 0 ends place) shared) index) ≡ slice_get (items_of (drop place (cut 0 ends (alerts_in shared)))) index
+    → option_map arc_value (slice_get (drop (batch_start 0 ends place) shared) index) ≡ slice_get (items_of (drop place (cut 0 ends (alerts_in shared)))) index
 found_from ends shared place index order within =
     let order : IsCutInOrder 0 ends (length (alerts_in shared)) = subst (IsCutInOrder 0 ends) (sym (length-map shared arc_value)) order in
-    sym (slice_get-map arc_value (drop (begins 0 ends place) shared) index)
-    ∙ ap (λ alerts. slice_get alerts index) (sym (drop-map arc_value (begins 0 ends place) shared) ∙ sym (items_from 0 ends (alerts_in shared) place order within))
+    sym (slice_get-map arc_value (drop (batch_start 0 ends place) shared) index)
+    ∙ ap (λ alerts. slice_get alerts index) (sym (drop-map arc_value (batch_start 0 ends place) shared) ∙ sym (items_from 0 ends (alerts_in shared) place order within))
 
 pub none_from : {A : Type 0} (xs : List A) (index : ℕ) → length xs ≤ index → slice_get xs index ≡ None
 none_from [] index past = refl

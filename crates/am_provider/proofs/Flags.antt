@@ -8,26 +8,26 @@ use Rattle.std.proofs.Math.Seq.{drop-append_seam, take-append_seam}
 use Rattle.am_provider.specs.declared.call.Call.{Call}
 use Rattle.am_provider.specs.declared.call.Call.TheVariants.{Subscribed, Left}
 use Rattle.am_provider.specs.declared.book.Book.TheInside.{Inside}
-use Rattle.am_provider.specs.Stored.{steps, stored}
-use Rattle.am_provider.specs.Cast.{cast, cast_from, items_of, due, IsFront}
+use Rattle.am_provider.specs.Stored.{updates, stored}
+use Rattle.am_provider.specs.Broadcast.{broadcast, broadcast_from, items_of, due, IsFront}
 use Rattle.am_provider.specs.Journal.{is_open, open_after, IsKept}
 use Rattle.std.proofs.lemmas.List.Elements.{All-push, All-nil}
 use Rattle.am_provider.specs.BookView.{BookView, IsFaithful, SubscriptionView, taken, BelongsTo}
-use Rattle.am_provider.specs.Lanes.{IsLowestFalse, open_count}
-use Rattle.am_provider.specs.Batches.{batches_in, AreEnds}
-use Rattle.am_provider.specs.BookInside.{view_of, IsSound}
-use Rattle.am_provider.proofs.Journals.{cast_parts, open_last}
-use Rattle.am_provider.proofs.Kept.{sound_grown, or_false, enough, limits_same, spent_none}
+use Rattle.am_provider.specs.inside.Lanes.{IsLowestFalse, open_count}
+use Rattle.am_provider.specs.inside.Batches.{batches_in, AreEnds}
+use Rattle.am_provider.specs.inside.BookInside.{view_of, AgreesWithJournal}
+use Rattle.am_provider.proofs.Journals.{broadcast_parts, open_last}
+use Rattle.am_provider.proofs.Kept.{sound_grown, or_false, enough, limits_same}
 
 -- ---- what is due to a subscription
 
 pub due_of : (book : BookView) (sub : SubscriptionView) → IsFaithful book → BelongsTo book sub → sub.opening ++ items_of (drop sub.start book.log) ≡ due book.journal sub.at
 due_of book sub kept of =
-    let before = cast (take sub.at book.journal) in
-    let since = cast_from (steps (take sub.at book.journal)) (drop sub.at book.journal) in
+    let before = broadcast (take sub.at book.journal) in
+    let since = broadcast_from (updates (take sub.at book.journal)) (drop sub.at book.journal) in
     let log : drop sub.start book.log ≡ since =
-    ap (λ n. drop n book.log) of.start ∙ (ap (drop (length before)) (kept.log ∙ cast_parts book.journal sub.at) ∙ drop-append_seam before since) in
-    ap (λ xs. xs ++ items_of (drop sub.start book.log)) of.opening ∙ ap (λ batches. stored (steps (take sub.at book.journal)) ++ items_of batches) log
+    ap (λ n. drop n book.log) of.start ∙ (ap (drop (length before)) (kept.log ∙ broadcast_parts book.journal sub.at) ∙ drop-append_seam before since) in
+    ap (λ xs. xs ++ items_of (drop sub.start book.log)) of.opening ∙ ap (λ batches. stored (updates (take sub.at book.journal)) ++ items_of batches) log
 
 pub front_of : (book : BookView) (sub : SubscriptionView) → IsFaithful book → BelongsTo book sub → IsFront (taken book sub) (due book.journal sub.at)
 front_of book sub kept of =
@@ -49,7 +49,7 @@ open_count_cleared (b ∷ lanes) (suc lane) h t = let k : lane < length lanes = 
 pub lane_of : (book : BookView) (sub : SubscriptionView) → IsFaithful book → BelongsTo book sub → sub.lane < 8
 lane_of book sub kept of = (kept.legal sub.at (Subscribed sub.lane) of.entry).1.within
 
-nat_eq_refl : (n : ℕ) → nat_eq n n ≡ true
+pub nat_eq_refl : (n : ℕ) → nat_eq n n ≡ true
 nat_eq_refl n = eq-eqb n n refl
 
 pub flag_set : (lanes : List Bool) (lane other : ℕ) (b : Bool) → lane < length lanes → get_or (set lanes lane b) other false ≡ cond (nat_eq lane other) b (get_or lanes other false)
@@ -67,11 +67,11 @@ or_cond false false = refl
 
 -- ---- a lane opens
 
-pub sound_subscribed : (a b : Inside) (lane : ℕ) → IsSound a → a.closed ≡ false → IsLowestFalse a.lanes lane
+pub sound_subscribed : (a b : Inside) (lane : ℕ) → AgreesWithJournal a → a.closed ≡ false → IsLowestFalse a.lanes lane
     → b.journal.items ≡ a.journal.items ++ Subscribed lane ∷ []
     → b.stored ≡ a.stored → b.log ≡ a.log → b.lanes ≡ set a.lanes lane true → b.closed ≡ a.closed → b.posts ≡ a.posts
-    → vec_len b.journal + 9 ≤ vec_capacity b.journal → (vec_len b.spent ≡ 0) × (8 ≤ vec_capacity b.spent) → IsSound b
-sound_subscribed a b lane sound still low journal store log lanes closed posts room spent =
+    → vec_len b.journal + 9 ≤ vec_capacity b.journal → AgreesWithJournal b
+sound_subscribed a b lane sound still low journal store log lanes closed posts room =
     let within : lane < length a.lanes = omega (arith, low.within, sound.eight) in
     let eight : length b.lanes ≡ length a.lanes = ap length lanes ∙ length-set a.lanes lane true in
     sound_grown a b (Subscribed lane) sound (
@@ -84,7 +84,7 @@ sound_subscribed a b lane sound still low journal store log lanes closed posts r
     )
     (record {
       journal = journal;
-      stored = store ∙ (sound.kept.stored ∙ ap stored (sym (append-nil (steps a.journal.items))));
+      stored = store ∙ (sound.kept.stored ∙ ap stored (sym (append-nil (updates a.journal.items))));
       log = ap batches_in log ∙ sym (append-nil (batches_in a.log));
       closed = closed ∙ sym (or_false a.closed);
       eight = eight;
@@ -93,7 +93,6 @@ sound_subscribed a b lane sound still low journal store log lanes closed posts r
       ends = subst AreEnds (sym log) sound.ends;
       limits = limits_same a b sound log;
       room = enough b (eight ∙ sound.eight) room;
-      spent = spent_none b (eight ∙ sound.eight) spent.0 spent.1;
     })
 
 pub get_end : (calls : List Call) (c : Call) → slice_get (calls ++ c ∷ []) (length calls) ≡ Some c
@@ -113,8 +112,8 @@ given_subscribed old new sub kept journal at start opening count untold =
     let before : take sub.at new.journal ≡ old.journal = ap (λ n. take n new.journal) at ∙ (ap (take (length old.journal)) journal ∙ take_end old.journal (Subscribed sub.lane)) in
     record {
       entry = ap (λ n. slice_get new.journal n) at ∙ (ap (λ calls. slice_get calls (length old.journal)) journal ∙ get_end old.journal (Subscribed sub.lane));
-      opening = opening ∙ (kept.stored ∙ ap (λ calls. stored (steps calls)) (sym before));
-      start = start ∙ (ap length kept.log ∙ ap (λ calls. length (cast calls)) (sym before));
+      opening = opening ∙ (kept.stored ∙ ap (λ calls. stored (updates calls)) (sym before));
+      start = start ∙ (ap length kept.log ∙ ap (λ calls. length (broadcast calls)) (sym before));
       still = ap (λ calls. is_open calls sub.lane) journal ∙ (open_last old.journal (Subscribed sub.lane) sub.lane ∙ (ap (λ t. is_open old.journal sub.lane || t) (nat_eq_refl sub.lane) ∙ or_true (is_open old.journal sub.lane)));
       since = subst (IsKept sub.lane) (sym (ap (λ n. drop n new.journal) at ∙ (ap (drop (length old.journal)) journal ∙ drop-append_seam old.journal (Subscribed sub.lane ∷ []))))
           (All-push (λ one. open_after sub.lane true one ≡ true) [] (Subscribed sub.lane) (All-nil (λ one. open_after sub.lane true one ≡ true)) refl);
@@ -124,32 +123,24 @@ given_subscribed old new sub kept journal at start opening count untold =
 
 -- ---- a lane is left
 
-pub flag_of : (a : Inside) (sub : SubscriptionView) → IsSound a → BelongsTo (view_of a) sub → get_or a.lanes sub.lane false ≡ true
+pub flag_of : (a : Inside) (sub : SubscriptionView) → AgreesWithJournal a → BelongsTo (view_of a) sub → get_or a.lanes sub.lane false ≡ true
 flag_of a sub sound of = sound.lanes sub.lane (lane_of (view_of a) sub sound.kept of) ∙ of.still
 
-pub room_to_leave : (a : Inside) (sub : SubscriptionView) → IsSound a → BelongsTo (view_of a) sub → vec_len a.journal < vec_capacity a.journal
+pub room_to_leave : (a : Inside) (sub : SubscriptionView) → AgreesWithJournal a → BelongsTo (view_of a) sub → vec_len a.journal < vec_capacity a.journal
 room_to_leave a sub sound of =
     let low = lane_of (view_of a) sub sound.kept of in
     let within : sub.lane < length a.lanes = omega (arith, low, sound.eight) in
     let e : open_count (set a.lanes sub.lane false) + 1 ≡ open_count a.lanes = open_count_cleared a.lanes sub.lane within (flag_of a sub sound of) in
     omega (arith, sound.room)
 
-pub room_for_opening : (a : Inside) (sub : SubscriptionView) → IsSound a → BelongsTo (view_of a) sub → vec_len a.spent < vec_capacity a.spent
-room_for_opening a sub sound of =
-    let low = lane_of (view_of a) sub sound.kept of in
-    let within : sub.lane < length a.lanes = omega (arith, low, sound.eight) in
-    let e : open_count (set a.lanes sub.lane false) + 1 ≡ open_count a.lanes = open_count_cleared a.lanes sub.lane within (flag_of a sub sound of) in
-    omega (arith, sound.spent, e)
-
 cleared_cond : (was t : Bool) → cond t false was ≡ cond t false was
 cleared_cond was t = refl
 
-pub sound_left : (a b : Inside) (sub : SubscriptionView) → IsSound a → BelongsTo (view_of a) sub
+pub sound_left : (a b : Inside) (sub : SubscriptionView) → AgreesWithJournal a → BelongsTo (view_of a) sub
     → b.journal.items ≡ a.journal.items ++ Left sub.lane ∷ []
     → b.stored ≡ a.stored → b.log ≡ a.log → b.lanes ≡ set a.lanes sub.lane false → b.closed ≡ a.closed → b.posts ≡ a.posts
-    → (vec_len b.journal ≡ vec_len a.journal + 1) × (vec_capacity a.journal ≤ vec_capacity b.journal)
-    → (vec_len b.spent ≡ vec_len a.spent + 1) × (vec_capacity a.spent ≤ vec_capacity b.spent) → IsSound b
-sound_left a b sub sound of journal store log lanes closed posts room spent =
+    → (vec_len b.journal ≡ vec_len a.journal + 1) × (vec_capacity a.journal ≤ vec_capacity b.journal) → AgreesWithJournal b
+sound_left a b sub sound of journal store log lanes closed posts room =
     let low = lane_of (view_of a) sub sound.kept of in
     let within : sub.lane < length a.lanes = omega (arith, low, sound.eight) in
     let eight : length b.lanes ≡ length a.lanes = ap length lanes ∙ length-set a.lanes sub.lane false in
@@ -158,7 +149,7 @@ sound_left a b sub sound of journal store log lanes closed posts room spent =
     sound_grown a b (Left sub.lane) sound of.still
     (record {
       journal = journal;
-      stored = store ∙ (sound.kept.stored ∙ ap stored (sym (append-nil (steps a.journal.items))));
+      stored = store ∙ (sound.kept.stored ∙ ap stored (sym (append-nil (updates a.journal.items))));
       log = ap batches_in log ∙ sym (append-nil (batches_in a.log));
       closed = closed ∙ sym (or_false a.closed);
       eight = eight;
@@ -167,5 +158,4 @@ sound_left a b sub sound of journal store log lanes closed posts room spent =
       ends = subst AreEnds (sym log) sound.ends;
       limits = limits_same a b sound log;
       room = omega (arith, sound.room, room.0, room.1);
-      spent = omega (arith, sound.spent, spent.0, spent.1, fewer);
     })

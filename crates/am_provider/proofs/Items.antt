@@ -2,19 +2,19 @@
 use Rattle.std.proofs.Common.{◌≡◌, ℕ, zero, suc, ◌*◌, ◌^◌, length-append, length-drop, ◌+◌, ◌<◌, ◌≤◌, true, false, List, [], ◌∷◌, ◌++◌, length, take, drop, get_or, Option, Some, None, refl, sym, ap, subst, ◌∙◌, arith}
 use Rattle.std.specs.List.{slice_get, All}
 use Rattle.std.proofs.lemmas.List.Elements.{All-drop}
+use Rattle.am_alert.specs.declared.post.TheConstants.{MAX_ALERTS}
 use Rattle.am_provider.specs.declared.book.TheConstants.{LOG_END}
-use Rattle.am_provider.specs.declared.book.Book.TheInside.{Inside}
-use Rattle.am_provider.specs.BookInside.{view_of, IsWithinLimits, IsSound}
+use Rattle.am_provider.specs.inside.BookLimits.{IsWithinLogLimits}
 use Rattle.std.proofs.Math.Seq.{drop-cons}
 use Rattle.am_alert.specs.declared.alert.Alert.{Alert}
-use Rattle.am_provider.specs.Cast.{cast, cast_from, items_of, due}
+use Rattle.am_provider.specs.Broadcast.{broadcast, broadcast_from, items_of, due}
 use Rattle.am_provider.specs.Journal.{is_closed}
 use Rattle.am_provider.specs.BookView.{BookView, SubscriptionView, all_of, taken, BelongsTo, IsFaithful}
-use Rattle.am_provider.specs.Advances.{Advances}
+use Rattle.am_provider.specs.inside.Advances.{Advances}
 use Rattle.std.specs.Option.{is_some}
-use Rattle.am_provider.specs.declared.advance.Advance.TheVariants.{Item, Pending, Closed}
-use Rattle.am_provider.specs.Stored.{steps}
-use Rattle.am_provider.proofs.Journals.{cast_parts}
+use Rattle.am_provider.specs.declared.subscription.Advance.TheVariants.{Item, Pending, Closed}
+use Rattle.am_provider.specs.Stored.{updates}
+use Rattle.am_provider.proofs.Journals.{broadcast_parts}
 use Rattle.am_provider.proofs.Stored.{by_option}
 use Rattle.am_provider.proofs.Flags.{due_of}
 
@@ -57,24 +57,23 @@ taken_due book sub kept of none = taken_all (all_of book sub) sub.count none ∙
 
 pub start_within : (book : BookView) (sub : SubscriptionView) → IsFaithful book → BelongsTo book sub → sub.start ≤ length book.log
 start_within book sub kept of =
-    let parts : length book.log ≡ length (cast (take sub.at book.journal)) + length (cast_from (steps (take sub.at book.journal)) (drop sub.at book.journal)) =
-    ap length (kept.log ∙ cast_parts book.journal sub.at) ∙ length-append (cast (take sub.at book.journal)) (cast_from (steps (take sub.at book.journal)) (drop sub.at book.journal)) in
+    let parts : length book.log ≡ length (broadcast (take sub.at book.journal)) + length (broadcast_from (updates (take sub.at book.journal)) (drop sub.at book.journal)) =
+    ap length (kept.log ∙ broadcast_parts book.journal sub.at) ∙ length-append (broadcast (take sub.at book.journal)) (broadcast_from (updates (take sub.at book.journal)) (drop sub.at book.journal)) in
     omega (arith, of.start)
 
 -- ---- how much there can be
 
-items_small : (batches : List (List Alert)) → All (λ batch. length batch ≤ 1024) batches → length (items_of batches) ≤ 1024 * length batches
+items_small : (batches : List (List Alert)) → All (λ batch. length batch ≤ MAX_ALERTS) batches → length (items_of batches) ≤ MAX_ALERTS * length batches
 items_small [] short = omega arith
 items_small (batch ∷ batches) short =
-    let first : length batch ≤ 1024 = short 0 batch (omega arith) in
-    let others : length (items_of batches) ≤ 1024 * length batches = items_small batches (λ k d h. short (suc k) d (omega arith)) in
+    let first : length batch ≤ MAX_ALERTS = short 0 batch (omega arith) in
+    let others : length (items_of batches) ≤ MAX_ALERTS * length batches = items_small batches (λ k d h. short (suc k) d (omega arith)) in
     omega (arith, length-append batch (items_of batches), first, others)
 
 -- memory bounds the opening, and the log's limits bound what comes after
-pub all_small : (fields : Inside) (book : BookView) (sub : SubscriptionView) → IsSound fields → view_of fields ≡ book → length sub.opening < 2 ^ 63 → length (all_of book sub) < 2 ^ 64
-all_small fields book sub sound view opening =
-    let limits : IsWithinLimits book.log = subst (λ (seen : BookView). IsWithinLimits seen.log) view sound.limits in
-    let since = items_small (drop sub.start book.log) (All-drop (λ batch. length batch ≤ 1024) sub.start book.log limits.batches) in
+pub all_small : (book : BookView) (sub : SubscriptionView) → IsWithinLogLimits book.log → length sub.opening < 2 ^ 63 → length (all_of book sub) < 2 ^ 64
+all_small book sub limits opening =
+    let since = items_small (drop sub.start book.log) (All-drop (λ batch. length batch ≤ MAX_ALERTS) sub.start book.log limits.batches) in
     let fewer : length (drop sub.start book.log) ≤ length book.log = omega (arith, length-drop sub.start book.log) in
     let places : length book.log ≤ LOG_END = limits.places in
     omega (arith, length-append sub.opening (items_of (drop sub.start book.log)), since, fewer, places, opening)
@@ -88,7 +87,7 @@ pub shows_item : (book : BookView) (old new : SubscriptionView) → new ≡ reco
 shows_item book old new e more =
     by_option {P = Advances book old Item new} (slice_get (all_of book old) old.count)
     (λ none. absurd (let no : true ≡ false = more ∙ ap is_some none in (cc)))
-    (λ a some. (e, a, ap (taken book) e ∙ taken_more (all_of book old) old.count a some))
+    (λ a some. (a, (e, ap (taken book) e ∙ taken_more (all_of book old) old.count a some)))
 
 pub given_item : (book : BookView) (old new : SubscriptionView) → BelongsTo book old → new ≡ record old { count = old.count + 1 } → true ≡ is_some (slice_get (all_of book old) old.count) → BelongsTo book new
 given_item book old new of e more =

@@ -5,21 +5,21 @@ use Rattle.std.proofs.lemmas.List.{append_assoc, append-nil, take_all, take-appe
 use Rattle.std.proofs.lemmas.List.Sums.{sum_by-append}
 use Rattle.std.proofs.lemmas.Grind.{flat_map-append}
 use Rattle.am_provider.specs.declared.call.Call.{Call}
-use Rattle.am_provider.specs.Stored.{Step, steps_of, steps, stored}
-use Rattle.am_provider.specs.Cast.{batches_of, cast_from, cast, items_of, due}
+use Rattle.am_provider.specs.Stored.{Update, updates_of, updates, stored}
+use Rattle.am_provider.specs.Broadcast.{batches_of, broadcast_from, broadcast, items_of, due}
 use Rattle.am_provider.specs.Journal.{closes, is_closed, is_post, posts_of, open_after, open_from, is_open, MayFollow, IsLegal}
 
-pub steps_last : (calls : List Call) (c : Call) → steps (calls ++ c ∷ []) ≡ steps calls ++ steps_of c
-steps_last calls c = flat_map-append steps_of calls (c ∷ []) ∙ ap (λ ss. steps calls ++ ss) (append-nil (steps_of c))
+pub updates_last : (calls : List Call) (c : Call) → updates (calls ++ c ∷ []) ≡ updates calls ++ updates_of c
+updates_last calls c = flat_map-append updates_of calls (c ∷ []) ∙ ap (λ ss. updates calls ++ ss) (append-nil (updates_of c))
 
-cast_from_last : (before : List Step) (calls : List Call) (c : Call) → cast_from before (calls ++ c ∷ []) ≡ cast_from before calls ++ batches_of (before ++ steps calls) c
+cast_from_last : (before : List Update) (calls : List Call) (c : Call) → broadcast_from before (calls ++ c ∷ []) ≡ broadcast_from before calls ++ batches_of (before ++ updates calls) c
 cast_from_last before [] c = append-nil (batches_of before c) ∙ ap (λ ss. batches_of ss c) (sym (append-nil before))
 cast_from_last before (d ∷ calls) c =
-    ap (λ rest. batches_of before d ++ rest) (cast_from_last (before ++ steps_of d) calls c ∙ ap (λ ss. cast_from (before ++ steps_of d) calls ++ batches_of ss c) (append_assoc before (steps_of d) (steps calls)))
-    ∙ sym (append_assoc (batches_of before d) (cast_from (before ++ steps_of d) calls) (batches_of (before ++ (steps_of d ++ steps calls)) c))
+    ap (λ rest. batches_of before d ++ rest) (cast_from_last (before ++ updates_of d) calls c ∙ ap (λ ss. broadcast_from (before ++ updates_of d) calls ++ batches_of ss c) (append_assoc before (updates_of d) (updates calls)))
+    ∙ sym (append_assoc (batches_of before d) (broadcast_from (before ++ updates_of d) calls) (batches_of (before ++ (updates_of d ++ updates calls)) c))
 
-pub cast_last : (calls : List Call) (c : Call) → cast (calls ++ c ∷ []) ≡ cast calls ++ batches_of (steps calls) c
-cast_last calls c = cast_from_last [] calls c
+pub broadcast_last : (calls : List Call) (c : Call) → broadcast (calls ++ c ∷ []) ≡ broadcast calls ++ batches_of (updates calls) c
+broadcast_last calls c = cast_from_last [] calls c
 
 pub closed_last : (calls : List Call) (c : Call) → is_closed (calls ++ c ∷ []) ≡ (is_closed calls || closes c)
 closed_last [] c = elim (closes c) as (λ b. (b || false) ≡ b) [ true ↦ refl | false ↦ refl ]
@@ -73,26 +73,26 @@ drop_last calls c zero h = refl
 drop_last [] c (suc k) h = absurd (omega arith)
 drop_last (d ∷ calls) c (suc k) h = drop_last calls c k (omega arith)
 
-steps_parts : (calls : List Call) (k : ℕ) → steps (take k calls) ++ steps (drop k calls) ≡ steps calls
+steps_parts : (calls : List Call) (k : ℕ) → updates (take k calls) ++ updates (drop k calls) ≡ updates calls
 steps_parts calls zero = refl
 steps_parts [] (suc k) = refl
-steps_parts (d ∷ calls) (suc k) = append_assoc (steps_of d) (steps (take k calls)) (steps (drop k calls)) ∙ ap (λ ss. steps_of d ++ ss) (steps_parts calls k)
+steps_parts (d ∷ calls) (suc k) = append_assoc (updates_of d) (updates (take k calls)) (updates (drop k calls)) ∙ ap (λ ss. updates_of d ++ ss) (steps_parts calls k)
 
-pub due_last : (calls : List Call) (c : Call) (k : ℕ) → k ≤ length calls → due (calls ++ c ∷ []) k ≡ due calls k ++ items_of (batches_of (steps calls) c)
+pub due_last : (calls : List Call) (c : Call) (k : ℕ) → k ≤ length calls → due (calls ++ c ∷ []) k ≡ due calls k ++ items_of (batches_of (updates calls) c)
 due_last calls c k h =
-    ap (λ front. stored (steps front) ++ items_of (cast_from (steps front) (drop k (calls ++ c ∷ [])))) (take_last calls c k h)
-    ∙ (ap (λ (rest : List Call). stored (steps (take k calls)) ++ items_of (cast_from (steps (take k calls)) rest)) (drop_last calls c k h)
-    ∙ (ap (λ batches. stored (steps (take k calls)) ++ items_of batches) (cast_from_last (steps (take k calls)) (drop k calls) c ∙ ap (λ ss. cast_from (steps (take k calls)) (drop k calls) ++ batches_of ss c) (steps_parts calls k))
-    ∙ (ap (λ rest. stored (steps (take k calls)) ++ rest) (flat_map-append (λ batch. batch) (cast_from (steps (take k calls)) (drop k calls)) (batches_of (steps calls) c))
-    ∙ sym (append_assoc (stored (steps (take k calls))) (items_of (cast_from (steps (take k calls)) (drop k calls))) (items_of (batches_of (steps calls) c))))))
+    ap (λ front. stored (updates front) ++ items_of (broadcast_from (updates front) (drop k (calls ++ c ∷ [])))) (take_last calls c k h)
+    ∙ (ap (λ (rest : List Call). stored (updates (take k calls)) ++ items_of (broadcast_from (updates (take k calls)) rest)) (drop_last calls c k h)
+    ∙ (ap (λ batches. stored (updates (take k calls)) ++ items_of batches) (cast_from_last (updates (take k calls)) (drop k calls) c ∙ ap (λ ss. broadcast_from (updates (take k calls)) (drop k calls) ++ batches_of ss c) (steps_parts calls k))
+    ∙ (ap (λ rest. stored (updates (take k calls)) ++ rest) (flat_map-append (λ batch. batch) (broadcast_from (updates (take k calls)) (drop k calls)) (batches_of (updates calls) c))
+    ∙ sym (append_assoc (stored (updates (take k calls))) (items_of (broadcast_from (updates (take k calls)) (drop k calls))) (items_of (batches_of (updates calls) c))))))
 
 -- the batches before and from a call on
-cast_from_parts : (before : List Step) (calls : List Call) (k : ℕ) → cast_from before calls ≡ cast_from before (take k calls) ++ cast_from (before ++ steps (take k calls)) (drop k calls)
-cast_from_parts before calls zero = ap (λ ss. cast_from ss calls) (sym (append-nil before))
+cast_from_parts : (before : List Update) (calls : List Call) (k : ℕ) → broadcast_from before calls ≡ broadcast_from before (take k calls) ++ broadcast_from (before ++ updates (take k calls)) (drop k calls)
+cast_from_parts before calls zero = ap (λ ss. broadcast_from ss calls) (sym (append-nil before))
 cast_from_parts before [] (suc k) = refl
 cast_from_parts before (d ∷ calls) (suc k) =
-    ap (λ rest. batches_of before d ++ rest) (cast_from_parts (before ++ steps_of d) calls k ∙ ap (λ ss. cast_from (before ++ steps_of d) (take k calls) ++ cast_from ss (drop k calls)) (append_assoc before (steps_of d) (steps (take k calls))))
-    ∙ sym (append_assoc (batches_of before d) (cast_from (before ++ steps_of d) (take k calls)) (cast_from (before ++ (steps_of d ++ steps (take k calls))) (drop k calls)))
+    ap (λ rest. batches_of before d ++ rest) (cast_from_parts (before ++ updates_of d) calls k ∙ ap (λ ss. broadcast_from (before ++ updates_of d) (take k calls) ++ broadcast_from ss (drop k calls)) (append_assoc before (updates_of d) (updates (take k calls))))
+    ∙ sym (append_assoc (batches_of before d) (broadcast_from (before ++ updates_of d) (take k calls)) (broadcast_from (before ++ (updates_of d ++ updates (take k calls))) (drop k calls)))
 
-pub cast_parts : (calls : List Call) (k : ℕ) → cast calls ≡ cast (take k calls) ++ cast_from (steps (take k calls)) (drop k calls)
-cast_parts calls k = cast_from_parts [] calls k
+pub broadcast_parts : (calls : List Call) (k : ℕ) → broadcast calls ≡ broadcast (take k calls) ++ broadcast_from (updates (take k calls)) (drop k calls)
+broadcast_parts calls k = cast_from_parts [] calls k

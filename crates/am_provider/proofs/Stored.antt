@@ -7,8 +7,8 @@ use Rattle.am_alert.specs.declared.alert.Alert.{Alert}
 use Rattle.am_labels.specs.LabelSets.{Labels, same_labels}
 use Rattle.am_labels.specs.LabelLaws.{labels_equiv, labels_decide}
 use Rattle.am_alert.specs.Merging.{absorbed, is_resolved_at, merged, combined, overlap}
-use Rattle.am_provider.specs.Stored.{Step, Report, Collect, Held, after_report, after_collection, after_step, held_from, held, begun_at, stored_at, gathered, stored}
-use Rattle.am_provider.specs.Cast.{alert_of, batch_of}
+use Rattle.am_provider.specs.Stored.{Update, Report, Collect, Holding, after_report, after_collection, after_update, holding_from, holding_of, begun_at, stored_at, gathered, stored}
+use Rattle.am_provider.specs.Broadcast.{alert_of, batch_of}
 use Rattle.am_provider.specs.AlertList.{lookup, with_alert, with_alerts, absorb_into, batch_by_list, absent, AreDistinct}
 
 pub by_bool : {P : Type 0} (b : Bool) → (b ≡ true → P) → (b ≡ false → P) → P
@@ -21,16 +21,16 @@ by_option (Some x) p q = q x refl
 
 -- ---- one more step
 
-held_from_last : (labels : Labels) (place : ℕ) (h : Option Held) (ss : List Step) (s : Step) → held_from labels place h (ss ++ s ∷ []) ≡ after_step labels (place + length ss) (held_from labels place h ss) s
-held_from_last labels place h [] s = let e : place ≡ place + 0 = omega arith in ap (λ n. after_step labels n h s) e
+held_from_last : (labels : Labels) (place : ℕ) (h : Option Holding) (ss : List Update) (s : Update) → holding_from labels place h (ss ++ s ∷ []) ≡ after_update labels (place + length ss) (holding_from labels place h ss) s
+held_from_last labels place h [] s = let e : place ≡ place + 0 = omega arith in ap (λ n. after_update labels n h s) e
 held_from_last labels place h (r ∷ ss) s =
     let e : (place + 1) + length ss ≡ place + suc (length ss) = omega arith in
-    held_from_last labels (place + 1) (after_step labels place h r) ss s ∙ ap (λ n. after_step labels n (held_from labels (place + 1) (after_step labels place h r) ss) s) e
+    held_from_last labels (place + 1) (after_update labels place h r) ss s ∙ ap (λ n. after_update labels n (holding_from labels (place + 1) (after_update labels place h r) ss) s) e
 
-pub held_last : (labels : Labels) (ss : List Step) (s : Step) → held labels (ss ++ s ∷ []) ≡ after_step labels (length ss) (held labels ss) s
-held_last labels ss s = let e : 0 + length ss ≡ length ss = omega arith in held_from_last labels 0 None ss s ∙ ap (λ n. after_step labels n (held labels ss) s) e
+pub held_last : (labels : Labels) (ss : List Update) (s : Update) → holding_of labels (ss ++ s ∷ []) ≡ after_update labels (length ss) (holding_of labels ss) s
+held_last labels ss s = let e : 0 + length ss ≡ length ss = omega arith in held_from_last labels 0 None ss s ∙ ap (λ n. after_update labels n (holding_of labels ss) s) e
 
-gathered_last : (f : ℕ → Step → Option Alert) (place : ℕ) (ss : List Step) (s : Step) → gathered f place (ss ++ s ∷ []) ≡ gathered f place ss ++ option_to_list (f (place + length ss) s)
+gathered_last : (f : ℕ → Update → Option Alert) (place : ℕ) (ss : List Update) (s : Update) → gathered f place (ss ++ s ∷ []) ≡ gathered f place ss ++ option_to_list (f (place + length ss) s)
 gathered_last f place [] s = let e : place ≡ place + 0 = omega arith in append-nil (option_to_list (f place s)) ∙ ap (λ n. option_to_list (f n s)) e
 gathered_last f place (r ∷ ss) s =
     let e : (place + 1) + length ss ≡ place + suc (length ss) = omega arith in
@@ -38,7 +38,7 @@ gathered_last f place (r ∷ ss) s =
     ∙ sym (append_assoc (option_to_list (f place r)) (gathered f (place + 1) ss) (option_to_list (f (place + suc (length ss)) s)))
 
 -- the same alerts at each place before n, or each changed, or some left out
-gathered_same : (f g : ℕ → Step → Option Alert) (n : ℕ) → ((p : ℕ) (s : Step) → p < n → f p s ≡ g p s) → (place : ℕ) (ss : List Step) → place + length ss ≤ n → gathered f place ss ≡ gathered g place ss
+gathered_same : (f g : ℕ → Update → Option Alert) (n : ℕ) → ((p : ℕ) (s : Update) → p < n → f p s ≡ g p s) → (place : ℕ) (ss : List Update) → place + length ss ≤ n → gathered f place ss ≡ gathered g place ss
 gathered_same f g n e place [] h = refl
 gathered_same f g n e place (s ∷ ss) h =
     let a : place < n = omega arith in
@@ -49,7 +49,7 @@ map_front : (h : Alert → Alert) (o : Option Alert) (rest : List Alert) → opt
 map_front h None rest = refl
 map_front h (Some x) rest = refl
 
-gathered_map : (f g : ℕ → Step → Option Alert) (h : Alert → Alert) (n : ℕ) → ((p : ℕ) (s : Step) → p < n → f p s ≡ option_map h (g p s)) → (place : ℕ) (ss : List Step) → place + length ss ≤ n → gathered f place ss ≡ map h (gathered g place ss)
+gathered_map : (f g : ℕ → Update → Option Alert) (h : Alert → Alert) (n : ℕ) → ((p : ℕ) (s : Update) → p < n → f p s ≡ option_map h (g p s)) → (place : ℕ) (ss : List Update) → place + length ss ≤ n → gathered f place ss ≡ map h (gathered g place ss)
 gathered_map f g h n e place [] l = refl
 gathered_map f g h n e place (s ∷ ss) l =
     let a : place < n = omega arith in
@@ -65,7 +65,7 @@ unfolding keep_if
 filter_front q None rest = refl
 filter_front q (Some x) rest = elim (q x) as (λ b. option_to_list (cond b (Some x) None) ++ filter q rest ≡ cond b (x ∷ filter q rest) (filter q rest)) [ true ↦ refl | false ↦ refl ]
 
-gathered_filter : (f g : ℕ → Step → Option Alert) (q : Alert → Bool) (n : ℕ) → ((p : ℕ) (s : Step) → p < n → f p s ≡ keep_if q (g p s)) → (place : ℕ) (ss : List Step) → place + length ss ≤ n → gathered f place ss ≡ filter q (gathered g place ss)
+gathered_filter : (f g : ℕ → Update → Option Alert) (q : Alert → Bool) (n : ℕ) → ((p : ℕ) (s : Update) → p < n → f p s ≡ keep_if q (g p s)) → (place : ℕ) (ss : List Update) → place + length ss ≤ n → gathered f place ss ≡ filter q (gathered g place ss)
 gathered_filter f g q n e place [] l = refl
 gathered_filter f g q n e place (s ∷ ss) l =
     let a : place < n = omega arith in
@@ -81,18 +81,18 @@ absorbed_labels now old new e =
       | false ↦ refl
     ]
 
-pub record Sits (labels : Labels) (n : ℕ) (held : Held) : Type 0 where
+pub record Sits (labels : Labels) (n : ℕ) (held : Holding) : Type 0 where
   pub early : held.since < n
   pub own : held.alert.labels ≡ labels
 
-sits_after : (labels : Labels) (place : ℕ) (h : Option Held) (s : Step) → IfSome h (Sits labels place) → IfSome (after_step labels place h s) (Sits labels (place + 1))
+sits_after : (labels : Labels) (place : ℕ) (h : Option Holding) (s : Update) → IfSome h (Sits labels place) → IfSome (after_update labels place h s) (Sits labels (place + 1))
 sits_after labels place None (Report now new) sits =
-    by_bool {P = IfSome (after_step labels place None (Report now new)) (Sits labels (place + 1))} (same_labels labels new.labels)
+    by_bool {P = IfSome (after_update labels place None (Report now new)) (Sits labels (place + 1))} (same_labels labels new.labels)
     (λ e. subst (λ b. IfSome (cond b (Some (after_report place now new None)) None) (Sits labels (place + 1))) (sym e) (record { early = omega arith; own = sym ((labels_decide labels new.labels).0 e) }))
     (λ e. subst (λ b. IfSome (cond b (Some (after_report place now new None)) None) (Sits labels (place + 1))) (sym e) tt)
 sits_after labels place (Some h) (Report now new) sits =
     let later : Sits labels (place + 1) h = record { early = omega arith; own = sits.own } in
-    by_bool {P = IfSome (after_step labels place (Some h) (Report now new)) (Sits labels (place + 1))} (same_labels labels new.labels)
+    by_bool {P = IfSome (after_update labels place (Some h) (Report now new)) (Sits labels (place + 1))} (same_labels labels new.labels)
     (λ e. subst (λ b. IfSome (cond b (Some (after_report place now new (Some h))) (Some h)) (Sits labels (place + 1))) (sym e)
     (record { early = omega arith; own = absorbed_labels now h.alert new (sits.own ∙ (labels_decide labels new.labels).0 e) ∙ sym ((labels_decide labels new.labels).0 e) }))
     (λ e. subst (λ b. IfSome (cond b (Some (after_report place now new (Some h))) (Some h)) (Sits labels (place + 1))) (sym e) later)
@@ -101,14 +101,14 @@ sits_after labels place (Some h) (Collect now) sits =
     let later : Sits labels (place + 1) h = record { early = omega arith; own = sits.own } in
     elim (is_resolved_at now h.alert) as (λ b. IfSome (cond b None (Some h)) (Sits labels (place + 1))) [ true ↦ tt | false ↦ later ]
 
-sits_from : (labels : Labels) (place : ℕ) (h : Option Held) (ss : List Step) → IfSome h (Sits labels place) → IfSome (held_from labels place h ss) (Sits labels (place + length ss))
+sits_from : (labels : Labels) (place : ℕ) (h : Option Holding) (ss : List Update) → IfSome h (Sits labels place) → IfSome (holding_from labels place h ss) (Sits labels (place + length ss))
 sits_from labels place h [] sits = let e : place ≡ place + 0 = omega arith in subst (λ n. IfSome h (Sits labels n)) e sits
 sits_from labels place h (s ∷ ss) sits =
     let e : (place + 1) + length ss ≡ place + suc (length ss) = omega arith in
-    subst (λ n. IfSome (held_from labels (place + 1) (after_step labels place h s) ss) (Sits labels n)) e (sits_from labels (place + 1) (after_step labels place h s) ss (sits_after labels place h s sits))
+    subst (λ n. IfSome (holding_from labels (place + 1) (after_update labels place h s) ss) (Sits labels n)) e (sits_from labels (place + 1) (after_update labels place h s) ss (sits_after labels place h s sits))
 
-pub sits : (labels : Labels) (ss : List Step) → IfSome (held labels ss) (Sits labels (length ss))
-sits labels ss = let e : 0 + length ss ≡ length ss = omega arith in subst (λ n. IfSome (held labels ss) (Sits labels n)) e (sits_from labels 0 None ss tt)
+pub sits : (labels : Labels) (ss : List Update) → IfSome (holding_of labels ss) (Sits labels (length ss))
+sits labels ss = let e : 0 + length ss ≡ length ss = omega arith in subst (λ n. IfSome (holding_of labels ss) (Sits labels n)) e (sits_from labels 0 None ss tt)
 
 -- ---- a report comes
 
@@ -133,18 +133,18 @@ update_labels now new b =
 begun_at_end : (n p : ℕ) (a : Alert) → p < n → begun_at p (Some (record { since = n; alert = a })) ≡ None
 begun_at_end n p a h = ap (λ b. cond b (Some a) None) (ne_eqb n p (λ e. omega arith))
 
-stored_at_new : (ss : List Step) (now : ℕ) (new : Alert) → held new.labels ss ≡ None → (p : ℕ) (s : Step) → p < length ss → stored_at (ss ++ Report now new ∷ []) p s ≡ stored_at ss p s
+stored_at_new : (ss : List Update) (now : ℕ) (new : Alert) → holding_of new.labels ss ≡ None → (p : ℕ) (s : Update) → p < length ss → stored_at (ss ++ Report now new ∷ []) p s ≡ stored_at ss p s
 stored_at_new ss now new none p (Report t x) h =
     ap (begun_at p) (held_last x.labels ss (Report now new))
-    ∙ by_bool {P = begun_at p (after_step x.labels (length ss) (held x.labels ss) (Report now new)) ≡ begun_at p (held x.labels ss)} (same_labels x.labels new.labels)
+    ∙ by_bool {P = begun_at p (after_update x.labels (length ss) (holding_of x.labels ss) (Report now new)) ≡ begun_at p (holding_of x.labels ss)} (same_labels x.labels new.labels)
     (λ e.
-    let gone : held x.labels ss ≡ None = ap (λ l. held l ss) ((labels_decide x.labels new.labels).0 e) ∙ none in
-    ap (λ b. begun_at p (cond b (Some (after_report (length ss) now new (held x.labels ss))) (held x.labels ss))) e
+    let gone : holding_of x.labels ss ≡ None = ap (λ l. holding_of l ss) ((labels_decide x.labels new.labels).0 e) ∙ none in
+    ap (λ b. begun_at p (cond b (Some (after_report (length ss) now new (holding_of x.labels ss))) (holding_of x.labels ss))) e
     ∙ (ap (λ o. begun_at p (Some (after_report (length ss) now new o))) gone ∙ (begun_at_end (length ss) p new h ∙ ap (begun_at p) (sym gone))))
-    (λ e. ap (λ b. begun_at p (cond b (Some (after_report (length ss) now new (held x.labels ss))) (held x.labels ss))) e)
+    (λ e. ap (λ b. begun_at p (cond b (Some (after_report (length ss) now new (holding_of x.labels ss))) (holding_of x.labels ss))) e)
 stored_at_new ss now new none p (Collect t) h = refl
 
-sits_at : (labels : Labels) (ss : List Step) (h : Held) → held labels ss ≡ Some h → Sits labels (length ss) h
+sits_at : (labels : Labels) (ss : List Update) (h : Holding) → holding_of labels ss ≡ Some h → Sits labels (length ss) h
 sits_at labels ss h e = subst (λ o. IfSome o (Sits labels (length ss))) e (sits labels ss)
 
 stored_at_update : (now : ℕ) (new : Alert) (p : ℕ) (since : ℕ) (a b : Alert) → b ≡ update now new a → begun_at p (Some (record { since = since; alert = b })) ≡ option_map (update now new) (begun_at p (Some (record { since = since; alert = a })))
@@ -154,51 +154,51 @@ stored_at_update now new p since a b e = ap (λ b. begun_at p (Some (record { si
 other_labels : (x new a : Labels) → a ≡ x → same_labels x new ≡ false → same_labels new a ≡ false
 other_labels x new a e f = ap (same_labels new) e ∙ (labels_equiv.symm new x ∙ f)
 
-stored_at_old : (ss : List Step) (now : ℕ) (new : Alert) (h : Held) → held new.labels ss ≡ Some h → (p : ℕ) (s : Step) → p < length ss → stored_at (ss ++ Report now new ∷ []) p s ≡ option_map (update now new) (stored_at ss p s)
+stored_at_old : (ss : List Update) (now : ℕ) (new : Alert) (h : Holding) → holding_of new.labels ss ≡ Some h → (p : ℕ) (s : Update) → p < length ss → stored_at (ss ++ Report now new ∷ []) p s ≡ option_map (update now new) (stored_at ss p s)
 stored_at_old ss now new h some p (Report t x) l =
     ap (begun_at p) (held_last x.labels ss (Report now new))
-    ∙ by_bool {P = begun_at p (after_step x.labels (length ss) (held x.labels ss) (Report now new)) ≡ option_map (update now new) (begun_at p (held x.labels ss))} (same_labels x.labels new.labels)
+    ∙ by_bool {P = begun_at p (after_update x.labels (length ss) (holding_of x.labels ss) (Report now new)) ≡ option_map (update now new) (begun_at p (holding_of x.labels ss))} (same_labels x.labels new.labels)
     (λ e.
-    let there : held x.labels ss ≡ Some h = ap (λ l. held l ss) ((labels_decide x.labels new.labels).0 e) ∙ some in
+    let there : holding_of x.labels ss ≡ Some h = ap (λ l. holding_of l ss) ((labels_decide x.labels new.labels).0 e) ∙ some in
     let own = (sits_at new.labels ss h some).own in
-    ap (λ b. begun_at p (cond b (Some (after_report (length ss) now new (held x.labels ss))) (held x.labels ss))) e
+    ap (λ b. begun_at p (cond b (Some (after_report (length ss) now new (holding_of x.labels ss))) (holding_of x.labels ss))) e
     ∙ (ap (λ o. begun_at p (Some (after_report (length ss) now new o))) there
     ∙ (stored_at_update now new p h.since h.alert (absorbed now (Some h.alert) new) (sym (update_own now new h.alert own)) ∙ ap (λ o. option_map (update now new) (begun_at p o)) (sym there))))
     (λ e.
-    ap (λ b. begun_at p (cond b (Some (after_report (length ss) now new (held x.labels ss))) (held x.labels ss))) e
-    ∙ by_option {P = begun_at p (held x.labels ss) ≡ option_map (update now new) (begun_at p (held x.labels ss))} (held x.labels ss)
+    ap (λ b. begun_at p (cond b (Some (after_report (length ss) now new (holding_of x.labels ss))) (holding_of x.labels ss))) e
+    ∙ by_option {P = begun_at p (holding_of x.labels ss) ≡ option_map (update now new) (begun_at p (holding_of x.labels ss))} (holding_of x.labels ss)
     (λ o. ap (begun_at p) o ∙ ap (λ o. option_map (update now new) (begun_at p o)) (sym o))
     (λ g o.
     let own = (sits_at x.labels ss g o).own in
     ap (begun_at p) o ∙ (stored_at_update now new p g.since g.alert g.alert (sym (update_other now new g.alert (other_labels x.labels new.labels g.alert.labels own e))) ∙ ap (λ o. option_map (update now new) (begun_at p o)) (sym o))))
 stored_at_old ss now new h some p (Collect t) l = refl
 
-held_own : (ss : List Step) (now : ℕ) (new : Alert) → held new.labels (ss ++ Report now new ∷ []) ≡ Some (after_report (length ss) now new (held new.labels ss))
+pub held_own : (ss : List Update) (now : ℕ) (new : Alert) → holding_of new.labels (ss ++ Report now new ∷ []) ≡ Some (after_report (length ss) now new (holding_of new.labels ss))
 held_own ss now new =
-    held_last new.labels ss (Report now new) ∙ ap (λ b. cond b (Some (after_report (length ss) now new (held new.labels ss))) (held new.labels ss)) (labels_equiv.refl new.labels)
+    held_last new.labels ss (Report now new) ∙ ap (λ b. cond b (Some (after_report (length ss) now new (holding_of new.labels ss))) (holding_of new.labels ss)) (labels_equiv.refl new.labels)
 
 nat_eq_same : (n : ℕ) → nat_eq n n ≡ true
 nat_eq_same n = Rattle.std.proofs.Common.eq-eqb n n refl
 
-pub stored_new : (ss : List Step) (now : ℕ) (new : Alert) → held new.labels ss ≡ None → stored (ss ++ Report now new ∷ []) ≡ stored ss ++ new ∷ []
+pub stored_new : (ss : List Update) (now : ℕ) (new : Alert) → holding_of new.labels ss ≡ None → stored (ss ++ Report now new ∷ []) ≡ stored ss ++ new ∷ []
 stored_new ss now new none =
     let n = length ss in
     let le : 0 + length ss ≤ length ss = omega arith in
     let at : 0 + length ss ≡ length ss = omega arith in
     let last : stored_at (ss ++ Report now new ∷ []) (0 + length ss) (Report now new) ≡ Some new =
-    ap (λ m. begun_at m (held new.labels (ss ++ Report now new ∷ []))) at ∙ (ap (begun_at (length ss)) (held_own ss now new ∙ ap (λ o. Some (after_report (length ss) now new o)) none) ∙ ap (λ b. cond b (Some new) None) (nat_eq_same (length ss))) in
+    ap (λ m. begun_at m (holding_of new.labels (ss ++ Report now new ∷ []))) at ∙ (ap (begun_at (length ss)) (held_own ss now new ∙ ap (λ o. Some (after_report (length ss) now new o)) none) ∙ ap (λ b. cond b (Some new) None) (nat_eq_same (length ss))) in
     gathered_last (stored_at (ss ++ Report now new ∷ [])) 0 ss (Report now new)
     ∙ (ap (λ o. gathered (stored_at (ss ++ Report now new ∷ [])) 0 ss ++ option_to_list o) last
     ∙ ap (λ front. front ++ new ∷ []) (gathered_same (stored_at (ss ++ Report now new ∷ [])) (stored_at ss) (length ss) (stored_at_new ss now new none) 0 ss le))
 
-pub stored_old : (ss : List Step) (now : ℕ) (new : Alert) (h : Held) → held new.labels ss ≡ Some h → stored (ss ++ Report now new ∷ []) ≡ map (update now new) (stored ss)
+pub stored_old : (ss : List Update) (now : ℕ) (new : Alert) (h : Holding) → holding_of new.labels ss ≡ Some h → stored (ss ++ Report now new ∷ []) ≡ map (update now new) (stored ss)
 stored_old ss now new h some =
     let le : 0 + length ss ≤ length ss = omega arith in
     let at : 0 + length ss ≡ length ss = omega arith in
     let early = (sits_at new.labels ss h some).early in
     let apart : nat_eq h.since (length ss) ≡ false = ne_eqb h.since (length ss) (λ e. omega arith) in
     let last : stored_at (ss ++ Report now new ∷ []) (0 + length ss) (Report now new) ≡ None =
-    ap (λ m. begun_at m (held new.labels (ss ++ Report now new ∷ []))) at ∙ (ap (begun_at (length ss)) (held_own ss now new ∙ ap (λ o. Some (after_report (length ss) now new o)) some) ∙ ap (λ b. cond b (Some (absorbed now (Some h.alert) new)) None) apart) in
+    ap (λ m. begun_at m (holding_of new.labels (ss ++ Report now new ∷ []))) at ∙ (ap (begun_at (length ss)) (held_own ss now new ∙ ap (λ o. Some (after_report (length ss) now new o)) some) ∙ ap (λ b. cond b (Some (absorbed now (Some h.alert) new)) None) apart) in
     gathered_last (stored_at (ss ++ Report now new ∷ [])) 0 ss (Report now new)
     ∙ (ap (λ o. gathered (stored_at (ss ++ Report now new ∷ [])) 0 ss ++ option_to_list o) last
     ∙ (append-nil (gathered (stored_at (ss ++ Report now new ∷ [])) 0 ss)
@@ -209,7 +209,7 @@ stored_old ss now new h some =
 lives : ℕ → Alert → Bool
 lives now a = not (is_resolved_at now a)
 
-begun_at_collection : (now p : ℕ) (o : Option Held) → begun_at p (after_collection now o) ≡ keep_if (lives now) (begun_at p o)
+begun_at_collection : (now p : ℕ) (o : Option Holding) → begun_at p (after_collection now o) ≡ keep_if (lives now) (begun_at p o)
 unfolding keep_if lives
 begun_at_collection now p None = refl
 begun_at_collection now p (Some h) =
@@ -218,12 +218,12 @@ begun_at_collection now p (Some h) =
       | false ↦ λ e. elim (nat_eq h.since p) as (λ t. cond t (Some h.alert) None ≡ keep_if (lives now) (cond t (Some h.alert) None)) [ true ↦ sym (ap (λ b. cond (not b) (Some h.alert) None) e) | false ↦ refl ]
     ] refl
 
-stored_at_collect : (ss : List Step) (now p : ℕ) (s : Step) → p < length ss → stored_at (ss ++ Collect now ∷ []) p s ≡ keep_if (lives now) (stored_at ss p s)
+stored_at_collect : (ss : List Update) (now p : ℕ) (s : Update) → p < length ss → stored_at (ss ++ Collect now ∷ []) p s ≡ keep_if (lives now) (stored_at ss p s)
 unfolding keep_if
-stored_at_collect ss now p (Report t x) l = ap (begun_at p) (held_last x.labels ss (Collect now)) ∙ begun_at_collection now p (held x.labels ss)
+stored_at_collect ss now p (Report t x) l = ap (begun_at p) (held_last x.labels ss (Collect now)) ∙ begun_at_collection now p (holding_of x.labels ss)
 stored_at_collect ss now p (Collect t) l = refl
 
-pub stored_collect : (ss : List Step) (now : ℕ) → stored (ss ++ Collect now ∷ []) ≡ filter (λ a. not (is_resolved_at now a)) (stored ss)
+pub stored_collect : (ss : List Update) (now : ℕ) → stored (ss ++ Collect now ∷ []) ≡ filter (λ a. not (is_resolved_at now a)) (stored ss)
 unfolding lives
 stored_collect ss now =
     let le : 0 + length ss ≤ length ss = omega arith in
@@ -308,32 +308,32 @@ lookup_filter q labels (a ∷ olds) d =
     ∙ sym (ap (λ b. keep_if q (cond b (Some a) (lookup labels olds))) f))
 
 -- the stored list has what each label set holds, each once
-pub record Agree (ss : List Step) : Type 0 where
-  pub found : (labels : Labels) → lookup labels (stored ss) ≡ option_map (λ (h : Held). h.alert) (held labels ss)
+pub record Agree (ss : List Update) : Type 0 where
+  pub found : (labels : Labels) → lookup labels (stored ss) ≡ option_map (λ (h : Holding). h.alert) (holding_of labels ss)
   pub distinct : AreDistinct (stored ss)
 
-alert_in : Option Held → Option Alert
-alert_in o = option_map (λ (h : Held). h.alert) o
+alert_in : Option Holding → Option Alert
+alert_in o = option_map (λ (h : Holding). h.alert) o
 
-agree_new : (ss : List Step) (now : ℕ) (new : Alert) → Agree ss → held new.labels ss ≡ None → Agree (ss ++ Report now new ∷ [])
+agree_new : (ss : List Update) (now : ℕ) (new : Alert) → Agree ss → holding_of new.labels ss ≡ None → Agree (ss ++ Report now new ∷ [])
 unfolding alert_in
 agree_new ss now new agree none =
     let gone : lookup new.labels (stored ss) ≡ None = agree.found new.labels ∙ ap alert_in none in
     record {
       found = λ labels.
           ap (lookup labels) (stored_new ss now new none)
-          ∙ (by_bool {P = lookup labels (stored ss ++ new ∷ []) ≡ alert_in (after_step labels (length ss) (held labels ss) (Report now new))} (same_labels labels new.labels)
+          ∙ (by_bool {P = lookup labels (stored ss ++ new ∷ []) ≡ alert_in (after_update labels (length ss) (holding_of labels ss) (Report now new))} (same_labels labels new.labels)
           (λ t.
           let e = (labels_decide labels new.labels).0 t in
-          let away : held labels ss ≡ None = ap (λ l. held l ss) e ∙ none in
+          let away : holding_of labels ss ≡ None = ap (λ l. holding_of l ss) e ∙ none in
           lookup_push labels (stored ss) new (ap (λ l. lookup l (stored ss)) e ∙ gone) ∙ (ap (λ b. cond b (Some new) None) t
-          ∙ sym (ap (λ b. alert_in (cond b (Some (after_report (length ss) now new (held labels ss))) (held labels ss))) t ∙ ap (λ o. alert_in (Some (after_report (length ss) now new o))) away)))
-          (λ f. lookup_before labels (stored ss) new f ∙ (agree.found labels ∙ sym (ap (λ b. alert_in (cond b (Some (after_report (length ss) now new (held labels ss))) (held labels ss))) f)))
+          ∙ sym (ap (λ b. alert_in (cond b (Some (after_report (length ss) now new (holding_of labels ss))) (holding_of labels ss))) t ∙ ap (λ o. alert_in (Some (after_report (length ss) now new o))) away)))
+          (λ f. lookup_before labels (stored ss) new f ∙ (agree.found labels ∙ sym (ap (λ b. alert_in (cond b (Some (after_report (length ss) now new (holding_of labels ss))) (holding_of labels ss))) f)))
           ∙ ap alert_in (sym (held_last labels ss (Report now new))));
       distinct = subst AreDistinct (sym (stored_new ss now new none)) (distinct_push (stored ss) new agree.distinct gone);
     }
 
-agree_old : (ss : List Step) (now : ℕ) (new : Alert) (h : Held) → Agree ss → held new.labels ss ≡ Some h → Agree (ss ++ Report now new ∷ [])
+agree_old : (ss : List Update) (now : ℕ) (new : Alert) (h : Holding) → Agree ss → holding_of new.labels ss ≡ Some h → Agree (ss ++ Report now new ∷ [])
 unfolding alert_in
 agree_old ss now new h agree some =
     record {
@@ -341,44 +341,44 @@ agree_old ss now new h agree some =
           ap (lookup labels) (stored_old ss now new h some)
           ∙ (lookup_map (update now new) (update_labels now new) labels (stored ss)
           ∙ (ap (option_map (update now new)) (agree.found labels)
-          ∙ (by_bool {P = option_map (update now new) (alert_in (held labels ss)) ≡ alert_in (after_step labels (length ss) (held labels ss) (Report now new))} (same_labels labels new.labels)
+          ∙ (by_bool {P = option_map (update now new) (alert_in (holding_of labels ss)) ≡ alert_in (after_update labels (length ss) (holding_of labels ss) (Report now new))} (same_labels labels new.labels)
           (λ t.
-          let there : held labels ss ≡ Some h = ap (λ l. held l ss) ((labels_decide labels new.labels).0 t) ∙ some in
+          let there : holding_of labels ss ≡ Some h = ap (λ l. holding_of l ss) ((labels_decide labels new.labels).0 t) ∙ some in
           ap (λ o. option_map (update now new) (alert_in o)) there ∙ (ap Some (update_own now new h.alert (sits_at new.labels ss h some).own)
-          ∙ sym (ap (λ b. alert_in (cond b (Some (after_report (length ss) now new (held labels ss))) (held labels ss))) t ∙ ap (λ o. alert_in (Some (after_report (length ss) now new o))) there)))
+          ∙ sym (ap (λ b. alert_in (cond b (Some (after_report (length ss) now new (holding_of labels ss))) (holding_of labels ss))) t ∙ ap (λ o. alert_in (Some (after_report (length ss) now new o))) there)))
           (λ f.
-          by_option {P = option_map (update now new) (alert_in (held labels ss)) ≡ alert_in (held labels ss)} (held labels ss)
+          by_option {P = option_map (update now new) (alert_in (holding_of labels ss)) ≡ alert_in (holding_of labels ss)} (holding_of labels ss)
           (λ o. ap (λ o. option_map (update now new) (alert_in o)) o ∙ sym (ap alert_in o))
           (λ g o. ap (λ o. option_map (update now new) (alert_in o)) o ∙ (ap Some (update_other now new g.alert (other_labels labels new.labels g.alert.labels (sits_at labels ss g o).own f)) ∙ sym (ap alert_in o)))
-          ∙ sym (ap (λ b. alert_in (cond b (Some (after_report (length ss) now new (held labels ss))) (held labels ss))) f))
+          ∙ sym (ap (λ b. alert_in (cond b (Some (after_report (length ss) now new (holding_of labels ss))) (holding_of labels ss))) f))
           ∙ ap alert_in (sym (held_last labels ss (Report now new))))));
       distinct = subst AreDistinct (sym (stored_old ss now new h some)) (distinct_map (update now new) (update_labels now new) (stored ss) agree.distinct);
     }
 
-alert_in_collection : (now : ℕ) (o : Option Held) → keep_if (lives now) (alert_in o) ≡ alert_in (after_collection now o)
+alert_in_collection : (now : ℕ) (o : Option Holding) → keep_if (lives now) (alert_in o) ≡ alert_in (after_collection now o)
 unfolding keep_if lives alert_in
 alert_in_collection now None = refl
-alert_in_collection now (Some h) = elim (is_resolved_at now h.alert) as (λ b. cond (not b) (Some h.alert) None ≡ option_map (λ (h : Held). h.alert) (cond b None (Some h))) [ true ↦ refl | false ↦ refl ]
+alert_in_collection now (Some h) = elim (is_resolved_at now h.alert) as (λ b. cond (not b) (Some h.alert) None ≡ option_map (λ (h : Holding). h.alert) (cond b None (Some h))) [ true ↦ refl | false ↦ refl ]
 
-agree_collect : (ss : List Step) (now : ℕ) → Agree ss → Agree (ss ++ Collect now ∷ [])
+agree_collect : (ss : List Update) (now : ℕ) → Agree ss → Agree (ss ++ Collect now ∷ [])
 unfolding alert_in lives
 agree_collect ss now agree =
     record {
       found = λ labels.
           ap (lookup labels) (stored_collect ss now)
-          ∙ (lookup_filter (lives now) labels (stored ss) agree.distinct ∙ (ap (keep_if (lives now)) (agree.found labels) ∙ (alert_in_collection now (held labels ss) ∙ ap alert_in (sym (held_last labels ss (Collect now))))));
+          ∙ (lookup_filter (lives now) labels (stored ss) agree.distinct ∙ (ap (keep_if (lives now)) (agree.found labels) ∙ (alert_in_collection now (holding_of labels ss) ∙ ap alert_in (sym (held_last labels ss (Collect now))))));
       distinct = subst AreDistinct (sym (stored_collect ss now)) (distinct_filter (lives now) (stored ss) agree.distinct);
     }
 
-agree_step : (ss : List Step) (s : Step) → Agree ss → Agree (ss ++ s ∷ [])
-agree_step ss (Report now new) agree = by_option (held new.labels ss) (λ none. agree_new ss now new agree none) (λ h some. agree_old ss now new h agree some)
+agree_step : (ss : List Update) (s : Update) → Agree ss → Agree (ss ++ s ∷ [])
+agree_step ss (Report now new) agree = by_option (holding_of new.labels ss) (λ none. agree_new ss now new agree none) (λ h some. agree_old ss now new h agree some)
 agree_step ss (Collect now) agree = agree_collect ss now agree
 
-agree_more : (before ss : List Step) → Agree before → Agree (before ++ ss)
+agree_more : (before ss : List Update) → Agree before → Agree (before ++ ss)
 agree_more before [] agree = subst Agree (sym (append-nil before)) agree
 agree_more before (s ∷ ss) agree = subst Agree (append_assoc before (s ∷ []) ss) (agree_more (before ++ s ∷ []) ss (agree_step before s agree))
 
-pub agrees : (ss : List Step) → Agree ss
+pub agrees : (ss : List Update) → Agree ss
 agrees ss = agree_more [] ss (record { found = λ labels. refl; distinct = tt })
 
 -- ---- reports absorbed into a list
@@ -421,31 +421,31 @@ absorb_into_present now new olds x own d e =
     ∙ with_alert_present now new (absorbed now (Some x) new) x olds (absorbed_labels now x new own) refl d e
 
 -- a report is absorbed into the stored list
-pub stored_report : (ss : List Step) (now : ℕ) (new : Alert) → stored (ss ++ Report now new ∷ []) ≡ absorb_into now new (stored ss)
+pub stored_report : (ss : List Update) (now : ℕ) (new : Alert) → stored (ss ++ Report now new ∷ []) ≡ absorb_into now new (stored ss)
 unfolding alert_in
 stored_report ss now new =
-    by_option (held new.labels ss)
+    by_option (holding_of new.labels ss)
     (λ none. stored_new ss now new none ∙ sym (absorb_into_absent now new (stored ss) ((agrees ss).found new.labels ∙ ap alert_in none)))
     (λ h some. stored_old ss now new h some ∙ sym (absorb_into_present now new (stored ss) h.alert (sits_at new.labels ss h some).own (agrees ss).distinct ((agrees ss).found new.labels ∙ ap alert_in some)))
 
-after_report_alert : (n now : ℕ) (new : Alert) (o : Option Held) → (after_report n now new o).alert ≡ absorbed now (alert_in o) new
+after_report_alert : (n now : ℕ) (new : Alert) (o : Option Holding) → (after_report n now new o).alert ≡ absorbed now (alert_in o) new
 unfolding alert_in
 after_report_alert n now new None = refl
 after_report_alert n now new (Some h) = refl
 
-pub batch_of_one : (ss : List Step) (now : ℕ) (new : Alert) → alert_of (held new.labels (ss ++ Report now new ∷ [])) ≡ absorbed now (lookup new.labels (stored ss)) new ∷ []
+pub batch_of_one : (ss : List Update) (now : ℕ) (new : Alert) → alert_of (holding_of new.labels (ss ++ Report now new ∷ [])) ≡ absorbed now (lookup new.labels (stored ss)) new ∷ []
 unfolding alert_in
 batch_of_one ss now new =
-    ap alert_of (held_own ss now new) ∙ ap (λ a. a ∷ []) (after_report_alert (length ss) now new (held new.labels ss) ∙ ap (λ o. absorbed now o new) (sym ((agrees ss).found new.labels)))
+    ap alert_of (held_own ss now new) ∙ ap (λ a. a ∷ []) (after_report_alert (length ss) now new (holding_of new.labels ss) ∙ ap (λ o. absorbed now o new) (sym ((agrees ss).found new.labels)))
 
 -- the reports of a post are absorbed one after another, and its batch is what each became
-pub stored_post : (ss : List Step) (now : ℕ) (news : List Alert) → stored (ss ++ map (Report now) news) ≡ with_alerts (batch_by_list now news (stored ss)) (stored ss)
+pub stored_post : (ss : List Update) (now : ℕ) (news : List Alert) → stored (ss ++ map (Report now) news) ≡ with_alerts (batch_by_list now news (stored ss)) (stored ss)
 stored_post ss now [] = ap stored (append-nil ss)
 stored_post ss now (new ∷ news) =
     ap stored (sym (append_assoc ss (Report now new ∷ []) (map (Report now) news)))
     ∙ (stored_post (ss ++ Report now new ∷ []) now news ∙ ap (λ olds. with_alerts (batch_by_list now news olds) olds) (stored_report ss now new))
 
-pub batch_of_post : (ss : List Step) (now : ℕ) (news : List Alert) → batch_of ss now news ≡ batch_by_list now news (stored ss)
+pub batch_of_post : (ss : List Update) (now : ℕ) (news : List Alert) → batch_of ss now news ≡ batch_by_list now news (stored ss)
 batch_of_post ss now [] = refl
 batch_of_post ss now (new ∷ news) =
     ap (λ front. front ++ batch_of (ss ++ Report now new ∷ []) now news) (batch_of_one ss now new)

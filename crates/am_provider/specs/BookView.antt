@@ -6,8 +6,8 @@ use Rattle.am_alert.specs.Alerts.{coded_alert}
 use Rattle.am_provider.specs.declared.call.Call.{Call}
 use Rattle.am_provider.specs.declared.call.Call.TheVariants.{Subscribed}
 use Rattle.am_provider.specs.Journal.{is_closed, is_open, IsKept, IsLegal}
-use Rattle.am_provider.specs.Stored.{steps, stored}
-use Rattle.am_provider.specs.Cast.{cast, items_of}
+use Rattle.am_provider.specs.Stored.{updates, stored}
+use Rattle.am_provider.specs.Broadcast.{broadcast, items_of}
 
 -- a Book: its stored alerts in order, its journal of accepted calls, and the log of batches sent
 -- out
@@ -28,8 +28,8 @@ coded_book call =
 
 -- what is stored and what was sent out follow from the journal, and the journal is legal
 pub record IsFaithful (book : BookView) : Type 0 where
-  pub stored : book.stored ≡ stored (steps book.journal)
-  pub log : book.log ≡ cast book.journal
+  pub stored : book.stored ≡ stored (updates book.journal)
+  pub log : book.log ≡ broadcast book.journal
   pub legal : IsLegal book.journal
 
 -- a subscription: its lane, how many calls and batches there were before it, what was stored then,
@@ -77,8 +77,8 @@ pub record IsComplete (book : BookView) (subscription : SubscriptionView) : Type
 -- will come, none will
 pub record BelongsTo (book : BookView) (subscription : SubscriptionView) : Type 0 where
   pub entry : slice_get book.journal subscription.at ≡ Some (Subscribed subscription.lane)
-  pub opening : subscription.opening ≡ stored (steps (take subscription.at book.journal))
-  pub start : subscription.start ≡ length (cast (take subscription.at book.journal))
+  pub opening : subscription.opening ≡ stored (updates (take subscription.at book.journal))
+  pub start : subscription.start ≡ length (broadcast (take subscription.at book.journal))
   pub still : is_open book.journal subscription.lane ≡ true
   pub since : IsKept subscription.lane (drop subscription.at book.journal)
   pub within : subscription.count ≤ length (all_of book subscription)

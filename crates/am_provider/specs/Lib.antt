@@ -7,14 +7,10 @@ pub use Rattle.am_alert.specs.Alerts
 pub use Rattle.am_alert.specs.Merging
 pub mod Journal
 pub mod Stored
-pub mod Cast
+pub mod Broadcast
 pub mod AlertList
-pub mod Shared
-pub mod Batches
 pub mod BookView
-pub mod Lanes
-pub mod BookInside
-pub mod Advances
-pub mod Answers
+pub mod Showings
 pub mod Laws
 pub mod FaultTexts
+pub mod inside

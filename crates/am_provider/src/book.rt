@@ -23,18 +23,17 @@ ghost use Rattle.std.specs.Prelude.{not, filter, count_by};
 ghost use Rattle.std.specs.List.{range_with_len};
 ghost use Rattle.am_alert.specs.Merging.{is_resolved_at};
 ghost use Rattle.am_provider.specs.Journal.{is_closed, posts_of, AreAllOpen};
-ghost use Rattle.am_provider.specs.Cast.{due, IsFront};
-ghost use Rattle.am_provider.specs.Lanes.{IsLowestFalse};
+ghost use Rattle.am_provider.specs.Broadcast.{due, IsFront};
+ghost use Rattle.am_provider.specs.inside.Batches.{batches_in, AreEnds};
+ghost use Rattle.am_provider.specs.inside.BookLimits.{IsWithinLogLimits};
+ghost use Rattle.am_provider.specs.inside.Lanes.{IsLowestFalse};
 ghost use Rattle.am_provider.specs.BookView.{BookView, IsFaithful, BelongsTo, taken};
 
+use crate::answers::{Counts, Ended, Posted};
 use crate::call::Call;
-use crate::counts::Counts;
-use crate::ended::Ended;
 use crate::faults::{AlreadyClosed, PutFault, SubFault};
 use crate::log::Log;
 use crate::pass::Pass;
-use crate::posted::Posted;
-use crate::shared::SharedAlert;
 use crate::store::Store;
 use crate::subscription::Subscription;
 use am_alert::{Moment, Post};
@@ -57,15 +56,12 @@ pub struct Book {
     stored: Store,
     // It has room for a Left of each open lane and, until the log is ended, for a Closed.
     journal: Vec<Call>,
-    pub(crate) log: Log,
+    log: Log,
     // How many posts the journal has.
     posts: u64,
     // Which lanes are open.
     lanes: [bool; LANES],
-    // The openings of subscriptions that were left. They are let go by the next call that goes
-    // through the store, so that leaving takes no time. It has room for that of each open lane.
-    spent: Vec<Vec<SharedAlert>>,
-    pub(crate) closed: bool,
+    closed: bool,
 }
 
 impl Model for Book {
@@ -76,11 +72,11 @@ impl Model for Book {
 
     ghost coded = { coded_book call.the_row.coded };
 
-    ghost use Rattle.am_provider.specs.BookInside.{view_of, IsSound};
+    ghost use Rattle.am_provider.specs.inside.BookInside.{view_of, AgreesWithJournal};
 
     ghost view = { view_of };
 
-    ghost invariant = { IsSound };
+    ghost invariant = { AgreesWithJournal };
 }
 
 impl Book {
@@ -106,7 +102,6 @@ impl Book {
             log: Log::new(alloc),
             posts: 0,
             lanes: [false; LANES],
-            spent: Vec::new(alloc),
             closed: false,
         };
         Ok((book, passes))
@@ -141,8 +136,8 @@ impl Book {
         }
         self.journal.reserve(ENTRIES)?;
         self.log.reserve(count)?;
-        let batch = self.stored.absorb(valid.as_slice(), now)?;
-        let place = self.log.push_reserved(batch);
+        let absorbed = self.stored.absorb(valid.as_slice(), now)?;
+        let place = self.log.push_reserved(absorbed.batch);
         self.journal
             .push_reserved(Call::Posted { now, alerts: valid });
         self.posts += 1;
@@ -177,21 +172,12 @@ impl Book {
         };
         let opening = self.stored.share()?;
         self.journal.reserve(ENTRIES)?;
-        self.spent.reserve(LANES)?;
-        self.spent.clear();
         let at = self.journal.len() as u64;
         let start = self.log.places();
         self.lanes[lane] = true;
         let lane = lane as u32;
         self.journal.push_reserved(Call::Subscribed(lane));
-        Ok(Subscription {
-            lane,
-            at,
-            start,
-            opening,
-            count: 0,
-            closed_told: false,
-        })
+        Ok(Subscription::begin(lane, at, start, opening))
     }
 
     /// Takes a subscription back, and answers what it came to.
@@ -209,22 +195,10 @@ impl Book {
             → taken self.old subscription ≡ due self.old.journal subscription.at }
         ensures kept { IsFaithful self.new }
     {
-        let Subscription {
-            lane,
-            at,
-            start: _,
-            opening,
-            count,
-            closed_told,
-        } = subscription;
+        let lane = subscription.lane();
         self.lanes[lane as usize] = false;
-        self.spent.push_reserved(opening);
         self.journal.push_reserved(Call::Left(lane));
-        Ended {
-            at,
-            taken: count as u64,
-            closed: closed_told,
-        }
+        subscription.into_ended()
     }
 
     /// Removes the stored alerts that are resolved, and answers how many. Subscribers are not told.
@@ -240,14 +214,15 @@ impl Book {
         ensures err { OnErr result (self.new ≡ self.old) }
     {
         self.journal.reserve(ENTRIES)?;
-        self.spent.clear();
         let removed = self.stored.remove_resolved(now);
         self.journal.push_reserved(Call::Collected(now));
         Ok(removed)
     }
 
-    /// How many places, posts and stored alerts there are.
+    /// How many places, posts and stored alerts there are. Whatever Book it is asked of, what is
+    /// stored and what was sent out are what its journal gives.
     pub fn counts(&self) -> Counts
+        ensures kept { IsFaithful self.now }
         ensures places { result.places ≡ length self.now.log }
         ensures posts { result.posts ≡ posts_of self.now.journal }
         ensures stored { result.stored ≡ length self.now.stored }
@@ -272,6 +247,23 @@ impl Book {
         self.closed = true;
         self.journal.push_reserved(Call::Closed);
         Ok(())
+    }
+
+    /// The log of batches, for its subscriptions.
+    pub(crate) fn log(&self) -> &Log
+        ensures log { batches_in result.now ≡ self.now.log }
+        ensures ends { AreEnds result.now }
+        ensures limits { IsWithinLogLimits self.now.log }
+        ensures kept { IsFaithful self.now }
+    {
+        &self.log
+    }
+
+    /// Whether the log was ended.
+    pub(crate) fn is_closed(&self) -> bool
+        ensures { result ≡ is_closed self.now.journal }
+    {
+        self.closed
     }
 }
 

@@ -1,37 +1,36 @@
 //! The in-memory alert provider for one thread: the Book, its journal, and the subscriptions to it.
 //!
+//! A post's valid alerts are merged with what is stored, enter the journal, and go out as one batch
+//! of the log. A subscriber is shown what was stored when it came and then each batch since, one
+//! alert a call: a slow one finds all of it later, since the log keeps every batch. After `close` no
+//! post and no subscriber is taken; a subscriber is told `Closed` once it was shown everything.
+//!
+//!     let (mut book, mut passes) = Book::begin(alloc, 256, 1)?;
+//!     let mut subscription = book.subscribe()?;
+//!     book.post(&mut passes[0], post, now)?;
+//!     while let Step::Item(alert) = subscription.next(&book) {
+//!         ..
+//!     }
+//!     let ended = book.leave(subscription);
+//!
 //! This crate decides nothing about alerts: `am_alert` says what two reports of one label set
 //! become.
 #![tactic(auto)]
 
-mod absorbing;
-mod advance;
+mod answers;
 mod book;
 mod call;
-mod counts;
-mod ended;
 mod faults;
 mod laws;
 mod log;
 mod pass;
-mod posted;
-mod shared;
-mod step;
 mod store;
 mod subscription;
 
+pub use answers::{Counts, Ended, Posted, Step};
 pub use book::{Book, LOG_END};
 pub use call::Call;
-pub use counts::Counts;
-pub use ended::Ended;
 pub use faults::{AlreadyClosed, PutFault, SubFault};
-pub use laws::stays;
+pub use laws::journal_laws;
 pub use pass::Pass;
-pub use posted::Posted;
-pub use step::Step;
 pub use subscription::Subscription;
-
-#[cfg(test)]
-mod plain;
-#[cfg(test)]
-mod tests;

@@ -4,11 +4,12 @@ ghost use Rattle.std.specs.Prelude.{◌≡◌, ◌≤◌, ◌<◌, ◌+◌, ◌+
 ghost use Rattle.std.specs.Prelude.{if◌then◌else◌, nat_eq, length, drop, slice_get, OnOk};
 ghost use Rattle.std.specs.Prelude.{vec_len, vec_capacity};
 ghost use Rattle.std.specs.Option.{option_copied};
-ghost use Rattle.am_provider.specs.Cast.{items_of};
-ghost use Rattle.am_provider.specs.Shared.{alerts_in};
-ghost use Rattle.am_provider.specs.Batches.{batches_in, begins, AreEnds, HasRoom};
+ghost use Rattle.am_provider.specs.Broadcast.{items_of};
+ghost use Rattle.am_provider.specs.inside.Shared.{alerts_in};
+ghost use Rattle.am_provider.specs.inside.Batches.{batches_in, AreEnds, HasRoom};
+ghost use Rattle.am_provider.specs.inside.Cuts.{batch_start};
 
-use crate::shared::SharedAlert;
+use crate::store::SharedAlert;
 use am_alert::Alert;
 use std::alloc::{AllocError, Global};
 
@@ -88,7 +89,7 @@ impl Log {
     fn beginning(&self, start: usize) -> usize
         requires start { start ≤ vec_len self.now.ends }
         requires ends { AreEnds self.now }
-        ensures beginning { result ≡ begins 0 self.now.ends.items start }
+        ensures beginning { result ≡ batch_start 0 self.now.ends.items start }
         ensures within { result ≤ vec_len self.now.alerts }
     {
         if start == 0 {

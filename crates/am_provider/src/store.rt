@@ -4,16 +4,24 @@ ghost use Rattle.std.specs.Prelude.{◌≡◌, [], IfOk, OnOk, OnErr, length, fi
 ghost use Rattle.std.specs.Arc.{arc_value};
 ghost use Rattle.am_alert.specs.Merging.{is_resolved_at};
 ghost use Rattle.am_provider.specs.AlertList.{with_alerts, batch_by_list};
-ghost use Rattle.am_provider.specs.Shared.{alerts_in};
+ghost use Rattle.am_provider.specs.inside.Shared.{alerts_in};
+ghost use Rattle.am_provider.specs.inside.Undone.{all_undone};
 
-use crate::absorbing::absorb_each;
-use crate::shared::{AlertMap, SharedAlert};
+mod absorb;
+
+use crate::store::absorb::{Absorbed, absorb_each};
 use am_alert::{Alert, Moment};
 use am_labels::LabelSet;
 use indexmap::IndexMap;
 use std::alloc::{AllocError, Global};
 use std::marker::Model;
 use std::sync::Arc;
+
+/// An alert that the store, the log and openings have in common, so that none of them copies it.
+pub(crate) type SharedAlert = Arc<Alert, Global>;
+
+/// Alerts by their label sets, in the order in which those began.
+pub(crate) type AlertMap = IndexMap<LabelSet, SharedAlert>;
 
 /// The stored alerts, seen as their list. A report costs the same however many there are.
 #[derive(Drop)]
@@ -26,7 +34,7 @@ impl Model for Store {
     ghost use Rattle.std.specs.Coded.{coded_list};
     ghost use Rattle.am_alert.specs.declared.alert.Alert.{Alert};
     ghost use Rattle.am_alert.specs.Alerts.{coded_alert};
-    ghost use Rattle.am_provider.specs.Shared.{stored_in, AreKeptByLabels};
+    ghost use Rattle.am_provider.specs.inside.Shared.{stored_in, AreKeptByLabels};
 
     ghost Value = { List Alert };
 
@@ -63,15 +71,16 @@ impl Store {
         Ok(shared)
     }
 
-    /// Absorbs reports one after another, and answers what each became. If memory is missing for
-    /// one, all stays as it was.
+    /// Absorbs reports one after another, and answers what each became with what takes it all back.
+    /// If memory runs out for one, all stays as it was.
     pub(crate) fn absorb(
         &mut self,
         news: &[Alert],
         now: Moment,
-    ) -> Result<Vec<SharedAlert>, AllocError>
+    ) -> Result<Absorbed, AllocError>
         ensures batch { IfOk result
-            (λ batch. alerts_in batch.items ≡ batch_by_list now news.now self.old) }
+            (λ done. alerts_in done.batch.items ≡ batch_by_list now news.now self.old) }
+        ensures undo { IfOk result (λ done. all_undone done.undo.items self.new ≡ self.old) }
         ensures store { OnOk result
             (self.new ≡ with_alerts (batch_by_list now news.now self.old) self.old) }
         ensures err { OnErr result (self.new ≡ self.old) }

@@ -1,33 +1,34 @@
 //! A subscriber's place in a Book.
 
-ghost use Rattle.std.specs.Prelude.{◌≡◌, ◌-◌, ◌<◌, ◌≤◌, ◌^◌, ◌++◌, ⊤, Some, slice_get, length, drop};
+ghost use Rattle.std.specs.Prelude.{◌≡◌, ◌-◌, ◌<◌, ◌≤◌, ◌^◌, ◌++◌, ⊤, Some, false, slice_get, length, drop};
 ghost use Rattle.std.specs.Option.{is_some, option_copied};
-ghost use Rattle.am_provider.specs.Cast.{items_of};
-ghost use Rattle.am_provider.specs.Shared.{alerts_in};
-ghost use Rattle.am_provider.specs.Batches.{batches_in, AreEnds};
+ghost use Rattle.am_provider.specs.Broadcast.{items_of};
+ghost use Rattle.am_provider.specs.inside.Shared.{alerts_in};
+ghost use Rattle.am_provider.specs.inside.Batches.{batches_in, AreEnds};
 
-use crate::advance::Advance;
+use crate::answers::{Ended, Step};
 use crate::book::Book;
 use crate::log::Log;
-use crate::shared::SharedAlert;
-use crate::step::Step;
+use crate::store::SharedAlert;
 use am_alert::Alert;
 use std::marker::Model;
 
 /// One subscriber's place. It is given back to its Book by `leave`.
 pub struct Subscription {
-    pub(crate) lane: u32,
-    pub(crate) at: u64,
-    pub(crate) start: usize,
-    pub(crate) opening: Vec<SharedAlert>,
-    pub(crate) count: usize,
-    pub(crate) closed_told: bool,
+    lane: u32,
+    at: u64,
+    // The first batch of the log that it is owed.
+    start: usize,
+    opening: Vec<SharedAlert>,
+    // How many alerts it has shown.
+    count: usize,
+    closed_told: bool,
 }
 
 impl Model for Subscription {
     ghost use Rattle.std.specs.Prelude.{◌<◌, ◌^◌, length};
     ghost use Rattle.am_provider.specs.BookView.{SubscriptionView, coded_subscription};
-    ghost use Rattle.am_provider.specs.Shared.{alerts_in};
+    ghost use Rattle.am_provider.specs.inside.Shared.{alerts_in};
 
     ghost Value = { SubscriptionView };
 
@@ -51,9 +52,54 @@ impl Subscription {
     ghost use Rattle.am_provider.specs.contracts.subscription.Subscription.{the_row};
     ghost use mathlib.Core.Option.{none};
     ghost use denote.Follow.{follows_so};
-    ghost use Rattle.am_provider.specs.BookView.{BelongsTo, all_of};
-    ghost use Rattle.am_provider.specs.Advances.{Advances};
-    ghost use Rattle.am_provider.specs.Answers.{Answers};
+    ghost use Rattle.am_provider.specs.BookView.{BelongsTo, IsFaithful, all_of};
+    ghost use Rattle.am_provider.specs.Showings.{Shows, showing_of};
+    ghost use Rattle.am_provider.specs.inside.Advances.{Advances};
+
+    /// A subscription that has shown nothing yet.
+    pub(crate) fn begin(
+        lane: u32,
+        at: u64,
+        start: usize,
+        opening: Vec<SharedAlert>,
+    ) -> Subscription
+        ensures { result ≡ record {
+            lane = lane;
+            at = at;
+            start = start;
+            opening = alerts_in opening.items;
+            count = 0;
+            closed_told = false;
+        } }
+    {
+        Subscription {
+            lane,
+            at,
+            start,
+            opening,
+            count: 0,
+            closed_told: false,
+        }
+    }
+
+    /// What it came to.
+    pub(crate) fn into_ended(self) -> Ended
+        ensures { result ≡ record { at = self.at; taken = self.count; closed = self.closed_told } }
+    {
+        let Subscription {
+            lane: _,
+            at,
+            start: _,
+            opening: _,
+            count,
+            closed_told,
+        } = self;
+        Ended {
+            at,
+            taken: count as u64,
+            closed: closed_told,
+        }
+    }
 
     /// The lane that it has in its Book.
     pub fn lane(&self) -> u32
@@ -74,7 +120,7 @@ impl Subscription {
     pub fn next<'a>(&'a mut self, book: &'a Book) -> Step<'a>
         requires { BelongsTo book.now self.old }
         ensures* after { sem 𝓛 (follows_so the_row the_row self.entry.ghost_name none (λ _ _. ⊤)
-            (λ new. Answers book.now self.old result new × BelongsTo book.now new)) }
+            (λ new. Shows book.now self.old (showing_of result) new × BelongsTo book.now new)) }
     {
         match self.advance(book) {
             Advance::Item => Step::Item(self.last(book)),
@@ -93,7 +139,7 @@ impl Subscription {
             self.count += 1;
             return Advance::Item;
         }
-        if book.closed {
+        if book.is_closed() {
             self.closed_told = true;
             return Advance::Closed;
         }
@@ -105,8 +151,9 @@ impl Subscription {
         requires { BelongsTo book.now self.now }
         ensures more { result ≡ is_some (slice_get (all_of book.now self.now) self.now.count) }
         ensures countable { length (all_of book.now self.now) < 2 ^ 64 }
+        ensures kept { IsFaithful book.now }
     {
-        ahead(&self.opening, &book.log, self.start, self.count).is_some()
+        ahead(&self.opening, book.log(), self.start, self.count).is_some()
     }
 
     // The alert that was taken last.
@@ -115,7 +162,7 @@ impl Subscription {
         requires some { 0 < self.now.count }
         ensures { slice_get (all_of book.now self.now) (self.now.count - 1) ≡ Some result.now }
     {
-        match ahead(&self.opening, &book.log, self.start, self.count - 1) {
+        match ahead(&self.opening, book.log(), self.start, self.count - 1) {
             Some(alert) => alert,
             None => unreachable!(),
         }
@@ -139,4 +186,12 @@ fn ahead<'b>(
         return Some(&*opening[index]);
     }
     log.get(start, index - opened)
+}
+
+// What an advance of a subscription came to, before the alert itself is lent.
+#[derive(Clone, Copy, Debug, PartialEq, Eq)]
+pub(crate) enum Advance {
+    Item,
+    Pending,
+    Closed,
 }

@@ -1,7 +1,7 @@
 -- What one call of a subscription's `next` answers.
 use Rattle.std.specs.Prelude.{◌≡◌, ◌+◌, true, false, [], ◌∷◌, ◌++◌}
 use Rattle.am_provider.specs.BookView.{BookView, SubscriptionView, taken}
-use Rattle.am_provider.specs.Cast.{due}
+use Rattle.am_provider.specs.Broadcast.{due}
 use Rattle.am_provider.specs.Journal.{is_closed}
 use Rattle.am_replay.specs.declared.answer.Answer.{Answer}
 use Rattle.am_replay.specs.declared.answer.Answer.TheVariants.{Item, Pending, Ended}

@@ -8,7 +8,7 @@ use Rattle.am_alert.specs.declared.post.PostFault.{PostFault}
 use Rattle.am_alert.specs.Merging.{is_resolved_at}
 use Rattle.am_alert.specs.Posts.{IsPostOf}
 use Rattle.am_provider.specs.BookView.{BookView, SubscriptionView, IsFaithful, BelongsTo, taken}
-use Rattle.am_provider.specs.Cast.{due}
+use Rattle.am_provider.specs.Broadcast.{due}
 use Rattle.am_provider.specs.Journal.{AreAllOpen, is_closed, posts_of}
 use Rattle.am_provider.specs.declared.book.TheConstants.{LOG_END}
 use Rattle.am_provider.specs.declared.call.Call.TheVariants as call

@@ -1,35 +1,27 @@
 use Rattle.std.proofs.Common.{◌≡◌, set, ◌++◌, ◌∷◌, [], ap, sym, subst, refl, ◌∙◌, arith, rules, false}
 use Rattle.am_provider.specs.declared.call.Call.TheVariants.{Left}
-use Rattle.am_provider.specs.BookView.{BookView, SubscriptionView, BelongsTo, IsFaithful}
-use Rattle.am_provider.specs.BookInside.{view_of}
-use Rattle.am_provider.proofs.Flags.{sound_left, front_of, complete_of, lane_of, room_to_leave, room_for_opening}
+use Rattle.am_provider.specs.BookView.{BookView, BelongsTo, IsFaithful}
+use Rattle.am_provider.specs.inside.BookInside.{view_of}
+use Rattle.am_provider.proofs.Flags.{sound_left, front_of, complete_of, lane_of, room_to_leave}
 use Rattle.am_provider.proofs.book.Book.leave.Goals as goal
 
 pub bounds-self-inside-lane : goal.bounds-self-inside-lane
 bounds-self-inside-lane c =
     let of = subst (λ (s : BookView). BelongsTo s c.args.subscription) (sym c.self.view_is) c.requires.given in
-    let lane : c.subscription.inside.lane ≡ c.args.subscription.lane = ap (λ (p : SubscriptionView). p.lane) c.subscription.view_is in
-    omega (arith, lane_of (view_of c.self.inside) c.args.subscription c.self.invariant.kept of)
+    omega (arith, c.lane-lane.ensures, lane_of (view_of c.self.inside) c.args.subscription c.self.invariant.kept of)
 
 pub push_reserved-requires : goal.push_reserved-requires
 push_reserved-requires c =
-    let of = subst (λ (s : BookView). BelongsTo s c.args.subscription) (sym c.self.view_is) c.requires.given in
-    room_for_opening c.self.inside c.args.subscription c.self.invariant of
-
-pub push_reserved-requires-2 : goal.push_reserved-requires-2
-push_reserved-requires-2 c =
     let of = subst (λ (s : BookView). BelongsTo s c.args.subscription) (sym c.self.view_is) c.requires.given in
     room_to_leave c.self.inside c.args.subscription c.self.invariant of
 
 pub invariant_of-self : goal.invariant_of-self
 invariant_of-self c =
     let of = subst (λ (s : BookView). BelongsTo s c.args.subscription) (sym c.self.view_is) c.requires.given in
-    let lane : c.subscription.inside.lane ≡ c.args.subscription.lane = ap (λ (p : SubscriptionView). p.lane) c.subscription.view_is in
-    let pushed : c.push_reserved-2.new.self.items ≡ c.self.inside.journal.items ++ Left c.subscription.inside.lane ∷ [] = search rules in
-    let journal = pushed ∙ ap (λ l. c.self.inside.journal.items ++ Left l ∷ []) lane in
-    sound_left c.self.inside (record { stored = c.self.inside.stored; journal = c.push_reserved-2.new.self; log = c.self.inside.log; posts = c.self.inside.posts; lanes = set c.self.inside.lanes c.subscription.inside.lane false; spent = c.push_reserved.new.self; closed = c.self.inside.closed })
-    c.args.subscription c.self.invariant of journal refl refl (ap (λ l. set c.self.inside.lanes l false) lane) refl refl (c.push_reserved-2.ensures.len, omega (arith, c.push_reserved-2.ensures.capacity))
-    (c.push_reserved.ensures.len, omega (arith, c.push_reserved.ensures.capacity))
+    let pushed : c.push_reserved.new.self.items ≡ c.self.inside.journal.items ++ Left c.lane-lane.result ∷ [] = search rules in
+    let journal = pushed ∙ ap (λ l. c.self.inside.journal.items ++ Left l ∷ []) c.lane-lane.ensures in
+    sound_left c.self.inside (record { stored = c.self.inside.stored; journal = c.push_reserved.new.self; log = c.self.inside.log; posts = c.self.inside.posts; lanes = set c.self.inside.lanes c.lane-lane.result false; closed = c.self.inside.closed })
+    c.args.subscription c.self.invariant of journal refl refl (ap (λ l. set c.self.inside.lanes l false) c.lane-lane.ensures) refl refl (c.push_reserved.ensures.len, omega (arith, c.push_reserved.ensures.capacity))
 
 pub returns-clause-kept : goal.returns-clause-kept
 returns-clause-kept c = (invariant_of-self c).kept

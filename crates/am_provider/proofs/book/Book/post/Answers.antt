@@ -1,12 +1,13 @@
 use Rattle.std.proofs.Common.{◌≡◌, ◌+◌, ◌<◌, ◌≤◌, nat_eq, cond, length, None, Some, ◌++◌, ◌∷◌, [], ap, sym, refl, ◌∙◌, arith, rules, vec_len, vec_capacity}
 use Rattle.std.proofs.lemmas.List.{length-map}
 use Rattle.std.specs.Arc.{arc_value}
+use Rattle.am_alert.specs.declared.post.TheConstants.{MAX_ALERTS}
 use Rattle.am_provider.specs.declared.book.TheConstants.{LOG_END}
 use Rattle.am_provider.specs.declared.call.Call.TheVariants.{Posted}
 use Rattle.am_provider.specs.AlertList.{with_alerts, batch_by_list}
-use Rattle.am_provider.specs.Shared.{alerts_in}
+use Rattle.am_provider.specs.inside.Shared.{alerts_in}
 use Rattle.am_provider.specs.BookView.{BookView}
-use Rattle.am_provider.specs.Batches.{batches_in, AreEnds}
+use Rattle.am_provider.specs.inside.Batches.{batches_in, AreEnds}
 use Rattle.am_provider.proofs.Entries.{length_batch, length_became}
 use Rattle.am_provider.proofs.Kept.{sound_posted}
 use Rattle.am_provider.proofs.book.Book.post.Goals.{else-count-gt0-via-then-count-gt0+else-places-ge-LOG_END, else-count-gt0-via-else-count-gt0}
@@ -14,13 +15,13 @@ use Rattle.am_provider.proofs.book.Book.post.Goals as goal
 
 pub push_reserved-place-requires-clause-room : goal.push_reserved-place-requires-clause-room
 push_reserved-place-requires-clause-room c =
-    let count : length c.in_ok-batch.batch.items ≡ length c.as_slice.result.now = length_became c.in_ok-batch.batch.items c.args.now c.as_slice.result.now c.self.inside.stored c.in_ok-batch.ensures.batch in
+    let count : length c.in_ok-absorbed.absorbed.batch.items ≡ length c.as_slice.result.now = length_became c.in_ok-absorbed.absorbed.batch.items c.args.now c.as_slice.result.now c.self.inside.stored c.in_ok-absorbed.ensures.batch in
     let news : length c.as_slice.result.now ≡ length c.as_slice-count.result.now = search rules in
     (omega (arith, c.in_ok-reserve-2.ensures.room, count, news), c.in_ok-reserve-2.ensures.room.1)
 
 pub returns-clause-place : goal.returns-clause-place
 returns-clause-place c =
-    let count : length c.in_ok-batch.batch.items ≡ length c.as_slice.result.now = length_became c.in_ok-batch.batch.items c.args.now c.as_slice.result.now c.self.inside.stored c.in_ok-batch.ensures.batch in
+    let count : length c.in_ok-absorbed.absorbed.batch.items ≡ length c.as_slice.result.now = length_became c.in_ok-absorbed.absorbed.batch.items c.args.now c.as_slice.result.now c.self.inside.stored c.in_ok-absorbed.ensures.batch in
     let news : length c.as_slice.result.now ≡ length c.args.post.valid = search rules in
     let log : length (batches_in c.reserve-2.new.self) ≡ length c.args.self.now.log = ap length c.in_ok-reserve-2.ensures.batches ∙ ap (λ (s : BookView). length s.log) c.self.view_is in
     c.push_reserved-place.ensures.place
@@ -30,17 +31,17 @@ returns-clause-place c =
 pub invariant_of-self-2 : goal.invariant_of-self-2
 invariant_of-self-2 c =
     let news : c.as_slice.result.now ≡ c.args.post.valid = search rules in
-    let batch = alerts_in c.in_ok-batch.batch.items in
-    let sent : batch ≡ batch_by_list c.args.now c.args.post.valid c.self.inside.stored = c.in_ok-batch.ensures.batch ∙ ap (λ news. batch_by_list c.args.now news c.self.inside.stored) news in
-    let store : c.absorb.new.self ≡ with_alerts batch c.self.inside.stored = c.in_ok-batch.ensures.store ∙ ap (λ batch. with_alerts batch c.self.inside.stored) (ap (λ news. batch_by_list c.args.now news c.self.inside.stored) news ∙ sym sent) in
-    let same : length batch ≡ length c.in_ok-batch.batch.items = length-map c.in_ok-batch.batch.items arc_value in
+    let batch = alerts_in c.in_ok-absorbed.absorbed.batch.items in
+    let sent : batch ≡ batch_by_list c.args.now c.args.post.valid c.self.inside.stored = c.in_ok-absorbed.ensures.batch ∙ ap (λ news. batch_by_list c.args.now news c.self.inside.stored) news in
+    let store : c.absorb.new.self ≡ with_alerts batch c.self.inside.stored = c.in_ok-absorbed.ensures.store ∙ ap (λ batch. with_alerts batch c.self.inside.stored) (ap (λ news. batch_by_list c.args.now news c.self.inside.stored) news ∙ sym sent) in
+    let same : length batch ≡ length c.in_ok-absorbed.absorbed.batch.items = length-map c.in_ok-absorbed.absorbed.batch.items arc_value in
     let log : batches_in c.push_reserved-place.new.self ≡ cond (nat_eq (length batch) 0) (batches_in c.self.inside.log) (batches_in c.self.inside.log ++ batch ∷ []) =
     c.push_reserved-place.ensures.batches
     ∙ (ap (λ n. cond (nat_eq n 0) (batches_in c.reserve-2.new.self) (batches_in c.reserve-2.new.self ++ batch ∷ [])) (sym same)
     ∙ ap (λ batches. cond (nat_eq (length batch) 0) batches (batches ++ batch ∷ [])) c.in_ok-reserve-2.ensures.batches) in
     let ends : AreEnds c.push_reserved-place.new.self = search rules in
     let room : vec_len c.push_reserved.new.self + 9 ≤ vec_capacity c.push_reserved.new.self = omega (arith, c.in_ok-reserve.ensures.ok, c.push_reserved.ensures.len, c.push_reserved.ensures.capacity) in
-    let few : length c.args.post.valid ≤ 1024 = omega (arith, c.args.post.few) in
+    let few : length c.args.post.valid ≤ MAX_ALERTS = omega (arith, c.args.post.few) in
     let long : length c.as_slice-count.result.now ≡ length c.args.post.valid = search rules in
     let fits : 0 < length c.args.post.valid → length (batches_in c.self.inside.log) < LOG_END =
     elim c.else-count-gt0.branch [
@@ -49,8 +50,8 @@ invariant_of-self-2 c =
     ] in
     let journal : c.push_reserved.new.self.items ≡ c.self.inside.journal.items ++ Posted c.args.now c.args.post.valid ∷ [] = search rules in
     let count : length batch ≡ length c.args.post.valid = ap length sent ∙ length_batch c.args.now c.args.post.valid c.self.inside.stored in
-    sound_posted c.self.inside (record { stored = c.absorb.new.self; journal = c.push_reserved.new.self; log = c.push_reserved-place.new.self; posts = c.self.inside.posts + 1; lanes = c.self.inside.lanes; spent = c.self.inside.spent; closed = c.self.inside.closed })
-    c.args.now c.args.post.valid batch c.self.invariant c.if-self.false journal store log ends sent count few fits refl refl refl room c.self.invariant.spent
+    sound_posted c.self.inside (record { stored = c.absorb.new.self; journal = c.push_reserved.new.self; log = c.push_reserved-place.new.self; posts = c.self.inside.posts + 1; lanes = c.self.inside.lanes; closed = c.self.inside.closed })
+    c.args.now c.args.post.valid batch c.self.invariant c.if-self.false journal store log ends sent count few fits refl refl refl room
 
 pub returns-clause-kept : goal.returns-clause-kept
 returns-clause-kept c = (invariant_of-self-2 c).kept

@@ -1,6 +1,5 @@
-use Rattle.std.proofs.Common.{◌≡◌, ◌+◌, true, ap, sym, subst, arith, rules, ◌∙◌}
-use Rattle.am_provider.specs.Journal.{is_closed}
-use Rattle.am_provider.specs.BookView.{BookView, SubscriptionView, IsFaithful, all_of}
+use Rattle.std.proofs.Common.{◌≡◌, ◌+◌, true, ap, sym, arith, rules, ◌∙◌}
+use Rattle.am_provider.specs.BookView.{SubscriptionView, all_of}
 use Rattle.am_provider.proofs.Items.{more_within, given_item, given_closed, shows_item, shows_pending, shows_closed}
 use Rattle.am_provider.proofs.subscription.Subscription.advance.Goals as goal
 
@@ -14,23 +13,21 @@ pub returns-then-has_more-clause-advances : goal.returns-then-has_more-clause-ad
 returns-then-has_more-clause-advances c =
     shows_item c.args.book.now c.args.self.now _ (ap (λ (p : SubscriptionView). record p { count = p.count + 1 }) c.self.view_is) (sym c.if-has_more.true ∙ c.has_more.ensures.more)
 
-pub returns-then-book-clause-advances : goal.returns-then-book-clause-advances
-returns-then-book-clause-advances c =
-    let kept = subst IsFaithful c.book.view_is c.book.invariant.kept in
-    let ended = ap (λ (s : BookView). is_closed s.journal) (sym c.book.view_is) ∙ (sym c.book.invariant.closed ∙ c.if-book.true) in
-    shows_closed c.args.book.now c.args.self.now _ kept c.requires (ap (λ (p : SubscriptionView). record p { closed_told = true }) c.self.view_is) (sym c.if-has_more.false ∙ c.has_more.ensures.more) ended
+pub returns-then-is_closed-clause-advances : goal.returns-then-is_closed-clause-advances
+returns-then-is_closed-clause-advances c =
+    shows_closed c.args.book.now c.args.self.now _ c.has_more.ensures.kept c.requires (ap (λ (p : SubscriptionView). record p { closed_told = true }) c.self.view_is) (sym c.if-has_more.false ∙ c.has_more.ensures.more)
+    (sym c.is_closed.ensures ∙ c.if-is_closed.true)
 
 pub returns-clause-advances : goal.returns-clause-advances
 returns-clause-advances c =
-    let kept = subst IsFaithful c.book.view_is c.book.invariant.kept in
-    let still = ap (λ (s : BookView). is_closed s.journal) (sym c.book.view_is) ∙ (sym c.book.invariant.closed ∙ c.if-book.false) in
-    shows_pending c.args.book.now c.args.self.now _ kept c.requires (search rules) (sym c.if-has_more.false ∙ c.has_more.ensures.more) still
+    shows_pending c.args.book.now c.args.self.now _ c.has_more.ensures.kept c.requires (search rules) (sym c.if-has_more.false ∙ c.has_more.ensures.more)
+    (sym c.is_closed.ensures ∙ c.if-is_closed.false)
 
 pub returns-then-has_more-clause-given : goal.returns-then-has_more-clause-given
 returns-then-has_more-clause-given c =
     given_item c.args.book.now c.args.self.now _ c.requires (ap (λ (p : SubscriptionView). record p { count = p.count + 1 }) c.self.view_is) (sym c.if-has_more.true ∙ c.has_more.ensures.more)
 
-pub returns-then-book-clause-given : goal.returns-then-book-clause-given
-returns-then-book-clause-given c =
-    let ended = ap (λ (s : BookView). is_closed s.journal) (sym c.book.view_is) ∙ (sym c.book.invariant.closed ∙ c.if-book.true) in
-    given_closed c.args.book.now c.args.self.now _ c.requires (ap (λ (p : SubscriptionView). record p { closed_told = true }) c.self.view_is) (sym c.if-has_more.false ∙ c.has_more.ensures.more) ended
+pub returns-then-is_closed-clause-given : goal.returns-then-is_closed-clause-given
+returns-then-is_closed-clause-given c =
+    given_closed c.args.book.now c.args.self.now _ c.requires (ap (λ (p : SubscriptionView). record p { closed_told = true }) c.self.view_is) (sym c.if-has_more.false ∙ c.has_more.ensures.more)
+    (sym c.is_closed.ensures ∙ c.if-is_closed.true)

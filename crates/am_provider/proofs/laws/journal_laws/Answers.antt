@@ -1,0 +1,14 @@
+use Rattle.am_provider.proofs.Growing.{stays_given, leaving_ends, stays_front}
+use Rattle.am_provider.proofs.Sent.{batches_answer_posts}
+use Rattle.am_provider.proofs.Stored.{agrees}
+use Rattle.am_provider.proofs.laws.journal_laws.Goals as goal
+
+pub returns : goal.returns
+returns c = record {
+  given = stays_given;
+  ended = leaving_ends;
+  front = stays_front;
+  batches = batches_answer_posts;
+  of_each = λ labels all. (agrees all).found labels;
+  distinct = λ all. (agrees all).distinct;
+}

@@ -1,5 +1,0 @@
-use Rattle.am_provider.specs.BookView.{BelongsTo}
-use Rattle.am_provider.proofs.tests.reports_reach_a_subscriber.Given as goal
-
-abbrev pub invariant-loop-want : goal.invariant-loop-want
-invariant-loop-want g l = BelongsTo l.book l.subscription

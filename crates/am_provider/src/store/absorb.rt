@@ -1,0 +1,139 @@
+//! Absorbing the reports of a post into the stored alerts: all of them or none, and how to take them
+//! back.
+
+ghost use Rattle.std.specs.Prelude.{◌≡◌, IfOk, OnOk, OnErr};
+ghost use Rattle.std.specs.Arc.{arc_value};
+ghost use Rattle.std.specs.Option.{option_copied};
+ghost use Rattle.am_alert.specs.Merging.{absorbed};
+ghost use Rattle.am_provider.specs.AlertList.{lookup, with_alert, with_alerts, batch_by_list};
+ghost use Rattle.am_provider.specs.inside.Shared.{alerts_in, stored_in, AreKeptByLabels};
+ghost use Rattle.am_provider.specs.inside.Shared.{taken_back, all_taken_back};
+ghost use Rattle.am_provider.specs.inside.Undone.{all_undone};
+
+use crate::store::{AlertMap, SharedAlert};
+use am_alert::{Alert, Moment, absorb};
+use am_labels::LabelSet;
+use std::alloc::AllocError;
+use std::mem;
+use std::sync::Arc;
+
+// What one report changed, kept to take it back.
+#[derive(Drop)]
+pub(crate) enum Change {
+    // The report began its label set, which stands last.
+    Added,
+    // Its label set held this alert, at this index.
+    Replaced(usize, SharedAlert),
+}
+
+/// What the reports of a post became, and what they changed.
+#[derive(Drop)]
+pub(crate) struct Absorbed {
+    pub(crate) batch: Vec<SharedAlert>,
+    /// The changes in their order: taken back, the last first, they lead to the store before.
+    pub(crate) undo: Vec<Change>,
+}
+
+/// Absorbs reports one after another, and answers what each became.
+pub(crate) fn absorb_each(
+    alerts: &mut AlertMap,
+    news: &[Alert],
+    now: Moment,
+) -> Result<Absorbed, AllocError>
+    requires { AreKeptByLabels alerts.old.entries }
+    ensures batch { IfOk result (λ done.
+        alerts_in done.batch.items ≡ batch_by_list now news.now (stored_in alerts.old.entries)) }
+    ensures undo { IfOk result (λ done. all_undone done.undo.items (stored_in alerts.new.entries)
+        ≡ stored_in alerts.old.entries) }
+    ensures stored { OnOk result (stored_in alerts.new.entries
+        ≡ with_alerts (batch_by_list now news.now (stored_in alerts.old.entries))
+        (stored_in alerts.old.entries)) }
+    ensures kept { AreKeptByLabels alerts.new.entries }
+    ensures err { OnErr result (alerts.new.entries ≡ alerts.old.entries) }
+{
+    let alloc = *alerts.allocator();
+    let mut batch = Vec::with_capacity(alloc, news.len())?;
+    let mut changes = Vec::with_capacity(alloc, news.len())?;
+    for new in news {
+        match absorb_one(alerts, new, now) {
+            Ok((became, change)) => {
+                batch.push_reserved(became);
+                changes.push_reserved(change);
+            }
+            Err(error) => {
+                take_back(alerts, changes);
+                return Err(error);
+            }
+        }
+    }
+    Ok(Absorbed {
+        batch,
+        undo: changes,
+    })
+}
+
+// Absorbs one report. Answers what it became, and what it changed.
+fn absorb_one(
+    alerts: &mut AlertMap,
+    new: &Alert,
+    now: Moment,
+) -> Result<(SharedAlert, Change), AllocError>
+    requires { AreKeptByLabels alerts.old.entries }
+    ensures became { IfOk result (λ done. arc_value done.0
+        ≡ absorbed now (lookup new.now.labels (stored_in alerts.old.entries)) new.now) }
+    ensures stored { IfOk result (λ done. stored_in alerts.new.entries
+        ≡ with_alert (arc_value done.0) (stored_in alerts.old.entries)) }
+    ensures kept { AreKeptByLabels alerts.new.entries }
+    ensures change { IfOk result
+        (λ done. taken_back done.1 alerts.new.entries ≡ alerts.old.entries) }
+    ensures err { OnErr result (alerts.new.entries ≡ alerts.old.entries) }
+{
+    let alloc = *alerts.allocator();
+    let became = Arc::new(alloc, absorb(stored_alert(alerts, &new.labels), new, now)?)?;
+    let shared = Arc::try_clone(&became)?;
+    match alerts.get_index_of(&new.labels) {
+        Some(at) => {
+            let before = mem::replace(&mut alerts[at], shared);
+            Ok((became, Change::Replaced(at, before)))
+        }
+        None => {
+            alerts.insert(new.labels.copy()?, shared)?;
+            Ok((became, Change::Added))
+        }
+    }
+}
+
+// The stored alert of a label set.
+fn stored_alert<'a>(alerts: &'a AlertMap, labels: &LabelSet) -> Option<&'a Alert>
+    requires { AreKeptByLabels alerts.now.entries }
+    ensures { option_copied result ≡ lookup labels.now (stored_in alerts.now.entries) }
+{
+    match alerts.get(labels) {
+        Some(shared) => Some(&**shared),
+        None => None,
+    }
+}
+
+// Takes changes back, the last one first.
+fn take_back(alerts: &mut AlertMap, changes: Vec<Change>)
+    ensures { alerts.new.entries ≡ all_taken_back changes.items alerts.old.entries }
+{
+    let mut left = changes;
+    while let Some(change) = left.pop() {
+        take_one_back(alerts, change);
+    }
+}
+
+// Takes the last change back.
+fn take_one_back(alerts: &mut AlertMap, change: Change)
+    ensures { alerts.new.entries ≡ taken_back change alerts.old.entries }
+{
+    match change {
+        Change::Added => alerts.truncate(alerts.len().saturating_sub(1)),
+        Change::Replaced(at, before) => {
+            if let Some(held) = alerts.get_index_mut(at) {
+                *held = before;
+            }
+        }
+    }
+}
