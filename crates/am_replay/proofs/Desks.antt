@@ -1,4 +1,4 @@
--- A sound desk stays sound as the Book's calls come.
+-- A sound session stays sound as the Book's calls come.
 use Rattle.std.proofs.Common.{◌≡◌, ◌≢◌, ◌⊎◌, ℕ, ◌+◌, ◌<◌, ◌≤◌, true, false, cond, nat_eq, List, [], ◌∷◌, ◌++◌, length, get_or, Some, inl, inr, refl, ap, sym, subst, ◌∙◌, arith, rules, slice_get}
 use Rattle.std.specs.List.{All, AllPairs, remove, slice_set}
 use Rattle.std.proofs.lemmas.Bool.{cases_lt, false≢true}
@@ -14,21 +14,21 @@ use Rattle.am_provider.specs.Journal.{IsLegal, is_open, open_after}
 use Rattle.am_provider.specs.Laws.{StaysGiven}
 use Rattle.am_provider.specs.declared.call.Call.{Call}
 use Rattle.am_provider.specs.declared.call.Call.TheVariants.{Subscribed, Left}
-use Rattle.am_replay.specs.Runs.{Desk, IsSound}
-use Rattle.am_replay.specs.declared.opened.Opened.{Opened}
+use Rattle.am_replay.specs.Runs.{SessionView, IsReadySession}
+use Rattle.am_replay.specs.declared.open_subscription.OpenSubscription.{OpenSubscription}
 
-abbrev lane_of : Opened → ℕ
+abbrev lane_of : OpenSubscription → ℕ
 lane_of one = one.subscription.lane
 
-abbrev Apart : List Opened → Type 0
+abbrev Apart : List OpenSubscription → Type 0
 Apart opened = AllPairs (λ one two. one.subscription.lane ≢ two.subscription.lane) opened
 
-abbrev Belong : BookView → List Opened → Type 0
+abbrev Belong : BookView → List OpenSubscription → Type 0
 Belong book opened = All (λ one. BelongsTo book one.subscription) opened
 
-module _ (stays : StaysGiven) (old : Desk) (book : BookView) (sound : IsSound old) (faithful : IsFaithful book) where
+module _ (stays : StaysGiven) (old : SessionView) (book : BookView) (sound : IsReadySession old) (faithful : IsFaithful book) where
   -- a call that leaves no lane
-  pub grown : (call : Call) → book.journal ≡ old.book.journal ++ call ∷ [] → ((lane : ℕ) → open_after lane true call ≡ true) → (opened : List Opened) → opened ≡ old.opened → IsSound (record { book = book; opened = opened })
+  pub grown : (call : Call) → book.journal ≡ old.book.journal ++ call ∷ [] → ((lane : ℕ) → open_after lane true call ≡ true) → (opened : List OpenSubscription) → opened ≡ old.opened → IsReadySession (record { book = book; opened = opened })
   grown call journal unchanged opened same = record {
     faithful = faithful;
     belong = subst (Belong book) (sym same) (λ k d h. (stays old.book book (get_or old.opened k d).subscription call sound.faithful faithful (sound.belong k d h) journal (unchanged (get_or old.opened k d).subscription.lane)).0);
@@ -45,7 +45,7 @@ module _ (stays : StaysGiven) (old : Desk) (book : BookView) (sound : IsSound ol
       let follows = (legal at (Subscribed lane) last).1.idle in
       subst (λ (before : List Call). is_open before lane ≡ false) (take-append_seam old.book.journal (Subscribed lane ∷ [])) follows
 
-  pub joined : (one : Opened) → book.journal ≡ old.book.journal ++ Subscribed one.subscription.lane ∷ [] → BelongsTo book one.subscription → IsSound (record { book = book; opened = old.opened ++ one ∷ [] })
+  pub joined : (one : OpenSubscription) → book.journal ≡ old.book.journal ++ Subscribed one.subscription.lane ∷ [] → BelongsTo book one.subscription → IsReadySession (record { book = book; opened = old.opened ++ one ∷ [] })
   joined one journal given = record {
     faithful = faithful;
     belong = All-push (λ o. BelongsTo book o.subscription) old.opened one
@@ -54,8 +54,8 @@ module _ (stays : StaysGiven) (old : Desk) (book : BookView) (sound : IsSound ol
         (λ k d h same. false≢true (sym (idle one.subscription.lane journal) ∙ (ap (is_open old.book.journal) (sym same) ∙ (sound.belong k d h).still)));
   }
 
-  module _ (place : ℕ) (one : Opened) (there : slice_get old.opened place ≡ Some one) (within : place < length old.opened) (journal : book.journal ≡ old.book.journal ++ Left one.subscription.lane ∷ []) where
-    other_stays : (i : ℕ) (d : Opened) → i < length old.opened → one.subscription.lane ≢ (get_or old.opened i d).subscription.lane → BelongsTo book (get_or old.opened i d).subscription
+  module _ (place : ℕ) (one : OpenSubscription) (there : slice_get old.opened place ≡ Some one) (within : place < length old.opened) (journal : book.journal ≡ old.book.journal ++ Left one.subscription.lane ∷ []) where
+    other_stays : (i : ℕ) (d : OpenSubscription) → i < length old.opened → one.subscription.lane ≢ (get_or old.opened i d).subscription.lane → BelongsTo book (get_or old.opened i d).subscription
     other_stays i d h other =
         (stays old.book book (get_or old.opened i d).subscription (Left one.subscription.lane) sound.faithful faithful (sound.belong i d h) journal
         (stays_open one.subscription.lane (get_or old.opened i d).subscription.lane other)).0
@@ -63,43 +63,43 @@ module _ (stays : StaysGiven) (old : Desk) (book : BookView) (sound : IsSound ol
         stays_open : (left lane : ℕ) → left ≢ lane → cond (nat_eq left lane) false true ≡ true
         stays_open left lane other = grind (arith, nat_tests)
 
-    its_lane : (d : Opened) → (get_or old.opened place d).subscription.lane ≡ one.subscription.lane
+    its_lane : (d : OpenSubscription) → (get_or old.opened place d).subscription.lane ≡ one.subscription.lane
     its_lane d = ap lane_of (get_or_from_slice_get old.opened place one d there)
 
-    pub parted : IsSound (record { book = book; opened = remove old.opened place })
+    pub parted : IsReadySession (record { book = book; opened = remove old.opened place })
     parted = record {
       faithful = faithful;
       belong = λ k d h. remains k d h (cases_lt k place);
       apart = all_pairs_remove (λ o p. o.subscription.lane ≢ p.subscription.lane) old.opened place within sound.apart;
     }
       where
-        remains : (k : ℕ) (d : Opened) → k < length (remove old.opened place) → (k < place) ⊎ (place ≤ k) → BelongsTo book (get_or (remove old.opened place) k d).subscription
+        remains : (k : ℕ) (d : OpenSubscription) → k < length (remove old.opened place) → (k < place) ⊎ (place ≤ k) → BelongsTo book (get_or (remove old.opened place) k d).subscription
         remains k d h (inl below) =
-            subst (λ (o : Opened). BelongsTo book o.subscription) (sym (get_or-remove_below old.opened place d k below within))
+            subst (λ (o : OpenSubscription). BelongsTo book o.subscription) (sym (get_or-remove_below old.opened place d k below within))
             (other_stays k d (omega arith) (λ same. sound.apart k place d below within (sym same ∙ sym (its_lane d))))
         remains k d h (inr above) =
             let more : k + 1 < length old.opened = omega (arith, length-remove old.opened place within) in
-            subst (λ (o : Opened). BelongsTo book o.subscription) (sym (get_or-remove_above old.opened place d k above within))
+            subst (λ (o : OpenSubscription). BelongsTo book o.subscription) (sym (get_or-remove_above old.opened place d k above within))
             (other_stays (k + 1) d more (λ same. sound.apart place (k + 1) d (omega arith) more (its_lane d ∙ same)))
 
 -- a subscription that was read stays on its lane
-pub reread : (desk : Desk) (place : ℕ) (before after : Opened) → IsSound desk → place < length desk.opened → slice_get desk.opened place ≡ Some before
-    → BelongsTo desk.book after.subscription → after.subscription.lane ≡ before.subscription.lane
-    → IsSound (record { book = desk.book; opened = slice_set desk.opened place after })
-reread desk place before after sound within there given lane = record {
+pub reread : (session : SessionView) (place : ℕ) (before after : OpenSubscription) → IsReadySession session → place < length session.opened → slice_get session.opened place ≡ Some before
+    → BelongsTo session.book after.subscription → after.subscription.lane ≡ before.subscription.lane
+    → IsReadySession (record { book = session.book; opened = slice_set session.opened place after })
+reread session place before after sound within there given lane = record {
   faithful = sound.faithful;
-  belong = All-set (λ o. BelongsTo desk.book o.subscription) desk.opened place after given sound.belong;
+  belong = All-set (λ o. BelongsTo session.book o.subscription) session.opened place after given sound.belong;
   apart = λ i j d below inside same.
       sound.apart i j d below (omega (arith, longer)) (sym (same_lane i d (cases_lt i place) (cases_lt place i)) ∙ (same ∙ same_lane j d (cases_lt j place) (cases_lt place j)));
 }
   where
-    longer : length (slice_set desk.opened place after) ≡ length desk.opened
+    longer : length (slice_set session.opened place after) ≡ length session.opened
     longer = search rules
 
-    same_lane : (i : ℕ) (d : Opened) → (i < place) ⊎ (place ≤ i) → (place < i) ⊎ (i ≤ place) → (get_or (slice_set desk.opened place after) i d).subscription.lane ≡ (get_or desk.opened i d).subscription.lane
-    same_lane i d (inl below) other = ap lane_of (get_or-set_other desk.opened place i after d (λ same. omega arith))
-    same_lane i d (inr above) (inl past) = ap lane_of (get_or-set_other desk.opened place i after d (λ same. omega arith))
+    same_lane : (i : ℕ) (d : OpenSubscription) → (i < place) ⊎ (place ≤ i) → (place < i) ⊎ (i ≤ place) → (get_or (slice_set session.opened place after) i d).subscription.lane ≡ (get_or session.opened i d).subscription.lane
+    same_lane i d (inl below) other = ap lane_of (get_or-set_other session.opened place i after d (λ same. omega arith))
+    same_lane i d (inr above) (inl past) = ap lane_of (get_or-set_other session.opened place i after d (λ same. omega arith))
     same_lane i d (inr above) (inr here) =
         let at : i ≡ place = omega arith in
-        subst (λ (k : ℕ). (get_or (slice_set desk.opened place after) k d).subscription.lane ≡ (get_or desk.opened k d).subscription.lane) (sym at)
-        (ap lane_of (get_or-set_same desk.opened place after d within) ∙ (lane ∙ sym (ap lane_of (get_or_from_slice_get desk.opened place before d there))))
+        subst (λ (k : ℕ). (get_or (slice_set session.opened place after) k d).subscription.lane ≡ (get_or session.opened k d).subscription.lane) (sym at)
+        (ap lane_of (get_or-set_same session.opened place after d within) ∙ (lane ∙ sym (ap lane_of (get_or_from_slice_get session.opened place before d there))))

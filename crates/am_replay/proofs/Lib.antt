@@ -1,9 +1,6 @@
 pub mod Causes
-pub mod Checking
 pub mod Desks
-pub mod Lines
 pub mod Measures
-pub mod Naming
 pub mod Outcomes
 pub mod Shown
 pub mod Taken

@@ -5,8 +5,8 @@ use Rattle.std.specs.List.{All, Any, onto_first}
 use Rattle.std.proofs.lemmas.List.{length-append}
 use Rattle.std.proofs.lemmas.List.Elements.{All-head, All-nil, All-push, All-tail}
 use Rattle.std.proofs.lemmas.List.Quantifiers.{Any-push}
-use Rattle.am_replay.specs.Intakes.{HasExcess, IsMeasured}
-use Rattle.am_replay.specs.Script.{is_line_feed, lines_of}
+use Rattle.am_replay.specs.Inputs.{HasExcess, IsMeasured}
+use Rattle.am_script.specs.Script.{is_line_feed, lines_of}
 
 abbrev IsPlain : List ℕ → Type 0
 IsPlain bytes = All (λ byte. is_line_feed byte ≡ false) bytes

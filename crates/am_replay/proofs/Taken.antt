@@ -1,7 +1,7 @@
 -- One read after another.
 use Rattle.std.proofs.Common.{◌≡◌, ℕ, List, [], ◌++◌, Option, Some, None, inl, inr, ap, sym, ◌∙◌, append_assoc, append-nil, refl}
 use Rattle.std.specs.Io.KnownBytes.{Consumes, IsAtEnd, Keeps}
-use Rattle.am_replay.specs.Intakes.{HasExcess, IsReadOf}
+use Rattle.am_replay.specs.Inputs.{HasExcess, IsReadOf}
 
 pub consumes_kept : (old mid new : Option (List ℕ)) (bytes : List ℕ) → Keeps old mid → Consumes mid new bytes → Consumes old new bytes
 consumes_kept None mid new bytes kept read = tt

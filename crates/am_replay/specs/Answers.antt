@@ -3,16 +3,16 @@ use Rattle.std.specs.Prelude.{Bool, true, false}
 use Rattle.am_alert.specs.declared.post.PostFault.TheVariants as post_fault
 use Rattle.am_provider.specs.declared.faults.PutFault.TheVariants as put_fault
 use Rattle.am_provider.specs.declared.faults.SubFault.TheVariants as sub_fault
-use Rattle.am_replay.specs.declared.answer.Answer.{Answer}
-use Rattle.am_replay.specs.declared.answer.Answer.TheVariants as answer
+use Rattle.am_replay.specs.declared.answers.Answer.{Answer}
+use Rattle.am_replay.specs.declared.answers.Answer.TheVariants as answer
 
 -- whether the answer is printed with `E0 NoMemory`
-abbrev pub is_for_memory : Answer → Bool
-is_for_memory (answer.Unread post_fault.NoMemory) = true
-is_for_memory (answer.PostRefused put_fault.NoMemory) = true
-is_for_memory (answer.SubscribeRefused sub_fault.NoMemory) = true
-is_for_memory answer.CollectRefused = true
-is_for_memory _ = false
+abbrev pub is_out_of_memory : Answer → Bool
+is_out_of_memory (answer.Unread post_fault.NoMemory) = true
+is_out_of_memory (answer.PostRefused put_fault.NoMemory) = true
+is_out_of_memory (answer.SubscribeRefused sub_fault.NoMemory) = true
+is_out_of_memory answer.CollectRefused = true
+is_out_of_memory _ = false
 
 -- whether the answer is an item, after which a subscription may show more
 abbrev pub is_item : Answer → Bool

@@ -1,11 +1,9 @@
 pub mod Answers
 pub mod Bytes
-pub mod Commands
-pub mod Intakes
-pub mod Names
+pub mod Inputs
 pub mod Next
 pub mod Printing
 pub mod Replays
 pub mod Runs
-pub mod Script
 pub mod Sessions
+pub mod Statuses

@@ -1,17 +1,17 @@
 -- What one call of a subscription's `next` answers.
-use Rattle.std.specs.Prelude.{◌≡◌, ◌+◌, true, false, [], ◌∷◌, ◌++◌}
-use Rattle.am_provider.specs.BookView.{BookView, SubscriptionView, taken}
-use Rattle.am_provider.specs.Broadcast.{due}
-use Rattle.am_provider.specs.Journal.{is_closed}
-use Rattle.am_replay.specs.declared.answer.Answer.{Answer}
-use Rattle.am_replay.specs.declared.answer.Answer.TheVariants.{Item, Pending, Ended}
+use Rattle.std.specs.Prelude.{◌≡◌}
+use Rattle.am_provider.specs.BookView.{BookView, SubscriptionView}
+use Rattle.am_provider.specs.Showings.{Showing, Shows, an_item, nothing_yet, nothing_more}
+use Rattle.am_replay.specs.declared.answers.Answer.{Answer}
+use Rattle.am_replay.specs.declared.answers.Answer.TheVariants.{Item, Pending, SawClosed}
 
--- the next alert, or Pending or Closed where all that is due was taken
+-- the answer to what was shown
+abbrev pub answer_to : Showing → Answer
+answer_to (an_item alert) = Item alert
+answer_to nothing_yet = Pending
+answer_to nothing_more = SawClosed
+
+-- the answer to what the subscription shows next
 abbrev pub NextIs : BookView → SubscriptionView → Answer → SubscriptionView → Type 0
-NextIs book old (Item alert) new =
-    (new ≡ record old { count = old.count + 1 }) × (taken book new ≡ taken book old ++ alert ∷ [])
-NextIs book old Pending new =
-    (new ≡ old) × (is_closed book.journal ≡ false) × (taken book old ≡ due book.journal old.at)
-NextIs book old Ended new = (new ≡ record old { closed_told = true })
-    × (is_closed book.journal ≡ true) × (taken book old ≡ due book.journal old.at)
-NextIs book old _ new = ⊥
+NextIs book old answer new =
+    (showing : Showing) × (answer ≡ answer_to showing) × Shows book old showing new

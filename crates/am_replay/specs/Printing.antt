@@ -4,24 +4,11 @@ use Rattle.std.specs.List.{flat_map}
 use Rattle.std.specs.Fmt.{decimal}
 use Rattle.am_alert.specs.Printing.{alert_text, alert_fault_text, post_fault_text}
 use Rattle.am_provider.specs.FaultTexts.{closed_text, put_fault_text, sub_fault_text}
-use Rattle.am_provider.specs.declared.counts.Counts.{Counts}
-use Rattle.am_replay.specs.declared.command.Verb.{Verb}
-use Rattle.am_replay.specs.declared.command.Verb.TheVariants as verb
-use Rattle.am_replay.specs.declared.script.Fault.{Fault}
-use Rattle.am_replay.specs.declared.script.Fault.TheVariants as fault
-use Rattle.am_replay.specs.declared.script.Refusal.{Refusal}
-use Rattle.am_replay.specs.declared.answer.Answer.{Answer}
-use Rattle.am_replay.specs.declared.answer.Answer.TheVariants as answer
-use Rattle.am_replay.specs.declared.answer.Answered.{Answered}
-
--- the word of a command
-abbrev pub verb_text : Verb → List ℕ
-verb_text verb.Post = codes "post"
-verb_text verb.Subscribe = codes "subscribe"
-verb_text verb.Read = codes "read"
-verb_text verb.Leave = codes "leave"
-verb_text verb.Collect = codes "collect"
-verb_text verb.Close = codes "close"
+use Rattle.am_provider.specs.declared.answers.Counts.{Counts}
+use Rattle.am_script.specs.ScriptTexts.{verb_text}
+use Rattle.am_replay.specs.declared.answers.Answer.{Answer}
+use Rattle.am_replay.specs.declared.answers.Answer.TheVariants as answer
+use Rattle.am_replay.specs.declared.answers.Answered.{Answered}
 
 -- the place of a post's batch in the log, if it has one
 abbrev pub place_text : Option ℕ → List ℕ
@@ -49,11 +36,11 @@ answer_text (answer.Subscribed lane opening) =
 answer_text (answer.SubscribeRefused why) = codes "subscribe refused " ++ sub_fault_text why
 answer_text (answer.Item alert) = codes "item " ++ alert_text alert
 answer_text answer.Pending = codes "pending"
-answer_text answer.Ended = codes "closed"
+answer_text answer.SawClosed = codes "closed"
 answer_text (answer.Left taken closed) = left_text taken closed
 answer_text (answer.Collected removed) = codes "collect removed " ++ decimal removed
 answer_text answer.CollectRefused = codes "collect refused E0 NoMemory"
-answer_text answer.Closed = codes "close"
+answer_text answer.CloseAccepted = codes "close"
 answer_text answer.CloseRefused = codes "close refused " ++ closed_text
 answer_text (answer.NotOpen word) = verb_text word ++ codes " none"
 
@@ -74,14 +61,3 @@ lines_text answers = flat_map (λ line. line_text line ++ 10 ∷ []) answers
 -- what a run prints: a line for each answer, and the last one
 abbrev pub report_text : List Answered → Counts → List ℕ
 report_text answers counts = lines_text answers ++ (counts_text counts ++ 10 ∷ [])
-
--- what is wrong with a line of a script
-abbrev pub fault_text : Fault → List ℕ
-fault_text fault.BadLine = codes "P1 BadLine"
-fault_text fault.BadName = codes "P2 BadName"
-fault_text fault.TooLarge = codes "P3 TooLarge"
-
--- a refused script
-abbrev pub refusal_text : Refusal → List ℕ
-refusal_text refusal =
-    codes "script line " ++ (decimal refusal.number ++ 32 ∷ fault_text refusal.fault)

@@ -12,35 +12,35 @@ use Rattle.am_provider.specs.Broadcast.{due}
 use Rattle.am_provider.specs.Journal.{AreAllOpen, is_closed, posts_of}
 use Rattle.am_provider.specs.declared.book.TheConstants.{LOG_END}
 use Rattle.am_provider.specs.declared.call.Call.TheVariants as call
-use Rattle.am_provider.specs.declared.counts.Counts.{Counts}
+use Rattle.am_provider.specs.declared.answers.Counts.{Counts}
 use Rattle.am_provider.specs.declared.faults.PutFault.{PutFault}
 use Rattle.am_provider.specs.declared.faults.PutFault.TheVariants as put_fault
-use Rattle.am_provider.specs.declared.posted.Posted.{Posted}
+use Rattle.am_provider.specs.declared.answers.Posted.{Posted}
 use Rattle.am_provider.specs.declared.faults.SubFault.{SubFault}
 use Rattle.am_provider.specs.declared.faults.SubFault.TheVariants as sub_fault
-use Rattle.am_replay.specs.declared.answer.Answer.{Answer}
-use Rattle.am_replay.specs.declared.answer.Answer.TheVariants as answer
-use Rattle.am_replay.specs.declared.answer.Answered.{Answered}
-use Rattle.am_replay.specs.declared.command.Command.{Command}
-use Rattle.am_replay.specs.declared.command.Command.TheVariants.{Post, Subscribe, Read, Leave, Collect, Close}
-use Rattle.am_replay.specs.declared.command.Line.{Line}
-use Rattle.am_replay.specs.declared.command.Verb.TheVariants as verb
-use Rattle.am_replay.specs.declared.opened.Opened.{Opened}
+use Rattle.am_replay.specs.declared.answers.Answer.{Answer}
+use Rattle.am_replay.specs.declared.answers.Answer.TheVariants as answer
+use Rattle.am_replay.specs.declared.answers.Answered.{Answered}
+use Rattle.am_script.specs.declared.command.Command.{Command}
+use Rattle.am_script.specs.declared.command.Command.TheVariants.{Post, Subscribe, Read, Leave, Collect, Close}
+use Rattle.am_script.specs.declared.command.Line.{Line}
+use Rattle.am_script.specs.declared.command.Verb.TheVariants as verb
+use Rattle.am_replay.specs.declared.open_subscription.OpenSubscription.{OpenSubscription}
 
 -- a Book, and its open subscriptions in the order in which they were opened
-pub record Desk : Type 0 where
+pub record SessionView : Type 0 where
   pub book : BookView
-  pub opened : List Opened
+  pub opened : List OpenSubscription
 
-abbrev pub empty_desk : Desk
-empty_desk = record { book = record { stored = []; journal = []; log = [] }; opened = [] }
+abbrev pub empty_session : SessionView
+empty_session = record { book = record { stored = []; journal = []; log = [] }; opened = [] }
 
 -- the resolve timeout, 5 minutes in nanoseconds
 abbrev pub resolve_timeout : ℕ
 resolve_timeout = 300_000_000_000
 
 -- a thread's subscription of this name
-abbrev pub is_named : ℕ → List ℕ → Opened → Bool
+abbrev pub is_named : ℕ → List ℕ → OpenSubscription → Bool
 is_named thread name one = (one.thread == thread) && bytes_eq one.name name
 
 -- the place of a post's batch: the next of the log, where an alert is valid
@@ -80,19 +80,19 @@ past old shown = record old { count = old.count + length shown }
 
 -- What at most so many calls of `next` answer: the next alerts, and then Pending or Closed where
 -- all that is due was taken.
-pub data Shows (book : BookView) (old : SubscriptionView) (max : ℕ) : List Answer
+pub data ReadAnswers (book : BookView) (old : SubscriptionView) (max : ℕ) : List Answer
     → SubscriptionView → Type 0 where
   items : (shown : List Alert) → length shown ≡ max
       → taken book (past old shown) ≡ taken book old ++ shown
-      → Shows book old max (map answer.Item shown) (past old shown)
+      → ReadAnswers book old max (map answer.Item shown) (past old shown)
   pending : (shown : List Alert) → length shown < max
       → taken book (past old shown) ≡ taken book old ++ shown
       → is_closed book.journal ≡ false → taken book (past old shown) ≡ due book.journal old.at
-      → Shows book old max (map answer.Item shown ++ answer.Pending ∷ []) (past old shown)
+      → ReadAnswers book old max (map answer.Item shown ++ answer.Pending ∷ []) (past old shown)
   ended : (shown : List Alert) → length shown < max
       → taken book (past old shown) ≡ taken book old ++ shown
       → is_closed book.journal ≡ true → taken book (past old shown) ≡ due book.journal old.at
-      → Shows book old max (map answer.Item shown ++ answer.Ended ∷ [])
+      → ReadAnswers book old max (map answer.Item shown ++ answer.SawClosed ∷ [])
       (record (past old shown) { closed_told = true })
 
 -- a subscription that the Book gives, which has shown nothing yet
@@ -102,57 +102,57 @@ pub record IsFresh (book : BookView) (subscription : SubscriptionView) : Type 0 
   pub told : subscription.closed_told ≡ false
 
 -- What a thread's command does, and what it answers. A refused one does nothing.
-pub data Does : Desk → ℕ → Command → Desk → List Answer → Type 0 where
-  unread : {desk : Desk} {thread at : ℕ} {body : List ℕ} {why : PostFault}
+pub data Does : SessionView → ℕ → Command → SessionView → List Answer → Type 0 where
+  unread : {session : SessionView} {thread at : ℕ} {body : List ℕ} {why : PostFault}
       → IsPostOf at resolve_timeout body (Err why)
-      → Does desk thread (Post at body) desk (answer.Unread why ∷ [])
-  posted : {old new : Desk} {thread at : ℕ} {body : List ℕ} (post : Posting)
+      → Does session thread (Post at body) session (answer.Unread why ∷ [])
+  posted : {old new : SessionView} {thread at : ℕ} {body : List ℕ} (post : Posting)
       → IsPostOf at resolve_timeout body (Ok post)
       → new.book.journal ≡ old.book.journal ++ call.Posted at post.valid ∷ []
       → new.opened ≡ old.opened
       → Does old thread (Post at body) new (posted_answers (posted_of post old.book.log))
-  post_refused : {desk : Desk} {thread at : ℕ} {body : List ℕ} {why : PutFault} (post : Posting)
-      → IsPostOf at resolve_timeout body (Ok post) → IsPutCause why post.valid desk.book
-      → Does desk thread (Post at body) desk (answer.PostRefused why ∷ [])
-  subscribed : {old new : Desk} {thread : ℕ} {name : List ℕ} (one : Opened)
+  post_refused : {session : SessionView} {thread at : ℕ} {body : List ℕ} {why : PutFault} (post : Posting)
+      → IsPostOf at resolve_timeout body (Ok post) → IsPutCause why post.valid session.book
+      → Does session thread (Post at body) session (answer.PostRefused why ∷ [])
+  subscribed : {old new : SessionView} {thread : ℕ} {name : List ℕ} (one : OpenSubscription)
       → new.book.journal ≡ old.book.journal ++ call.Subscribed one.subscription.lane ∷ []
       → one.thread ≡ thread → one.name ≡ name → IsFresh new.book one.subscription
       → one.subscription.at ≡ length old.book.journal → one.subscription.opening ≡ old.book.stored
       → new.opened ≡ old.opened ++ one ∷ []
       → Does old thread (Subscribe name) new (answer.Subscribed one.subscription.lane (length old.book.stored) ∷ [])
-  subscribe_refused : {desk : Desk} {thread : ℕ} {name : List ℕ} {why : SubFault}
-      → IsSubCause why desk.book
-      → Does desk thread (Subscribe name) desk (answer.SubscribeRefused why ∷ [])
-  read : {old new : Desk} {thread : ℕ} {name : List ℕ} {max place : ℕ} {answers : List Answer} (before after : Opened)
+  subscribe_refused : {session : SessionView} {thread : ℕ} {name : List ℕ} {why : SubFault}
+      → IsSubCause why session.book
+      → Does session thread (Subscribe name) session (answer.SubscribeRefused why ∷ [])
+  read : {old new : SessionView} {thread : ℕ} {name : List ℕ} {max place : ℕ} {answers : List Answer} (before after : OpenSubscription)
       → position (is_named thread name) old.opened ≡ Some place
       → slice_get old.opened place ≡ Some before
-      → Shows old.book before.subscription max answers after.subscription
+      → ReadAnswers old.book before.subscription max answers after.subscription
       → after.thread ≡ before.thread → after.name ≡ before.name
       → new.book ≡ old.book → new.opened ≡ slice_set old.opened place after
       → Does old thread (Read name max) new answers
-  left : {old new : Desk} {thread : ℕ} {name : List ℕ} {place : ℕ} (one : Opened)
+  left : {old new : SessionView} {thread : ℕ} {name : List ℕ} {place : ℕ} (one : OpenSubscription)
       → position (is_named thread name) old.opened ≡ Some place
       → slice_get old.opened place ≡ Some one
       → new.book.journal ≡ old.book.journal ++ call.Left one.subscription.lane ∷ []
       → new.opened ≡ remove old.opened place
       → Does old thread (Leave name) new (answer.Left (length (taken old.book one.subscription)) one.subscription.closed_told ∷ [])
-  nothing_to_read : {desk : Desk} {thread : ℕ} {name : List ℕ} {max : ℕ}
-      → position (is_named thread name) desk.opened ≡ None
-      → Does desk thread (Read name max) desk (answer.NotOpen verb.Read ∷ [])
-  nothing_to_leave : {desk : Desk} {thread : ℕ} {name : List ℕ}
-      → position (is_named thread name) desk.opened ≡ None
-      → Does desk thread (Leave name) desk (answer.NotOpen verb.Leave ∷ [])
-  collected : {old new : Desk} {thread at : ℕ}
+  nothing_to_read : {session : SessionView} {thread : ℕ} {name : List ℕ} {max : ℕ}
+      → position (is_named thread name) session.opened ≡ None
+      → Does session thread (Read name max) session (answer.NotOpen verb.Read ∷ [])
+  nothing_to_leave : {session : SessionView} {thread : ℕ} {name : List ℕ}
+      → position (is_named thread name) session.opened ≡ None
+      → Does session thread (Leave name) session (answer.NotOpen verb.Leave ∷ [])
+  collected : {old new : SessionView} {thread at : ℕ}
       → new.book.journal ≡ old.book.journal ++ call.Collected at ∷ [] → new.opened ≡ old.opened
       → Does old thread (Collect at) new (answer.Collected (count_by (is_resolved_at at) old.book.stored) ∷ [])
-  collect_refused : {desk : Desk} {thread at : ℕ}
-      → Does desk thread (Collect at) desk (answer.CollectRefused ∷ [])
-  closed : {old new : Desk} {thread : ℕ}
+  collect_refused : {session : SessionView} {thread at : ℕ}
+      → Does session thread (Collect at) session (answer.CollectRefused ∷ [])
+  closed : {old new : SessionView} {thread : ℕ}
       → new.book.journal ≡ old.book.journal ++ call.Closed ∷ [] → new.opened ≡ old.opened
-      → Does old thread Close new (answer.Closed ∷ [])
-  close_refused : {desk : Desk} {thread : ℕ}
-      → IsTrue (is_closed desk.book.journal)
-      → Does desk thread Close desk (answer.CloseRefused ∷ [])
+      → Does old thread Close new (answer.CloseAccepted ∷ [])
+  close_refused : {session : SessionView} {thread : ℕ}
+      → IsTrue (is_closed session.book.journal)
+      → Does session thread Close session (answer.CloseRefused ∷ [])
 
 -- the answers of a line, each with the line's number
 abbrev pub numbered : ℕ → List Answer → List Answered
@@ -160,18 +160,18 @@ numbered number answers = map (λ one. record { number = number; answer = one })
 
 -- The lines one after another, with all that they answer. Each leaves a Book whose stored alerts
 -- and log are those of its journal.
-pub data Runs (begun : Desk) : List Line → Desk → List Answered → Type 0 where
+pub data Runs (begun : SessionView) : List Line → SessionView → List Answered → Type 0 where
   started : Runs begun [] begun []
-  followed : {lines : List Line} {old new : Desk} {before : List Answered} {answers : List Answer} (line : Line)
+  followed : {lines : List Line} {old new : SessionView} {before : List Answered} {answers : List Answer} (line : Line)
       → Runs begun lines old before → Does old line.thread line.command new answers
       → IsFaithful new.book
       → Runs begun (lines ++ line ∷ []) new (before ++ numbered line.number answers)
 
 -- the open subscriptions are the Book's, each on a lane of its own, and the Book is its journal's
-pub record IsSound (desk : Desk) : Type 0 where
-  pub faithful : IsFaithful desk.book
-  pub belong : All (λ one. BelongsTo desk.book one.subscription) desk.opened
-  pub apart : AllPairs (λ one two. one.subscription.lane ≢ two.subscription.lane) desk.opened
+pub record IsReadySession (session : SessionView) : Type 0 where
+  pub faithful : IsFaithful session.book
+  pub belong : All (λ one. BelongsTo session.book one.subscription) session.opened
+  pub apart : AllPairs (λ one two. one.subscription.lane ≢ two.subscription.lane) session.opened
 
 -- the places of the log, the accepted posts and the stored alerts
 abbrev pub counts_of : BookView → Counts

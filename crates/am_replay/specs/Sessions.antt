@@ -1,25 +1,40 @@
--- What contracts see of a session: its desk.
-use Rattle.std.specs.Prelude.{◌≡◌, ℕ, [], ◌∷◌, ◌++◌, length, remove, slice_get, Some, vec_len}
+-- What contracts see of a session, and how its subscriptions are left at its end.
+use Rattle.std.specs.Prelude.{◌≡◌, ℕ, ◌<◌, ◌≤◌, List, slice_index_or, [], ◌∷◌, ◌++◌, length, remove, slice_get, Some, vec_len}
 use Rattle.am_provider.specs.BookView.{taken}
 use Rattle.am_provider.specs.declared.call.Call.TheVariants as call
-use Rattle.am_replay.specs.Runs.{Desk, IsSound}
-use Rattle.am_replay.specs.declared.answer.Answer.{Answer}
-use Rattle.am_replay.specs.declared.answer.Answer.TheVariants as answer
-use Rattle.am_replay.specs.declared.opened.Opened.{Opened}
+use Rattle.am_replay.specs.Runs.{SessionView, IsReadySession}
+use Rattle.am_replay.specs.declared.answers.Answer.{Answer}
+use Rattle.am_replay.specs.declared.answers.Answer.TheVariants as answer
+use Rattle.am_replay.specs.declared.open_subscription.OpenSubscription.{OpenSubscription}
 use Rattle.am_replay.specs.declared.session.Session.{Session}
 
-abbrev pub desk_of : Session → Desk
-desk_of session = record { book = session.book; opened = session.opened.items }
+abbrev pub view_of : Session → SessionView
+view_of session = record { book = session.book; opened = session.opened.items }
 
--- its desk is sound, and each of the eight threads has a pass
+-- its subscriptions are its Book's, and each of the eight threads has a pass
 pub record IsReady (session : Session) : Type 0 where
-  pub sound : IsSound (desk_of session)
+  pub sound : IsReadySession (view_of session)
   pub passes : vec_len session.passes ≡ 8
 
--- the subscription at a place is left
-pub record Leaves (old : Desk) (place : ℕ) (new : Desk) (given : Answer) : Type 0 where
-  pub one : Opened
-  pub there : slice_get old.opened place ≡ Some one
+-- the subscription at an index is left
+pub record Leaves (old : SessionView) (at : ℕ) (new : SessionView) (given : Answer) : Type 0 where
+  pub one : OpenSubscription
+  pub there : slice_get old.opened at ≡ Some one
   pub journal : new.book.journal ≡ old.book.journal ++ call.Left one.subscription.lane ∷ []
-  pub opened : new.opened ≡ remove old.opened place
+  pub opened : new.opened ≡ remove old.opened at
   pub answer : given ≡ answer.Left (length (taken old.book one.subscription)) one.subscription.closed_told
+
+-- of the open subscriptions it is the first of the least thread
+pub record IsFirstToLeave (opened : List OpenSubscription) (at : ℕ) : Type 0 where
+  pub within : at < length opened
+  pub least : (other : ℕ) (d : OpenSubscription) → other < length opened
+      → (slice_index_or opened at d).thread ≤ (slice_index_or opened other d).thread
+  pub first : (other : ℕ) (d : OpenSubscription) → other < at
+      → (slice_index_or opened at d).thread < (slice_index_or opened other d).thread
+
+-- the open subscriptions are left one after another, each the first of the least thread
+pub data LeavesAll : SessionView → SessionView → Type 0 where
+  none_open : {session : SessionView} → session.opened ≡ [] → LeavesAll session session
+  leaves_one : {old next new : SessionView} (at : ℕ) (given : Answer)
+      → IsFirstToLeave old.opened at → Leaves old at next given → LeavesAll next new
+      → LeavesAll old new

@@ -4,47 +4,46 @@
 //! It reads and prints, and decides nothing about alerts.
 #![tactic(auto)]
 
-mod answer;
-mod command;
-mod failure;
-mod input;
-mod intake;
-mod opened;
-mod output;
-mod replay;
+mod answers;
+mod io;
+mod open_subscription;
+mod program;
 mod report;
 mod runner;
-mod script;
 mod session;
 mod status;
 #[cfg(test)]
 mod tests;
-mod thread;
 
-use crate::replay::run;
+use crate::program::run;
 use crate::status::Status;
-use std::alloc::AllocError;
 use std::env;
+use std::io::ErrorKind;
 use std::process::ExitCode;
 
-// The words of the command line, without the program's name. No contract knows what they really are.
-fn words(rt: &HostRuntime) -> Result<Vec<String>, AllocError> {
-    let mut words = Vec::new(rt.alloc());
+// The arguments of the command line, without the program's name; or how the program ends where they
+// can't be had. No contract knows what they really are.
+fn arguments(rt: &HostRuntime) -> Result<Vec<String>, Status> {
+    let mut arguments = Vec::new(rt.alloc());
     match env::args(rt) {
         Ok(args) => {
-            for word in args.skip(1) {
-                words.push(word)?;
+            for argument in args.skip(1) {
+                if arguments.push(argument).is_err() {
+                    return Err(Status::OutOfMemory);
+                }
             }
-            Ok(words)
+            Ok(arguments)
         }
-        Err(_) => Err(AllocError),
+        // One of them isn't UTF-8.
+        Err(error) if error.kind() == ErrorKind::InvalidData => Err(Status::BadArguments),
+        Err(_) => Err(Status::OutOfMemory),
     }
 }
 
 fn main(rt: HostRuntime) -> ExitCode {
-    let status = match words(&rt) {
-        Ok(words) => run(&rt, &words, &mut rt.stdin(), &mut rt.stdout()),
-        Err(_) => Status::Failed,
+    let status = match arguments(&rt) {
+        Ok(arguments) => run(&rt, &arguments, &mut rt.stdin(), &mut rt.stdout()),
+        Err(status) => status,
     };
-    ExitCode::from(status as u8)
+    ExitCode::from(status.exit_status())
 }

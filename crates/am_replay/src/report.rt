@@ -2,10 +2,10 @@
 
 ghost use Rattle.std.specs.Prelude.{◌≡◌, ◌++◌, ◌↔◌, IfOk, OnOk, Some, string_bytes};
 ghost use Rattle.std.specs.List.{list_any};
-ghost use Rattle.am_replay.specs.Answers.{is_for_memory};
+ghost use Rattle.am_replay.specs.Answers.{is_out_of_memory};
 ghost use Rattle.am_replay.specs.Printing.{counts_text, lines_text, report_text};
 
-use crate::answer::Answered;
+use crate::answers::Answered;
 use am_provider::Counts;
 use std::alloc::{AllocError, Global};
 use std::fmt;
@@ -20,10 +20,10 @@ pub struct Report {
 
 impl Report {
     /// Whether some call failed for want of memory.
-    pub fn wants_memory(&self) -> bool
-        ensures { result ≡ list_any (λ line. is_for_memory line.answer) self.now.answers.items }
+    pub fn ran_out_of_memory(&self) -> bool
+        ensures { result ≡ list_any (λ line. is_out_of_memory line.answer) self.now.answers.items }
     {
-        self.answers.iter().any(|line| line.answer.is_for_memory())
+        self.answers.iter().any(|line| line.answer.is_out_of_memory())
     }
 
     /// A line for each answer, and the last one.

@@ -1,19 +1,19 @@
 //! Running a script's lines in their order.
 
 ghost use Rattle.std.specs.Prelude.{◌≡◌, ◌++◌, IfOk, OnOk};
-ghost use Rattle.am_replay.specs.Runs.{Desk, Does, Runs, counts_of, empty_desk, numbered};
-ghost use Rattle.am_replay.specs.Sessions.{IsReady, desk_of};
+ghost use Rattle.am_replay.specs.Runs.{SessionView, Does, Runs, counts_of, empty_session, numbered};
+ghost use Rattle.am_replay.specs.Sessions.{IsReady, view_of};
 
-use crate::answer::{Answer, Answered};
-use crate::command::{Command, Line};
+use crate::answers::{Answer, Answered};
+use am_script::{Command, Line};
 use crate::report::Report;
 use crate::session::{Session, one};
 use std::alloc::{AllocError, Global};
 
 /// Runs the lines in their order. At the end the subscriptions that are still open are left.
 pub fn run_script(alloc: Global, lines: &[Line]) -> Result<Report, AllocError>
-    ensures { IfOk result (λ report. (desk : Desk)
-        × Runs empty_desk lines.now desk report.answers.items
+    ensures { IfOk result (λ report. (desk : SessionView)
+        × Runs empty_session lines.now desk report.answers.items
         × (report.counts ≡ counts_of desk.book)) }
 {
     let mut session = Session::begin(alloc)?;
@@ -33,7 +33,7 @@ fn run_lines(
     requires { IsReady session.old }
     ensures ready { IsReady session.new }
     ensures runs { IfOk result
-        (λ answers. Runs (desk_of session.old) lines.now (desk_of session.new) answers.items) }
+        (λ answers. Runs (view_of session.old) lines.now (view_of session.new) answers.items) }
 {
     let mut answers = Vec::new(alloc);
     for line in lines {
@@ -59,8 +59,8 @@ fn add_answers(
 fn run_line(alloc: Global, session: &mut Session, line: &Line) -> Result<Vec<Answer>, AllocError>
     requires { IsReady session.old }
     ensures ready { IsReady session.new }
-    ensures does { IfOk result (λ answers. Does (desk_of session.old) line.now.thread
-        line.now.command (desk_of session.new) answers.items) }
+    ensures does { IfOk result (λ answers. Does (view_of session.old) line.now.thread
+        line.now.command (view_of session.new) answers.items) }
 {
     let thread = line.thread;
     match &line.command {

@@ -2,16 +2,16 @@
 //! answers.
 
 ghost use Rattle.std.specs.Prelude.{◌≡◌, ◌<◌, ◌++◌, ◌∷◌, [], ℕ, length, position, IfOk};
-ghost use Rattle.am_replay.specs.Runs.{Does, counts_of, empty_desk, is_named, posted_answers};
-ghost use Rattle.am_replay.specs.Sessions.{IsReady, Leaves, desk_of};
+ghost use Rattle.am_replay.specs.Runs.{Does, counts_of, empty_session, is_named, posted_answers};
+ghost use Rattle.am_replay.specs.Sessions.{IsFirstToLeave, IsReady, Leaves, LeavesAll, view_of};
 
-use crate::answer::Answer;
-use crate::command::{Command, Verb};
-use crate::opened::{Opened, next_answers};
-use crate::thread::{THREADS, Thread};
+use crate::answers::Answer;
+use am_script::{Command, Verb};
+use crate::open_subscription::{OpenSubscription, next_answers};
+use am_script::{THREADS, Thread};
 use am_alert::{Moment, read_post};
 use am_labels::Text;
-use am_provider::{AlreadyClosed, Book, Counts, Pass, Posted, stays};
+use am_provider::{AlreadyClosed, Book, Counts, Pass, Posted, journal_laws};
 use std::alloc::{AllocError, Global};
 use std::time::Duration;
 
@@ -25,13 +25,13 @@ const RESOLVE_TIMEOUT: u64 = 300;
 pub struct Session {
     book: Book,
     passes: Vec<Pass>,
-    opened: Vec<Opened>,
+    opened: Vec<OpenSubscription>,
 }
 
 impl Session {
     pub fn begin(alloc: Global) -> Result<Session, AllocError>
         ensures ready { IfOk result IsReady }
-        ensures empty { IfOk result (λ session. desk_of session ≡ empty_desk) }
+        ensures empty { IfOk result (λ session. view_of session ≡ empty_session) }
     {
         let (book, passes) = Book::begin(alloc, PLACES, THREADS)?;
         Ok(Session {
@@ -51,10 +51,10 @@ impl Session {
         requires { IsReady self.old }
         ensures ready { IsReady self.new }
         ensures does { IfOk result
-            (λ answers. Does (desk_of self.old) thread (Command.Post at body.now)
-            (desk_of self.new) answers.items) }
+            (λ answers. Does (view_of self.old) thread (Command.Post at body.now)
+            (view_of self.new) answers.items) }
     {
-        stays();
+        journal_laws();
         let timeout = Duration::from_secs(RESOLVE_TIMEOUT);
         let post = match read_post(alloc, body.as_str().as_bytes(), at, timeout) {
             Ok(post) => post,
@@ -70,10 +70,10 @@ impl Session {
         requires { IsReady self.old }
         ensures ready { IsReady self.new }
         ensures does { IfOk result
-            (λ answer. Does (desk_of self.old) thread (Command.Subscribe name.now)
-            (desk_of self.new) (answer ∷ [])) }
+            (λ answer. Does (view_of self.old) thread (Command.Subscribe name.now)
+            (view_of self.new) (answer ∷ [])) }
     {
-        stays();
+        journal_laws();
         let name = name.copy()?;
         self.opened.reserve(1)?;
         match self.book.subscribe() {
@@ -82,7 +82,7 @@ impl Session {
                     lane: subscription.lane(),
                     opening: subscription.opening(),
                 };
-                self.opened.push_reserved(Opened {
+                self.opened.push_reserved(OpenSubscription {
                     thread,
                     name,
                     subscription,
@@ -103,8 +103,8 @@ impl Session {
         requires { IsReady self.old }
         ensures ready { IsReady self.new }
         ensures does { IfOk result
-            (λ answers. Does (desk_of self.old) thread (Command.Read name.now max)
-            (desk_of self.new) answers.items) }
+            (λ answers. Does (view_of self.old) thread (Command.Read name.now max)
+            (view_of self.new) answers.items) }
     {
         match position(&self.opened, thread, name) {
             Some(at) => next_answers(alloc, &mut self.opened[at].subscription, &self.book, max),
@@ -115,8 +115,8 @@ impl Session {
     pub fn leave(&mut self, thread: Thread, name: &Text) -> Answer
         requires { IsReady self.old }
         ensures ready { IsReady self.new }
-        ensures does { Does (desk_of self.old) thread (Command.Leave name.now)
-            (desk_of self.new) (result ∷ []) }
+        ensures does { Does (view_of self.old) thread (Command.Leave name.now)
+            (view_of self.new) (result ∷ []) }
     {
         match position(&self.opened, thread, name) {
             Some(at) => self.leave_at(at),
@@ -126,12 +126,12 @@ impl Session {
 
     fn leave_at(&mut self, at: usize) -> Answer
         requires ready { IsReady self.old }
-        requires within { at < length (desk_of self.old).opened }
+        requires within { at < length (view_of self.old).opened }
         ensures ready { IsReady self.new }
-        ensures leaves { Leaves (desk_of self.old) at (desk_of self.new) result }
+        ensures leaves { Leaves (view_of self.old) at (view_of self.new) result }
     {
-        stays();
-        let Opened {
+        journal_laws();
+        let OpenSubscription {
             thread: _,
             name: _,
             subscription,
@@ -147,9 +147,9 @@ impl Session {
         requires { IsReady self.old }
         ensures ready { IsReady self.new }
         ensures does { (thread : ℕ)
-            → Does (desk_of self.old) thread (Command.Collect at) (desk_of self.new) (result ∷ []) }
+            → Does (view_of self.old) thread (Command.Collect at) (view_of self.new) (result ∷ []) }
     {
-        stays();
+        journal_laws();
         match self.book.collect_resolved(at) {
             Ok(removed) => Answer::Collected(removed),
             Err(_) => Answer::CollectRefused,
@@ -160,25 +160,22 @@ impl Session {
         requires { IsReady self.old }
         ensures ready { IsReady self.new }
         ensures does { (thread : ℕ)
-            → Does (desk_of self.old) thread Command.Close (desk_of self.new) (result ∷ []) }
+            → Does (view_of self.old) thread Command.Close (view_of self.new) (result ∷ []) }
     {
-        stays();
+        journal_laws();
         match self.book.close() {
-            Ok(()) => Answer::Closed,
+            Ok(()) => Answer::CloseAccepted,
             Err(AlreadyClosed) => Answer::CloseRefused,
         }
     }
 
-    /// The Book's counts. Then the open subscriptions are left, by thread and then by their order.
+    /// The Book's counts. Then the open subscriptions are left.
     pub fn end(mut self) -> Counts
         requires { IsReady self }
-        ensures { result ≡ counts_of (desk_of self).book }
+        ensures { result ≡ counts_of (view_of self).book }
     {
         let counts = self.book.counts();
-        while !self.opened.is_empty() {
-            let at = first_to_leave(&self.opened);
-            let _left = self.leave_at(at);
-        }
+        self.leave_all();
         let Session {
             book: _,
             passes: _,
@@ -187,10 +184,23 @@ impl Session {
         opened.destroy_empty();
         counts
     }
+
+    // Leaves the open subscriptions, by thread and then in the order of their opening.
+    fn leave_all(&mut self)
+        requires { IsReady self.old }
+        ensures ready { IsReady self.new }
+        ensures left { LeavesAll (view_of self.old) (view_of self.new) }
+        ensures empty { (view_of self.new).opened ≡ [] }
+    {
+        while !self.opened.is_empty() {
+            let at = first_to_leave(&self.opened);
+            let _left = self.leave_at(at);
+        }
+    }
 }
 
 // Where the thread's subscription of that name stands.
-fn position(opened: &[Opened], thread: Thread, name: &Text) -> Option<usize>
+fn position(opened: &[OpenSubscription], thread: Thread, name: &Text) -> Option<usize>
     ensures { result ≡ position (is_named thread name.now) opened.now }
 {
     opened
@@ -198,10 +208,10 @@ fn position(opened: &[Opened], thread: Thread, name: &Text) -> Option<usize>
         .position(|open| open.thread == thread && open.name == *name)
 }
 
-// The first of the least thread. What is printed doesn't show this order, so no contract states it.
-fn first_to_leave(opened: &[Opened]) -> usize
+// The first of the least thread.
+fn first_to_leave(opened: &[OpenSubscription]) -> usize
     requires { 0 < length opened.now }
-    ensures { result < length opened.now }
+    ensures { IsFirstToLeave opened.now result }
 {
     let mut first = 0;
     for (at, open) in opened.iter().enumerate() {

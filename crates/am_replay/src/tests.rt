@@ -1,7 +1,8 @@
-//! What no contract says: that a run needs no more calls and memory than there are, and what is done where a call of
-//! the reader or the writer fails.
+//! What no contract says: that a run needs no more calls and memory than there are, and what is done
+//! where a call of the reader or the writer fails. A reader or writer that failed once would go on
+//! at its next call, so a failure that is tried again shows.
 
-use crate::replay::run;
+use crate::program::run;
 use crate::status::Status;
 use std::alloc::Global;
 use std::io::{Error, ErrorKind, Read, Result, Write};
@@ -16,22 +17,27 @@ const OUTPUT: &str =
 // How many bytes a call of the reader gives, or one of the writer takes.
 const PIECE: usize = 50;
 
-// More calls than the script or its output takes.
-const CALLS: u32 = 20;
-
-// Gives a piece a call, until its calls are used up.
+// Gives a piece a call. After some calls one fails; the first calls are interrupted.
 #[derive(Drop)]
 struct Reader<'a> {
     rest: &'a [u8],
     calls: u32,
+    interrupted: u32,
+    failure: Option<ErrorKind>,
 }
 
 impl Read for Reader<'_> {
     fn read(&mut self, buf: &mut [u8]) -> Result<usize> {
-        if self.calls == 0 {
-            return Err(Error::from(ErrorKind::BrokenPipe));
+        if self.interrupted > 0 {
+            self.interrupted -= 1;
+            return Err(Error::from(ErrorKind::Interrupted));
         }
-        self.calls -= 1;
+        if self.calls == 0
+            && let Some(kind) = self.failure.take()
+        {
+            return Err(Error::from(kind));
+        }
+        self.calls = self.calls.saturating_sub(1);
         let count = PIECE.min(buf.len()).min(self.rest.len());
         let (piece, rest) = self.rest.split_at(count);
         buf[..count].copy_from_slice(piece);
@@ -40,22 +46,20 @@ impl Read for Reader<'_> {
     }
 }
 
-// Takes a piece a call, until its calls are used up. The first calls are interrupted.
+// What one call of a writer does in place of taking bytes.
+#[derive(Clone, Copy, Drop)]
+enum Trouble {
+    Fails(ErrorKind),
+    TakesNothing,
+}
+
+// Takes a piece a call. After some calls one is in trouble; the first calls are interrupted.
 #[derive(Drop)]
 struct Writer {
     written: Vec<u8>,
     calls: u32,
     interrupted: u32,
-}
-
-impl Writer {
-    fn new(alloc: Global, calls: u32, interrupted: u32) -> Writer {
-        Writer {
-            written: Vec::new(alloc),
-            calls,
-            interrupted,
-        }
-    }
+    trouble: Option<Trouble>,
 }
 
 impl Write for Writer {
@@ -65,9 +69,13 @@ impl Write for Writer {
             return Err(Error::from(ErrorKind::Interrupted));
         }
         if self.calls == 0 {
-            return Err(Error::from(ErrorKind::BrokenPipe));
+            match self.trouble.take() {
+                Some(Trouble::Fails(kind)) => return Err(Error::from(kind)),
+                Some(Trouble::TakesNothing) => return Ok(0),
+                None => {}
+            }
         }
-        self.calls -= 1;
+        self.calls = self.calls.saturating_sub(1);
         let count = PIECE.min(buf.len());
         self.written.extend_from_slice(buf.split_at(count).0)?;
         Ok(count)
@@ -78,58 +86,88 @@ impl Write for Writer {
     }
 }
 
-fn script_in(calls: u32) -> Reader<'static> {
+fn script_in<'a>() -> Reader<'a> {
     Reader {
         rest: SCRIPT.as_bytes(),
-        calls,
+        calls: 0,
+        interrupted: 0,
+        failure: None,
+    }
+}
+
+fn output(alloc: Global) -> Writer {
+    Writer {
+        written: Vec::new(alloc),
+        calls: 0,
+        interrupted: 0,
+        trouble: None,
     }
 }
 
 #[test]
 fn a_script_is_run(rt: HostRuntime) -> std::result::Result<(), Fail> {
-    let mut out = Writer::new(rt.alloc(), CALLS, 0);
-    let status = run(&rt, &[], &mut script_in(CALLS), &mut out);
+    let mut out = output(rt.alloc());
+    let status = run(&rt, &[], &mut script_in(), &mut out);
     assert_eq!(rt; status, Status::Done);
+    assert_eq!(rt; status.exit_status(), 0);
     assert!(rt; out.written.as_slice() == OUTPUT.as_bytes());
     Ok(())
 }
 
 #[test]
-fn a_read_fails(rt: HostRuntime) -> std::result::Result<(), Fail> {
+fn a_failed_read_prints_nothing(rt: HostRuntime) -> std::result::Result<(), Fail> {
     // With all these calls the script is given, but not its end.
     for calls in 0..=(SCRIPT.len() / PIECE) as u32 + 1 {
-        let mut out = Writer::new(rt.alloc(), CALLS, 0);
-        let status = run(&rt, &[], &mut script_in(calls), &mut out);
-        assert_eq!(rt; status, Status::Failed);
-        assert!(rt; out.written.is_empty());
+        for kind in [ErrorKind::BrokenPipe, ErrorKind::TimedOut, ErrorKind::Other] {
+            let mut out = output(rt.alloc());
+            let mut input = script_in();
+            input.calls = calls;
+            input.failure = Some(kind);
+            let status = run(&rt, &[], &mut input, &mut out);
+            assert_eq!(rt; status, Status::ReadFailed);
+            assert_eq!(rt; status.exit_status(), 3);
+            assert!(rt; out.written.is_empty());
+        }
     }
     Ok(())
 }
 
+// Whether a run whose writer is in trouble after so many calls ends with a beginning of the output.
+fn cut_short(rt: &HostRuntime, calls: u32, trouble: Trouble) -> bool {
+    let mut out = output(rt.alloc());
+    out.calls = calls;
+    out.trouble = Some(trouble);
+    let status = run(rt, &[], &mut script_in(), &mut out);
+    status == Status::WriteFailed
+        && out.written.len() as u64 == u64::from(calls) * PIECE as u64
+        && OUTPUT.as_bytes().starts_with(out.written.as_slice())
+}
+
 #[test]
-fn a_write_fails(rt: HostRuntime) -> std::result::Result<(), Fail> {
+fn a_failed_write_ends_the_run(rt: HostRuntime) -> std::result::Result<(), Fail> {
     for calls in 0..=(OUTPUT.len() / PIECE) as u32 {
-        let mut out = Writer::new(rt.alloc(), calls, 0);
-        let status = run(&rt, &[], &mut script_in(CALLS), &mut out);
-        assert_eq!(rt; status, Status::Failed);
-        assert_eq!(rt; out.written.len(), calls as usize * PIECE);
-        assert!(rt; OUTPUT.as_bytes().starts_with(out.written.as_slice()));
+        assert!(rt; cut_short(&rt, calls, Trouble::Fails(ErrorKind::BrokenPipe)));
+        assert!(rt; cut_short(&rt, calls, Trouble::Fails(ErrorKind::WouldBlock)));
+        assert!(rt; cut_short(&rt, calls, Trouble::Fails(ErrorKind::Other)));
+        assert!(rt; cut_short(&rt, calls, Trouble::TakesNothing));
     }
     Ok(())
 }
 
 #[test]
-fn an_interrupted_write_is_tried_again(rt: HostRuntime) -> std::result::Result<(), Fail> {
-    let mut patient = Writer::new(rt.alloc(), CALLS, 1_000);
-    assert_eq!(rt;
-        run(&rt, &[], &mut script_in(CALLS), &mut patient),
-        Status::Done
-    );
-    let mut stuck = Writer::new(rt.alloc(), CALLS, 1_001);
-    assert_eq!(rt;
-        run(&rt, &[], &mut script_in(CALLS), &mut stuck),
-        Status::Failed
-    );
-    assert!(rt; stuck.written.is_empty());
+fn an_interrupted_call_is_tried_again(rt: HostRuntime) -> std::result::Result<(), Fail> {
+    for (times, read, written) in [
+        (1_000, Status::Done, Status::Done),
+        (1_001, Status::ReadFailed, Status::WriteFailed),
+    ] {
+        let mut input = script_in();
+        input.interrupted = times;
+        let mut out = output(rt.alloc());
+        assert_eq!(rt; run(&rt, &[], &mut input, &mut out), read);
+        let mut out = output(rt.alloc());
+        out.interrupted = times;
+        assert_eq!(rt; run(&rt, &[], &mut script_in(), &mut out), written);
+        assert_eq!(rt; out.written.is_empty(), written == Status::WriteFailed);
+    }
     Ok(())
 }

@@ -1,20 +1,20 @@
 use Rattle.std.proofs.Common.{◌≡◌, List, [], ◌∷◌, ◌++◌, ◌+◌, take, ap, sym, subst, ◌∙◌, arith}
 use Rattle.std.proofs.lemmas.List.{take_more}
 use Rattle.am_replay.specs.Runs.{Runs, started, followed}
-use Rattle.am_replay.specs.Sessions.{desk_of}
-use Rattle.am_replay.specs.declared.answer.Answered.{Answered}
-use Rattle.am_replay.specs.declared.command.Line.{Line}
+use Rattle.am_replay.specs.Sessions.{view_of}
+use Rattle.am_replay.specs.declared.answers.Answered.{Answered}
+use Rattle.am_script.specs.declared.command.Line.{Line}
 use Rattle.am_replay.proofs.runner.run_lines.Goals as goal
 
 pub loop-line-init : goal.loop-line-init
 loop-line-init c =
-    let begun = desk_of c.args.session.now in
+    let begun = view_of c.args.session.now in
     (c.requires, subst (λ (answers : List Answered). Runs begun [] begun answers) (sym c.new-answers.ensures.items) started)
 
 pub loop-line-preserved : goal.loop-line-preserved
 loop-line-preserved c =
-    let begun = desk_of c.args.session.now in
-    let new = desk_of c.run_line.new.session in
+    let begun = view_of c.args.session.now in
+    let new = view_of c.run_line.new.session in
     let line = c.line-item.result in
     let before = take c.loop-line.line-index c.args.lines.now in
     let grew : take (c.loop-line.line-index + 1) c.args.lines.now ≡ before ++ line ∷ [] =

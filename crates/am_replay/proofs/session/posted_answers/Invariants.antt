@@ -1,5 +1,5 @@
 use Rattle.std.proofs.Common.{◌≡◌, ◌∷◌, map, take}
-use Rattle.am_replay.specs.declared.answer.Answer.TheVariants.{Posted, Invalid}
+use Rattle.am_replay.specs.declared.answers.Answer.TheVariants.{Posted, Invalid}
 use Rattle.am_replay.proofs.session.posted_answers.Given as goal
 
 -- the post's line, and a line for each invalid alert so far

@@ -2,15 +2,15 @@ use Rattle.std.proofs.Common.{[], ◌∷◌, refl, sym, subst}
 use Rattle.am_provider.specs.BookView.{BookView}
 use Rattle.am_provider.specs.declared.call.Call.TheVariants.{Closed}
 use Rattle.am_replay.specs.Runs.{Does, closed, close_refused}
-use Rattle.am_replay.specs.Sessions.{desk_of}
-use Rattle.am_replay.specs.declared.answer.Answer.TheVariants as answer
-use Rattle.am_replay.specs.declared.command.Command.TheVariants.{Close}
+use Rattle.am_replay.specs.Sessions.{view_of}
+use Rattle.am_replay.specs.declared.answers.Answer.TheVariants as answer
+use Rattle.am_script.specs.declared.command.Command.TheVariants.{Close}
 use Rattle.am_replay.proofs.Desks.{grown}
 use Rattle.am_replay.proofs.session.Session.close.Goals as goal
 
 pub returns-in-Ok-clause-ready : goal.returns-in-Ok-clause-ready
 returns-in-Ok-clause-ready c = record {
-  sound = grown c.stays.ensures.given (desk_of c.args.self.now) c.close.new.self c.requires.sound c.in-Ok.ensures.kept Closed c.in-Ok.ensures.journal (λ lane. refl) c.args.self.now.opened.items refl;
+  sound = grown c.journal_laws.ensures.given (view_of c.args.self.now) c.close.new.self c.requires.sound c.in-Ok.ensures.kept Closed c.in-Ok.ensures.journal (λ lane. refl) c.args.self.now.opened.items refl;
   passes = c.requires.passes;
 }
 
@@ -19,5 +19,5 @@ returns-in-Ok-clause-does c = λ thread. closed c.in-Ok.ensures.journal refl
 
 pub returns-in-Err-clause-does : goal.returns-in-Err-clause-does
 returns-in-Err-clause-does c =
-    λ thread. subst (λ (book : BookView). Does (desk_of c.args.self.now) thread Close (record { book = book; opened = c.args.self.now.opened.items }) (answer.CloseRefused ∷ []))
+    λ thread. subst (λ (book : BookView). Does (view_of c.args.self.now) thread Close (record { book = book; opened = c.args.self.now.opened.items }) (answer.CloseRefused ∷ []))
     (sym c.in-Err.ensures.err) (close_refused (c.in-Err.ensures.closed.0 refl))

@@ -1,14 +1,14 @@
 use Rattle.std.proofs.Common.{◌≡◌, [], ◌∷◌, Some, ap, sym, subst, ◌∙◌, position}
 use Rattle.am_replay.specs.Runs.{Does, is_named, left, nothing_to_leave}
-use Rattle.am_replay.specs.Sessions.{desk_of}
-use Rattle.am_replay.specs.declared.answer.Answer.{Answer}
-use Rattle.am_replay.specs.declared.command.Command.TheVariants.{Leave}
+use Rattle.am_replay.specs.Sessions.{view_of}
+use Rattle.am_replay.specs.declared.answers.Answer.{Answer}
+use Rattle.am_script.specs.declared.command.Command.TheVariants.{Leave}
 use Rattle.am_replay.proofs.session.Session.leave.Goals as goal
 
 pub returns-in-Some-clause-does : goal.returns-in-Some-clause-does
 returns-in-Some-clause-does c =
-    let old = desk_of c.args.self.now in
-    let new = desk_of c.leave_at.new.self in
+    let old = view_of c.args.self.now in
+    let new = view_of c.leave_at.new.self in
     let leaves = c.leave_at.ensures.leaves in
     let here : position (is_named c.args.thread c.args.name.now) old.opened ≡ Some c.in-Some.at =
     ap (position (is_named c.args.thread c.args.name.now)) (sym c.deref.ensures.value) ∙ (sym c.position.ensures ∙ c.in-Some.is) in

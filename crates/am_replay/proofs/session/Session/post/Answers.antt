@@ -6,11 +6,11 @@ use Rattle.am_alert.specs.declared.post.Post.{Post as Posting}
 use Rattle.am_alert.specs.declared.post.PostFault.{PostFault}
 use Rattle.am_provider.specs.BookView.{BookView}
 use Rattle.am_provider.specs.declared.call.Call.TheVariants.{Posted}
-use Rattle.am_replay.specs.Runs.{Desk, Does, posted, posted_answers, posted_of, post_refused, resolve_timeout, unread}
-use Rattle.am_replay.specs.Sessions.{desk_of}
-use Rattle.am_replay.specs.declared.answer.Answer.{Answer}
-use Rattle.am_replay.specs.declared.answer.Answer.TheVariants as answer
-use Rattle.am_replay.specs.declared.command.Command.TheVariants.{Post}
+use Rattle.am_replay.specs.Runs.{SessionView, Does, posted, posted_answers, posted_of, post_refused, resolve_timeout, unread}
+use Rattle.am_replay.specs.Sessions.{view_of}
+use Rattle.am_replay.specs.declared.answers.Answer.{Answer}
+use Rattle.am_replay.specs.declared.answers.Answer.TheVariants as answer
+use Rattle.am_script.specs.declared.command.Command.TheVariants.{Post}
 use Rattle.am_replay.proofs.Causes.{put_cause}
 use Rattle.am_replay.proofs.Desks.{grown}
 use Rattle.am_replay.proofs.Shown.{if_ok_map}
@@ -23,22 +23,22 @@ same_read at timeout bytes body read long same is =
 
 pub returns-in-Err-clause-does : goal.returns-in-Err-clause-does
 returns-in-Err-clause-does c =
-    let old = desk_of c.args.self.now in
+    let old = view_of c.args.self.now in
     let long : as_nanos c.from_secs-timeout.result ≡ resolve_timeout = search rules in
     let is = same_read c.args.at _ _ c.args.body.now (Err c.in-Err.fault) long (c.as_bytes.ensures.value ∙ c.as_str.ensures) c.in-Err.ensures in
     if_ok_map c.one.result c.one.ensures
-    (λ answers are. subst (λ (given : List Answer). Does old c.args.thread (Post c.args.at c.args.body.now) old given) (sym are) (unread {desk = old} is))
+    (λ answers are. subst (λ (given : List Answer). Does old c.args.thread (Post c.args.at c.args.body.now) old given) (sym are) (unread {session = old} is))
 
 pub returns-in-Ok-post-clause-ready : goal.returns-in-Ok-post-clause-ready
 returns-in-Ok-post-clause-ready c = record {
-  sound = grown c.stays.ensures.given (desk_of c.args.self.now) c.post.new.self c.requires.sound c.in-Ok-post.ensures.kept (Posted c.args.at c.in-Ok.post.valid) c.in-Ok-post.ensures.journal (λ lane. refl) c.args.self.now.opened.items refl;
+  sound = grown c.journal_laws.ensures.given (view_of c.args.self.now) c.post.new.self c.requires.sound c.in-Ok-post.ensures.kept (Posted c.args.at c.in-Ok.post.valid) c.in-Ok-post.ensures.journal (λ lane. refl) c.args.self.now.opened.items refl;
   passes = c.requires.passes;
 }
 
 pub returns-in-Ok-post-clause-does : goal.returns-in-Ok-post-clause-does
 returns-in-Ok-post-clause-does c =
-    let old = desk_of c.args.self.now in
-    let new : Desk = record { book = c.post.new.self; opened = old.opened } in
+    let old = view_of c.args.self.now in
+    let new : SessionView = record { book = c.post.new.self; opened = old.opened } in
     let long : as_nanos c.from_secs-timeout.result ≡ resolve_timeout = search rules in
     let is = same_read c.args.at _ _ c.args.body.now (Ok c.in-Ok.post) long (c.as_bytes.ensures.value ∙ c.as_str.ensures) c.in-Ok.ensures in
     let was = c.in-Ok-post.posted in
@@ -53,11 +53,11 @@ returns-in-Ok-post-clause-does c =
 
 pub returns-in-Err-post-clause-does : goal.returns-in-Err-post-clause-does
 returns-in-Err-post-clause-does c =
-    let old = desk_of c.args.self.now in
+    let old = view_of c.args.self.now in
     let long : as_nanos c.from_secs-timeout.result ≡ resolve_timeout = search rules in
     let is = same_read c.args.at _ _ c.args.body.now (Ok c.in-Ok.post) long (c.as_bytes.ensures.value ∙ c.as_str.ensures) c.in-Ok.ensures in
     let why = c.in-Err-post.fault in
-    let refused = post_refused {desk = old} {thread = c.args.thread} {why = why} c.in-Ok.post is (put_cause old.book c.in-Ok.post.valid why c.in-Err-post.ensures.closed c.in-Err-post.ensures.log_end) in
+    let refused = post_refused {session = old} {thread = c.args.thread} {why = why} c.in-Ok.post is (put_cause old.book c.in-Ok.post.valid why c.in-Err-post.ensures.closed c.in-Err-post.ensures.log_end) in
     if_ok_map c.one-in-Err-post.result c.one-in-Err-post.ensures
     (λ answers are. subst (λ (given : List Answer). Does old c.args.thread (Post c.args.at c.args.body.now) (record { book = c.post.new.self; opened = old.opened }) given) (sym are)
     (subst (λ (book : BookView). Does old c.args.thread (Post c.args.at c.args.body.now) (record { book = book; opened = old.opened }) (answer.PostRefused why ∷ [])) (sym c.in-Err-post.ensures.err) refused))

@@ -1,8 +1,0 @@
-use Rattle.std.proofs.Common.{[], ap}
-use Rattle.serde_json.specs.View.{view}
-use Rattle.am_replay.specs.Commands.{command_for}
-use Rattle.am_replay.proofs.command.command_for.Goals as goal
-
-pub returns-in-Close : goal.returns-in-Close
-unfolding command_for
-returns-in-Close c = (tt, ap (λ v. command_for [] (view c.args.value.now) v) c.in-Close.is)

@@ -1,0 +1,122 @@
+//! What the calls of a script answered, and how an answer is printed.
+
+ghost use Rattle.std.specs.Prelude.{◌≡◌, Some};
+ghost use Rattle.std.specs.Fmt.{DisplaysOnOk};
+ghost use Rattle.am_replay.specs.Answers.{is_out_of_memory, is_item};
+ghost use Rattle.am_replay.specs.Printing.{answer_text, left_text, line_text, posted_text};
+
+use am_script::Verb;
+use am_alert::{Alert, AlertFault, PostFault};
+use am_provider::{PutFault, SubFault};
+use std::fmt;
+
+/// One answer, which is one line of the output.
+#[derive(Debug, Drop)]
+pub enum Answer {
+    Posted { valid: u32, place: Option<u64> },
+    /// An invalid alert of an accepted post, by its index in the post.
+    Invalid { index: u32, fault: AlertFault },
+    /// The body of a post was refused.
+    Unread(PostFault),
+    PostRefused(PutFault),
+    Subscribed { lane: u32, opening: u64 },
+    SubscribeRefused(SubFault),
+    Item(Alert),
+    Pending,
+    /// A subscription was told that the log is closed.
+    SawClosed,
+    Left { taken: u64, closed: bool },
+    Collected(u64),
+    CollectRefused,
+    CloseAccepted,
+    CloseRefused,
+    /// The command's subscription isn't open, since its subscribe was refused.
+    NotOpen(Verb),
+}
+
+impl Answer {
+    pub fn is_item(&self) -> bool
+        ensures { result ≡ is_item self.now }
+    {
+        matches!(self, Answer::Item(_))
+    }
+
+    /// Whether the call failed for want of memory.
+    pub fn is_out_of_memory(&self) -> bool
+        ensures { result ≡ is_out_of_memory self.now }
+    {
+        match self {
+            Answer::Unread(PostFault::NoMemory)
+            | Answer::PostRefused(PutFault::NoMemory)
+            | Answer::SubscribeRefused(SubFault::NoMemory)
+            | Answer::CollectRefused => true,
+            _ => false,
+        }
+    }
+}
+
+impl fmt::Display for Answer {
+    ghost output = { λ answer. Some (answer_text answer) };
+
+    fn fmt<W: fmt::Write>(&self, f: &mut fmt::Formatter<W>) -> fmt::Result {
+        match self {
+            Answer::Posted { valid, place } => write_posted(*valid, *place, f),
+            Answer::Invalid { index, fault } => write!(f, "invalid {index} {fault}"),
+            Answer::Unread(fault) => write!(f, "post refused {fault}"),
+            Answer::PostRefused(fault) => write!(f, "post refused {fault}"),
+            Answer::Subscribed { lane, opening } => {
+                write!(f, "subscribe lane {lane} opening {opening}")
+            }
+            Answer::SubscribeRefused(fault) => write!(f, "subscribe refused {fault}"),
+            Answer::Item(alert) => write!(f, "item {alert}"),
+            Answer::Pending => f.write_str("pending"),
+            Answer::SawClosed => f.write_str("closed"),
+            Answer::Left { taken, closed } => write_left(*taken, *closed, f),
+            Answer::Collected(removed) => write!(f, "collect removed {removed}"),
+            Answer::CollectRefused => f.write_str("collect refused E0 NoMemory"),
+            Answer::CloseAccepted => f.write_str("close"),
+            Answer::CloseRefused => f.write_str("close refused E14 Closed"),
+            Answer::NotOpen(verb) => write!(f, "{verb} none"),
+        }
+    }
+}
+
+fn write_posted<W: fmt::Write>(
+    valid: u32,
+    place: Option<u64>,
+    f: &mut fmt::Formatter<W>,
+) -> fmt::Result
+    ensures { DisplaysOnOk W.write_str_gives f.old result (Some (posted_text valid place)) f.new }
+{
+    match place {
+        Some(place) => write!(f, "post valid {valid} place {place}"),
+        None => write!(f, "post valid {valid} no place"),
+    }
+}
+
+fn write_left<W: fmt::Write>(taken: u64, closed: bool, f: &mut fmt::Formatter<W>) -> fmt::Result
+    ensures { DisplaysOnOk W.write_str_gives f.old result (Some (left_text taken closed)) f.new }
+{
+    if closed {
+        write!(f, "leave taken {taken} closed")
+    } else {
+        write!(f, "leave taken {taken}")
+    }
+}
+
+/// An answer with the number of its line in the script.
+#[derive(Debug, Drop)]
+pub struct Answered {
+    pub number: u32,
+    pub answer: Answer,
+}
+
+impl fmt::Display for Answered {
+    ghost output = { λ line. Some (line_text line) };
+
+    fn fmt<W: fmt::Write>(&self, f: &mut fmt::Formatter<W>) -> fmt::Result {
+        let number = self.number;
+        let answer = &self.answer;
+        write!(f, "{number} {answer}")
+    }
+}

@@ -1,0 +1,8 @@
+use Rattle.std.proofs.Common.{[], ap}
+use Rattle.serde_json.specs.View.{view}
+use Rattle.am_script.specs.Commands.{command_for}
+use Rattle.am_script.proofs.line_reader.command_for.Goals as goal
+
+pub returns-in-Close : goal.returns-in-Close
+unfolding command_for
+returns-in-Close c = (tt, ap (λ v. command_for [] (view c.args.value.now) v) c.in-Close.is)

@@ -1,0 +1,156 @@
+-- The command of a script's line, over the value that its JSON is.
+use Rattle.std.specs.Prelude.{◌≡◌, ◌⊎◌, ◌≤◌, ⊤, ℕ, ◌&&◌, Bool, true, false, nat_le, if◌then◌else◌, List, [], ◌∷◌, codes, Option, Some, None, is_some, option_map, option_and_then, IfSome, MatchOption, Result, Ok, Err, IsUtf8}
+use Rattle.std.specs.Str.{bytes_eq}
+use Rattle.serde_json.specs.Data.{Data, depth}
+use Rattle.serde_json.specs.Find.{get, as_str, as_number, as_u64}
+use Rattle.serde_json.specs.Read.{read, max_depth}
+use Rattle.serde_json.specs.Written.{compact_text, has_float, IsInOrder}
+use Rattle.am_alert.specs.TimeTexts.{time_of}
+use Rattle.am_script.specs.declared.command.Command.{Command}
+use Rattle.am_script.specs.declared.command.Command.TheVariants.{Post, Subscribe, Read, Leave, Collect, Close}
+use Rattle.am_script.specs.declared.command.Line.{Line}
+use Rattle.am_script.specs.declared.command.LineFault.{LineFault}
+use Rattle.am_script.specs.declared.command.LineFault.TheVariants.{BadLine, NoMemory}
+use Rattle.am_script.specs.declared.command.Verb.{Verb}
+use Rattle.am_script.specs.declared.command.Verb.TheVariants as verb
+
+infixl 10 ◌>>=◌
+abbrev pub ◌>>=◌ : {A B : Type 0} → Option A → (A → Option B) → Option B
+o >>= f = option_and_then f o
+
+-- a member that is a text
+abbrev pub text_member : List ℕ → Data → Option (List ℕ)
+text_member name d = option_and_then as_str (get name d)
+
+-- a number from low to high
+abbrev pub within : ℕ → ℕ → ℕ → Option ℕ
+within low high n = if nat_le low n && nat_le n high then Some n else None
+
+-- a member that is a whole number from low to high
+abbrev pub number_member : List ℕ → ℕ → ℕ → Data → Option ℕ
+number_member name low high d = option_and_then (within low high)
+    (option_and_then as_u64 (option_and_then as_number (get name d)))
+
+-- the thread that gives the command, one of eight
+abbrev pub thread_of : Data → Option ℕ
+thread_of d = number_member (codes "thread") 0 7 d
+
+-- the moment of `at`, a time text that isn't absent
+abbrev pub moment_of : Data → Option ℕ
+moment_of d = option_and_then (λ time. time) (option_and_then time_of (text_member (codes "at") d))
+
+abbrev pub unless_empty : List ℕ → Option (List ℕ)
+unless_empty [] = None
+unless_empty (byte ∷ bytes) = Some (byte ∷ bytes)
+
+-- the subscription's name in `sub`, which isn't empty
+abbrev pub name_of : Data → Option (List ℕ)
+name_of d = option_and_then unless_empty (text_member (codes "sub") d)
+
+-- whether the kind of a subscription is `plain`, also where it is absent
+abbrev pub is_plain_kind : Option Data → Bool
+is_plain_kind None = true
+is_plain_kind (Some kind) = is_plain_text (as_str kind)
+  where
+    is_plain_text : Option (List ℕ) → Bool
+    is_plain_text None = false
+    is_plain_text (Some text) = bytes_eq text (codes "plain")
+
+-- at most how many calls of `next` a read makes: one, where `max` is absent
+abbrev pub max_of : Data → Option ℕ
+max_of d = if is_some (get (codes "max") d) then number_member (codes "max") 1 65536 d else Some 1
+
+abbrev pub verb_of : List ℕ → Option Verb
+verb_of text =
+    if bytes_eq text (codes "post") then Some verb.Post
+    else (if bytes_eq text (codes "subscribe") then Some verb.Subscribe
+    else (if bytes_eq text (codes "read") then Some verb.Read
+    else (if bytes_eq text (codes "leave") then Some verb.Leave
+    else (if bytes_eq text (codes "collect") then Some verb.Collect
+    else (if bytes_eq text (codes "close") then Some verb.Close
+    else None)))))
+
+-- the word in `do`
+abbrev pub verb_at : Data → Option Verb
+verb_at d = option_and_then verb_of (text_member (codes "do") d)
+
+-- the command of a verb, where a post's body is posted as this text
+unfoldable pub command_for : List ℕ → Data → Verb → Option Command
+command_for body d verb.Post = do
+  at ← moment_of d
+  given ← get (codes "body") d
+  Some (Post at body)
+command_for body d verb.Subscribe = do
+  name ← name_of d
+  if is_plain_kind (get (codes "kind") d) then Some (Subscribe name) else None
+command_for body d verb.Read = do
+  name ← name_of d
+  max ← max_of d
+  Some (Read name max)
+command_for body d verb.Leave = option_map Leave (name_of d)
+command_for body d verb.Collect = option_map Collect (moment_of d)
+command_for body d verb.Close = Some Close
+
+-- the line of this number, where a post's body is posted as this text
+unfoldable pub line_of : ℕ → List ℕ → Data → Option Line
+line_of number body d = do
+  thread ← thread_of d
+  word ← verb_at d
+  command ← command_for body d word
+  Some (record { number = number; thread = thread; command = command })
+
+-- the text of a value with no white space between its parts, as `serde_json` writes it
+pub record IsCompactText (d : Data) (text : List ℕ) : Type 0 where
+  pub exact : has_float d ≡ false → text ≡ compact_text d
+  pub in_order : IsInOrder text d
+  pub reads_back : depth d ≤ max_depth → read text ≡ Some d
+
+-- what a body is posted as: a text as its bytes, any other value as its compact text
+abbrev pub IsPostedAs : Data → List ℕ → Type 0
+IsPostedAs d text = MatchOption (as_str d) (IsCompactText d text) (λ bytes. text ≡ bytes)
+
+-- the text that a command posts
+abbrev pub body_text : Command → List ℕ
+body_text (Post at body) = body
+body_text (Subscribe name) = []
+body_text (Read name max) = []
+body_text (Leave name) = []
+body_text (Collect at) = []
+body_text Close = []
+
+-- a post's text is that of the line's body
+abbrev pub HasItsBody : Data → Command → Type 0
+HasItsBody d (Post at body) = IfSome (get (codes "body") d) (λ given. IsPostedAs given body)
+HasItsBody d (Subscribe name) = ⊤
+HasItsBody d (Read name max) = ⊤
+HasItsBody d (Leave name) = ⊤
+HasItsBody d (Collect at) = ⊤
+HasItsBody d Close = ⊤
+
+-- what a reader returned is what the definition gives, unless memory ran out
+abbrev pub IsReadAs : {X : Type 0} → Result X LineFault → Option X → Type 0
+IsReadAs (Ok x) read = read ≡ Some x
+IsReadAs (Err BadLine) read = read ≡ None
+IsReadAs (Err NoMemory) read = ⊤
+
+-- the same of a reader of commands, where a post's text is that of the line's body
+abbrev pub ReadsCommand : Data → Result Command LineFault → (List ℕ → Option Command) → Type 0
+ReadsCommand d (Ok command) read =
+    HasItsBody d command × (read (body_text command) ≡ Some command)
+ReadsCommand d (Err BadLine) read = (body : List ℕ) → read body ≡ None
+ReadsCommand d (Err NoMemory) read = ⊤
+
+-- what reading a line's JSON answers
+abbrev pub IsLineFrom : ℕ → Data → Result Line LineFault → Type 0
+IsLineFrom number d (Ok line) =
+    HasItsBody d line.command × (line_of number (body_text line.command) d ≡ Some line)
+IsLineFrom number d (Err BadLine) = (body : List ℕ) → line_of number body d ≡ None
+IsLineFrom number d (Err NoMemory) = ⊤
+
+-- what reading a line answers: the command of its JSON, or that it has none
+abbrev pub IsLineOf : ℕ → List ℕ → Result Line LineFault → Type 0
+IsLineOf number bytes (Ok line) =
+    IsUtf8 bytes × ((d : Data) × (read bytes ≡ Some d) × IsLineFrom number d (Ok line))
+IsLineOf number bytes (Err BadLine) = (IsUtf8 bytes → read bytes ≡ None) ⊎ ((d : Data)
+    × (read bytes ≡ Some d) × IsLineFrom number d (Err BadLine))
+IsLineOf number bytes (Err NoMemory) = ⊤

@@ -1,0 +1,108 @@
+-- Checking a whole script before anything runs: its lines, its limits, and the names of its
+-- subscriptions.
+use Rattle.std.specs.Prelude.{◌≡◌, ◌⊎◌, ◌<◌, ◌≤◌, ◌+◌, ℕ, ◌&&◌, ◌==◌, Bool, true, false, not, if◌then◌else◌, List, [], ◌∷◌, ◌++◌, length, fold, Result, Ok, Err, ⊤}
+use Rattle.am_script.specs.declared.limits.TheConstants.{LONGEST_LINE, MOST_LINES}
+use Rattle.std.specs.List.{onto_first}
+use Rattle.std.specs.Str.{bytes_eq}
+use Rattle.am_script.specs.Commands.{IsLineOf}
+use Rattle.am_script.specs.declared.command.Command.{Command}
+use Rattle.am_script.specs.declared.command.Command.TheVariants.{Post, Subscribe, Read, Leave, Collect, Close}
+use Rattle.am_script.specs.declared.command.Line.{Line}
+use Rattle.am_script.specs.declared.command.LineFault.TheVariants as line_fault
+use Rattle.am_script.specs.declared.script.Fault.TheVariants.{BadLine, BadName, TooLarge}
+use Rattle.am_script.specs.declared.script.Refusal.{Refusal}
+use Rattle.am_script.specs.declared.script.ScriptFault.{ScriptFault}
+use Rattle.am_script.specs.declared.script.ScriptFault.TheVariants.{Refused, NoMemory}
+
+abbrev pub is_line_feed : ℕ → Bool
+is_line_feed byte = byte == 10
+
+-- the lines of a text, without their line feeds; the last one has a line feed or not
+abbrev pub lines_of : List ℕ → List (List ℕ)
+lines_of [] = []
+lines_of (byte ∷ bytes) =
+    if is_line_feed byte then [] ∷ lines_of bytes else onto_first byte (lines_of bytes)
+
+-- whether a name is subscribed in a thread after a command of this thread (true) or another one
+-- (false)
+abbrev pub subscribed_after : Bool → List ℕ → Bool → Command → Bool
+subscribed_after here name before (Subscribe other) =
+    if here && bytes_eq other name then true else before
+subscribed_after here name before (Leave other) =
+    if here && bytes_eq other name then false else before
+subscribed_after here name before (Post at body) = before
+subscribed_after here name before (Read other max) = before
+subscribed_after here name before (Collect at) = before
+subscribed_after here name before Close = before
+
+-- whether a name is subscribed in a thread by some lines, and not left again
+abbrev pub is_subscribed : List Line → ℕ → List ℕ → Bool
+is_subscribed lines thread name = fold
+    (λ before line. subscribed_after (line.thread == thread) name before line.command) false lines
+
+-- whether a command's name is subscribed, or isn't where the command subscribes it
+abbrev pub is_named_well : (List ℕ → Bool) → Command → Bool
+is_named_well is_there (Subscribe name) = not (is_there name)
+is_named_well is_there (Leave name) = is_there name
+is_named_well is_there (Read name max) = is_there name
+is_named_well is_there (Post at body) = true
+is_named_well is_there (Collect at) = true
+is_named_well is_there Close = true
+
+-- whether a line's name is the right one after the lines before it
+abbrev pub is_well_named : List Line → Line → Bool
+is_well_named earlier line = is_named_well (is_subscribed earlier line.thread) line.command
+
+-- above the limit of lines, or of a line's bytes
+abbrev pub IsTooLarge : ℕ → List ℕ → Type 0
+IsTooLarge number bytes = (MOST_LINES < number) ⊎ (LONGEST_LINE < length bytes)
+
+abbrev pub IsWithinLimits : ℕ → List ℕ → Type 0
+IsWithinLimits number bytes = (number ≤ MOST_LINES) × (length bytes ≤ LONGEST_LINE)
+
+-- the configuration's line and empty ones have no command
+abbrev pub IsSkipped : ℕ → List ℕ → Type 0
+IsSkipped number bytes = (number ≡ 1) ⊎ (bytes ≡ [])
+
+-- What checking lines answers, from a number on and after some commands: all commands, or the
+-- first faulty line.
+pub data Checks : ℕ → List Line → List (List ℕ) → Result (List Line) Refusal → Type 0 where
+  ended : {number : ℕ} {earlier : List Line} → Checks number earlier [] (Ok earlier)
+  too_large : {number : ℕ} {earlier : List Line} {bytes : List ℕ} {rest : List (List ℕ)}
+      → IsTooLarge number bytes
+      → Checks number earlier (bytes ∷ rest) (Err (record { number = number; fault = TooLarge }))
+  skipped : {number : ℕ} {earlier : List Line} {bytes : List ℕ} {rest : List (List ℕ)} {result : Result (List Line) Refusal}
+      → IsWithinLimits number bytes → IsSkipped number bytes
+      → Checks (number + 1) earlier rest result
+      → Checks number earlier (bytes ∷ rest) result
+  bad_line : {number : ℕ} {earlier : List Line} {bytes : List ℕ} {rest : List (List ℕ)}
+      → IsWithinLimits number bytes → 1 < number → 0 < length bytes
+      → IsLineOf number bytes (Err line_fault.BadLine)
+      → Checks number earlier (bytes ∷ rest) (Err (record { number = number; fault = BadLine }))
+  bad_name : {number : ℕ} {earlier : List Line} {bytes : List ℕ} {rest : List (List ℕ)} {line : Line}
+      → IsWithinLimits number bytes → 1 < number → 0 < length bytes
+      → IsLineOf number bytes (Ok line)
+      → is_well_named earlier line ≡ false
+      → Checks number earlier (bytes ∷ rest) (Err (record { number = number; fault = BadName }))
+  command : {number : ℕ} {earlier : List Line} {bytes : List ℕ} {rest : List (List ℕ)} {line : Line} {result : Result (List Line) Refusal}
+      → IsWithinLimits number bytes → 1 < number → 0 < length bytes
+      → IsLineOf number bytes (Ok line)
+      → is_well_named earlier line ≡ true → Checks (number + 1) (earlier ++ line ∷ []) rest result
+      → Checks number earlier (bytes ∷ rest) result
+
+-- what checking a text answers, but for want of memory
+abbrev pub IsRefused : List ℕ → ScriptFault → Type 0
+IsRefused text (Refused refusal) = Checks 1 [] (lines_of text) (Err refusal)
+IsRefused text NoMemory = ⊤
+
+-- a line that is right: what the lines after it answer, it answers too
+abbrev pub Continues : ℕ → List Line → List ℕ → List Line → Type 0
+Continues number earlier bytes later =
+    (rest : List (List ℕ)) (result : Result (List Line) Refusal)
+    → Checks (number + 1) later rest result → Checks number earlier (bytes ∷ rest) result
+
+-- a faulty line: it answers whatever the lines after it are
+abbrev pub Stops : ℕ → List Line → List ℕ → ScriptFault → Type 0
+Stops number earlier bytes (Refused refusal) =
+    (rest : List (List ℕ)) → Checks number earlier (bytes ∷ rest) (Err refusal)
+Stops number earlier bytes NoMemory = ⊤

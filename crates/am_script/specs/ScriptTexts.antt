@@ -1,0 +1,28 @@
+-- How the words of commands and refused scripts are printed.
+use Rattle.std.specs.Prelude.{ℕ, List, ◌∷◌, ◌++◌, codes}
+use Rattle.std.specs.Fmt.{decimal}
+use Rattle.am_script.specs.declared.command.Verb.{Verb}
+use Rattle.am_script.specs.declared.command.Verb.TheVariants as verb
+use Rattle.am_script.specs.declared.script.Fault.{Fault}
+use Rattle.am_script.specs.declared.script.Fault.TheVariants as fault
+use Rattle.am_script.specs.declared.script.Refusal.{Refusal}
+
+-- the word of a command
+abbrev pub verb_text : Verb → List ℕ
+verb_text verb.Post = codes "post"
+verb_text verb.Subscribe = codes "subscribe"
+verb_text verb.Read = codes "read"
+verb_text verb.Leave = codes "leave"
+verb_text verb.Collect = codes "collect"
+verb_text verb.Close = codes "close"
+
+-- what is wrong with a line of a script
+abbrev pub fault_text : Fault → List ℕ
+fault_text fault.BadLine = codes "P1 BadLine"
+fault_text fault.BadName = codes "P2 BadName"
+fault_text fault.TooLarge = codes "P3 TooLarge"
+
+-- a refused script
+abbrev pub refusal_text : Refusal → List ℕ
+refusal_text refusal =
+    codes "script line " ++ (decimal refusal.number ++ 32 ∷ fault_text refusal.fault)

@@ -1,0 +1,74 @@
+//! The commands of a script: what a line can ask for, and the word for each.
+
+ghost use Rattle.std.specs.Prelude.{◌≡◌, Some};
+ghost use Rattle.am_script.specs.ScriptTexts.{verb_text};
+
+use crate::thread::Thread;
+use am_alert::Moment;
+use am_labels::Text;
+use std::alloc::AllocError;
+use std::fmt;
+
+/// What a line asks for.
+#[derive(Debug, Drop)]
+pub enum Command {
+    /// A body given as a text is posted as its bytes, any other value as its compact text.
+    Post { at: Moment, body: Text },
+    Subscribe { name: Text },
+    /// At most this many calls of `next`.
+    Read { name: Text, max: u32 },
+    Leave { name: Text },
+    Collect { at: Moment },
+    Close,
+}
+
+/// A command, with the thread that gives it and the number of its line.
+#[derive(Debug, Drop)]
+pub struct Line {
+    pub number: u32,
+    pub thread: Thread,
+    pub command: Command,
+}
+
+/// Why a line isn't read.
+#[derive(Clone, Copy, Debug, PartialEq, Eq)]
+pub enum LineFault {
+    BadLine,
+    NoMemory,
+}
+
+impl From<AllocError> for LineFault {
+    ghost use Rattle.am_script.specs.declared.command.LineFault.TheVariants.{NoMemory};
+
+    ghost from_gives = { λ _ fault. fault ≡ NoMemory };
+
+    fn from(_error: AllocError) -> LineFault {
+        LineFault::NoMemory
+    }
+}
+
+/// The word of a line's `do`.
+#[derive(Clone, Copy, Debug, PartialEq, Eq)]
+pub enum Verb {
+    Post,
+    Subscribe,
+    Read,
+    Leave,
+    Collect,
+    Close,
+}
+
+impl fmt::Display for Verb {
+    ghost output = { λ verb. Some (verb_text verb) };
+
+    fn fmt<W: fmt::Write>(&self, f: &mut fmt::Formatter<W>) -> fmt::Result {
+        f.write_str(match self {
+            Verb::Post => "post",
+            Verb::Subscribe => "subscribe",
+            Verb::Read => "read",
+            Verb::Leave => "leave",
+            Verb::Collect => "collect",
+            Verb::Close => "close",
+        })
+    }
+}

@@ -1,0 +1,28 @@
+//! The replay program's scripts: what a script's text says, before anything of it runs.
+//!
+//! A script has one JSON object a line, which is one command of one thread. It is checked whole: the
+//! limits of its lines, then each line's members, then whether its subscription's name is there. The
+//! first fault in the order of lines refuses it.
+//!
+//!     match read_script(alloc, text) {
+//!         Ok(lines) => run(lines),
+//!         Err(ScriptFault::Refused(refusal)) => println!(rt; "{refusal}")?,
+//!         Err(ScriptFault::NoMemory) => ..,
+//!     }
+//!
+//! This crate knows the moments of alerts and no Book: what a command does is told elsewhere.
+#![tactic(auto)]
+
+mod command;
+mod limits;
+mod line_reader;
+mod members;
+mod names;
+mod script;
+mod thread;
+
+pub use command::{Command, Line, LineFault, Verb};
+pub use limits::{LONGEST_LINE, MOST_LINES};
+pub use line_reader::read_line;
+pub use script::{Fault, Refusal, ScriptFault, read_script};
+pub use thread::{THREADS, Thread};

@@ -1,0 +1,130 @@
+//! Reading the command of one line: its JSON, then its members in their order.
+
+ghost use Rattle.std.specs.Prelude.{◌≡◌, IfOk, codes};
+ghost use Rattle.serde_json.specs.Find.{get};
+ghost use Rattle.serde_json.specs.View.{view};
+ghost use Rattle.am_script.specs.Commands.{command_for, is_plain_kind};
+ghost use Rattle.am_script.specs.Commands.{IsLineFrom, IsLineOf, IsPostedAs, ReadsCommand};
+
+use crate::command::{Command, Line, LineFault, Verb};
+use crate::members::{max_at, moment_at, name_at, thread_at, verb_at};
+use am_labels::Text;
+use serde_json::Value;
+use std::alloc::{AllocError, Global};
+
+/// The command of a line.
+pub fn read_line(alloc: Global, number: u32, bytes: &[u8]) -> Result<Line, LineFault>
+    ensures { IsLineOf number bytes.now result }
+{
+    match Value::from_slice(alloc, bytes) {
+        Ok(value) => line_of(alloc, number, &value),
+        Err(error) if error.is_memory() => Err(LineFault::NoMemory),
+        Err(_) => Err(LineFault::BadLine),
+    }
+}
+
+#[tactic(auto, unfolding(crate::specs::Commands::line_of))]
+fn line_of(alloc: Global, number: u32, value: &Value) -> Result<Line, LineFault>
+    ensures { IsLineFrom number (view value.now) result }
+{
+    let thread = thread_at(value)?;
+    let verb = verb_at(value)?;
+    let command = command_for(alloc, value, verb)?;
+    Ok(Line {
+        number,
+        thread,
+        command,
+    })
+}
+
+fn command_for(alloc: Global, value: &Value, verb: Verb) -> Result<Command, LineFault>
+    ensures { ReadsCommand (view value.now) result
+        (λ body. command_for body (view value.now) verb) }
+{
+    match verb {
+        Verb::Post => post_of(alloc, value),
+        Verb::Subscribe => subscribe_of(alloc, value),
+        Verb::Read => read_of(alloc, value),
+        Verb::Leave => leave_of(alloc, value),
+        Verb::Collect => collect_of(value),
+        Verb::Close => Ok(Command::Close),
+    }
+}
+
+#[tactic(auto, unfolding(crate::specs::Commands::command_for))]
+fn post_of(alloc: Global, value: &Value) -> Result<Command, LineFault>
+    ensures { ReadsCommand (view value.now) result
+        (λ body. command_for body (view value.now) Verb.Post) }
+{
+    let at = moment_at(value)?;
+    let Some(given) = value.get("body") else {
+        return Err(LineFault::BadLine);
+    };
+    let body = posted_text(alloc, given)?;
+    Ok(Command::Post { at, body })
+}
+
+fn posted_text(alloc: Global, body: &Value) -> Result<Text, AllocError>
+    ensures { IfOk result (IsPostedAs (view body.now)) }
+{
+    match body.as_str() {
+        Some(text) => Text::from_str(alloc, text),
+        None => Ok(Text {
+            text: body.to_string(alloc)?,
+        }),
+    }
+}
+
+#[tactic(auto, unfolding(crate::specs::Commands::command_for))]
+fn subscribe_of(alloc: Global, value: &Value) -> Result<Command, LineFault>
+    ensures { ReadsCommand (view value.now) result
+        (λ body. command_for body (view value.now) Verb.Subscribe) }
+{
+    let name = name_at(alloc, value)?;
+    if is_plain(value) {
+        Ok(Command::Subscribe { name })
+    } else {
+        Err(LineFault::BadLine)
+    }
+}
+
+#[tactic(auto, unfolding(crate::specs::Commands::command_for))]
+fn read_of(alloc: Global, value: &Value) -> Result<Command, LineFault>
+    ensures { ReadsCommand (view value.now) result
+        (λ body. command_for body (view value.now) Verb.Read) }
+{
+    let name = name_at(alloc, value)?;
+    let max = max_at(value)?;
+    Ok(Command::Read { name, max })
+}
+
+#[tactic(auto, unfolding(crate::specs::Commands::command_for))]
+fn leave_of(alloc: Global, value: &Value) -> Result<Command, LineFault>
+    ensures { ReadsCommand (view value.now) result
+        (λ body. command_for body (view value.now) Verb.Leave) }
+{
+    let name = name_at(alloc, value)?;
+    Ok(Command::Leave { name })
+}
+
+#[tactic(auto, unfolding(crate::specs::Commands::command_for))]
+fn collect_of(value: &Value) -> Result<Command, LineFault>
+    ensures { ReadsCommand (view value.now) result
+        (λ body. command_for body (view value.now) Verb.Collect) }
+{
+    let at = moment_at(value)?;
+    Ok(Command::Collect { at })
+}
+
+// A kind that is absent is `plain`.
+fn is_plain(value: &Value) -> bool
+    ensures { result ≡ is_plain_kind (get (codes "kind") (view value.now)) }
+{
+    let Some(kind) = value.get("kind") else {
+        return true;
+    };
+    match kind.as_str() {
+        Some(text) => text == "plain",
+        None => false,
+    }
+}

@@ -1,0 +1,106 @@
+//! The members of a line: what each has to be.
+
+ghost use Rattle.std.specs.Prelude.{◌≡◌, ◌≤◌, IfOk, option_map};
+ghost use Rattle.serde_json.specs.View.{view};
+ghost use Rattle.am_script.specs.Commands.{max_of, moment_of, name_of, number_member, text_member};
+ghost use Rattle.am_script.specs.Commands.{thread_of, verb_at, verb_of, IsReadAs};
+
+use crate::command::{LineFault, Verb};
+use crate::thread::Thread;
+use am_alert::{Moment, TimeFault, read_time};
+use am_labels::Text;
+use serde_json::Value;
+use std::alloc::Global;
+
+pub(crate) fn thread_at(value: &Value) -> Result<Thread, LineFault>
+    ensures { IsReadAs result (thread_of (view value.now)) }
+{
+    Ok(Thread::new(number_member(value, "thread", 0, 7)?))
+}
+
+// At most how many calls of `next` a read makes.
+pub(crate) fn max_at(value: &Value) -> Result<u32, LineFault>
+    ensures { IsReadAs result (max_of (view value.now)) }
+{
+    match value.get("max") {
+        Some(_) => number_member(value, "max", 1, 65_536),
+        None => Ok(1),
+    }
+}
+
+pub(crate) fn verb_at(value: &Value) -> Result<Verb, LineFault>
+    ensures { IsReadAs result (verb_at (view value.now)) }
+{
+    let Some(text) = text_member(value, "do") else {
+        return Err(LineFault::BadLine);
+    };
+    match verb_of(text) {
+        Some(verb) => Ok(verb),
+        None => Err(LineFault::BadLine),
+    }
+}
+
+fn verb_of(text: &str) -> Option<Verb>
+    ensures { result ≡ verb_of text.now }
+{
+    if text == "post" {
+        Some(Verb::Post)
+    } else if text == "subscribe" {
+        Some(Verb::Subscribe)
+    } else if text == "read" {
+        Some(Verb::Read)
+    } else if text == "leave" {
+        Some(Verb::Leave)
+    } else if text == "collect" {
+        Some(Verb::Collect)
+    } else if text == "close" {
+        Some(Verb::Close)
+    } else {
+        None
+    }
+}
+
+// A member that is a text.
+fn text_member<'v>(value: &'v Value, name: &str) -> Option<&'v str>
+    ensures { option_map (λ text. text.now) result ≡ text_member name.now (view value.now) }
+{
+    value.get(name)?.as_str()
+}
+
+// A member that is a whole number from low to high.
+fn number_member(value: &Value, name: &str, low: u32, high: u32) -> Result<u32, LineFault>
+    ensures read { IsReadAs result (number_member name.now low high (view value.now)) }
+    ensures bound { IfOk result (λ number. number ≤ high) }
+{
+    let Some(member) = value.get(name) else {
+        return Err(LineFault::BadLine);
+    };
+    match member.as_u64() {
+        Some(number) if u64::from(low) <= number && number <= u64::from(high) => Ok(number as u32),
+        _ => Err(LineFault::BadLine),
+    }
+}
+
+// The moment of `at`, which isn't absent.
+pub(crate) fn moment_at(value: &Value) -> Result<Moment, LineFault>
+    ensures { IsReadAs result (moment_of (view value.now)) }
+{
+    let Some(text) = text_member(value, "at") else {
+        return Err(LineFault::BadLine);
+    };
+    match read_time(text) {
+        Ok(Some(moment)) => Ok(moment),
+        Ok(None) | Err(TimeFault::BadTime) => Err(LineFault::BadLine),
+        Err(TimeFault::NoMemory) => Err(LineFault::NoMemory),
+    }
+}
+
+// The name in `sub`, which isn't empty.
+pub(crate) fn name_at(alloc: Global, value: &Value) -> Result<Text, LineFault>
+    ensures { IsReadAs result (name_of (view value.now)) }
+{
+    match text_member(value, "sub") {
+        Some(name) if !name.is_empty() => Ok(Text::from_str(alloc, name)?),
+        _ => Err(LineFault::BadLine),
+    }
+}
