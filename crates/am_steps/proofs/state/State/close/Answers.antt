@@ -3,7 +3,7 @@ use Rattle.am_steps.specs.declared.event.Event.TheVariants as does
 use Rattle.am_steps.specs.States.{core_of}
 use Rattle.am_steps.specs.Steps.{close}
 use Rattle.am_steps.specs.inside.Fields.{view_of}
-use Rattle.am_steps.proofs.Applied.{grows_applies}
+use Rattle.am_steps.proofs.Answers.{grows_applies}
 use Rattle.am_steps.proofs.state.State.close.Goals as goal
 
 pub returns : goal.returns

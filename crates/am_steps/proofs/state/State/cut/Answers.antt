@@ -3,7 +3,9 @@ use Rattle.am_steps.specs.declared.event.Event.TheVariants as does
 use Rattle.am_steps.specs.States.{core_of}
 use Rattle.am_steps.specs.inside.Fields.{view_of}
 use Rattle.am_steps.specs.inside.LaneRows.{after_cut}
-use Rattle.am_steps.proofs.Applied.{applied, decide_cut, len_is}
+use Rattle.am_steps.proofs.Common.{len_is}
+use Rattle.am_steps.proofs.LaneRows.{decide_cut}
+use Rattle.am_steps.proofs.Answers.{applied}
 use Rattle.am_steps.proofs.state.State.cut.Goals as goal
 
 pub invariant_of-self : goal.invariant_of-self

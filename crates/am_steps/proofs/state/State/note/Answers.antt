@@ -1,8 +1,8 @@
 use Rattle.std.proofs.Common.{◌<◌, refl, subst, arith, length, IfOk}
 use Rattle.am_steps.specs.inside.LaneRows.{DoesNote}
 use Rattle.am_steps.specs.inside.Fields.{view_of}
-use Rattle.am_steps.proofs.Applied.{len_is}
-use Rattle.am_steps.proofs.Whole.{noted_maybe}
+use Rattle.am_steps.proofs.Common.{len_is}
+use Rattle.am_steps.proofs.Answers.{noted_maybe}
 use Rattle.am_steps.proofs.state.State.note.Goals as goal
 
 pub invariant_of-self : goal.invariant_of-self

@@ -6,8 +6,8 @@ use Rattle.am_steps.specs.States.{core_of}
 use Rattle.am_steps.specs.Steps.{HasRoom}
 use Rattle.am_steps.specs.inside.LaneRows.{leaves_room}
 use Rattle.am_steps.specs.inside.Fields.{view_of}
-use Rattle.am_steps.proofs.Applied.{len_is}
-use Rattle.am_steps.proofs.Whole.{room, from_room, no_room, publishes}
+use Rattle.am_steps.proofs.Common.{len_is}
+use Rattle.am_steps.proofs.Answers.{room, from_room, no_room, publishes}
 use Rattle.am_steps.proofs.state.State.publish.Goals as goal
 
 pub returns-then-not-has_room-clause-applies : goal.returns-then-not-has_room-clause-applies

@@ -1,33 +1,33 @@
 -- Each step keeps a state sound.
-use Rattle.std.proofs.Common.{◌≡◌, ℕ, ◌+◌, ◌-◌, ◌<◌, ◌≤◌, inl, inr, Bool, true, false, cond, ◌||◌, List, [], ◌∷◌, ◌++◌, length, take, drop, slice_get, Option, Some, None, MatchOption, refl, sym, ap, ◌∙◌, subst, arith, length-append}
-use Rattle.std.proofs.lemmas.Bool.{false≢true}
+use Rattle.std.proofs.Common.{◌≡◌, ◌≢◌, ℕ, ◌+◌, ◌-◌, ◌<◌, ◌≤◌, inl, inr, Bool, true, false, cond, ◌||◌, List, [], ◌∷◌, ◌++◌, length, take, drop, slice_get, Option, Some, None, MatchOption, refl, sym, ap, ◌∙◌, subst, arith, length-append}
+use Rattle.std.proofs.lemmas.Bool.{false≢true, or_cases, cases_eq}
 use Rattle.std.proofs.lemmas.List.{take-append-le, drop-append-le, length-take}
 use Rattle.std.proofs.lemmas.List.Elements.{All-weaker, All-push}
-use Rattle.std.proofs.lemmas.Option.{slice_get_within}
+use Rattle.std.proofs.lemmas.Option.{slice_get_within, none-some, same_Some}
 use Rattle.am_steps.specs.declared.lane_record.LaneRecord.{LaneRecord}
 use Rattle.am_steps.specs.declared.cursor.Cursor.{Cursor}
 use Rattle.am_steps.specs.declared.lane.Lane.{Lane}
 use Rattle.am_steps.specs.declared.lane.Lane.TheVariants.{Idle, Admitted, Open, Left}
 use Rattle.am_steps.specs.declared.poster.Poster.{Poster}
 use Rattle.am_steps.specs.declared.event.Event as event
-use Rattle.am_steps.specs.States.{Core, LaneWord, record_of, with_record, word_of}
+use Rattle.am_steps.specs.States.{Core, LaneWord, record_of, with_record, word_of, first_state}
 use Rattle.am_steps.specs.Steps.{OnlyLane, OnlyLog, OnlyPoster, MayOwn, with_own, Step, publish, close, harvest, admit, opens, look, take as takes, pass, cut, leave, retire, note}
 use Rattle.am_steps.specs.Soundness.{IsCursorSound, IsLaneSound, IsPosterSound, IsSound}
-use Rattle.am_steps.proofs.Lists.{some_is, none_is, of_some, either_is, same_or_not, take_more, get_append, drop_self}
+use Rattle.am_steps.proofs.Common.{of_some, take_more_at, slice_get_append, drop_take_same}
 
 module _ {X : Type 0} where
-  -- a lane's mark is within so many places of the log's end, unless it was cut
+  -- a lane is within so many places of the log's end, unless it was cut
   abbrev Within : ℕ → ℕ → Lane X → Type 0
   Within length places v = MatchOption (record_of v) (Unit {0}) (λ m. m.cut ≡ false → length - m.known ≤ places)
 
   pub turned : (c d : Core X) (l : ℕ) (v : Lane X) → OnlyLane c l v d → IsSound c → IsLaneSound c.log c.closed v → Within (length c.log) c.places v → IsSound d
   turned c d l v t s good near =
       let same = t.same in
-      let onto : (k : ℕ) → IsLaneSound c.log c.closed (d.lane k) = λ k. elim (same_or_not k l) [
+      let onto : (k : ℕ) → IsLaneSound c.log c.closed (d.lane k) = λ k. elim (cases_eq k l) [
         | inl e ↦ subst (λ i. IsLaneSound c.log c.closed (d.lane i)) (sym e) (subst (IsLaneSound c.log c.closed) (sym t.here) good)
         | inr ne ↦ subst (IsLaneSound c.log c.closed) (sym (t.other k ne)) (s.lane k)
       ] in
-      let bound : (k : ℕ) (m : LaneRecord) → record_of (d.lane k) ≡ Some m → m.cut ≡ false → length c.log - m.known ≤ c.places = λ k m. elim (same_or_not k l) [
+      let bound : (k : ℕ) (m : LaneRecord) → record_of (d.lane k) ≡ Some m → m.cut ≡ false → length c.log - m.known ≤ c.places = λ k m. elim (cases_eq k l) [
         | inl e ↦ (λ is. of_some (record_of v) (λ n. n.cut ≡ false → length c.log - n.known ≤ c.places) near m (ap record_of (sym t.here) ∙ ap (λ i. record_of (d.lane i)) (sym e) ∙ is))
         | inr ne ↦ (λ is. s.behind k m (ap record_of (sym (t.other k ne)) ∙ is))
       ] in
@@ -74,7 +74,7 @@ module _ {X : Type 0} where
   informed log x v s = let more = length-append log (x ∷ []) in let low = s.places_known in record {
     places_known = omega arith;
     own = All-weaker (λ post. (slice_get log post.0 ≡ Some post.1) × (post.0 < v.places_known)) (λ post. (slice_get (log ++ x ∷ []) post.0 ≡ Some post.1) × (post.0 < v.places_known))
-        (λ post h. (get_append log (x ∷ []) post.0 post.1 h.0, h.1)) v.own s.own;
+        (λ post h. (slice_get_append log (x ∷ []) post.0 post.1 h.0, h.1)) v.own s.own;
   }
 
   pub grown : (c d : Core X) (names : List X) (ended : Bool) → OnlyLog c names ended d → ((l : ℕ) → IsLaneSound names ended (c.lane l))
@@ -88,11 +88,11 @@ module _ {X : Type 0} where
   harvested : (log : List X) (closed : Bool) (places : ℕ) (v : Lane X) (m : LaneRecord) (w : LaneWord) → record_of v ≡ Some m → word_of v ≡ Some w → IsLaneSound log closed v
       → (m.cut ≡ false → length log - m.known ≤ places)
       → IsLaneSound log closed (with_record (record m { known = w.passed; key_out = w.held }) v) × Within (length log) places (with_record (record m { known = w.passed; key_out = w.held }) v)
-  harvested log closed places Idle m w e f s near = absurd (none_is m e)
-  harvested log closed places (Admitted n) m w e f s near = let is = some_is n m e in let at = some_is (record { passed = n.start; held = false }) w f in
+  harvested log closed places Idle m w e f s near = absurd (none-some m e)
+  harvested log closed places (Admitted n) m w e f s near = let is = same_Some n m e in let at = same_Some (record { passed = n.start; held = false }) w f in
       let known = ap (λ k. k.known) is in let start = ap (λ k. k.start) is in let passed = ap (λ u. u.passed) at in
       ((sym passed ∙ start, subst (λ k. k ≤ length log) start s.1), (λ uncut. let old = near uncut in omega (arith, s.0, known, start, passed)))
-  harvested log closed places (Open n r) m w e f s near = let is = some_is n m e in let at = some_is (record { passed = r.passed; held = r.held }) w f in
+  harvested log closed places (Open n r) m w e f s near = let is = same_Some n m e in let at = same_Some (record { passed = r.passed; held = r.held }) w f in
       let known = ap (λ k. k.known) is in let start = ap (λ k. k.start) is in let cut_is = ap (λ k. k.cut) is in let passed = ap (λ u. u.passed) at in let held = ap (λ u. u.held) at in
       let low = s.start in let mid = s.known in let high = s.passed in (
         record {
@@ -108,15 +108,15 @@ module _ {X : Type 0} where
         },
         (λ uncut. let old = near uncut in omega arith),
       )
-  harvested log closed places (Left n) m w e f s near = absurd (none_is w f)
+  harvested log closed places (Left n) m w e f s near = absurd (none-some w f)
 
   -- a lane that is cut stays sound
   cuts : (log : List X) (closed : Bool) (v : Lane X) (m : LaneRecord) → record_of v ≡ Some m → word_of v ≡ Some (record { passed = m.known; held = m.key_out }) → IsLaneSound log closed v
       → IsLaneSound log closed (with_record (record m { cut = true }) v)
-  cuts log closed Idle m e f s = absurd (none_is m e)
-  cuts log closed (Admitted n) m e f s = let is = some_is n m e in let known = ap (λ k. k.known) is in let start = ap (λ k. k.start) is in
+  cuts log closed Idle m e f s = absurd (none-some m e)
+  cuts log closed (Admitted n) m e f s = let is = same_Some n m e in let known = ap (λ k. k.known) is in let start = ap (λ k. k.start) is in
       (sym known ∙ s.0 ∙ start, subst (λ k. k ≤ length log) start s.1)
-  cuts log closed (Open n r) m e f s = let is = some_is n m e in let at = some_is (record { passed = r.passed; held = r.held }) (record { passed = m.known; held = m.key_out }) f in
+  cuts log closed (Open n r) m e f s = let is = same_Some n m e in let at = same_Some (record { passed = r.passed; held = r.held }) (record { passed = m.known; held = m.key_out }) f in
       let known = ap (λ k. k.known) is in let start = ap (λ k. k.start) is in let passed = ap (λ u. u.passed) at in let held = ap (λ u. u.held) at in let low = s.start in let mid = s.known in
       record {
         got = s.got ∙ ap (λ k. drop k (take r.passed log)) start;
@@ -129,7 +129,7 @@ module _ {X : Type 0} where
         told_cut = λ t. refl;
         in_hand = λ c h. (sym held ∙ h, sym passed);
       }
-  cuts log closed (Left n) m e f s = absurd (none_is (record { passed = m.known; held = m.key_out }) f)
+  cuts log closed (Left n) m e f s = absurd (none-some (record { passed = m.known; held = m.key_out }) f)
 
   no-cut-within : (length places : ℕ) (v : Lane X) (m : LaneRecord) → m.cut ≡ true → Within length places (with_record m v)
   no-cut-within length places Idle m e = tt
@@ -165,14 +165,14 @@ module _ {X : Type 0} where
   passes : (log : List X) (closed : Bool) (m : LaneRecord) (r : Cursor X) (x : X) → IsCursorSound log closed m r → r.held ≡ true → slice_get log r.passed ≡ Some x
       → IsCursorSound log closed m (record r { passed = r.passed + 1; held = false; told_cut = r.told_cut || m.cut; got = r.got ++ x ∷ [] })
   passes log closed m r x s held name = let low = s.start in let mid = s.known in let some = s.held held in let within = slice_get_within log r.passed x name in record {
-    got = ap (λ l. l ++ x ∷ []) s.got ∙ sym (drop-append-le m.start (take r.passed log) (x ∷ []) (omega (arith, length-take r.passed log))) ∙ ap (drop m.start) (sym (take_more log r.passed x name));
+    got = ap (λ l. l ++ x ∷ []) s.got ∙ sym (drop-append-le m.start (take r.passed log) (x ∷ []) (omega (arith, length-take r.passed log))) ∙ ap (drop m.start) (sym (take_more_at log r.passed x name));
     start = s.start;
     known = omega arith;
     passed = omega arith;
     seen = s.seen;
     held = λ h. absurd (false≢true h);
     told = s.told;
-    told_cut = λ t. elim (either_is r.told_cut m.cut t) [ inl a ↦ s.told_cut a | inr b ↦ b ];
+    told_cut = λ t. elim (or_cases r.told_cut m.cut t) [ inl a ↦ s.told_cut a | inr b ↦ b ];
     in_hand = λ c h. absurd (false≢true h);
   }
 
@@ -184,7 +184,7 @@ module _ {X : Type 0} where
 
   noted : (c d : Core X) (p : ℕ) (v : Poster X) → OnlyPoster c p v d → IsSound c → IsPosterSound c.log v → IsSound d
   noted c d p v n s good = let same = n.same in
-      let onto : (q : ℕ) → IsPosterSound c.log (d.poster q) = λ q. elim (same_or_not q p) [
+      let onto : (q : ℕ) → IsPosterSound c.log (d.poster q) = λ q. elim (cases_eq q p) [
         | inl e ↦ subst (λ i. IsPosterSound c.log (d.poster i)) (sym e) (subst (IsPosterSound c.log) (sym n.here) good)
         | inr ne ↦ subst (IsPosterSound c.log) (sym (n.other q ne)) (s.poster q)
       ] in
@@ -215,7 +215,7 @@ module _ {X : Type 0} where
   keeps_sound _ _ _ s (admit c d l within idle fine t) = turned c d l _ t s (refl, omega arith) (λ uncut. omega arith)
   keeps_sound _ _ _ s (opens c d l m is t) = let old = at c l _ is s in let same = old.0 in let low = old.1 in turned c d l _ t s
       (record {
-        got = sym (drop_self c.log m.start low);
+        got = sym (drop_take_same c.log m.start low);
         start = omega arith;
         known = omega arith;
         passed = omega arith;
@@ -243,3 +243,10 @@ module _ {X : Type 0} where
   keeps_sound _ _ _ s (leave c d l m r is t) = let old = at c l _ is s in let a = old.start in let b = old.known in let h = old.passed in let z = old.seen in turned c d l _ t s (a, omega arith) (near c l _ m is refl s)
   keeps_sound _ _ _ s (retire c d l m is t) = turned c d l _ t s tt tt
   keeps_sound _ _ _ s (note c d p post within may n) = noted c d p _ n s (owns c (c.poster p) post (s.poster p) may)
+
+  pub first_state_sound : (places lanes posters : ℕ) → IsSound (first_state {X = X} places lanes posters)
+  first_state_sound places lanes posters = record {
+    lane = λ l. tt;
+    behind = λ l m is uncut. absurd (none-some m is);
+    poster = λ p. record { places_known = omega arith; own = λ k d h. absurd (omega arith) };
+  }
