@@ -1,12 +1,12 @@
 -- What `apply` answers and `freed` tells, by the lanes and posters of a state.
-use Rattle.std.proofs.Common.{◌≡◌, ℕ, ◌+◌, ◌-◌, ◌<◌, ◌≤◌, inl, inr, Bool, true, false, List, [], ◌∷◌, ◌++◌, length, slice_get, get_or, slice_set, Option, Some, None, Result, Ok, Err, IfOk, OnErr, refl, sym, ap, ◌∙◌, subst, arith}
+use Rattle.std.proofs.Common.{◌≡◌, ℕ, ◌+◌, ◌-◌, ◌<◌, ◌≤◌, inl, inr, Bool, true, false, cond, ◌||◌, List, [], ◌∷◌, ◌++◌, length, slice_get, get_or, slice_set, Option, Some, None, Result, Ok, Err, IfOk, OnErr, IsSome, refl, sym, ap, ◌∙◌, subst, arith}
 use Rattle.std.specs.List.{AllPass}
 use Rattle.std.proofs.lemmas.Bool.{cases_lt}
 use Rattle.std.proofs.lemmas.List.{get_or-set_same, get_or-set_other, length-set, get_or_default, get_or_past, set-get_or}
-use Rattle.std.proofs.lemmas.Option.{slice_get-get_or, none-some, same_Some}
+use Rattle.std.proofs.lemmas.Option.{MatchOption-at_some, slice_get-get_or, none-some, same_Some}
 use Rattle.am_steps.specs.declared.lane_record.LaneRecord.{LaneRecord}
 use Rattle.am_steps.specs.declared.lane.Lane.{Lane}
-use Rattle.am_steps.specs.declared.lane.Lane.TheVariants.{Idle}
+use Rattle.am_steps.specs.declared.lane.Lane.TheVariants.{Idle, Admitted, Open, Left}
 use Rattle.am_steps.specs.declared.poster.Poster.{Poster}
 use Rattle.am_steps.specs.declared.event.Event as event
 use Rattle.am_steps.specs.declared.event.Event.TheVariants as does
@@ -14,11 +14,11 @@ use Rattle.am_steps.specs.States.{Core, StateView, core_of, record_of, unaware_p
 use Rattle.am_steps.specs.Steps.{OnlyLane, OnlyPoster, HasRoom, MayOwn, with_own, Step, publish, cut, note}
 use Rattle.am_steps.specs.Soundness.{IsSound}
 use Rattle.am_steps.specs.Needed.{KeepsKey, IsFreed}
-use Rattle.am_steps.specs.Answers.{Applies}
-use Rattle.am_steps.specs.inside.LaneRows.{Becomes, place_in_hand, leaves_room, keeps_none, DoesNote}
+use Rattle.am_steps.specs.Answers.{Applies, IsPossible}
+use Rattle.am_steps.specs.inside.LaneRows.{Becomes, after_pass, place_in_hand, leaves_room, keeps_none, DoesNote}
 use Rattle.am_steps.proofs.Steps.{of_publish, of_note}
 use Rattle.am_steps.proofs.Soundness.{keeps_sound}
-use Rattle.am_steps.proofs.LaneRows.{held_within, lane_room_tells, lane_room_from, keeps_none_tells, keeps_none_from, Decides}
+use Rattle.am_steps.proofs.LaneRows.{held_is, held_within, decide_pass, lane_room_tells, lane_room_from, keeps_none_tells, keeps_none_from, Decides}
 
 module _ {X : Type 0} where
   abbrev pub with_lane : StateView X → ℕ → Lane X → StateView X
@@ -142,3 +142,35 @@ module _ {X : Type 0} where
       let step : Step (core_of s) (does.Publish x) (core_of t) = publish (core_of s) (core_of t) x fine room
       (record { places = refl; log = is; closed = fine; lanes = refl; posters = refl; lane = λ l. refl; poster = λ p. refl }) in
       (subst (λ u. Step (core_of u) (does.Publish x) (core_of t)) same step, keeps_sound (core_of s) (core_of t) (does.Publish x) sound step)
+
+  pub publish_possible : {A E : Type 0} (s o : StateView X) → s ≡ o → (x : X) (made : Result A E) → IsSound (core_of s) → s.closed ≡ false → HasRoom (core_of s)
+      → OnErr made (IsPossible (core_of o) (does.Publish x))
+  publish_possible s o same x (Ok made) sound fine has = tt
+  publish_possible s o same x (Err f) sound fine has = (core_of (longer_by s x), (publishes s o same x (s.log ++ x ∷ []) sound fine has refl).0)
+
+  -- a cursor with a key in its hand can pass
+  hand_passes : (x : X) (v : Lane X) (place : ℕ) → place_in_hand v ≡ Some place → (w : Lane X) × (after_pass x v ≡ Some w)
+  hand_passes x Idle place is = absurd (none-some place is)
+  hand_passes x (Admitted m) place is = absurd (none-some place is)
+  hand_passes x (Open m r) place is =
+      let passed : Lane X = Open m (record r { passed = r.passed + 1; held = false; told_cut = r.told_cut || m.cut; got = r.got ++ x ∷ [] }) in
+      (passed, ap (λ b. cond b (Some passed) None) (held_is r r.held refl place is).0)
+  hand_passes x (Left m) place is = absurd (none-some place is)
+
+  pub pass_possible : {E : Type 0} (s o : StateView X) → s ≡ o → (l place : ℕ) (x : X) (made : Result Bool E) → IsSound (core_of s) → l < length s.lanes
+      → place_in_hand ((core_of s).lane l) ≡ Some place → x ≡ get_or s.log place x → OnErr made (IsPossible (core_of o) (does.Pass l))
+  pass_possible s o same l place x (Ok made) sound inside held is = tt
+  pass_possible s o same l place x (Err f) sound inside held is =
+      let c = core_of s in let v = c.lane l in let w = hand_passes x v place held in
+      let decided : Decides c (does.Pass l) l (after_pass x v) = decide_pass c l x v (named s l place x sound held is v refl) refl in
+      let steps : (d : Core X) → OnlyLane c l w.0 d → Step c (does.Pass l) d = MatchOption-at_some ((d : Core X) → Step c (does.Pass l) d → ⊥) (λ v. (d : Core X) → OnlyLane c l v d → Step c (does.Pass l) d) w.0 w.1 decided in
+      subst (λ u. IsPossible (core_of u) (does.Pass l)) same (core_of (with_lane s l w.0), steps (core_of (with_lane s l w.0)) (only_lane_set s l w.0 inside))
+
+  pub note_possible : {E : Type 0} (s o : StateView X) → s ≡ o → (p : ℕ) (post : Option (ℕ × X)) (old : Poster X) (made : Result Bool E) → p < length s.posters → old ≡ get_or s.posters p old
+      → OnErr made (IsSome post × MayOwn s.log old post) → OnErr made (IsPossible (core_of o) (does.Note p post))
+  note_possible s o same p post old (Ok made) inside is may = tt
+  note_possible s o same p post old (Err f) inside is may =
+      let c = core_of s in let noted : Poster X = record { places_known = length s.log; own = with_own (c.poster p).own post } in
+      let at : old ≡ c.poster p = is ∙ get_or_default s.posters p old unaware_poster inside in
+      subst (λ u. IsPossible (core_of u) (does.Note p post)) same
+      (core_of (with_poster s p noted), note c (core_of (with_poster s p noted)) p post inside (subst (λ v. MayOwn s.log v post) at may.1) (only_poster_set s p noted inside))

@@ -22,13 +22,11 @@ abbrev pub Decides : {X : Type 0} → Core X → event.Event X → ℕ → Optio
 Decides {X} c e l next = MatchOption next ((d : Core X) → Step c e d → ⊥) (λ v. (d : Core X) → OnlyLane c l v d → Step c e d)
 
 module _ {X : Type 0} (c : Core X) (l : ℕ) where
-
   pub decide_harvest : (v : Lane X) → c.lane l ≡ v → Decides c (does.Harvest l) l (after_harvest v)
   decide_harvest Idle e = λ d step. let u = of_harvest c l d step in none-some u.0 (sym (ap record_of e) ∙ u.2)
   decide_harvest (Admitted m) e = λ d t. harvest c d l m (record { passed = m.start; held = false }) (ap record_of e) (ap word_of e) (subst (λ v. OnlyLane c l (with_record (record m { known = m.start; key_out = false }) v) d) (sym e) t)
   decide_harvest (Open m r) e = λ d t. harvest c d l m (record { passed = r.passed; held = r.held }) (ap record_of e) (ap word_of e) (subst (λ v. OnlyLane c l (with_record (record m { known = r.passed; key_out = r.held }) v) d) (sym e) t)
   decide_harvest (Left m) e = λ d step. let u = of_harvest c l d step in none-some u.1 (sym (ap word_of e) ∙ u.3)
-
 
   pub decide_admit : l < c.lanes → c.closed ≡ false → (n : ℕ) → n ≡ length c.log → (v : Lane X) → c.lane l ≡ v → Decides c (does.Admit l) l (after_admit n v)
   decide_admit inside fine n is Idle e = λ d t. admit c d l inside e fine (subst (λ k. OnlyLane c l (Admitted (record { start = k; known = k; key_out = false; cut = false })) d) is t)
@@ -40,20 +38,17 @@ module _ {X : Type 0} (c : Core X) (l : ℕ) where
   not_admitted (inl e) d step = false≢true (sym (of_admit c l d step).2 ∙ e)
   not_admitted (inr h) d step = let u = (of_admit c l d step).0 in omega arith
 
-
   pub decide_open : (v : Lane X) → c.lane l ≡ v → Decides c (does.Open l) l (after_open v)
   decide_open Idle e = λ d step. let u = of_open c l d step in none-some u.0 (ap admitted_record (sym e ∙ u.1))
   decide_open (Admitted m) e = λ d t. opens c d l m e t
   decide_open (Open m r) e = λ d step. let u = of_open c l d step in none-some u.0 (ap admitted_record (sym e ∙ u.1))
   decide_open (Left m) e = λ d step. let u = of_open c l d step in none-some u.0 (ap admitted_record (sym e ∙ u.1))
 
-
   pub decide_look : (n : ℕ) → n ≡ length c.log → (v : Lane X) → c.lane l ≡ v → Decides c (does.Look l) l (after_look n c.closed v)
   decide_look n is Idle e = λ d step. let u = of_look c l d step in none-some (u.0, u.1) (ap open_parts (sym e ∙ u.2))
   decide_look n is (Admitted m) e = λ d step. let u = of_look c l d step in none-some (u.0, u.1) (ap open_parts (sym e ∙ u.2))
   decide_look n is (Open m r) e = λ d t. look c d l m r e (subst (λ k. OnlyLane c l (Open m (record r { seen = k; told = c.closed })) d) is t)
   decide_look n is (Left m) e = λ d step. let u = of_look c l d step in none-some (u.0, u.1) (ap open_parts (sym e ∙ u.2))
-
 
   decide_open_take : (m : LaneRecord) (r : Cursor X) → c.lane l ≡ Open m r → (h b : Bool) → r.held ≡ h → nat_lt r.passed r.seen ≡ b → ((b ≡ true) → r.passed < r.seen) → ((b ≡ false) → r.seen ≤ r.passed)
       → Decides c (does.Take l) l (cond (not h && b) (Some (Open m (cond m.cut (record r { told_cut = true }) (record r { held = true })))) None)
@@ -71,7 +66,6 @@ module _ {X : Type 0} (c : Core X) (l : ℕ) where
       (λ b. elim (leb_tells (suc r.passed) r.seen) [ inl h ↦ absurd (false≢true (sym b ∙ h.0)) | inr h ↦ (let low = h.1 in omega arith) ])
   decide_take (Left m) e = λ d step. let u = of_take c l d step in none-some (u.0, u.1) (ap open_parts (sym e ∙ u.2))
 
-
   -- nothing is held where a lane can't pass
   pub not_passed : (v : Lane X) → c.lane l ≡ v → place_in_hand v ≡ None → (d : Core X) → Step c (does.Pass l) d → ⊥
   not_passed v e nothing d step = let u = of_pass c l d step in none-some u.1.passed (sym nothing ∙ ap place_in_hand (sym e ∙ u.3) ∙ ap (λ b. cond b (Some u.1.passed) None) u.4)
@@ -87,13 +81,11 @@ module _ {X : Type 0} (c : Core X) (l : ℕ) where
   decide_pass x (Open m r) name e = decide_open_pass m r x e r.held refl (λ held. name r.passed (ap (λ b. cond b (Some r.passed) None) held))
   decide_pass x (Left m) name e = not_passed (Left m) e refl
 
-
   pub decide_leave : (v : Lane X) → c.lane l ≡ v → Decides c (does.Leave l) l (after_leave v)
   decide_leave Idle e = λ d step. let u = of_leave c l d step in none-some (u.0, u.1) (ap open_parts (sym e ∙ u.2))
   decide_leave (Admitted m) e = λ d step. let u = of_leave c l d step in none-some (u.0, u.1) (ap open_parts (sym e ∙ u.2))
   decide_leave (Open m r) e = λ d t. leave c d l m r e t
   decide_leave (Left m) e = λ d step. let u = of_leave c l d step in none-some (u.0, u.1) (ap open_parts (sym e ∙ u.2))
-
 
   pub decide_retire : (v : Lane X) → c.lane l ≡ v → Decides c (does.Retire l) l (after_retire v)
   decide_retire Idle e = λ d step. let u = of_retire c l d step in none-some u.0 (ap left_record (sym e ∙ u.1))
@@ -152,7 +144,7 @@ module _ {X : Type 0} (c : Core X) (l : ℕ) where
       by (Left m) e = λ d step. let u = of_cut c l d step in none-some (record { passed = u.0.known; held = u.0.key_out }) (ap word_of (sym e) ∙ u.2)
 
 module _ {X : Type 0} where
-  held_is : (r : Cursor X) (h : Bool) → r.held ≡ h → (p : ℕ) → cond h (Some r.passed) None ≡ Some p → (r.held ≡ true) × (r.passed ≡ p)
+  pub held_is : (r : Cursor X) (h : Bool) → r.held ≡ h → (p : ℕ) → cond h (Some r.passed) None ≡ Some p → (r.held ≡ true) × (r.passed ≡ p)
   held_is r true e p is = (e, same_Some r.passed p is)
   held_is r false e p is = absurd (none-some p is)
 

@@ -97,49 +97,38 @@ module _ {X : Type 0} where
 pub data Step {X : Type 0} : Core X → event.Event X → Core X → Type 0 where
   publish : (c d : Core X) (x : X) → c.closed ≡ false → HasRoom c
       → OnlyLog c (c.log ++ x ∷ []) false d → Step c (does.Publish x) d
-
   close : (c d : Core X) → c.closed ≡ false → OnlyLog c c.log true d → Step c does.Close d
-
   harvest : (c d : Core X) (l : ℕ) (m : LaneRecord) (w : LaneWord)
       → record_of (c.lane l) ≡ Some m → word_of (c.lane l) ≡ Some w
       → OnlyLane c l (with_record (record m { known = w.passed; key_out = w.held }) (c.lane l)) d
       → Step c (does.Harvest l) d
-
   admit : (c d : Core X) (l : ℕ) → l < c.lanes → c.lane l ≡ Idle → c.closed ≡ false
       → OnlyLane c l (Admitted (new_record (length c.log))) d → Step c (does.Admit l) d
-
   opens : (c d : Core X) (l : ℕ) (m : LaneRecord) → c.lane l ≡ Admitted m
       → OnlyLane c l (Open m (new_cursor m.start)) d → Step c (does.Open l) d
-
   look : (c d : Core X) (l : ℕ) (m : LaneRecord) (r : Cursor X) → c.lane l ≡ Open m r
       → OnlyLane c l (Open m (record r { seen = length c.log; told = c.closed })) d
       → Step c (does.Look l) d
-
   take : (c d : Core X) (l : ℕ) (m : LaneRecord) (r : Cursor X) → c.lane l ≡ Open m r
       → r.held ≡ false → r.passed < r.seen
       → OnlyLane c l
-        (Open m (if m.cut then record r { told_cut = true } else record r { held = true })) d
+      (Open m (if m.cut then record r { told_cut = true } else record r { held = true })) d
       → Step c (does.Take l) d
-
   pass : (c d : Core X) (l : ℕ) (m : LaneRecord) (r : Cursor X) (x : X) → c.lane l ≡ Open m r
       → r.held ≡ true → slice_get c.log r.passed ≡ Some x
       → OnlyLane c l
-        (Open m (record r { passed = r.passed + 1; held = false; told_cut = r.told_cut || m.cut; got = r.got ++ x ∷ [] })) d
+      (Open m (record r { passed = r.passed + 1; held = false; told_cut = r.told_cut || m.cut; got = r.got ++ x ∷ [] })) d
       → Step c (does.Pass l) d
-
   cut : (c d : Core X) (l : ℕ) (m : LaneRecord) → record_of (c.lane l) ≡ Some m
       → word_of (c.lane l) ≡ Some (record { passed = m.known; held = m.key_out })
       → m.cut ≡ false → m.known + c.places ≡ length c.log
       → OnlyLane c l (with_record (record m { cut = true }) (c.lane l)) d → Step c (does.Cut l) d
-
   leave : (c d : Core X) (l : ℕ) (m : LaneRecord) (r : Cursor X) → c.lane l ≡ Open m r
       → OnlyLane c l (Left m) d → Step c (does.Leave l) d
-
   retire : (c d : Core X) (l : ℕ) (m : LaneRecord) → c.lane l ≡ Left m
       → OnlyLane c l Idle d → Step c (does.Retire l) d
-
   note : (c d : Core X) (p : ℕ) (post : Option (ℕ × X)) → p < c.posters
       → MayOwn c.log (c.poster p) post
       → OnlyPoster c p
-        (record { places_known = length c.log; own = with_own (c.poster p).own post }) d
+      (record { places_known = length c.log; own = with_own (c.poster p).own post }) d
       → Step c (does.Note p post) d

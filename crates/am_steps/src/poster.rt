@@ -1,7 +1,8 @@
 //! One poster: who publishes through the writer, and learns from the log which places are its own.
-ghost use Rattle.std.specs.Prelude.{◌≡◌, ◌↔◌, IfOk, OnErr, IsTrue, slice_get, Some};
+ghost use Rattle.std.specs.Prelude.{◌≡◌, ◌↔◌, IfOk, OnErr, IsSome, IsTrue, slice_get, Some};
 ghost use Rattle.std.specs.List.{Contains};
 ghost use Rattle.am_steps.specs.inside.LaneRows.{DoesNote};
+ghost use Rattle.am_steps.specs.Steps.{MayOwn};
 
 use crate::names::OwnPosts;
 use std::alloc::AllocError;
@@ -18,6 +19,7 @@ pub struct Poster<N> {
 impl Poster<u64> {
     pub(crate) fn note(&mut self, log: &[u64], own: Option<(u64, u64)>) -> Result<bool, AllocError>
         ensures noted { IfOk result (DoesNote log.now own self.old self.new) }
+        ensures possible { OnErr result (IsSome own × MayOwn log.now self.old own) }
         ensures err { OnErr result (self.new ≡ self.old) }
     {
         if let Some(post) = own {

@@ -1,8 +1,9 @@
 //! What an event makes of a state: one method for each row of the table in `specs/Steps.antt`.
 ghost use Rattle.std.specs.Prelude.{◌≡◌, ◌↔◌, IsTrue, IfOk, OnErr};
 ghost use Rattle.std.specs.List.{AllPass};
-ghost use Rattle.am_steps.specs.Answers.{Applies};
+ghost use Rattle.am_steps.specs.Answers.{Applies, AsksMemory, IsPossible};
 ghost use Rattle.am_steps.specs.inside.LaneRows.{leaves_room};
+ghost use Rattle.am_steps.specs.States.{core_of};
 ghost use Rattle.am_steps.specs.declared.event.Event.TheVariants as does;
 
 use crate::event::Event;
@@ -15,6 +16,9 @@ impl State {
     /// memory is out, the state stays.
     pub fn apply(&mut self, event: Event<u64>) -> Result<bool, AllocError>
         ensures applies { IfOk result (Applies self.old event self.new) }
+
+        ensures possible { OnErr result (IsPossible (core_of self.old) event) }
+        ensures memory { OnErr result (AsksMemory event) }
         ensures err { OnErr result (self.new ≡ self.old) }
     {
         match event {
@@ -121,6 +125,7 @@ impl State {
 
     fn pass(&mut self, lane: usize) -> Result<bool, AllocError>
         ensures applies { IfOk result (Applies self.old (does.Pass lane) self.new) }
+        ensures possible { OnErr result (IsPossible (core_of self.old) (does.Pass lane)) }
         ensures err { OnErr result (self.new ≡ self.old) }
     {
         if lane >= self.lanes.len() {
@@ -135,6 +140,7 @@ impl State {
 
     fn publish(&mut self, name: u64) -> Result<bool, AllocError>
         ensures applies { IfOk result (Applies self.old (does.Publish name) self.new) }
+        ensures possible { OnErr result (IsPossible (core_of self.old) (does.Publish name)) }
         ensures err { OnErr result (self.new ≡ self.old) }
     {
         let length = self.log.len() as u64;
@@ -150,6 +156,8 @@ impl State {
 
     fn note(&mut self, poster: usize, own: Option<(u64, u64)>) -> Result<bool, AllocError>
         ensures applies { IfOk result (Applies self.old (does.Note poster own) self.new) }
+        ensures possible { OnErr result (IsPossible (core_of self.old) (does.Note poster own)) }
+        ensures memory { OnErr result (AsksMemory (does.Note poster own)) }
         ensures err { OnErr result (self.new ≡ self.old) }
     {
         if poster >= self.posters.len() {
