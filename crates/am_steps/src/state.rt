@@ -8,6 +8,8 @@ ghost use Rattle.am_steps.specs.States.{new_open_lane, unaware_poster};
 
 mod apply;
 mod freed;
+#[cfg(test)]
+mod shows;
 
 use crate::lane::Lane;
 use crate::names::OwnPosts;

@@ -37,6 +37,22 @@ impl State {
         }
     }
 
+    fn publish(&mut self, name: u64) -> Result<bool, AllocError>
+        ensures applies { IfOk result (Applies self.old (does.Publish name) self.new) }
+        ensures possible { OnErr result (IsPossible (core_of self.old) (does.Publish name)) }
+        ensures err { OnErr result (self.new ≡ self.old) }
+    {
+        let length = self.log.len() as u64;
+        if self.closed {
+            return Ok(false);
+        }
+        if !has_room(self.lanes.as_slice(), self.places, length) {
+            return Ok(false);
+        }
+        self.log.push(name)?;
+        Ok(true)
+    }
+
     fn close(&mut self) -> bool
         ensures { Applies self.old does.Close self.new result }
     {
@@ -95,6 +111,21 @@ impl State {
         self.lanes[lane].take()
     }
 
+    fn pass(&mut self, lane: usize) -> Result<bool, AllocError>
+        ensures applies { IfOk result (Applies self.old (does.Pass lane) self.new) }
+        ensures possible { OnErr result (IsPossible (core_of self.old) (does.Pass lane)) }
+        ensures err { OnErr result (self.new ≡ self.old) }
+    {
+        if lane >= self.lanes.len() {
+            return Ok(false);
+        }
+        let Some(place) = self.lanes[lane].place_in_hand() else {
+            return Ok(false);
+        };
+        let name = self.log[place as usize];
+        self.lanes[lane].pass(name)
+    }
+
     fn cut(&mut self, lane: usize) -> bool
         ensures { Applies self.old (does.Cut lane) self.new result }
     {
@@ -123,37 +154,6 @@ impl State {
         self.lanes[lane].retire()
     }
 
-    fn pass(&mut self, lane: usize) -> Result<bool, AllocError>
-        ensures applies { IfOk result (Applies self.old (does.Pass lane) self.new) }
-        ensures possible { OnErr result (IsPossible (core_of self.old) (does.Pass lane)) }
-        ensures err { OnErr result (self.new ≡ self.old) }
-    {
-        if lane >= self.lanes.len() {
-            return Ok(false);
-        }
-        let Some(place) = self.lanes[lane].place_in_hand() else {
-            return Ok(false);
-        };
-        let name = self.log[place as usize];
-        self.lanes[lane].pass(name)
-    }
-
-    fn publish(&mut self, name: u64) -> Result<bool, AllocError>
-        ensures applies { IfOk result (Applies self.old (does.Publish name) self.new) }
-        ensures possible { OnErr result (IsPossible (core_of self.old) (does.Publish name)) }
-        ensures err { OnErr result (self.new ≡ self.old) }
-    {
-        let length = self.log.len() as u64;
-        if self.closed {
-            return Ok(false);
-        }
-        if !has_room(self.lanes.as_slice(), self.places, length) {
-            return Ok(false);
-        }
-        self.log.push(name)?;
-        Ok(true)
-    }
-
     fn note(&mut self, poster: usize, own: Option<(u64, u64)>) -> Result<bool, AllocError>
         ensures applies { IfOk result (Applies self.old (does.Note poster own) self.new) }
         ensures possible { OnErr result (IsPossible (core_of self.old) (does.Note poster own)) }
@@ -167,7 +167,7 @@ impl State {
     }
 }
 
-// Whether no lane is so far behind that the log may not grow.
+// Whether no lane is so far behind that the log may not grow by a batch.
 fn has_room(lanes: &[Lane<u64>], places: u64, length: u64) -> bool
     ensures { IsTrue result ↔ AllPass (leaves_room places length) lanes.now }
 {
