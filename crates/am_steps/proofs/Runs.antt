@@ -8,7 +8,7 @@ use Rattle.am_steps.specs.declared.event.Event as event
 use Rattle.am_steps.specs.declared.event.Event.TheVariants as does
 use Rattle.am_steps.specs.States.{Core, record_of, new_record, new_open_lane, first_state, first_state_open}
 use Rattle.am_steps.specs.Steps.{Step, publish, close, harvest, admit, opens, look, take as takes, pass, cut, leave, retire, note}
-use Rattle.am_steps.specs.Runs.{Runs, none, then, HasNoCut, open_each}
+use Rattle.am_steps.specs.Runs.{LeadsTo, none, then, HasNoCut, open_each}
 use Rattle.am_steps.specs.Soundness.{IsSound}
 use Rattle.am_steps.specs.Needed.{IsFreed}
 use Rattle.am_steps.proofs.Steps.{closed_step, places_step, EachRecord, each_record_lane, each_record_same, holds_with_record}
@@ -19,15 +19,15 @@ abbrev Uncut : LaneRecord → Type 0
 Uncut m = m.cut ≡ false
 
 module _ {X : Type 0} where
-  pub runs_sound : (c d : Core X) (es : List (event.Event X)) → IsSound c → Runs c es d → IsSound d
+  pub runs_sound : (c d : Core X) (es : List (event.Event X)) → IsSound c → LeadsTo c es d → IsSound d
   runs_sound _ _ _ s (none c) = s
   runs_sound _ _ _ s (then c d f e es one rest) = runs_sound d f es (keeps_sound c d e s one) rest
 
-  pub freed_stays : (c d : Core X) (es : List (event.Event X)) (i : ℕ) → IsSound c → Runs c es d → IsFreed c i → IsFreed d i
+  pub freed_stays : (c d : Core X) (es : List (event.Event X)) (i : ℕ) → IsSound c → LeadsTo c es d → IsFreed c i → IsFreed d i
   freed_stays _ _ _ i s (none c) f = f
   freed_stays _ _ _ i s (then c d g e es one rest) f = freed_stays d g es i (keeps_sound c d e s one) rest (freed_step c d e i s one f)
 
-  pub closed_stays : (c d : Core X) (es : List (event.Event X)) → c.closed ≡ true → Runs c es d → (d.closed ≡ true) × (d.log ≡ c.log)
+  pub closed_stays : (c d : Core X) (es : List (event.Event X)) → c.closed ≡ true → LeadsTo c es d → (d.closed ≡ true) × (d.log ≡ c.log)
   closed_stays _ _ _ e (none c) = (e, refl)
   closed_stays _ _ _ e (then c d f a es one rest) = let now = closed_step c d a e one in let on = closed_stays d f es now.0 rest in (on.0, on.1 ∙ now.1)
 
@@ -45,11 +45,11 @@ module _ {X : Type 0} where
   uncut_step _ _ _ es bare u (retire c d l m is t) = (each_record_lane Uncut c d l _ t u tt, bare)
   uncut_step _ _ _ es bare u (note c d p post inside may n) = (each_record_same Uncut c d n.lane u, bare)
 
-  stays_uncut : (c d : Core X) (es : List (event.Event X)) → HasNoCut es → EachRecord Uncut c → Runs c es d → EachRecord Uncut d × (d.places ≡ c.places)
+  stays_uncut : (c d : Core X) (es : List (event.Event X)) → HasNoCut es → EachRecord Uncut c → LeadsTo c es d → EachRecord Uncut d × (d.places ≡ c.places)
   stays_uncut _ _ _ bare u (none c) = (u, refl)
   stays_uncut _ _ _ bare u (then c d f e es one rest) = let now = uncut_step c d e es bare u one in let on = stays_uncut d f es now.1 now.0 rest in (on.0, on.1 ∙ places_step c d e one)
 
-  pub within_places : (places lanes posters : ℕ) (es : List (event.Event X)) (c : Core X) → HasNoCut es → Runs (first_state places lanes posters) es c
+  pub within_places : (places lanes posters : ℕ) (es : List (event.Event X)) (c : Core X) → HasNoCut es → LeadsTo (first_state places lanes posters) es c
       → (l : ℕ) (m : LaneRecord) → record_of (c.lane l) ≡ Some m → length c.log - m.known ≤ places
   within_places places lanes posters es c bare runs l m is =
       let first = first_state {X = X} places lanes posters in let u = stays_uncut first c es bare (λ k n e. absurd (none-some n e)) runs in
@@ -62,7 +62,7 @@ one_past l k ne = elim (cases_lt l k) [
 ]
 
 module _ {X : Type 0} where
-  then_also : (c d f : Core X) (es fs : List (event.Event X)) → Runs c es d → Runs d fs f → Runs c (es ++ fs) f
+  then_also : (c d f : Core X) (es fs : List (event.Event X)) → LeadsTo c es d → LeadsTo d fs f → LeadsTo c (es ++ fs) f
   then_also _ _ f _ fs (none c) more = more
   then_also _ _ f _ fs (then c d g e es one rest) more = then c d f e (es ++ fs) one (then_also d g f es fs rest more)
 
@@ -97,10 +97,10 @@ module _ {X : Type 0} (places lanes posters : ℕ) where
   none_open : first_state places lanes posters ≡ some_open 0
   none_open = λ i. record (first_state {X = X} places lanes posters) { lane = λ l. ap (λ b. cond b new_open_lane Idle) (sym (le-ltb l 0 (omega arith))) i }
 
-  so_far : (k : ℕ) → k ≤ lanes → Runs {X = X} (first_state places lanes posters) (open_each k) (some_open k)
-  so_far zero h = subst (λ d. Runs (first_state places lanes posters) [] d) none_open (none (first_state places lanes posters))
+  so_far : (k : ℕ) → k ≤ lanes → LeadsTo {X = X} (first_state places lanes posters) (open_each k) (some_open k)
+  so_far zero h = subst (λ d. LeadsTo (first_state places lanes posters) [] d) none_open (none (first_state places lanes posters))
   so_far (suc k) h = then_also (first_state places lanes posters) (some_open k) (some_open (suc k)) (open_each k) (does.Admit k ∷ does.Open k ∷ []) (so_far k (omega arith))
       (then _ _ _ _ _ (admits k (omega arith)) (then _ _ _ _ _ (opens_one k) (none (some_open (suc k)))))
 
-  pub each_opens : Runs {X = X} (first_state places lanes posters) (open_each lanes) (first_state_open places lanes posters)
+  pub each_opens : LeadsTo {X = X} (first_state places lanes posters) (open_each lanes) (first_state_open places lanes posters)
   each_opens = so_far lanes (omega arith)

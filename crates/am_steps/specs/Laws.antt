@@ -4,7 +4,7 @@ use Rattle.am_steps.specs.declared.lane_record.LaneRecord.{LaneRecord}
 use Rattle.am_steps.specs.declared.event.Event as event
 use Rattle.am_steps.specs.States.{Core, record_of, first_state, first_state_open}
 use Rattle.am_steps.specs.Steps.{Step}
-use Rattle.am_steps.specs.Runs.{Runs, HasNoCut, open_each}
+use Rattle.am_steps.specs.Runs.{LeadsTo, HasNoCut, open_each}
 use Rattle.am_steps.specs.Soundness.{IsSound}
 use Rattle.am_steps.specs.Needed.{IsNeeded, IsFreed}
 
@@ -30,7 +30,7 @@ module _ (X : Type 0) where
   -- whatever events came since the first state, the state is sound
   abbrev pub RunsAreSound : Type 0
   RunsAreSound = (places lanes posters : ℕ) (es : List (event.Event X)) (c : Core X)
-      → Runs (first_state places lanes posters) es c → IsSound c
+      → LeadsTo (first_state places lanes posters) es c → IsSound c
 
   -- no place that a lane needs is freed
   abbrev pub NeededIsNotFreed : Type 0
@@ -38,21 +38,21 @@ module _ (X : Type 0) where
 
   -- a freed place stays freed
   abbrev pub StaysFreed : Type 0
-  StaysFreed = (c d : Core X) (es : List (event.Event X)) (i : ℕ) → IsSound c → Runs c es d
+  StaysFreed = (c d : Core X) (es : List (event.Event X)) (i : ℕ) → IsSound c → LeadsTo c es d
       → IsFreed c i → IsFreed d i
 
   -- a closed log stays closed and does not grow
   abbrev pub ClosedStays : Type 0
-  ClosedStays = (c d : Core X) (es : List (event.Event X)) → c.closed ≡ true → Runs c es d
+  ClosedStays = (c d : Core X) (es : List (event.Event X)) → c.closed ≡ true → LeadsTo c es d
       → (d.closed ≡ true) × (d.log ≡ c.log)
 
   -- where no event is a Cut, each lane that isn't idle is at most so many places behind
   abbrev pub IsWithinPlaces : Type 0
   IsWithinPlaces = (places lanes posters : ℕ) (es : List (event.Event X)) (c : Core X)
-      → HasNoCut es → Runs (first_state places lanes posters) es c → (l : ℕ) (m : LaneRecord)
+      → HasNoCut es → LeadsTo (first_state places lanes posters) es c → (l : ℕ) (m : LaneRecord)
       → record_of (c.lane l) ≡ Some m → length c.log - m.known ≤ places
 
   -- an Admit and an Open of each lane lead to the state where each is open
   abbrev pub OpensEachLane : Type 0
-  OpensEachLane = (places lanes posters : ℕ) → Runs {X = X} (first_state places lanes posters)
+  OpensEachLane = (places lanes posters : ℕ) → LeadsTo {X = X} (first_state places lanes posters)
       (open_each lanes) (first_state_open places lanes posters)

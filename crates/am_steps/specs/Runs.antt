@@ -6,10 +6,10 @@ use Rattle.am_steps.specs.States.{Core}
 use Rattle.am_steps.specs.Steps.{Step}
 
 -- the events lead from the first state to the last
-pub data Runs {X : Type 0} : Core X → List (event.Event X) → Core X → Type 0 where
-  none : (c : Core X) → Runs c [] c
+pub data LeadsTo {X : Type 0} : Core X → List (event.Event X) → Core X → Type 0 where
+  none : (c : Core X) → LeadsTo c [] c
   then : (c d f : Core X) (e : event.Event X) (es : List (event.Event X)) → Step c e d
-      → Runs d es f → Runs c (e ∷ es) f
+      → LeadsTo d es f → LeadsTo c (e ∷ es) f
 
 -- no event of the list cuts a lane
 abbrev pub HasNoCut : {X : Type 0} → List (event.Event X) → Type 0
