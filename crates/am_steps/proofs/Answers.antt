@@ -11,7 +11,7 @@ use Rattle.am_steps.specs.declared.poster.Poster.{Poster}
 use Rattle.am_steps.specs.declared.event.Event as event
 use Rattle.am_steps.specs.declared.event.Event.TheVariants as does
 use Rattle.am_steps.specs.States.{Core, StateView, core_of, record_of, unaware_poster}
-use Rattle.am_steps.specs.Steps.{OnlyLane, OnlyPoster, HasRoom, MayOwn, with_own, Step, publish, cut, note}
+use Rattle.am_steps.specs.Steps.{OnlyLane, OnlyPoster, HasRoom, MayOwn, with_own, Step, publish, note}
 use Rattle.am_steps.specs.Soundness.{IsSound}
 use Rattle.am_steps.specs.Needed.{KeepsKey, IsFreed}
 use Rattle.am_steps.specs.Answers.{Applies, IsPossible}

@@ -1,5 +1,5 @@
 -- Lists that grow at their end, and what else std lacks.
-use Rattle.std.proofs.Common.{◌≡◌, ℕ, zero, suc, ◌+◌, ◌-◌, ◌≤◌, inl, inr, cond, nat_lt, List, [], ◌∷◌, ◌++◌, length, take, drop, slice_get, get_or, replicate, Option, Some, MatchOption, Vec, rules, refl, sym, ap, ◌∙◌, arith}
+use Rattle.std.proofs.Common.{◌≡◌, ℕ, zero, suc, ◌+◌, ◌≤◌, inl, inr, cond, nat_lt, List, [], ◌∷◌, ◌++◌, length, take, drop, slice_get, get_or, replicate, Option, Some, MatchOption, Vec, rules, refl, sym, ap, ◌∙◌, arith}
 use Rattle.std.specs.Vec.{vec_len}
 use Rattle.std.proofs.lemmas.Bool.{cases_lt, lt-ltb, le-ltb}
 use Rattle.std.proofs.lemmas.List.{take_more, drop_all, length-take-le, get_or_default, get_or_past, length-replicate}

@@ -1,9 +1,9 @@
 -- What holds over every list of events.
-use Rattle.std.proofs.Common.{◌≡◌, ◌≢◌, ℕ, zero, suc, ◌+◌, ◌-◌, ◌<◌, ◌≤◌, inl, inr, true, false, cond, nat_eq, nat_lt, List, [], ◌∷◌, ◌++◌, length, Some, refl, sym, ap, ◌∙◌, subst, arith}
+use Rattle.std.proofs.Common.{◌≡◌, ◌≢◌, ℕ, zero, suc, ◌-◌, ◌<◌, ◌≤◌, inl, inr, true, false, cond, nat_eq, nat_lt, List, [], ◌∷◌, ◌++◌, length, Some, refl, sym, ap, ◌∙◌, subst, arith}
 use Rattle.std.proofs.lemmas.Bool.{eq-eqb, ne_eqb, cases_lt, lt-ltb, le-ltb}
 use Rattle.std.proofs.lemmas.Option.{none-some}
 use Rattle.am_steps.specs.declared.lane_record.LaneRecord.{LaneRecord}
-use Rattle.am_steps.specs.declared.lane.Lane.TheVariants.{Idle, Admitted, Open}
+use Rattle.am_steps.specs.declared.lane.Lane.TheVariants.{Idle, Admitted}
 use Rattle.am_steps.specs.declared.event.Event as event
 use Rattle.am_steps.specs.declared.event.Event.TheVariants as does
 use Rattle.am_steps.specs.States.{Core, record_of, new_record, new_open_lane, first_state, first_state_open}

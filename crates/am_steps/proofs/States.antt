@@ -1,5 +1,5 @@
 -- Which kind a lane is, and the states at first.
-use Rattle.std.proofs.Common.{◌≡◌, ℕ, ◌-◌, false, List, [], length, get_or, replicate, Option, Some, None, sym, ap, ◌∙◌}
+use Rattle.std.proofs.Common.{◌≡◌, ℕ, false, List, [], length, get_or, replicate, Option, Some, None, sym, ap, ◌∙◌}
 use Rattle.std.proofs.lemmas.List.{length-replicate}
 use Rattle.std.proofs.lemmas.Option.{same_Some}
 use Rattle.am_steps.specs.declared.lane_record.LaneRecord.{LaneRecord}
