@@ -9,7 +9,8 @@ use Rattle.am_steps.specs.Steps.{Step}
 -- state stays
 abbrev pub Applies : {X : Type 0} → StateView X → event.Event X → StateView X → Bool → Type 0
 Applies old event new true = Step (core_of old) event (core_of new)
-Applies {X} old event new false = (new ≡ old) × ((next : Core X) → Step (core_of old) event next → ⊥)
+Applies {X} old event new false =
+    (new ≡ old) × ((next : Core X) → Step (core_of old) event next → ⊥)
 
 -- the event has a next state
 abbrev pub IsPossible : {X : Type 0} → Core X → event.Event X → Type 0

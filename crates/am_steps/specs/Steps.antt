@@ -1,5 +1,5 @@
--- What each atomic step does to a state: a relation with one constructor for each row of this table,
--- and nothing else. It is this project's own. `length` is the log's.
+-- What each atomic step does to a state: a relation with one constructor for each row of this
+-- table, and nothing else. It is this project's own. `length` is the log's.
 --
 --   event            step                          possible where            change
 --   Publish name     writer stores the tail word   not closed, and           log grows by the name
@@ -9,18 +9,19 @@
 --   Close            writer stores the tail word   not closed                closed
 --   Harvest lane     writer loads the lane's word  admitted or open          known := passed,
 --                                                                            key_out := held
---   Admit lane       writer stores the lane's      idle, not closed          admitted, with start :=
---                    word                                                    known := length
---   Open lane        lane loads its own word       admitted                  open, with passed :=
+--   Admit lane       writer stores the lane's      idle, not closed          admitted,
+--                    word                                                    start := length,
+--                                                                            known := length
+--   Open lane        lane loads its own word       admitted                  open, passed := start,
 --                                                                            seen := start
 --   Look lane        lane loads the tail word      open                      seen := length,
 --                                                                            told := closed
---   Take lane        lane exchanges its own word   open, not held,           held; but on a cut lane
+--   Take lane        lane exchanges its own word   open, not held,           held; on a cut lane
 --                                                  passed < seen             only told_cut
---   Pass lane        lane adds to its own word     open, held                got grows by the name at
---                                                                            passed, passed by 1, not
---                                                                            held; on a cut lane also
---                                                                            told_cut
+--   Pass lane        lane adds to its own word     open, held                got grows by the name
+--                                                                            at passed, passed by
+--                                                                            1, not held; on a cut
+--                                                                            lane also told_cut
 --   Cut lane         writer exchanges the lane's   admitted or open with     cut
 --                    word                          the word last found, not
 --                                                  cut, and passed =
@@ -28,13 +29,14 @@
 --   Leave lane       lane stores the greatest u64  open                      left
 --   Retire lane      writer loads the lane's word  left                      idle
 --   Note poster own  poster loads the tail word    such a poster is there;   places_known := length,
---                                                  own is nothing, or its    own joins the own posts
+--                                                  own is nothing, or its    own joins its own posts
 --                                                  name stands at its place
 --                                                  and it isn't own yet
 --
--- An admitted lane's word shows `passed = start`, and no key in hand.
-use Rattle.std.specs.Prelude.{◌≡◌, ◌≢◌, ℕ, ◌+◌, ◌-◌, ◌<◌, Bool, true, false, ◌||◌, List, [], ◌∷◌, ◌++◌}
-use Rattle.std.specs.Prelude.{length, Option, Some, None, slice_get, if◌then◌else◌}
+-- An admitted lane's word shows `passed = start` and no key in hand. Where the exchange of a cut
+-- finds another word than the last one, it is a Harvest of that word, or a Retire.
+use Rattle.std.specs.Prelude.{◌≡◌, ◌≢◌, ℕ, ◌+◌, ◌-◌, ◌<◌, Bool, true, false, ◌||◌}
+use Rattle.std.specs.Prelude.{List, [], ◌∷◌, ◌++◌, length, Option, Some, None, slice_get, if◌then◌else◌}
 use Rattle.std.specs.List.{Contains}
 use Rattle.am_steps.specs.declared.lane_record.LaneRecord.{LaneRecord}
 use Rattle.am_steps.specs.declared.cursor.Cursor.{Cursor}
@@ -43,7 +45,8 @@ use Rattle.am_steps.specs.declared.lane.Lane.TheVariants.{Idle, Admitted, Open, 
 use Rattle.am_steps.specs.declared.poster.Poster.{Poster}
 use Rattle.am_steps.specs.declared.event.Event as event
 use Rattle.am_steps.specs.declared.event.Event.TheVariants as does
-use Rattle.am_steps.specs.States.{Core, LaneWord, record_of, with_record, word_of, new_record, new_cursor}
+use Rattle.am_steps.specs.States.{Core, LaneWord, record_of, with_record}
+use Rattle.am_steps.specs.States.{word_of, new_record, new_cursor}
 
 module _ {X : Type 0} where
   -- all but the lanes and the posters stays
@@ -93,6 +96,15 @@ module _ {X : Type 0} where
   with_own own None = own
   with_own own (Some post) = own ++ post ∷ []
 
+  -- the cursor of a lane, one place further
+  abbrev pub one_further : LaneRecord → X → Cursor X → Cursor X
+  one_further m x r = record r {
+    passed = r.passed + 1;
+    held = false;
+    told_cut = r.told_cut || m.cut;
+    got = r.got ++ x ∷ [];
+  }
+
 -- a step of the state, one constructor for each row of the table
 pub data Step {X : Type 0} : Core X → event.Event X → Core X → Type 0 where
   publish : (c d : Core X) (x : X) → c.closed ≡ false → HasRoom c
@@ -116,9 +128,7 @@ pub data Step {X : Type 0} : Core X → event.Event X → Core X → Type 0 wher
       → Step c (does.Take l) d
   pass : (c d : Core X) (l : ℕ) (m : LaneRecord) (r : Cursor X) (x : X) → c.lane l ≡ Open m r
       → r.held ≡ true → slice_get c.log r.passed ≡ Some x
-      → OnlyLane c l
-      (Open m (record r { passed = r.passed + 1; held = false; told_cut = r.told_cut || m.cut; got = r.got ++ x ∷ [] })) d
-      → Step c (does.Pass l) d
+      → OnlyLane c l (Open m (one_further m x r)) d → Step c (does.Pass l) d
   cut : (c d : Core X) (l : ℕ) (m : LaneRecord) → record_of (c.lane l) ≡ Some m
       → word_of (c.lane l) ≡ Some (record { passed = m.known; held = m.key_out })
       → m.cut ≡ false → m.known + c.places ≡ length c.log

@@ -1,5 +1,5 @@
 //! What holds whatever the order of steps: laws over the definitions alone, for any type `N` of
-//! batches' names. Each is a function that does nothing, and a proof calls it where it needs the law.
+//! batches' names. Each is a function that does nothing: a proof calls it where it needs the law.
 ghost use Rattle.am_steps.specs.Laws.{ClosedStays, HasOneNext, IsWithinPlaces, KeepsSound};
 ghost use Rattle.am_steps.specs.Laws.{NeededIsNotFreed, OpensEachLane, RunsAreSound, StaysFreed};
 

@@ -13,11 +13,11 @@
 //!
 //! A lane is a subscriber's slot: idle, admitted, open (a cursor reads) or left. It begins at the
 //! log's end, looks how long the log is, takes the key of the next place into its hand, and passes
-//! it. The writer learns by a harvest how far a lane is (`known`), keeps its keys of the places from
-//! there on, and so frees a place once each lane is known to have passed it.
+//! it. The writer learns by a harvest how far a lane is (`known`), keeps its keys of the places
+//! from there on, and so frees a place once each lane is known to have passed it.
 //!
-//! A slow lane: once one that isn't cut is known to be `places` behind, the log can't grow, until the
-//! lane is harvested further or retired, or the writer cuts it. A cut lane passes the place in its
+//! A slow lane: once one that isn't cut is known to be `places` behind, the log can't grow, until
+//! the lane is harvested further or retired, or the writer cuts it. A cut lane passes the place in its
 //! hand, and then takes no more. Closing: a closed log neither grows nor admits; lanes read on to
 //! its end.
 //!

@@ -1,5 +1,5 @@
 //! The table's rows once more, for tests: over the words of the running log, and by nothing of
-//! `lane.rt`. A word is `4 * passed + 2 * held + cut`, or the greatest `u64` of a lane that is left.
+//! `lane.rt`. A word is `4 * passed + 2 * held + cut`, or the greatest `u64` once a lane is left.
 use crate::event::Event;
 use std::alloc::{AllocError, Global};
 

@@ -1,18 +1,20 @@
 -- The rows of the table that change one lane or one poster, as what becomes of it. There is nothing
 -- where the event isn't possible. For the crate alone: public contracts cite the relation.
-use Rattle.std.specs.Prelude.{◌≡◌, ℕ, ◌+◌, ◌-◌, Bool, true, false, cond, ◌&&◌, ◌||◌, not, nat_eq, nat_lt, nat_le}
-use Rattle.std.specs.Prelude.{List, [], ◌∷◌, ◌++◌, length, Option, Some, None, MatchOption}
+use Rattle.std.specs.Prelude.{◌≡◌, ℕ, ◌+◌, ◌-◌, Bool, true, false, cond, ◌&&◌, ◌||◌, not}
+use Rattle.std.specs.Prelude.{nat_eq, nat_lt, nat_le}
+use Rattle.std.specs.Prelude.{List, [], ◌∷◌, length, Option, Some, None, MatchOption}
 use Rattle.am_steps.specs.declared.lane_record.LaneRecord.{LaneRecord}
 use Rattle.am_steps.specs.declared.lane.Lane.{Lane}
 use Rattle.am_steps.specs.declared.lane.Lane.TheVariants.{Idle, Admitted, Open, Left}
 use Rattle.am_steps.specs.declared.poster.Poster.{Poster}
 use Rattle.am_steps.specs.States.{new_record, new_cursor}
-use Rattle.am_steps.specs.Steps.{MayOwn, with_own}
+use Rattle.am_steps.specs.Steps.{MayOwn, one_further, with_own}
 
 -- the lane may be cut: it wasn't, its word is the one last found, and it is so many places behind
 abbrev pub may_cut : ℕ → ℕ → LaneRecord → ℕ → Bool → Bool
 may_cut places length m passed held = not m.cut
-    && (nat_eq passed m.known && (cond m.key_out held (not held) && nat_eq (m.known + places) length))
+    && (nat_eq passed m.known
+    && (cond m.key_out held (not held) && nat_eq (m.known + places) length))
 
 -- the writer keeps the lane's key of the place
 abbrev pub keeps_key : ℕ → LaneRecord → Bool
@@ -62,7 +64,7 @@ module _ {X : Type 0} where
   after_pass x Idle = None
   after_pass x (Admitted m) = None
   after_pass x (Open m r) = cond r.held
-      (Some (Open m (record r { passed = r.passed + 1; held = false; told_cut = r.told_cut || m.cut; got = r.got ++ x ∷ [] })))
+      (Some (Open m (one_further m x r)))
       None
   after_pass x (Left m) = None
 
