@@ -1,0 +1,3 @@
+-- Definitions that only the crate's own functions cite.
+pub mod Fields
+pub mod LaneRows

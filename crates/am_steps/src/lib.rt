@@ -1,0 +1,58 @@
+//! The pure core of the broadcast log: what each atomic step does to a state that nobody shares.
+//!
+//! In the running log one writer, up to eight readers and the posters step on shared words, in any
+//! order. Here the same steps are plain calls on plain data, so that what holds whatever the order
+//! is proved once: see `laws.rt`. The table of all steps is the head of `specs/Steps.antt`.
+//!
+//! ```text
+//! place           0      1      2      3      4      5        the next batch is place 6
+//! log             a      b      c      d      e      f        length 6, closed or not
+//! lane 0, open    start         known  passed        seen = 5
+//!                 got = a b c          in hand, if held
+//! ```
+//!
+//! A lane is a subscriber's slot: idle, admitted, open (a cursor reads) or left. It begins at the
+//! log's end, looks how long the log is, takes the key of the next place into its hand, and passes
+//! it. The writer learns by a harvest how far a lane is (`known`), keeps its keys of the places
+//! from there on, and so frees a place once each lane is known to have passed it.
+//!
+//! A slow lane: once one that isn't cut is known to be `places` behind, the log can't grow, until
+//! the lane is harvested further or retired, or the writer cuts it. A cut lane passes the place in its
+//! hand, and then takes no more. Closing: a closed log neither grows nor admits; lanes read on to
+//! its end.
+//!
+//! ```text
+//! let mut state = State::new(alloc, 1, 1, 0)?;    // one place, one lane, no poster
+//! state.apply(Event::Admit(0))?;                  // true: lane 0 begins at place 0
+//! state.apply(Event::Publish(7))?;                // true: place 0 has the batch 7
+//! state.apply(Event::Publish(8))?;                // false: lane 0 is one place behind
+//! state.freed(0);                                 // false: lane 0 needs it
+//! ```
+#![tactic(auto)]
+
+mod cursor;
+mod event;
+mod lane;
+mod lane_record;
+mod laws;
+mod names;
+#[cfg(test)]
+mod plain;
+mod poster;
+mod state;
+
+pub use cursor::Cursor;
+pub use event::Event;
+pub use lane::Lane;
+pub use lane_record::LaneRecord;
+pub use laws::{
+    a_closed_log_stays, a_freed_place_stays_freed, a_needed_place_is_not_freed,
+    a_step_keeps_it_sound, an_event_has_one_next_state, each_lane_opens, every_run_is_sound,
+    uncut_lanes_are_within_the_places,
+};
+pub use names::{Names, OwnPosts};
+pub use poster::Poster;
+pub use state::State;
+
+#[cfg(test)]
+mod tests;
