@@ -157,7 +157,7 @@ fn log_of(alloc: Global, places: usize, count: usize) -> Result<Vec<Sealed<Vec<u
 }
 
 #[test]
-fn a_full_log_of_full_batches(rt: HostRuntime) -> Result<(), Fail> {
+fn whole_log_of_full_batches(rt: HostRuntime) -> Result<(), Fail> {
     let segments = log_of(rt.alloc(), 256, 1_024)?;
     let mut sum = 0u64;
     for sealed in segments.iter() {
