@@ -2,11 +2,12 @@
 
 ghost use Rattle.std.specs.Prelude.{◌≡◌, ◌↔◌, ℕ, ◌≤◌, ◌<◌, [], ◌∷◌, ◌++◌, length};
 ghost use Rattle.std.specs.Prelude.{IsOk, IfOk, IfErr, OnOk};
-ghost use Rattle.am_segment.specs.Segments.{keys_of, AreAllKeys};
+ghost use Rattle.am_segment.specs.Segments.{key_with, keys_of, AreAllKeys};
 
 use crate::block::Block;
 use crate::block_return::{BlockReturn, clear};
 use crate::key::{MAX_KEYS, SegKey, cut};
+use crate::key_run::KeyRun;
 use crate::seal_fault::SealFault;
 use std::alloc::{AllocError, Global};
 use std::marker::Model;
@@ -112,5 +113,31 @@ impl<T> SegmentBuilder<T> {
             alloc,
         };
         Ok(cut(count, keys, whole, last, made))
+    }
+
+    /// So many keys to the items, handed out one by one. It takes no memory.
+    pub fn hand_out(self, keys: usize) -> KeyRun<T>
+        requires { (1 ≤ keys) × (keys ≤ MAX_KEYS) }
+        ensures { (segment : ℕ) × (result ≡ key_with segment keys self.items 0) }
+    {
+        let SegmentBuilder {
+            block,
+            places,
+            count,
+            alloc,
+        } = self;
+        let (claim, rest) = block.share(keys);
+        let back = BlockReturn {
+            places,
+            claim,
+            alloc,
+        };
+        KeyRun {
+            rest,
+            len: count,
+            next: 0,
+            last: keys - 1,
+            back,
+        }
     }
 }

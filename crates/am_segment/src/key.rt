@@ -8,7 +8,7 @@ use crate::block_return::BlockReturn;
 use std::marker::Model;
 
 /// The most keys of one segment. No vector has room for more.
-pub(crate) const MAX_KEYS: usize = 1 << 62;
+pub const MAX_KEYS: usize = 1 << 62;
 
 /// The right to read a segment's items. It must be spent, by `reunite` with all other keys of its
 /// segment.

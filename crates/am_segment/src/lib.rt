@@ -32,12 +32,14 @@ mod block_return;
 mod builder;
 mod gathered;
 mod key;
+mod key_run;
 mod laws;
 mod seal_fault;
 
 pub use builder::SegmentBuilder;
 pub use gathered::reunite;
-pub use key::SegKey;
+pub use key::{MAX_KEYS, SegKey};
+pub use key_run::KeyRun;
 pub use laws::keys_in_order_are_all;
 pub use seal_fault::SealFault;
 

@@ -116,6 +116,35 @@ fn one_key_to_no_item(rt: HostRuntime) -> Result<(), Fail> {
     Ok(())
 }
 
+// The same two keys as `seal` makes, handed out one by one.
+fn handed_out<T: Drop>(alloc: Global, builder: SegmentBuilder<T>) -> Result<Sealed<T>, AllocError> {
+    let mut keys = match Vec::with_capacity(alloc, 2) {
+        Ok(keys) => keys,
+        Err(error) => {
+            builder.discard();
+            return Err(error);
+        }
+    };
+    let (first, rest) = builder.hand_out(2).next();
+    let Some(rest) = rest else { unreachable!() };
+    let (second, end) = rest.next();
+    let None = end else { unreachable!() };
+    keys.push_reserved(first);
+    keys.push_reserved(second);
+    Ok(Sealed { keys })
+}
+
+#[test]
+fn keys_are_handed_out_one_by_one(rt: HostRuntime) -> Result<(), Fail> {
+    let item = Arc::new(rt.alloc(), 7)?;
+    let sealed = handed_out(rt.alloc(), filled(rt.alloc(), &item)?)?;
+    let shown = sealed.keys.iter().all(|key| shows_filled(key));
+    sealed.end();
+    assert!(rt; shown);
+    assert_eq!(rt; Arc::strong_count(&item), 1);
+    Ok(())
+}
+
 // One segment of the numbers below `count`, each in a text of its own.
 fn texts(alloc: Global, count: usize, keys: usize) -> Result<Sealed<Vec<usize>>, AllocError>
     requires { (1 ≤ count) × (1 ≤ keys) }

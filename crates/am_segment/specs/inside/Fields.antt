@@ -1,9 +1,10 @@
--- What contracts see of the fields of a builder and of a key, and what always holds of them. Of the
+-- What contracts see of the fields of a builder, a key and a run of keys, and what always holds of them. Of the
 -- inside alone: no public clause cites it but by the views.
 use Rattle.std.specs.Prelude.{◌≡◌, ◌+◌, ◌^◌, ◌<◌, ◌≤◌, length, MatchOption}
 use Rattle.am_segment.specs.Segments.{BuilderView, KeyView}
 use Rattle.am_segment.specs.declared.builder.SegmentBuilder.TheInside.{Inside as Builder}
 use Rattle.am_segment.specs.declared.key.SegKey.TheInside.{Inside as Key}
+use Rattle.am_segment.specs.declared.key_run.KeyRun.TheInside.{Inside as Run}
 
 module _ {X : Type 0} where
   abbrev pub builder_view : Builder X → BuilderView X
@@ -32,3 +33,17 @@ module _ {X : Type 0} where
     pub number : k.part.number < k.part.keys
     pub few : k.part.keys ≤ 2 ^ 62
     pub share : HasItsShare k
+
+  abbrev pub run_view : Run X → KeyView X
+  run_view r = record { segment = r.rest.segment; number = r.next; keys = r.rest.keys; items = r.rest.items }
+
+  -- a run that has handed out the keys below `next` has lost one part for each
+  pub record IsRun (r : Run X) : Type 0 where
+    pub len : r.len ≡ length r.rest.items
+    pub within : r.len ≤ r.rest.places
+    pub next : r.next ≤ r.last
+    pub keys : (r.rest.keys ≡ r.last + 1) × (r.rest.number ≡ r.last)
+    pub few : r.rest.keys ≤ 2 ^ 62
+    pub parts : r.rest.count + r.next ≡ 2 ^ 63
+    pub back : (r.back.claim.at ≡ r.rest.ptr) × (r.back.claim.items ≡ r.rest.items)
+        × (r.back.claim.segment ≡ r.rest.segment)
