@@ -27,7 +27,8 @@ module _ {X : Type 0} where
   -- how a key's view is stored: as the tuple of its fields
   abbrev pub coded_key : Coded X → Coded (KeyView X)
   coded_key code =
-      code_by (ℕ × (ℕ × (ℕ × List X))) (coded× coded_ℕ (coded× coded_ℕ (coded× coded_ℕ (coded_list code))))
+      code_by (ℕ × (ℕ × (ℕ × List X)))
+      (coded× coded_ℕ (coded× coded_ℕ (coded× coded_ℕ (coded_list code))))
       (λ k. (k.segment, (k.number, (k.keys, k.items))))
       (λ p. record { segment = p.0; number = p.1.0; keys = p.1.1.0; items = p.1.1.1 })
       (λ _. refl)

@@ -39,7 +39,8 @@ impl<T, A: Allocator> Block<T, A> {
     /// An empty block with places for so many items.
     pub(crate) fn allocate(alloc: &A, places: usize) -> Result<Block<T, A>, AllocError>
         requires { FitsInBlock T.row places }
-        ensures { IfOk result (λ b. (b.items ≡ []) × (b.places ≡ places) × (b.alloc ≡ alloc.now)) }
+        ensures { IfOk result
+            (λ b. (b.items ≡ []) × (b.places ≡ places) × (b.alloc ≡ alloc.now)) }
     {
         match alloc.allocate(places * size_of::<T>(), align_of::<T>()) {
             Ok(ptr) => Ok(Block {
@@ -101,7 +102,8 @@ pub(crate) struct Claim<T, A: Allocator> {
 }
 
 impl<T, A: Allocator> Model for Claim<T, A> {
-    ghost also_owns = { λ c. claim_owns (A.dealloc_token c.alloc) T.row c.at c.places c.items c.segment };
+    ghost also_owns = { λ c.
+        claim_owns (A.dealloc_token c.alloc) T.row c.at c.places c.items c.segment };
 
     ghost also_shares = { λ _ _ _. ftrue };
 }
@@ -114,8 +116,10 @@ unsafe impl<T, A: Allocator> Sync for Claim<T, A> {}
 impl<T, A: Allocator> Claim<T, A> {
     /// The block, for all parts of it.
     pub(crate) fn settle(self, all: Part<T>) -> Block<T, A>
-        requires { (all.ptr ≡ self.at) × (all.segment ≡ self.segment) × (all.count ≡ 2 ^ 63) }
-        ensures { (result.items ≡ self.items) × (result.places ≡ self.places) × (result.alloc ≡ self.alloc) }
+        requires { (all.ptr ≡ self.at) × (all.segment ≡ self.segment)
+            × (all.count ≡ 2 ^ 63) }
+        ensures { (result.items ≡ self.items) × (result.places ≡ self.places)
+            × (result.alloc ≡ self.alloc) }
     {
         let Claim { by: _ } = self;
         let Part { ptr } = all;

@@ -18,7 +18,8 @@ impl<T: Drop> BlockReturn<T> {
     /// Drops the `count` items and frees the block, for all parts of it.
     pub(crate) fn clear(self, count: usize, all: Part<T>)
         requires count { count ≡ length self.claim.items }
-        requires all { (all.ptr ≡ self.claim.at) × (all.segment ≡ self.claim.segment) × (all.count ≡ 2 ^ 63) }
+        requires all { (all.ptr ≡ self.claim.at) × (all.segment ≡ self.claim.segment)
+            × (all.count ≡ 2 ^ 63) }
     {
         let BlockReturn {
             places,

@@ -87,7 +87,8 @@ impl<T> SegmentBuilder<T> {
     /// So many keys to the items, in order of their numbers.
     pub fn seal(self, keys: usize) -> Result<Vec<SegKey<T>>, SealFault<T>>
         requires { 1 ≤ keys }
-        ensures keys { IfOk result (λ made. (segment : ℕ) × (made.items ≡ keys_of segment keys self.items)) }
+        ensures keys { IfOk result (λ made.
+            (segment : ℕ) × (made.items ≡ keys_of segment keys self.items)) }
         ensures count { IfOk result (λ made. length made.items ≡ keys) }
         ensures all { IfOk result (λ made. AreAllKeys made.items) }
 

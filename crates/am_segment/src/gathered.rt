@@ -12,7 +12,8 @@ use crate::key::SegKey;
 struct Gathered<T> {
     part: Part<T>,
     last: Option<Ending<T>>,
-    ghost of_part: { ForSome last (λ it. (it.back.claim.at ≡ part.ptr) × (it.back.claim.segment ≡ part.segment)) },
+    ghost of_part: { ForSome last (λ it. (it.back.claim.at ≡ part.ptr)
+        × (it.back.claim.segment ≡ part.segment)) },
 }
 
 // What the last key had.
@@ -40,7 +41,8 @@ pub fn reunite<T: Drop>(keys: Vec<SegKey<T>>)
 
 fn gather<T>(key: SegKey<T>) -> Gathered<T>
     ensures segment { result.part.segment ≡ key.segment }
-    ensures parts { MatchOption result.last ((key.number + 1 < key.keys) × (result.part.count ≡ 1))
+    ensures parts { MatchOption result.last
+        ((key.number + 1 < key.keys) × (result.part.count ≡ 1))
         (λ _. (key.number + 1 ≡ key.keys) × (result.part.count + key.number ≡ 2 ^ 63)) }
     ensures few { key.keys ≤ 2 ^ 62 }
 {
@@ -58,7 +60,8 @@ fn merge<T>(all: Gathered<T>, more: Gathered<T>) -> Gathered<T>
     requires some { (0 < all.part.count) × (0 < more.part.count) }
     requires parts { all.part.count + more.part.count ≤ 2 ^ 63 }
     requires once { IsSome all.last → IsNone more.last }
-    ensures part { (result.part.segment ≡ all.part.segment) × (result.part.count ≡ all.part.count + more.part.count) }
+    ensures part { (result.part.segment ≡ all.part.segment)
+        × (result.part.count ≡ all.part.count + more.part.count) }
     ensures last { IsSome result.last ↔ (IsSome all.last ⊎ IsSome more.last) }
 {
     let Gathered { part, last } = all;

@@ -59,8 +59,10 @@ pub(crate) fn cut<T>(
     requires room { (made.items ≡ []) × (vec_capacity made ≡ keys) }
     requires keys { (1 ≤ keys) × (keys ≤ 2 ^ 62) }
     requires len { (len ≡ length whole.items) × (len ≤ whole.places) }
-    requires whole { (whole.count ≡ 2 ^ 63) × (whole.keys ≡ keys) × (whole.number ≡ keys - 1) }
-    requires last { (last.claim.at ≡ whole.ptr) × (last.claim.items ≡ whole.items) × (last.claim.segment ≡ whole.segment) }
+    requires whole { (whole.count ≡ 2 ^ 63) × (whole.keys ≡ keys)
+        × (whole.number ≡ keys - 1) }
+    requires last { (last.claim.at ≡ whole.ptr) × (last.claim.items ≡ whole.items)
+        × (last.claim.segment ≡ whole.segment) }
     ensures { result.items ≡ keys_of whole.segment keys whole.items }
 {
     let mut made = made;

@@ -36,7 +36,8 @@ impl<T> KeyRun<T> {
     pub fn next(self) -> (SegKey<T>, Option<KeyRun<T>>)
         ensures key { result.0 ≡ self }
         ensures rest { MatchOption result.1 (self.number + 1 ≡ self.keys)
-            (λ rest. (self.number + 1 < self.keys) × (rest ≡ record self { number = self.number + 1 })) }
+            (λ rest. (self.number + 1 < self.keys)
+            × (rest ≡ record self { number = self.number + 1 })) }
     {
         let KeyRun {
             rest,

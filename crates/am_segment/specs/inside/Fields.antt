@@ -17,7 +17,8 @@ module _ {X : Type 0} where
     pub block : (b.block.places ≡ b.places) × (b.block.alloc ≡ b.alloc)
 
   abbrev pub key_view : Key X → KeyView X
-  key_view k = record { segment = k.part.segment; number = k.part.number; keys = k.part.keys; items = k.part.items }
+  key_view k = let part = k.part in
+      record { segment = part.segment; number = part.number; keys = part.keys; items = part.items }
 
   -- each key but the last holds one part. The last holds all others, and what gives the block back
   abbrev pub HasItsShare : Key X → Type 0
@@ -35,7 +36,8 @@ module _ {X : Type 0} where
     pub share : HasItsShare k
 
   abbrev pub run_view : Run X → KeyView X
-  run_view r = record { segment = r.rest.segment; number = r.next; keys = r.rest.keys; items = r.rest.items }
+  run_view r = let rest = r.rest in
+      record { segment = rest.segment; number = r.next; keys = rest.keys; items = rest.items }
 
   -- a run that has handed out the keys below `next` has lost one part for each
   pub record IsRun (r : Run X) : Type 0 where

@@ -17,7 +17,8 @@ use denote.Sharing.{beside, one, held}
 module _ (R : RattleType) (p : Ptr) (places : ℕ) (items : List R.Denot) where
   -- the items at the block's front, and that its places take fewer than 2 ^ 63 bytes
   abbrev pub front : Fml
-  front = fsep (flt (places * type_size R) (2 ^ 63)) (lies_at (Array R (length items)) full_share p items)
+  front = fsep (flt (places * type_size R) (2 ^ 63))
+      (lies_at (Array R (length items)) full_share p items)
 
   -- the same, for whoever may only read
   abbrev pub front_lent : Lft → Fml
@@ -25,7 +26,8 @@ module _ (R : RattleType) (p : Ptr) (places : ℕ) (items : List R.Denot) where
 
   -- the empty places, and the right to free the block
   abbrev pub rest : (Ty → Ptr → Fml) → Fml
-  rest t = fsep (room_for (array_of R (places - length items)) (p +ₚ length items * type_size R)) (t (array_of R places) p)
+  rest t = fsep (room_for (array_of R (places - length items)) (p +ₚ length items * type_size R))
+      (t (array_of R places) p)
 
 -- a block that nobody else reads
 abbrev pub block_owns : (Ty → Ptr → Fml) → (R : RattleType) → Ptr → ℕ → List R.Denot → Fml
