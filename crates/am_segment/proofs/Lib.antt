@@ -1,0 +1,5 @@
+pub mod Blocks
+pub mod Crosses
+pub mod Fronts
+mod Keys
+pub mod Values

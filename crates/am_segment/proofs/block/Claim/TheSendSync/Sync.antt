@@ -1,0 +1,8 @@
+use denote.RattleType.{RattleType}
+use denote.Param.Send.{IsSync}
+use Rattle.core.specs.declared.alloc.Allocator.{Ghosts}
+use Rattle.am_segment.proofs.Crosses.{Claim-sync}
+use Rattle.am_segment.specs.contracts.block.Claim.{the_row}
+
+pub sync : (R A : RattleType) (g : Ghosts A.Denot) → IsSync (the_row R A g)
+sync = Claim-sync

@@ -1,0 +1,51 @@
+-- What contracts see of the fields of a builder, a key and a run of keys, and what always holds of them. Of the
+-- inside alone: no public clause cites it but by the views.
+use Rattle.std.specs.Prelude.{◌≡◌, ◌+◌, ◌^◌, ◌<◌, ◌≤◌, length, MatchOption}
+use Rattle.am_segment.specs.Segments.{BuilderView, KeyView}
+use Rattle.am_segment.specs.declared.builder.SegmentBuilder.TheInside.{Inside as Builder}
+use Rattle.am_segment.specs.declared.key.SegKey.TheInside.{Inside as Key}
+use Rattle.am_segment.specs.declared.key_run.KeyRun.TheInside.{Inside as Run}
+
+module _ {X : Type 0} where
+  abbrev pub builder_view : Builder X → BuilderView X
+  builder_view b = record { items = b.block.items; places = b.places }
+
+  -- the numbers are those of the block
+  pub record IsBuilder (b : Builder X) : Type 0 where
+    pub count : b.count ≡ length b.block.items
+    pub within : b.count ≤ b.places
+    pub block : (b.block.places ≡ b.places) × (b.block.alloc ≡ b.alloc)
+
+  abbrev pub key_view : Key X → KeyView X
+  key_view k = let part = k.part in
+      record { segment = part.segment; number = part.number; keys = part.keys; items = part.items }
+
+  -- each key but the last holds one part. The last holds all others, and what gives the block back
+  abbrev pub HasItsShare : Key X → Type 0
+  HasItsShare k = MatchOption k.last
+      ((k.part.number + 1 < k.part.keys) × (k.part.count ≡ 1))
+      (λ last. (k.part.number + 1 ≡ k.part.keys) × (k.part.count + k.part.number ≡ 2 ^ 63)
+      × (last.claim.at ≡ k.part.ptr) × (last.claim.items ≡ k.part.items)
+      × (last.claim.segment ≡ k.part.segment))
+
+  pub record IsKey (k : Key X) : Type 0 where
+    pub len : k.len ≡ length k.part.items
+    pub within : k.len ≤ k.part.places
+    pub number : k.part.number < k.part.keys
+    pub few : k.part.keys ≤ 2 ^ 62
+    pub share : HasItsShare k
+
+  abbrev pub run_view : Run X → KeyView X
+  run_view r = let rest = r.rest in
+      record { segment = rest.segment; number = r.next; keys = rest.keys; items = rest.items }
+
+  -- a run that has handed out the keys below `next` has lost one part for each
+  pub record IsRun (r : Run X) : Type 0 where
+    pub len : r.len ≡ length r.rest.items
+    pub within : r.len ≤ r.rest.places
+    pub next : r.next ≤ r.last
+    pub keys : (r.rest.keys ≡ r.last + 1) × (r.rest.number ≡ r.last)
+    pub few : r.rest.keys ≤ 2 ^ 62
+    pub parts : r.rest.count + r.next ≡ 2 ^ 63
+    pub back : (r.back.claim.at ≡ r.rest.ptr) × (r.back.claim.items ≡ r.rest.items)
+        × (r.back.claim.segment ≡ r.rest.segment)

@@ -1,0 +1,144 @@
+//! A segment while it is filled.
+
+ghost use Rattle.std.specs.Prelude.{◌≡◌, ◌↔◌, ℕ, ◌≤◌, ◌<◌, [], ◌∷◌, ◌++◌, length};
+ghost use Rattle.std.specs.Prelude.{IsOk, IfOk, IfErr, OnOk};
+ghost use Rattle.am_segment.specs.Segments.{key_with, keys_of, AreAllKeys};
+
+use crate::block::Block;
+use crate::block_return::{BlockReturn, clear};
+use crate::key::{MAX_KEYS, SegKey, cut};
+use crate::key_run::KeyRun;
+use crate::seal_fault::SealFault;
+use std::alloc::{AllocError, Global};
+use std::marker::Model;
+use std_alloc::room::may_hold;
+
+/// One block with places for items, of which the first ones are filled. It must be sealed or
+/// discarded.
+pub struct SegmentBuilder<T> {
+    block: Block<T, Global>,
+    places: usize,
+    count: usize,
+    alloc: Global,
+}
+
+impl<T> Model for SegmentBuilder<T> {
+    ghost use Rattle.am_segment.specs.Segments.{BuilderView, coded_builder};
+
+    ghost Value = { BuilderView T };
+
+    ghost coded = { coded_builder T.code };
+
+    ghost use Rattle.am_segment.specs.inside.Fields.{builder_view, IsBuilder};
+
+    ghost view = { builder_view };
+
+    ghost invariant = { IsBuilder };
+}
+
+impl<T> SegmentBuilder<T> {
+    /// An empty builder with places for so many items.
+    pub fn with_places(alloc: Global, places: usize) -> Result<SegmentBuilder<T>, AllocError>
+        requires { 1 ≤ places }
+        ensures { IfOk result (λ made. made ≡ record { items = []; places = places }) }
+    {
+        if !may_hold::<T>(places) {
+            return Err(AllocError);
+        }
+        let block = Block::allocate(&alloc, places)?;
+        Ok(SegmentBuilder {
+            block,
+            places,
+            count: 0,
+            alloc,
+        })
+    }
+
+    /// Adds an item behind the others. It comes back where all places are filled.
+    pub fn push(&mut self, item: T) -> Result<(), T>
+        ensures pushed { OnOk result (self.new.items ≡ self.old.items ++ item ∷ []) }
+        ensures places { self.new.places ≡ self.old.places }
+
+        ensures full { IsOk result ↔ (length self.old.items < self.old.places) }
+        ensures err { IfErr result (λ back. (back ≡ item) × (self.new ≡ self.old)) }
+    {
+        if self.count == self.places {
+            return Err(item);
+        }
+        self.block.push(self.count, item);
+        self.count += 1;
+        Ok(())
+    }
+
+    /// Drops the items, and frees the block.
+    pub fn discard(self)
+    where
+        T: Drop,
+    {
+        let SegmentBuilder {
+            block,
+            places,
+            count,
+            alloc,
+        } = self;
+        clear(alloc, block, places, count);
+    }
+
+    /// So many keys to the items, in order of their numbers.
+    pub fn seal(self, keys: usize) -> Result<Vec<SegKey<T>>, SealFault<T>>
+        requires { 1 ≤ keys }
+        ensures keys { IfOk result (λ made.
+            (segment : ℕ) × (made.items ≡ keys_of segment keys self.items)) }
+        ensures count { IfOk result (λ made. length made.items ≡ keys) }
+        ensures all { IfOk result (λ made. AreAllKeys made.items) }
+
+        ensures err { IfErr result (λ fault. fault.builder ≡ self) }
+    {
+        if keys > MAX_KEYS {
+            return Err(SealFault { builder: self });
+        }
+        let made = match Vec::with_capacity(self.alloc, keys) {
+            Ok(made) => made,
+            Err(_) => return Err(SealFault { builder: self }),
+        };
+        let SegmentBuilder {
+            block,
+            places,
+            count,
+            alloc,
+        } = self;
+        let (claim, whole) = block.share(keys);
+        let last = BlockReturn {
+            places,
+            claim,
+            alloc,
+        };
+        Ok(cut(count, keys, whole, last, made))
+    }
+
+    /// So many keys to the items, handed out one by one. It takes no memory.
+    pub fn hand_out(self, keys: usize) -> KeyRun<T>
+        requires { (1 ≤ keys) × (keys ≤ MAX_KEYS) }
+        ensures { (segment : ℕ) × (result ≡ key_with segment keys self.items 0) }
+    {
+        let SegmentBuilder {
+            block,
+            places,
+            count,
+            alloc,
+        } = self;
+        let (claim, rest) = block.share(keys);
+        let back = BlockReturn {
+            places,
+            claim,
+            alloc,
+        };
+        KeyRun {
+            rest,
+            len: count,
+            next: 0,
+            last: keys - 1,
+            back,
+        }
+    }
+}

@@ -1,0 +1,47 @@
+//! One block of items that many keys read, freed exactly when all of its keys are back.
+//!
+//! A batch is filled once, read by many, and must outlive its slowest reader. No counter is kept
+//! and nothing is checked at run time: the keys are values that must be spent, and the proof is
+//! the counter.
+//!
+//! ```text
+//! with_places, push, ..   [ item 0 | item 1 | .. | room ]      one block, one owner
+//! seal(3)                    ^        ^        ^
+//!                          key 0    key 1    key 2             each reads every item
+//! reunite                 all three keys, in any order: the items are dropped, the block is freed
+//! ```
+//!
+//! What a key owns: a share of the right to read. The block's items are lent for a lifetime of
+//! their own, which cannot end while a share is missing; the last key also keeps the right to the
+//! block once it has ended. So a slow reader delays the block that it reads, and no other. Trusted
+//! are the toolchain and the library's allocator: each raw pointer stands in `block.rt`, proved.
+//!
+//! A caller:
+//!
+//! ```text
+//! let mut builder = SegmentBuilder::with_places(alloc, 2)?;
+//! builder.push(alert);                             // Err(alert) where both places are filled
+//! let keys = builder.seal(subscribers)?;           // one for each, shared or sent
+//! keys[0].get(0);                                  // Some(&alert)
+//! reunite(keys);                                   // compiles where they are all of them
+//! ```
+#![tactic(auto)]
+
+mod block;
+mod block_return;
+mod builder;
+mod gathered;
+mod key;
+mod key_run;
+mod laws;
+mod seal_fault;
+
+pub use builder::SegmentBuilder;
+pub use gathered::reunite;
+pub use key::{MAX_KEYS, SegKey};
+pub use key_run::KeyRun;
+pub use laws::keys_in_order_are_all;
+pub use seal_fault::SealFault;
+
+#[cfg(test)]
+mod tests;
