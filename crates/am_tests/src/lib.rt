@@ -9,4 +9,12 @@ mod label_sets;
 #[cfg(test)]
 mod matchers;
 #[cfg(test)]
+mod patterns;
+#[cfg(test)]
+mod plain_store;
+#[cfg(test)]
 mod posts;
+#[cfg(test)]
+mod provider;
+#[cfg(test)]
+mod sizes;

@@ -75,8 +75,8 @@ fn parts(rt: HostRuntime) {
             "b\"r"
         )
     );
-    assert!(rt; is_read(alloc, "foo=~\"a|b\"", "foo", Operator::Matches, "a|b"));
-    assert!(rt; is_read(alloc, "foo!~a", "foo", Operator::NotMatches, "a"));
+    assert!(rt; is_read(alloc, "foo=~\"a|b\"", "foo", Operator::MatchRegexp, "a|b"));
+    assert!(rt; is_read(alloc, "foo!~a", "foo", Operator::MatchNotRegexp, "a"));
     assert!(rt; is_read(alloc, "foo=", "foo", Operator::Equal, ""));
     assert!(rt; is_read(alloc, "foo= ~b", "foo", Operator::Equal, "~b"));
     assert!(rt; is_read(alloc, "_f:9==b", "_f:9", Operator::Equal, "=b"));
@@ -142,7 +142,7 @@ fn bad_quotes_and_patterns(rt: HostRuntime) {
     assert!(rt; is_refused(alloc, "foo=\"a\\\"", MatchFault::BadQuote));
     assert!(rt; is_refused(alloc, "foo=~\"(\"", MatchFault::BadPattern));
     assert!(rt; is_refused(alloc, "foo!~*", MatchFault::BadPattern));
-    assert!(rt; is_read(alloc, "foo!~a)(b", "foo", Operator::NotMatches, "a)(b"));
+    assert!(rt; is_read(alloc, "foo!~a)(b", "foo", Operator::MatchNotRegexp, "a)(b"));
 }
 
 #[test]

@@ -82,3 +82,31 @@ fn times(rt: HostRuntime) -> Result<(), Fail> {
     assert!(rt; matches!(read_time("0000-12-31T23:59:59Z"), Err(TimeFault::BadTime)));
     Ok(())
 }
+
+// The body with its bytes `#` replaced by 0xff, which no UTF-8 has.
+fn read_broken(alloc: Global, body: &str) -> Result<Result<Post, PostFault>, Fail> {
+    let mut bytes = Vec::new(alloc);
+    for byte in body.as_bytes() {
+        bytes.push(if *byte == b'#' { 0xff } else { *byte })?;
+    }
+    let now = moment("2024-01-01T10:00:00Z")?;
+    Ok(read_post(alloc, &bytes, now, Duration::from_secs(300)))
+}
+
+#[test]
+fn bytes_that_are_not_utf8(rt: HostRuntime) -> Result<(), Fail> {
+    let alloc = rt.alloc();
+    for body in [
+        "#",
+        "\"#\"",
+        "[\"#\"]",
+        "[{\"labels\":{\"a\":\"#\"}}]",
+        "[{\"labels\":{\"a\":\"1\"},\"ignored\":\"#\"}]",
+        "[{\"#\":1,\"labels\":{\"a\":\"1\"}}]",
+        "[{\"labels\":{\"a\":\"1\"}}]#",
+    ] {
+        assert!(rt; matches!(read_broken(alloc, body)?, Err(PostFault::NotJson)), "{body}");
+    }
+    assert!(rt; matches!(read(alloc, "")?, Err(PostFault::NotJson)));
+    Ok(())
+}
