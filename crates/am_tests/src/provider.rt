@@ -181,11 +181,14 @@ fn shows(subscription: &mut Subscription, book: &Book, alerts: &[Alert]) -> bool
 }
 
 // A number below a bound, from a fixed sequence.
-fn below(seed: &mut u64, bound: u64) -> u64 {
+fn below(seed: &mut u64, bound: u32) -> u32
+    requires { 0 < bound }
+    ensures { result < bound }
+{
     *seed = seed
         .wrapping_mul(6_364_136_223_846_793_005)
         .wrapping_add(1_442_695_040_888_963_407);
-    (*seed >> 33).checked_rem(bound).unwrap_or(0)
+    ((*seed >> 33) % u64::from(bound)) as u32
 }
 
 // One to four reports of eight label sets around a moment, some with no end.
@@ -193,9 +196,9 @@ fn reports(alloc: Global, seed: &mut u64, now: u32) -> Result<Vec<Report>, Alloc
     let mut reports = Vec::new(alloc);
     for _ in 0..=below(seed, 4) {
         let names = ["a", "b", "c", "d", "e", "f", "g", "h"];
-        let name = names[below(seed, 8) as usize % 8];
-        let start = now.saturating_add(below(seed, 40) as u32 % 40);
-        let end = start.saturating_add(below(seed, 60) as u32 % 60);
+        let name = names[below(seed, 8) as usize];
+        let start = now.saturating_add(below(seed, 40));
+        let end = start.saturating_add(below(seed, 60));
         let end = if below(seed, 2) == 0 { None } else { Some(end) };
         reports.push(Report { name, start, end })?;
     }
@@ -246,7 +249,7 @@ fn agree(
     seed: &mut u64,
     now: u32,
 ) -> Result<bool, Fail> {
-    let updated = now.saturating_sub(below(seed, 20) as u32 % 20);
+    let updated = now.saturating_sub(below(seed, 20));
     let post = post_of(alloc, &reports(alloc, seed, now)?, updated)?;
     let batch = absorb_each(alloc, list, post.valid.as_slice(), moment(now))?;
     Ok(sends(book, pass, post, now, &batch) && stores(book, list))
