@@ -1,4 +1,4 @@
--- Which answers say that a call failed for want of memory, and which show an alert.
+-- Which answers say that a call was out of memory, and which show an alert.
 use Rattle.std.specs.Prelude.{Bool, true, false}
 use Rattle.am_alert.specs.declared.post.PostFault.TheVariants as post_fault
 use Rattle.am_provider.specs.declared.faults.PutFault.TheVariants as put_fault

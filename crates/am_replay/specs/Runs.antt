@@ -58,7 +58,7 @@ posted_answers posted = answer.Posted posted.valid posted.place ∷ map
     (λ fault. answer.Invalid fault.0 fault.1) posted.faults
 
 -- why a post of these valid alerts is refused: the log was ended, or an alert has no place in it;
--- want of memory is told where neither holds
+-- out of memory is told where neither holds
 abbrev pub IsPutCause : PutFault → List Alert → BookView → Type 0
 IsPutCause put_fault.Closed valid book = IsTrue (is_closed book.journal)
 IsPutCause put_fault.LogEnd valid book =
@@ -66,7 +66,7 @@ IsPutCause put_fault.LogEnd valid book =
 IsPutCause put_fault.NoMemory valid book =
     (is_closed book.journal ≡ false) × (0 < length valid → length book.log ≢ LOG_END)
 
--- why a subscription is refused: the log was ended, or every lane is open; want of memory is told
+-- why a subscription is refused: the log was ended, or every lane is open; out of memory is told
 -- where neither holds
 abbrev pub IsSubCause : SubFault → BookView → Type 0
 IsSubCause sub_fault.Closed book = IsTrue (is_closed book.journal)

@@ -41,7 +41,7 @@ impl Answer {
         matches!(self, Answer::Item(_))
     }
 
-    /// Whether the call failed for want of memory.
+    /// Whether the call was out of memory.
     pub fn is_out_of_memory(&self) -> bool
         ensures { result ≡ is_out_of_memory self.now }
     {

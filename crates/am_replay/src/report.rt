@@ -19,7 +19,7 @@ pub struct Report {
 }
 
 impl Report {
-    /// Whether some call failed for want of memory.
+    /// Whether some call was out of memory.
     pub fn ran_out_of_memory(&self) -> bool
         ensures { result ≡ list_any (λ line. is_out_of_memory line.answer) self.now.answers.items }
     {

@@ -90,7 +90,7 @@ pub data Checks : ℕ → List Line → List (List ℕ) → Result (List Line) R
       → is_well_named earlier line ≡ true → Checks (number + 1) (earlier ++ line ∷ []) rest result
       → Checks number earlier (bytes ∷ rest) result
 
--- what checking a text answers, but for want of memory
+-- what checking a text answers, unless it is out of memory
 abbrev pub IsRefused : List ℕ → ScriptFault → Type 0
 IsRefused text (Refused refusal) = Checks 1 [] (lines_of text) (Err refusal)
 IsRefused text NoMemory = ⊤

@@ -1,5 +1,6 @@
 //! What the calls of a Book answer, against values worked out by hand and against a plain list.
 
+ghost use Rattle.std.specs.Prelude.{◌<◌};
 ghost use Rattle.am_provider.specs.BookView.{IsFaithful, BelongsTo};
 
 use crate::plain_store::{absorb_each, remove_resolved};
@@ -23,14 +24,14 @@ fn moment(seconds: u32) -> Moment {
 
 // A report as it is posted; with no end it gets the default one.
 #[derive(Clone, Copy)]
-struct Report {
+struct AlertReport {
     name: &'static str,
     start: u32,
     end: Option<u32>,
 }
 
-fn make_report(name: &'static str, start: u32, end: u32) -> Report {
-    Report {
+fn make_report(name: &'static str, start: u32, end: u32) -> AlertReport {
+    AlertReport {
         name,
         start,
         end: Some(end),
@@ -38,10 +39,10 @@ fn make_report(name: &'static str, start: u32, end: u32) -> Report {
 }
 
 // What a post of these reports is read as, updated at this moment.
-fn post_of(alloc: Global, reports: &[Report], updated: u32) -> Result<Post, Fail> {
+fn post_of(alloc: Global, reports: &[AlertReport], updated: u32) -> Result<Post, Fail> {
     let mut body = String::from_str(alloc, "[")?;
     let mut comma = "";
-    for Report { name, start, end } in reports {
+    for AlertReport { name, start, end } in reports {
         let start = moment(*start);
         write!(body, "{comma}{{\"labels\":{{\"alertname\":\"{name}\"}},\"startsAt\":\"{start}\"")?;
         if let Some(end) = end {
@@ -192,7 +193,7 @@ fn below(seed: &mut u64, bound: u32) -> u32
 }
 
 // One to four reports of eight label sets around a moment, some with no end.
-fn reports(alloc: Global, seed: &mut u64, now: u32) -> Result<Vec<Report>, AllocError> {
+fn reports(alloc: Global, seed: &mut u64, now: u32) -> Result<Vec<AlertReport>, AllocError> {
     let mut reports = Vec::new(alloc);
     for _ in 0..=below(seed, 4) {
         let names = ["a", "b", "c", "d", "e", "f", "g", "h"];
@@ -200,7 +201,7 @@ fn reports(alloc: Global, seed: &mut u64, now: u32) -> Result<Vec<Report>, Alloc
         let start = now.saturating_add(below(seed, 40));
         let end = start.saturating_add(below(seed, 60));
         let end = if below(seed, 2) == 0 { None } else { Some(end) };
-        reports.push(Report { name, start, end })?;
+        reports.push(AlertReport { name, start, end })?;
     }
     Ok(reports)
 }
