@@ -40,10 +40,10 @@ kept_valued : (pairs : List (List ℕ × List ℕ)) → AreValued (filter has_va
 kept_valued [] = tt
 kept_valued (pair ∷ pairs) =
     let case : (b : Bool) → has_value pair ≡ b → AreValued (cond b (pair ∷ filter has_value pairs) (filter has_value pairs)) =
-        λ b. elim b as (λ b. has_value pair ≡ b → AreValued (cond b (pair ∷ filter has_value pairs) (filter has_value pairs))) [
-          | true ↦ λ e. (valued pair e, kept_valued pairs)
-          | false ↦ λ e. kept_valued pairs
-        ]
+    λ b. elim b as (λ b. has_value pair ≡ b → AreValued (cond b (pair ∷ filter has_value pairs) (filter has_value pairs))) [
+      | true ↦ λ e. (valued pair e, kept_valued pairs)
+      | false ↦ λ e. kept_valued pairs
+    ]
     in case (has_value pair) refl
 
 both_valued : (pairs more : List (List ℕ × List ℕ)) → AreValued pairs → AreValued more → AreValued (pairs ++ more)
@@ -60,10 +60,10 @@ found_valued : (pairs : List (List ℕ × List ℕ)) (name : List ℕ) → AreVa
 found_valued [] name h = λ e. cc
 found_valued (pair ∷ pairs) name h =
     let case : (b : Bool) → cond b (Some pair.1) (find text_cmp name pairs) ≢ Some [] =
-        λ b. elim b as (λ b. cond b (Some pair.1) (find text_cmp name pairs) ≢ Some []) [
-          | true ↦ λ e. h.0 (let value : pair.1 ≡ [] = cc in value)
-          | false ↦ found_valued pairs name h.1
-        ]
+    λ b. elim b as (λ b. cond b (Some pair.1) (find text_cmp name pairs) ≢ Some []) [
+      | true ↦ λ e. h.0 (let value : pair.1 ≡ [] = cc in value)
+      | false ↦ found_valued pairs name h.1
+    ]
     in case _
 
 pub labels_valued : (pairs : List (List ℕ × List ℕ)) (name : List ℕ) → get (last_holds (filter has_value pairs)) name ≢ Some []
@@ -191,7 +191,7 @@ invalid_first now i d ds fault more told = record {
   valid = told.valid;
   rising = rises_more i (indices_of more.1) told.rising (All-weaker (λ index. (i + 1 ≤ index) × (index < i + 1 + count ds)) (λ index. i + 1 ≤ index) (λ index h. h.0) (indices_of more.1) told.within);
   within = All-cons (λ index. (i ≤ index) × (index < i + (count ds + 1))) i (indices_of more.1) (omega arith, omega arith)
-    (All-weaker (λ index. (i + 1 ≤ index) × (index < i + 1 + count ds)) (λ index. (i ≤ index) × (index < i + (count ds + 1))) (later_index i (count ds)) (indices_of more.1) told.within);
+      (All-weaker (λ index. (i + 1 ≤ index) × (index < i + 1 + count ds)) (λ index. (i ≤ index) × (index < i + (count ds + 1))) (later_index i (count ds)) (indices_of more.1) told.within);
   counted = omega (arith, told.counted);
 }
 

@@ -54,7 +54,7 @@ abbrev pub YoungerReportStays : Type 0
 YoungerReportStays =
     (now : ℕ) (stored new : Alert)
     → let both = merged now stored new in
-      both ≡ record (younger stored new) { start = both.start; end = both.end }
+    both ≡ record (younger stored new) { start = both.start; end = both.end }
 
 -- in which order two reports came doesn't matter where they were updated at different moments
 abbrev pub MergingHasNoOrder : Type 0

@@ -10,9 +10,9 @@ ghost use Rattle.am_alert.specs.Posts.{defaulted, element_of, elements_of, fault
 
 use crate::alert::Alert;
 use crate::alerts::Alerts;
-use crate::postable::{MemberFault, Postable, read_postable};
 use crate::moment::Moment;
 use crate::post::{AlertFault, Faults, MAX_ALERTS, MAX_BYTES, Post, PostFault};
+use crate::postable::{MemberFault, Postable, read_postable};
 use serde_json::Value;
 use std::alloc::{AllocError, Global};
 use std::time::Duration;

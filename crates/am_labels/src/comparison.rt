@@ -79,12 +79,7 @@ fn compile(alloc: Global, value: &str) -> Result<Regex, MatchFault>
 }
 
 // Whether the pattern of a value matches a whole text.
-fn is_match(
-    alloc: Global,
-    regex: &Regex,
-    value: &str,
-    text: &str,
-) -> Result<bool, AllocError>
+fn is_match(alloc: Global, regex: &Regex, value: &str, text: &str) -> Result<bool, AllocError>
     requires { IsPatternOf value.now regex.now }
     ensures { IfOk result (λ found. found ≡ finds (anchored value.now) text.now) }
 {

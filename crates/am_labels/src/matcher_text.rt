@@ -6,9 +6,9 @@ ghost use Rattle.am_labels.specs.Printing.{is_name_byte, is_name_start};
 ghost use Rattle.am_labels.specs.MatcherTexts.{after_backslash, begins, IsNameThen, IsOperatorThen, IsSpaceThen, IsMeantUntil, IsMeantWhole, IsNoValue, IsTrimmedTo, IsUnquoted, IsValue, meant, operator_text};
 ghost use Rattle.am_labels.specs.inside.SplitAnswers.{IsSplitOf};
 
+use crate::label_name::{is_name_byte, is_name_start};
 use crate::match_fault::MatchFault;
 use crate::operator::Operator;
-use crate::label_name::{is_name_byte, is_name_start};
 use crate::text::Text;
 use std::alloc::{AllocError, Global};
 

@@ -73,11 +73,7 @@ impl Store {
 
     /// Absorbs reports one after another, and answers what each became with what takes it all back.
     /// If memory runs out for one, all stays as it was.
-    pub(crate) fn absorb(
-        &mut self,
-        news: &[Alert],
-        now: Moment,
-    ) -> Result<Absorbed, AllocError>
+    pub(crate) fn absorb(&mut self, news: &[Alert], now: Moment) -> Result<Absorbed, AllocError>
         ensures batch { IfOk result
             (λ done. alerts_in done.batch.items ≡ batch_by_list now news.now self.old) }
         ensures undo { IfOk result (λ done. all_undone done.undo.items self.new ≡ self.old) }

@@ -57,19 +57,14 @@ impl Subscription {
     ghost use Rattle.am_provider.specs.inside.Advances.{Advances};
 
     /// A subscription that has shown nothing yet.
-    pub(crate) fn begin(
-        lane: u32,
-        at: u64,
-        start: usize,
-        opening: Vec<SharedAlert>,
-    ) -> Subscription
+    pub(crate) fn begin(lane: u32, at: u64, start: usize, opening: Vec<SharedAlert>) -> Subscription
         ensures { result ≡ record {
-            lane = lane;
-            at = at;
-            start = start;
-            opening = alerts_in opening.items;
-            count = 0;
-            closed_told = false;
+          lane = lane;
+          at = at;
+          start = start;
+          opening = alerts_in opening.items;
+          count = 0;
+          closed_told = false;
         } }
     {
         Subscription {

@@ -5,9 +5,9 @@ ghost use Rattle.std.specs.Fmt.{DisplaysOnOk};
 ghost use Rattle.am_replay.specs.Answers.{is_out_of_memory, is_item};
 ghost use Rattle.am_replay.specs.Printing.{answer_text, left_text, line_text, posted_text};
 
-use am_script::Verb;
 use am_alert::{Alert, AlertFault, PostFault};
 use am_provider::{PutFault, SubFault};
+use am_script::Verb;
 use std::fmt;
 
 /// One answer, which is one line of the output.

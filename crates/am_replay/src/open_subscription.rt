@@ -6,9 +6,9 @@ ghost use Rattle.am_replay.specs.Next.{NextIs};
 ghost use Rattle.am_replay.specs.Runs.{ReadAnswers};
 
 use crate::answers::Answer;
-use am_script::Thread;
 use am_labels::Text;
 use am_provider::{Book, Step, Subscription};
+use am_script::Thread;
 use std::alloc::{AllocError, Global};
 
 /// An open subscription, with its thread and its name there.

@@ -10,8 +10,8 @@ use crate::io::input::read_input;
 use crate::io::output::write_text;
 use crate::report::Report;
 use crate::runner::run_script;
-use am_script::{Refusal, ScriptFault, read_script};
 use crate::status::Status;
+use am_script::{Refusal, ScriptFault, read_script};
 use std::alloc::{AllocError, Global};
 use std::io::{Read, Write};
 

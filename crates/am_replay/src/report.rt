@@ -23,7 +23,9 @@ impl Report {
     pub fn ran_out_of_memory(&self) -> bool
         ensures { result ≡ list_any (λ line. is_out_of_memory line.answer) self.now.answers.items }
     {
-        self.answers.iter().any(|line| line.answer.is_out_of_memory())
+        self.answers
+            .iter()
+            .any(|line| line.answer.is_out_of_memory())
     }
 
     /// A line for each answer, and the last one.

@@ -5,9 +5,9 @@ ghost use Rattle.am_replay.specs.Runs.{SessionView, Does, Runs, counts_of, empty
 ghost use Rattle.am_replay.specs.Sessions.{IsReady, view_of};
 
 use crate::answers::{Answer, Answered};
-use am_script::{Command, Line};
 use crate::report::Report;
 use crate::session::{Session, one};
+use am_script::{Command, Line};
 use std::alloc::{AllocError, Global};
 
 /// Runs the lines in their order. At the end the subscriptions that are still open are left.

@@ -6,12 +6,11 @@ ghost use Rattle.am_replay.specs.Runs.{Does, counts_of, empty_session, is_named,
 ghost use Rattle.am_replay.specs.Sessions.{IsFirstToLeave, IsReady, Leaves, LeavesAll, view_of};
 
 use crate::answers::Answer;
-use am_script::{Command, Verb};
 use crate::open_subscription::{OpenSubscription, next_answers};
-use am_script::{THREADS, Thread};
 use am_alert::{Moment, read_post};
 use am_labels::Text;
 use am_provider::{AlreadyClosed, Book, Counts, Pass, Posted, journal_laws};
+use am_script::{Command, THREADS, Thread, Verb};
 use std::alloc::{AllocError, Global};
 use std::time::Duration;
 

@@ -28,7 +28,14 @@ fn tells(alloc: Global, pattern: &str, good: &str, bad: &str) -> Result<bool, Fa
 fn alternatives_and_groups(rt: HostRuntime) -> Result<(), Fail> {
     let alloc = rt.alloc();
     assert!(rt; tells(alloc, "critical|warning|page", "warning", "warnings")?);
-    assert!(rt; tells(alloc, "(prod|stage)-eu(-[0-9]+)?", "stage-eu-3", "stage-eu-")?);
+    assert!(rt;
+        tells(
+            alloc,
+            "(prod|stage)-eu(-[0-9]+)?",
+            "stage-eu-3",
+            "stage-eu-"
+        )?
+    );
     assert!(rt; tells(alloc, "(?P<name>x)(y)", "xy", "x")?);
     Ok(())
 }

@@ -105,7 +105,10 @@ fn bytes_that_are_not_utf8(rt: HostRuntime) -> Result<(), Fail> {
         "[{\"#\":1,\"labels\":{\"a\":\"1\"}}]",
         "[{\"labels\":{\"a\":\"1\"}}]#",
     ] {
-        assert!(rt; matches!(read_broken(alloc, body)?, Err(PostFault::NotJson)), "{body}");
+        assert!(rt;
+            matches!(read_broken(alloc, body)?, Err(PostFault::NotJson)),
+            "{body}"
+        );
     }
     assert!(rt; matches!(read(alloc, "")?, Err(PostFault::NotJson)));
     Ok(())

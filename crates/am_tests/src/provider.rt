@@ -44,7 +44,10 @@ fn post_of(alloc: Global, reports: &[AlertReport], updated: u32) -> Result<Post,
     let mut comma = "";
     for AlertReport { name, start, end } in reports {
         let start = moment(*start);
-        write!(body, "{comma}{{\"labels\":{{\"alertname\":\"{name}\"}},\"startsAt\":\"{start}\"")?;
+        write!(
+            body,
+            "{comma}{{\"labels\":{{\"alertname\":\"{name}\"}},\"startsAt\":\"{start}\""
+        )?;
         if let Some(end) = end {
             let end = moment(*end);
             write!(body, ",\"endsAt\":\"{end}\"")?;
@@ -53,7 +56,12 @@ fn post_of(alloc: Global, reports: &[AlertReport], updated: u32) -> Result<Post,
         comma = ",";
     }
     body.push_str("]")?;
-    match read_post(alloc, body.as_bytes(), moment(updated), Duration::from_secs(30)) {
+    match read_post(
+        alloc,
+        body.as_bytes(),
+        moment(updated),
+        Duration::from_secs(30),
+    ) {
         Ok(post) => Ok(post),
         Err(_) => Err(Fail::from("not read")),
     }
@@ -96,7 +104,11 @@ fn reports_reach_a_subscriber(rt: HostRuntime) -> Result<(), Fail> {
     let Some(mut pass) = passes.pop() else {
         return Err(Fail::from("no pass"));
     };
-    let first = post_of(alloc, &[make_report("disk", 10, 20), make_report("cpu", 10, 30)], 10)?;
+    let first = post_of(
+        alloc,
+        &[make_report("disk", 10, 20), make_report("cpu", 10, 30)],
+        10,
+    )?;
     let longer = post_of(alloc, &[make_report("disk", 15, 25)], 15)?;
     let none = post_of(alloc, &[], 16)?;
     let Ok(mut subscription) = book.subscribe() else {
@@ -132,7 +144,11 @@ fn collections_and_the_end(rt: HostRuntime) -> Result<(), Fail> {
     let Some(mut pass) = passes.pop() else {
         return Err(Fail::from("no pass"));
     };
-    let post = post_of(alloc, &[make_report("disk", 10, 20), make_report("cpu", 10, 30)], 10)?;
+    let post = post_of(
+        alloc,
+        &[make_report("disk", 10, 20), make_report("cpu", 10, 30)],
+        10,
+    )?;
     let Ok(answer) = book.post(&mut pass, post, moment(10)) else {
         return Err(Fail::from("refused"));
     };
@@ -144,7 +160,10 @@ fn collections_and_the_end(rt: HostRuntime) -> Result<(), Fail> {
         return Err(Fail::from("no subscription"));
     };
     assert_eq!(rt; (subscription.lane(), subscription.opening()), (0, 1));
-    assert_eq!(rt; shown(&mut subscription, &book), Some((moment(10), moment(30))));
+    assert_eq!(rt;
+        shown(&mut subscription, &book),
+        Some((moment(10), moment(30)))
+    );
     assert!(rt; matches!(subscription.next(&book), Step::Pending));
     let ended = book.leave(subscription);
     assert_eq!(rt;

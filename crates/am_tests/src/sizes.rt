@@ -39,7 +39,10 @@ fn label_set_of_a_thousand_names(rt: HostRuntime) -> Result<(), Fail> {
     let alloc = rt.alloc();
     let labels = many_labels(alloc, 7, 1_000)?;
     assert_eq!(rt; labels.len(), 1_000);
-    assert_eq!(rt; labels.get("name0999"), "a text of forty bytes for label 0999 of 7");
+    assert_eq!(rt;
+        labels.get("name0999"),
+        "a text of forty bytes for label 0999 of 7"
+    );
     assert!(rt; labels.copy()? == labels);
     assert!(rt; many_labels(alloc, 8, 1_000)? != labels);
     assert!(rt; labels.to_string(alloc)? == printed(alloc, 7, 1_000)?);
@@ -119,9 +122,18 @@ fn full_post_of_large_label_sets(rt: HostRuntime) -> Result<(), Fail> {
 #[test]
 fn posts_are_compared_whole(rt: HostRuntime) -> Result<(), Fail> {
     let alloc = rt.alloc();
-    let post = read(alloc, "[{\"labels\":{\"a\":\"1\"}},{\"labels\":{}},{\"labels\":{\"a\":\"2\"}}]")?;
-    let again = read(alloc, "[ {\"labels\":{\"a\":\"1\"}},{\"labels\":{\"b\":\"\"}},{\"labels\":{\"a\":\"2\"}}]")?;
-    let other = read(alloc, "[{\"labels\":{\"a\":\"1\"}},{\"labels\":{\"a\":\"2\"}},{\"labels\":{}}]")?;
+    let post = read(
+        alloc,
+        "[{\"labels\":{\"a\":\"1\"}},{\"labels\":{}},{\"labels\":{\"a\":\"2\"}}]",
+    )?;
+    let again = read(
+        alloc,
+        "[ {\"labels\":{\"a\":\"1\"}},{\"labels\":{\"b\":\"\"}},{\"labels\":{\"a\":\"2\"}}]",
+    )?;
+    let other = read(
+        alloc,
+        "[{\"labels\":{\"a\":\"1\"}},{\"labels\":{\"a\":\"2\"}},{\"labels\":{}}]",
+    )?;
     assert!(rt; post.valid.as_slice() == again.valid.as_slice());
     assert!(rt; post.faults.as_slice() == again.faults.as_slice());
     assert!(rt; post.valid.as_slice() == other.valid.as_slice());

@@ -34,21 +34,21 @@ loop-at-preserved c =
     let there = λ (d : OpenSubscription). same_thread opened old c.index-opened-first.result d so_far.within c.index-opened-first.is in
     elim c.if-lt.branch [
       | then-lt w ↦
-        let less : c.index-opened-at.result.thread < c.index-opened-first.result.thread = search rules in
-        let lower : (d : OpenSubscription) → (get_or opened c.if-lt.first d).thread < (get_or opened old d).thread =
-            λ d. let e : (get_or opened c.if-lt.first d).thread ≡ (get_or opened at d).thread = ap (λ n. (get_or opened n d).thread) w.first-is in omega (arith, less, here d, there d, e) in
-        let same : (d : OpenSubscription) → (get_or opened c.if-lt.first d).thread ≡ (get_or opened at d).thread = λ d. ap (λ n. (get_or opened n d).thread) w.first-is in
-        record {
-          within = omega (arith, w.first-is, c.loop-at-test.true);
-          least = λ other d h. low (λ n. (get_or opened n d).thread) at old (λ o k. so_far.least o d k) c.if-lt.first other (omega (arith, lower d)) (omega (arith, same d)) h;
-          first = λ other d h. let before : other < at = omega (arith, w.first-is, h) in omega (arith, lower d, so_far.least other d before);
-        }
+          let less : c.index-opened-at.result.thread < c.index-opened-first.result.thread = search rules in
+          let lower : (d : OpenSubscription) → (get_or opened c.if-lt.first d).thread < (get_or opened old d).thread =
+          λ d. let e : (get_or opened c.if-lt.first d).thread ≡ (get_or opened at d).thread = ap (λ n. (get_or opened n d).thread) w.first-is in omega (arith, less, here d, there d, e) in
+          let same : (d : OpenSubscription) → (get_or opened c.if-lt.first d).thread ≡ (get_or opened at d).thread = λ d. ap (λ n. (get_or opened n d).thread) w.first-is in
+          record {
+            within = omega (arith, w.first-is, c.loop-at-test.true);
+            least = λ other d h. low (λ n. (get_or opened n d).thread) at old (λ o k. so_far.least o d k) c.if-lt.first other (omega (arith, lower d)) (omega (arith, same d)) h;
+            first = λ other d h. let before : other < at = omega (arith, w.first-is, h) in omega (arith, lower d, so_far.least other d before);
+          }
       | else-lt w ↦
-        let more : c.index-opened-first.result.thread ≤ c.index-opened-at.result.thread = search rules in
-        let same : (d : OpenSubscription) → (get_or opened c.if-lt.first d).thread ≡ (get_or opened old d).thread = λ d. ap (λ n. (get_or opened n d).thread) w.first-is in
-        record {
-          within = omega (arith, w.first-is, so_far.within);
-          least = λ other d h. low (λ n. (get_or opened n d).thread) at old (λ o k. so_far.least o d k) c.if-lt.first other (omega (arith, same d)) (omega (arith, same d, here d, there d, more)) h;
-          first = λ other d h. let before : other < old = omega (arith, w.first-is, h) in omega (arith, same d, so_far.first other d before);
-        }
+          let more : c.index-opened-first.result.thread ≤ c.index-opened-at.result.thread = search rules in
+          let same : (d : OpenSubscription) → (get_or opened c.if-lt.first d).thread ≡ (get_or opened old d).thread = λ d. ap (λ n. (get_or opened n d).thread) w.first-is in
+          record {
+            within = omega (arith, w.first-is, so_far.within);
+            least = λ other d h. low (λ n. (get_or opened n d).thread) at old (λ o k. so_far.least o d k) c.if-lt.first other (omega (arith, same d)) (omega (arith, same d, here d, there d, more)) h;
+            first = λ other d h. let before : other < old = omega (arith, w.first-is, h) in omega (arith, same d, so_far.first other d before);
+          }
     ]
