@@ -4,6 +4,8 @@
 #include <errno.h>
 #include <stdio.h>
 #include <stdlib.h>
+#include <sys/syscall.h>
+#include <unistd.h>
 
 extern void *__libc_malloc(size_t);
 extern void *__libc_calloc(size_t, size_t);
@@ -69,4 +71,11 @@ __attribute__((destructor)) static void tell(void) {
         fprintf(file, "%lu %ld\n", all, left);
         fclose(file);
     }
+}
+
+/* A program with threads ends so, without its destructors. */
+void _exit(int status) {
+    tell();
+    syscall(SYS_exit_group, status);
+    __builtin_unreachable();
 }
