@@ -1,9 +1,9 @@
 -- Facts about the words of specs/Merging.antt.
-use Rattle.std.proofs.Common.{◌≡◌, ◌≢◌, ◌⊎◌, ⊎_elim, inl, inr, ℕ, ◌<◌, ◌≤◌, Bool, true, false, cond, not, ◌&&◌, ◌||◌, min, nat_lt, nat_le, refl, sym, ap, ◌∙◌, arith}
+use Rattle.std.proofs.Common.{◌≡◌, ◌⊎◌, ⊎_elim, inl, inr, ℕ, ◌<◌, ◌≤◌, Bool, true, false, cond, not, ◌&&◌, ◌||◌, nat_lt, nat_le, refl, sym, ap, ◌∙◌, arith}
 use Rattle.std.proofs.lemmas.Bool.{cases_lt, le-ltb, lt-ltb}
 use Rattle.am_alert.specs.declared.alert.Alert.{Alert}
 use Rattle.am_alert.specs.Merging.{is_resolved_at, older_end_wins, combined, merged}
-use Rattle.am_alert.specs.Laws.{younger, MergingStartsEarliest, MergingEndsAtAnEnd, YoungerReportDecides, YoungerReportStays, MergingHasNoOrder}
+use Rattle.am_alert.specs.Laws.{MergingStartsEarliest, MergingEndsAtAnEnd, YoungerReportDecides, YoungerReportStays, MergingHasNoOrder}
 
 pub starts_earliest : MergingStartsEarliest
 starts_earliest now stored new =

@@ -1,6 +1,6 @@
 -- Facts about the words of specs/Printing.antt.
 use Rattle.std.proofs.Common.{◌≡◌, ℕ, ◌-◌, ◌^◌, false, cond, List, [], ◌∷◌, ◌++◌, length, refl, sym, ap, ◌∙◌, arith, append-nil}
-use Rattle.std.specs.Prelude.{◌==◌, if◌then◌else◌, replicate}
+use Rattle.std.specs.Prelude.{◌==◌, replicate}
 use Rattle.std.specs.Fmt.{char_count, decimal, format_spec, padded_integral}
 use Rattle.am_alert.specs.Printing.{zero_padded, second_text, fraction_text}
 use Rattle.am_alert.specs.declared.civil_time.CivilTime.{CivilTime}

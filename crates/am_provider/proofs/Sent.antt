@@ -1,11 +1,11 @@
 -- What is sent out answers what was posted.
-use Rattle.std.proofs.Common.{◌≡◌, ℕ, List, [], ◌∷◌, ◌++◌, map, length, Option, None, Some, IfSome, refl, sym, ap, ◌∙◌}
+use Rattle.std.proofs.Common.{◌≡◌, ℕ, List, [], ◌∷◌, ◌++◌, map, length, Option, None, Some, IfSome, refl, ap, ◌∙◌}
 use Rattle.am_alert.specs.declared.alert.Alert.{Alert}
 use Rattle.am_labels.specs.LabelSets.{Labels}
 use Rattle.am_provider.specs.declared.call.Call.{Call}
 use Rattle.am_provider.specs.declared.call.Call.TheVariants.{Posted, Collected, Subscribed, Left, Closed}
 use Rattle.am_provider.specs.Stored.{Update, Report, updates_of, Holding, holding_of, after_report}
-use Rattle.am_provider.specs.Broadcast.{alert_of, batch_of, batches_of, broadcast_from}
+use Rattle.am_provider.specs.Broadcast.{alert_of, batch_of, broadcast_from}
 use Rattle.am_provider.specs.Laws.{BatchesAnswerPosts, labels_of_batch, posted_labels}
 use Rattle.am_provider.proofs.Stored.{held_own, absorbed_labels, Sits, sits}
 
