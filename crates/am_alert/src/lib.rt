@@ -1,6 +1,18 @@
 //! Alerts: what was reported of a label set, how two reports of it become one, and how a post is
 //! read.
 //!
+//! `read_post` reads a request's body: its valid alerts, and the faults of the others with their
+//! indices, or one refusal of the whole. `absorb` says what a label set holds once a report of it
+//! came. Each moment is handed in: no clock is read.
+//!
+//! ```text
+//! let post = read_post(alloc, body, now, Duration::from_secs(300))?;
+//! for alert in post.valid.as_slice() {
+//!     let holds = absorb(stored, alert, now)?;    // stored: an Option<&Alert> of its label set
+//!     println!(rt; "{holds}")?;                   // {a="1"} 2024-01-01T10:00:00Z .. given {}
+//! }
+//! ```
+//!
 //! This crate knows nothing of stores: it says what an alert is, not where it is kept.
 #![tactic(auto)]
 

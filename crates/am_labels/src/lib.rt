@@ -1,6 +1,19 @@
 //! Label sets: finite maps from names to values, both texts; and matchers, which admit some of them.
 //!
-//! A label set is what an alert is known by. This crate knows nothing of alerts.
+//! A label set is what an alert is known by. It is made of pairs of texts, and of pairs with one
+//! name the last holds. A matcher is read from a text such as `severity=~"page|crit"`; a missing
+//! label counts as empty. It is asked as `&mut`, though it stays as it was. Memory is taken by what
+//! makes, reads or copies something, and by a pattern's search.
+//!
+//! ```text
+//! let labels = LabelSet::from_pairs(alloc, pairs)?;   // a Vec<(String, String)>
+//! let mut matcher = Matcher::read(alloc, "severity=~\"page|crit\"")?;
+//! if matcher.admits(&labels)? {
+//!     println!(rt; "{labels}")?;                      // {alertname="DiskFull",severity="page"}
+//! }
+//! ```
+//!
+//! This crate knows nothing of alerts.
 #![tactic(auto)]
 
 mod comparison;
