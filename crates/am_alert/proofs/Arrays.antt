@@ -1,7 +1,7 @@
 -- The array of a post.
-use Rattle.std.proofs.Common.{◌≡◌, ℕ, ◌<◌, ◌≤◌, List, [], ◌∷◌, ◌++◌, length, drop, append-nil, None, Some, Result, Ok, Err, refl, sym, ap, ◌∙◌, arith, ◌⊎◌, inr}
+use Rattle.std.proofs.Common.{◌≡◌, ℕ, ◌<◌, ◌≤◌, List, [], ◌∷◌, ◌++◌, length, append-nil, None, Some, Result, Ok, Err, refl, sym, ap, ◌∙◌, arith, ◌⊎◌, inr}
 use Rattle.std.specs.Prelude.{IsUtf8}
-use Rattle.std.proofs.Math.ListN.{drop_of_length-le}
+use Rattle.std.proofs.lemmas.List.{nil_from_length}
 use Rattle.serde_json.specs.Data.{Data, null, boolean, number, string, array, object, Items}
 use Rattle.serde_json.specs.Find.{as_array}
 use Rattle.serde_json.specs.Read.{read}
@@ -56,10 +56,10 @@ some_bytes [] d e = let none : read [] ≡ None = refl in absurd (let no : None 
 some_bytes (b ∷ bytes) d e = omega arith
 
 -- what was read before the end is all
-pub all_read : (now timeout i : ℕ) (elements : List Value) (valid : List Alert) (faults : List (ℕ × AlertFault)) → length elements ≤ i
-    → with_front (valid, faults) (elements_of now timeout i (items_view (drop i elements))) ≡ elements_of now timeout 0 (items_view elements)
-    → elements_of now timeout 0 (items_view elements) ≡ Ok (valid, faults)
-all_read now timeout i elements valid faults past e =
+pub all_read : (now timeout i : ℕ) (rest : List Value) (all : Result Entries PostFault) (valid : List Alert) (faults : List (ℕ × AlertFault)) → length rest ≡ 0
+    → with_front (valid, faults) (elements_of now timeout i (items_view rest)) ≡ all
+    → all ≡ Ok (valid, faults)
+all_read now timeout i rest all valid faults none e =
     sym e
-    ∙ (ap (λ (rest : List Value). with_front (valid, faults) (elements_of now timeout i (items_view rest))) (drop_of_length-le elements past)
+    ∙ (ap (λ (left : List Value). with_front (valid, faults) (elements_of now timeout i (items_view left))) (nil_from_length rest none)
     ∙ (ap (λ (front : List Alert). Ok (front, faults ++ [])) (append-nil valid) ∙ ap (λ (front : List (ℕ × AlertFault)). Ok (valid, front)) (append-nil faults)))

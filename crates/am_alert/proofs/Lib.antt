@@ -1,5 +1,6 @@
 pub mod Dates
 pub mod MemberPairs
+pub mod Members
 pub mod Arrays
 pub mod ValidAlerts
 pub mod MergingRules

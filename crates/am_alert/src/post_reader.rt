@@ -49,7 +49,7 @@ pub fn read_post(
             });
         }
     };
-    let Some(elements) = value.as_array() else {
+    let Value::Array(elements) = value else {
         return Err(PostFault::NotAnArray);
     };
     if elements.len() > MAX_ALERTS {
@@ -64,22 +64,24 @@ pub fn read_post(
 // The elements in order; the first bad one decides.
 fn read_elements(
     alloc: Global,
-    elements: &[Value],
+    elements: Vec<Value>,
     now: Moment,
     resolve_timeout: Duration,
 ) -> Result<Post, PostFault>
-    requires { length elements.now ≤ MAX_ALERTS }
+    requires { length elements.items ≤ MAX_ALERTS }
     ensures { ReadsEach result
-        (elements_of now (as_nanos resolve_timeout) 0 (items_view elements.now)) }
+        (elements_of now (as_nanos resolve_timeout) 0 (items_view elements.items)) }
 {
     let mut valid = Vec::new(alloc);
     let mut faults = Vec::new(alloc);
-    for (i, element) in elements.iter().enumerate() {
+    for element in elements {
+        // Each element before this one is valid or has a fault.
+        let i = (valid.len() + faults.len()) as u32;
         match read_element(alloc, element, now, resolve_timeout)? {
             Element::Valid(alert) => valid.push(alert)?,
-            Element::Invalid(fault) => faults.push((i as u32, fault))?,
-            Element::BadMember => return Err(PostFault::BadMember(i as u32)),
-            Element::OutOfRange => return Err(PostFault::OutOfRange(i as u32)),
+            Element::Invalid(fault) => faults.push((i, fault))?,
+            Element::BadMember => return Err(PostFault::BadMember(i)),
+            Element::OutOfRange => return Err(PostFault::OutOfRange(i)),
         }
     }
     Ok(Post {
@@ -91,12 +93,11 @@ fn read_elements(
 #[tactic(auto, unfolding(crate::specs::Posts::element_of))]
 fn read_element(
     alloc: Global,
-    element: &Value,
+    element: Value,
     now: Moment,
     resolve_timeout: Duration,
 ) -> Result<Element, AllocError>
-    ensures { IfOk result
-        (λ e. e ≡ element_of now (as_nanos resolve_timeout) (view element.now)) }
+    ensures { IfOk result (λ e. e ≡ element_of now (as_nanos resolve_timeout) (view element)) }
 {
     let postable = match read_postable(alloc, element) {
         Ok(postable) => postable,

@@ -1,11 +1,11 @@
 //! Reading the members of a postable alert.
 
-ghost use Rattle.std.specs.Prelude.{◌≡◌, codes, map, option_and_then, option_map};
+ghost use Rattle.std.specs.Prelude.{◌≡◌, [], List, ℕ, option_and_then, option_map};
 ghost use Rattle.std.specs.FinMap.{empty};
+ghost use Rattle.serde_json.specs.Data.{object};
 ghost use Rattle.serde_json.specs.View.{view, members_view};
-ghost use Rattle.serde_json.specs.Find.{as_str};
-ghost use Rattle.am_labels.specs.LabelSets.{bytes_of};
-ghost use Rattle.am_alert.specs.Postables.{annotations_of, given, has_value, if_given, labels_of, pairs_of, postable_of, text_at, texts_of, time_at, Reads};
+ghost use Rattle.serde_json.specs.Find.{as_str, get_member};
+ghost use Rattle.am_alert.specs.Postables.{annotations_of, given, has_value, if_given, labels_of, pairs_of, postable_of, texts_of, time_at, Reads};
 
 use crate::moment::Moment;
 use crate::time_text::read_time;
@@ -53,14 +53,17 @@ pub(crate) struct Postable {
 }
 
 #[tactic(auto, unfolding(crate::specs::Postables::postable_of))]
-pub(crate) fn read_postable(alloc: Global, element: &Value) -> Result<Postable, MemberFault>
-    ensures { Reads (λ p. p) result (postable_of (view element.now)) }
+pub(crate) fn read_postable(alloc: Global, element: Value) -> Result<Postable, MemberFault>
+    ensures { Reads (λ p. p) result (postable_of (view element)) }
 {
-    let labels = labels_at(alloc, element)?;
-    let annotations = annotations_at(alloc, element)?;
-    let start = time_at(element, "startsAt")?;
-    let end = time_at(element, "endsAt")?;
-    let generator = generator_at(alloc, element)?;
+    let Value::Object(mut members) = element else {
+        return Err(MemberFault::Bad);
+    };
+    let start = time_at(&members, "startsAt")?;
+    let end = time_at(&members, "endsAt")?;
+    let labels = labels_of(alloc, take(&mut members, "labels"))?;
+    let annotations = annotations_of(alloc, take(&mut members, "annotations"))?;
+    let generator = generator_of(alloc, take(&mut members, "generatorURL"))?;
     Ok(Postable {
         labels,
         annotations,
@@ -70,35 +73,88 @@ pub(crate) fn read_postable(alloc: Global, element: &Value) -> Result<Postable, 
     })
 }
 
-fn labels_at(alloc: Global, element: &Value) -> Result<LabelSet, MemberFault>
-    ensures { Reads (λ l. l) result
-        (option_and_then labels_of (given (codes "labels") (view element.now))) }
+// A member that is there and isn't null. It is taken out of the object.
+fn take(members: &mut Map<String, Value>, name: &str) -> Option<Value>
+    ensures given { option_map view result
+        ≡ given name.now (object (members_view members.old.entries)) }
+    ensures others { (other : List ℕ) → (other ≡ name.now → ⊥)
+        → get_member other (members_view members.new.entries)
+        ≡ get_member other (members_view members.old.entries) }
 {
-    let Some(value) = given(element, "labels") else {
+    match remove(members, name) {
+        Some(Value::Null) => None,
+        other => other,
+    }
+}
+
+fn remove(members: &mut Map<String, Value>, name: &str) -> Option<Value>
+    ensures member { option_map view result
+        ≡ get_member name.now (members_view members.old.entries) }
+    ensures others { (other : List ℕ) → (other ≡ name.now → ⊥)
+        → get_member other (members_view members.new.entries)
+        ≡ get_member other (members_view members.old.entries) }
+{
+    members.remove(name)
+}
+
+// A member that is there and isn't null.
+fn given<'v>(members: &'v Map<String, Value>, name: &str) -> Option<&'v Value>
+    ensures { option_map (λ v. view v.now) result
+        ≡ given name.now (object (members_view members.now.entries)) }
+{
+    match get(members, name) {
+        Some(Value::Null) => None,
+        other => other,
+    }
+}
+
+fn get<'v>(members: &'v Map<String, Value>, name: &str) -> Option<&'v Value>
+    ensures { option_map (λ v. view v.now) result
+        ≡ get_member name.now (members_view members.now.entries) }
+{
+    members.get(name)
+}
+
+fn labels_of(alloc: Global, value: Option<Value>) -> Result<LabelSet, MemberFault>
+    ensures { Reads (λ l. l) result (option_and_then labels_of (option_map view value)) }
+{
+    let Some(value) = value else {
         return Err(MemberFault::Bad);
     };
     let mut pairs = pairs_from(alloc, value)?;
-    let has_value = |pair: &(String, String)| -> bool
-        ensures { result ≡ has_value (bytes_of pair.now) }
+    let has_value = |pair: &(Text, Text)| -> bool
+        ensures { result ≡ has_value pair.now }
     { !pair.1.is_empty() };
     pairs.retain(has_value);
-    Ok(LabelSet::from_pairs(alloc, pairs)?)
+    Ok(LabelSet::from_texts(alloc, pairs)?)
 }
 
-fn annotations_at(alloc: Global, element: &Value) -> Result<LabelSet, MemberFault>
-    ensures { Reads (λ l. l) result
-        (if_given empty annotations_of (given (codes "annotations") (view element.now))) }
+fn annotations_of(alloc: Global, value: Option<Value>) -> Result<LabelSet, MemberFault>
+    ensures { Reads (λ l. l) result (if_given empty annotations_of (option_map view value)) }
 {
-    let Some(value) = given(element, "annotations") else {
-        return Ok(LabelSet::new(alloc));
+    let Some(value) = value else {
+        return Ok(LabelSet::new());
     };
-    Ok(LabelSet::from_pairs(alloc, pairs_from(alloc, value)?)?)
+    Ok(LabelSet::from_texts(alloc, pairs_from(alloc, value)?)?)
 }
 
-fn time_at(element: &Value, name: &str) -> Result<Option<Moment>, MemberFault>
-    ensures { Reads (λ t. t) result (time_at name.now (view element.now)) }
+fn generator_of(alloc: Global, value: Option<Value>) -> Result<Text, MemberFault>
+    ensures { Reads (λ t. t) result (if_given [] as_str (option_map view value)) }
 {
-    let Some(value) = given(element, name) else {
+    match value {
+        None => Ok(Text {
+            text: String::new(alloc),
+        }),
+        Some(Value::String(text)) => Ok(Text { text }),
+        Some(_) => Err(MemberFault::Bad),
+    }
+}
+
+fn time_at(members: &Map<String, Value>, name: &str) -> Result<Option<Moment>, MemberFault>
+    ensures { Reads (λ t. t) result
+        (time_at name.now (object (members_view members.now.entries))) }
+{
+    let Some(value) = given(members, name) else {
         return Ok(None);
     };
     let Some(text) = value.as_str() else {
@@ -110,33 +166,11 @@ fn time_at(element: &Value, name: &str) -> Result<Option<Moment>, MemberFault>
     }
 }
 
-fn generator_at(alloc: Global, element: &Value) -> Result<Text, MemberFault>
-    ensures { Reads (λ t. t) result (text_at (codes "generatorURL") (view element.now)) }
-{
-    let Some(value) = given(element, "generatorURL") else {
-        return Ok(Text::from_str(alloc, "")?);
-    };
-    let Some(text) = value.as_str() else {
-        return Err(MemberFault::Bad);
-    };
-    Ok(Text::from_str(alloc, text)?)
-}
-
-// A member that is there and isn't null.
-fn given<'v>(element: &'v Value, name: &str) -> Option<&'v Value>
-    ensures { option_map (λ v. view v.now) result ≡ given name.now (view element.now) }
-{
-    match element.get(name) {
-        Some(Value::Null) => None,
-        other => other,
-    }
-}
-
 // Names and values, from an object of texts.
-fn pairs_from(alloc: Global, value: &Value) -> Result<Vec<(String, String)>, MemberFault>
-    ensures { Reads (λ v. map bytes_of v.items) result (texts_of (view value.now)) }
+fn pairs_from(alloc: Global, value: Value) -> Result<Vec<(Text, Text)>, MemberFault>
+    ensures { Reads (λ v. v.items) result (texts_of (view value)) }
 {
-    let Some(members) = value.as_object() else {
+    let Value::Object(members) = value else {
         return Err(MemberFault::Bad);
     };
     pairs_of(alloc, members)
@@ -144,27 +178,16 @@ fn pairs_from(alloc: Global, value: &Value) -> Result<Vec<(String, String)>, Mem
 
 fn pairs_of(
     alloc: Global,
-    members: &Map<String, Value>,
-) -> Result<Vec<(String, String)>, MemberFault>
-    ensures { Reads (λ v. map bytes_of v.items) result
-        (pairs_of (members_view members.now.entries)) }
+    members: Map<String, Value>,
+) -> Result<Vec<(Text, Text)>, MemberFault>
+    ensures { Reads (λ v. v.items) result (pairs_of (members_view members.entries)) }
 {
-    let mut pairs = Vec::new(alloc);
+    let mut pairs = Vec::with_capacity(alloc, members.len())?;
     for (name, value) in members {
-        pairs.push(pair_of(alloc, name.as_str(), value)?)?;
+        let Value::String(value) = value else {
+            return Err(MemberFault::Bad);
+        };
+        pairs.push((Text { text: name }, Text { text: value }))?;
     }
     Ok(pairs)
-}
-
-fn pair_of(alloc: Global, name: &str, value: &Value) -> Result<(String, String), MemberFault>
-    ensures { Reads bytes_of result
-        (option_map (λ text. (name.now, text)) (as_str (view value.now))) }
-{
-    let Some(text) = value.as_str() else {
-        return Err(MemberFault::Bad);
-    };
-    Ok((
-        String::from_str(alloc, name)?,
-        String::from_str(alloc, text)?,
-    ))
 }

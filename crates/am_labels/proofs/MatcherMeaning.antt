@@ -2,3 +2,4 @@
 pub mod Readings
 pub mod OneMatcher
 pub mod Patterns
+pub mod Searching

@@ -1,3 +1,5 @@
 -- Definitions that only code of this crate cites.
 pub mod Comparisons
+pub mod Pairs
+pub mod Searches
 pub mod SplitAnswers

@@ -1,12 +1,13 @@
 //! How a matcher compares, with its compiled pattern. Only `matcher.rt` uses it.
 
-ghost use Rattle.std.specs.Prelude.{◌≡◌, IfOk, OnErr, true};
-ghost use Rattle.am_labels.specs.Matchers.{accepts, anchored, finds, is_of_pattern};
-ghost use Rattle.am_labels.specs.inside.Comparisons.{IsComparisonOf, IsComparisonWith};
-ghost use Rattle.am_labels.specs.inside.Comparisons.{IsCompiledOf, IsPatternOf, operator_of};
+ghost use Rattle.std.specs.Prelude.{◌≡◌, IfOk, OnErr, true, List, ℕ};
+ghost use Rattle.am_labels.specs.Matchers.{is_of_pattern};
+ghost use Rattle.am_labels.specs.inside.Comparisons.{IsComparisonOf, IsComparisonWith, IsCompiledOf, operator_of};
+ghost use Rattle.am_labels.specs.inside.Searches.{IsSearchWith, searched_operator};
 
 use crate::match_fault::MatchFault;
 use crate::operator::Operator;
+use crate::search::Search;
 use regex::{Error, Regex};
 use std::alloc::{AllocError, Global};
 
@@ -45,24 +46,20 @@ impl Comparison {
         }
     }
 
-    /// Whether a label's value is accepted.
-    pub(crate) fn accepts(
-        &self,
-        alloc: Global,
-        value: &str,
-        found: &str,
-    ) -> Result<bool, AllocError>
-        requires { IsComparisonWith value.now self.now }
-        ensures answer { IfOk result
-            (λ answer. answer ≡ accepts (operator_of self.now) value.now found.now) }
+    /// The comparison with its pattern's search. Only a pattern takes memory.
+    pub(crate) fn search(&self, alloc: Global) -> Result<Search<'_>, AllocError>
+        ensures operator { IfOk result
+            (λ search. searched_operator search ≡ operator_of self.now) }
+        ensures search { IfOk result (λ search.
+            (value : List ℕ) → IsComparisonWith value self.now → IsSearchWith value search) }
         ensures memory { OnErr result (is_of_pattern (operator_of self.now) ≡ true) }
     {
-        match self {
-            Comparison::Equal => Ok(found == value),
-            Comparison::NotEqual => Ok(found != value),
-            Comparison::MatchRegexp(regex) => is_match(alloc, regex, value, found),
-            Comparison::MatchNotRegexp(regex) => Ok(!is_match(alloc, regex, value, found)?),
-        }
+        Ok(match self {
+            Comparison::Equal => Search::Equal,
+            Comparison::NotEqual => Search::NotEqual,
+            Comparison::MatchRegexp(regex) => Search::MatchRegexp(regex.matcher(alloc)?),
+            Comparison::MatchNotRegexp(regex) => Search::MatchNotRegexp(regex.matcher(alloc)?),
+        })
     }
 }
 
@@ -76,13 +73,4 @@ fn compile(alloc: Global, value: &str) -> Result<Regex, MatchFault>
         Err(Error::OutOfMemory) => Err(MatchFault::NoMemory),
         Err(_) => Err(MatchFault::BadPattern),
     }
-}
-
-// Whether the pattern of a value matches a whole text.
-fn is_match(alloc: Global, regex: &Regex, value: &str, text: &str) -> Result<bool, AllocError>
-    requires { IsPatternOf value.now regex.now }
-    ensures { IfOk result (λ found. found ≡ finds (anchored value.now) text.now) }
-{
-    let mut search = regex.matcher(alloc)?;
-    Ok(search.is_match(text))
 }

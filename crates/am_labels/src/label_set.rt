@@ -4,7 +4,7 @@ ghost use Rattle.std.specs.Prelude.{◌≡◌, ◌==◌, IfOk};
 ghost use Rattle.std.specs.Prelude.{List, ℕ, map, Some, T};
 ghost use Rattle.std.specs.Option.{option_copied};
 ghost use Rattle.std.specs.FinMap as map_of;
-ghost use Rattle.std.specs.FinMap.Entries.{find};
+ghost use Rattle.std.specs.FinMap.Entries.{find, is_sorted};
 ghost use Rattle.am_labels.specs.Texts.{text_cmp};
 ghost use Rattle.am_labels.specs.LabelSets.{Labels, bytes_of, last_holds, same_labels, value_of};
 ghost use Rattle.std.specs.Fmt.{DisplaysOnOk};
@@ -12,6 +12,7 @@ ghost use Rattle.am_labels.specs.Printing.{labels_text, pair_text, pairs_text};
 
 use crate::label_name::LabelName;
 use crate::quoted::Quoted;
+use crate::shared_pairs::SharedPairs;
 use crate::text::Text;
 use std::alloc::{AllocError, Global};
 use std::cmp::Ordering;
@@ -20,11 +21,12 @@ use std::fmt;
 use std::hash::{Hash, Hasher};
 use std::marker::Model;
 
-/// A finite map from names to values. A look-up among n labels takes O(log n) comparisons.
+/// A finite map from names to values. A look-up among n labels takes O(log n) comparisons. It never
+/// changes, so its copies share one text of each name and value.
 #[derive(Debug, Drop)]
 pub struct LabelSet {
     // In byte order of names, each name once.
-    pairs: Vec<(Text, Text)>,
+    pairs: SharedPairs,
 }
 
 impl Model for LabelSet {
@@ -38,32 +40,44 @@ impl Model for LabelSet {
 
     ghost coded = { coded_labels };
 
-    ghost view = { λ a. from_sorted {R = text_cmp} a.pairs.items };
+    ghost view = { λ a. from_sorted {R = text_cmp} a.pairs };
 
-    ghost invariant = { λ a. T (is_sorted text_cmp a.pairs.items) };
+    ghost invariant = { λ a. T (is_sorted text_cmp a.pairs) };
 }
 
 impl LabelSet {
     /// No labels. It takes no memory.
-    pub fn new(alloc: Global) -> LabelSet
+    pub fn new() -> LabelSet
         ensures { result ≡ map_of.empty }
     {
         LabelSet {
-            pairs: Vec::new(alloc),
+            pairs: SharedPairs::new(),
         }
     }
 
-    /// The label set of these names and values, in O(n log n). Of pairs with one name the last
-    /// holds.
+    /// The label set of these names and values. Of pairs with one name the last holds.
     pub fn from_pairs(alloc: Global, pairs: Vec<(String, String)>) -> Result<LabelSet, AllocError>
         ensures { IfOk result (λ labels. labels ≡ last_holds (map bytes_of pairs.items)) }
     {
-        let mut sorted = BTreeMap::new(alloc);
+        let mut texts = Vec::with_capacity(alloc, pairs.len())?;
         for (name, value) in pairs {
-            sorted.insert(Text { text: name }, Text { text: value })?;
+            texts.push((Text { text: name }, Text { text: value }))?;
         }
+        LabelSet::from_texts(alloc, texts)
+    }
+
+    /// The label set of these names and values. Of pairs with one name the last holds. It takes O(n)
+    /// where the names come in byte order, each once, and O(n log n) else.
+    pub fn from_texts(alloc: Global, pairs: Vec<(Text, Text)>) -> Result<LabelSet, AllocError>
+        ensures { IfOk result (λ labels. labels ≡ last_holds pairs.items) }
+    {
+        let pairs = if are_ascending(&pairs) {
+            pairs
+        } else {
+            last_of_each(alloc, pairs)?
+        };
         Ok(LabelSet {
-            pairs: sorted.into_iter().collect(alloc)?,
+            pairs: SharedPairs::from_vec(pairs)?,
         })
     }
 
@@ -84,7 +98,7 @@ impl LabelSet {
     pub fn get(&self, name: &str) -> &str
         ensures { result.now ≡ value_of self.now name.now }
     {
-        match find(&self.pairs, name) {
+        match find(self.pairs.as_slice(), name) {
             Some(value) => value.as_str(),
             None => "",
         }
@@ -94,28 +108,58 @@ impl LabelSet {
     pub fn contains_name(&self, name: &str) -> bool
         ensures { result ≡ map_of.contains_key self.now name.now }
     {
-        find(&self.pairs, name).is_some()
+        find(self.pairs.as_slice(), name).is_some()
     }
 
     /// Names with their values, in byte order of names.
     pub fn names_and_values(&self) -> &[(Text, Text)]
         ensures { result.now ≡ map_of.entries self.now }
     {
-        &self.pairs
+        self.pairs.as_slice()
     }
 
+    /// The same label set once more, in O(1). It takes no memory, and fails only where 2^63 copies
+    /// are there already.
     pub fn copy(&self) -> Result<LabelSet, AllocError>
         ensures { IfOk result (λ copy. copy ≡ self.now) }
     {
         Ok(LabelSet {
-            pairs: copy_pairs(*self.pairs.allocator(), &self.pairs)?,
+            pairs: self.pairs.share()?,
         })
     }
 }
 
+// Whether each name is greater than the one before it.
+fn are_ascending(pairs: &[(Text, Text)]) -> bool
+    ensures { result ≡ is_sorted text_cmp pairs.now }
+{
+    let Some(((first, _), others)) = pairs.split_first() else {
+        return true;
+    };
+    let mut last = first;
+    for (name, _) in others {
+        if last.as_str() >= name.as_str() {
+            return false;
+        }
+        last = name;
+    }
+    true
+}
+
+// The pairs in byte order of names, of those with one name the last.
+fn last_of_each(alloc: Global, pairs: Vec<(Text, Text)>) -> Result<Vec<(Text, Text)>, AllocError>
+    ensures { IfOk result (λ sorted. sorted.items ≡ map_of.entries (last_holds pairs.items)) }
+{
+    let mut sorted = BTreeMap::new(alloc);
+    for (name, value) in pairs {
+        sorted.insert(name, value)?;
+    }
+    Ok(sorted.into_iter().collect(alloc)?)
+}
+
 // The value of a name among pairs in byte order of names.
 fn find<'a>(pairs: &'a [(Text, Text)], name: &str) -> Option<&'a Text>
-    requires { T (map_of.is_sorted text_cmp pairs.now) }
+    requires { T (is_sorted text_cmp pairs.now) }
     ensures { option_copied result ≡ find text_cmp name.now pairs.now }
 {
     let order = |pair: &(Text, Text)| -> Ordering
@@ -125,16 +169,6 @@ fn find<'a>(pairs: &'a [(Text, Text)], name: &str) -> Option<&'a Text>
         Ok(at) => Some(&pairs[at].1),
         Err(_) => None,
     }
-}
-
-fn copy_pairs(alloc: Global, pairs: &[(Text, Text)]) -> Result<Vec<(Text, Text)>, AllocError>
-    ensures { IfOk result (λ copy. copy.items ≡ pairs.now) }
-{
-    let mut copy = Vec::with_capacity(alloc, pairs.len())?;
-    for (name, value) in pairs {
-        copy.push((name.copy()?, value.copy()?))?;
-    }
-    Ok(copy)
 }
 
 impl PartialEq for LabelSet {

@@ -7,6 +7,7 @@ use crate::label_set::LabelSet;
 use crate::match_fault::MatchFault;
 use crate::matcher_text::{read_value, split};
 use crate::operator::Operator;
+use crate::prepared_matcher::PreparedMatcher;
 use crate::text::Text;
 use std::alloc::{AllocError, Global};
 use std::marker::Model;
@@ -78,22 +79,26 @@ impl Matcher {
         self.value.as_str()
     }
 
-    /// Whether it admits a label set. A missing label counts as empty. Only a pattern takes memory;
-    /// asking twice answers the same.
+    /// The matcher made ready to be asked many times. Only a pattern takes memory.
+    pub fn prepare(&self) -> Result<PreparedMatcher<'_>, AllocError>
+        ensures prepared { IfOk result (λ prepared. prepared ≡ self.now) }
+        ensures memory { OnErr result (is_of_pattern self.now.operator ≡ true) }
+    {
+        let search = self.comparison.search(self.value.allocator())?;
+        Ok(PreparedMatcher::new(
+            self.name.as_str(),
+            self.value.as_str(),
+            search,
+        ))
+    }
+
+    /// Whether it admits a label set. A missing label counts as empty. Only a pattern takes memory,
+    /// and takes it at each call: `prepare` is for who asks often.
     pub fn admits(&mut self, labels: &LabelSet) -> Result<bool, AllocError>
         ensures answer { IfOk result (λ answer. answer ≡ admitted self.old labels.now) }
         ensures memory { OnErr result (is_of_pattern self.old.operator ≡ true) }
         ensures same { self.new ≡ self.old }
     {
-        self.accepts(labels)
-    }
-
-    pub(crate) fn accepts(&self, labels: &LabelSet) -> Result<bool, AllocError>
-        ensures answer { IfOk result (λ answer. answer ≡ admitted self.now labels.now) }
-        ensures memory { OnErr result (is_of_pattern self.now.operator ≡ true) }
-    {
-        let found = labels.get(self.name.as_str());
-        self.comparison
-            .accepts(self.value.allocator(), self.value.as_str(), found)
+        Ok(self.prepare()?.admits(labels))
     }
 }

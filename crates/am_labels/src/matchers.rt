@@ -6,7 +6,8 @@ ghost use Rattle.am_labels.specs.Matchers.{all_admitted, is_of_pattern};
 
 use crate::label_set::LabelSet;
 use crate::matcher::Matcher;
-use std::alloc::AllocError;
+use crate::prepared_matchers::PreparedMatchers;
+use std::alloc::{AllocError, Global};
 use std::marker::Model;
 
 /// Matchers in order, seen by contracts as their list.
@@ -35,8 +36,19 @@ impl Matchers {
         &self.matchers
     }
 
-    /// Whether each of them admits a label set; none admit every one. Only a pattern takes memory;
-    /// asking twice answers the same.
+    /// The matchers made ready to be asked many times.
+    pub fn prepare(&self, alloc: Global) -> Result<PreparedMatchers<'_>, AllocError>
+        ensures { IfOk result (λ prepared. prepared ≡ self.now) }
+    {
+        let mut matchers = Vec::with_capacity(alloc, self.matchers.len())?;
+        for matcher in self.as_slice() {
+            matchers.push(matcher.prepare()?)?;
+        }
+        Ok(PreparedMatchers { matchers })
+    }
+
+    /// Whether each of them admits a label set; none admit every one. Only a pattern takes memory,
+    /// and takes it at each call: `prepare` is for who asks often.
     pub fn admits(&mut self, labels: &LabelSet) -> Result<bool, AllocError>
         ensures answer { IfOk result (λ answer. answer ≡ all_admitted self.old labels.now) }
         ensures memory { OnErr result
@@ -44,7 +56,7 @@ impl Matchers {
         ensures same { self.new ≡ self.old }
     {
         for matcher in self.as_slice() {
-            if !matcher.accepts(labels)? {
+            if !matcher.prepare()?.admits(labels) {
                 return Ok(false);
             }
         }

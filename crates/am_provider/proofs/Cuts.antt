@@ -10,7 +10,7 @@ use Rattle.std.proofs.lemmas.Option.{slice_get-map}
 use Rattle.std.proofs.Math.Seq.{drop-length, drop-nil, drop-append_seam}
 use Rattle.am_alert.specs.declared.alert.Alert.{Alert}
 use Rattle.am_provider.specs.Broadcast.{items_of}
-use Rattle.am_provider.specs.inside.Shared.{alerts_in}
+use Rattle.am_provider.specs.Shared.{alerts_in}
 use Rattle.am_provider.specs.inside.Cuts.{cut, IsCutInOrder, batch_start}
 
 pub cut_length : (from : ℕ) (ends : List ℕ) (alerts : List Alert) → length (cut from ends alerts) ≡ length ends

@@ -20,7 +20,8 @@ use Rattle.am_provider.specs.declared.store.absorb.Change.{Change}
 use Rattle.am_provider.specs.declared.store.absorb.Change.TheVariants.{Added, Replaced}
 use Rattle.am_provider.specs.inside.Undone.{undone, all_undone}
 use Rattle.am_provider.specs.AlertList.{lookup, with_alert, absorb_into, batch_by_list}
-use Rattle.am_provider.specs.inside.Shared.{alerts_in, stored_in, AreKeptByLabels, taken_back, all_taken_back}
+use Rattle.am_provider.specs.Shared.{alerts_in}
+use Rattle.am_provider.specs.inside.Shared.{stored_in, AreKeptByLabels, taken_back, all_taken_back}
 use Rattle.am_provider.proofs.Stored.{by_bool, by_option, absorbed_labels}
 
 pub alerts_in_last : (shared : List (Arc Alert Global)) (last : Arc Alert Global) → alerts_in (shared ++ last ∷ []) ≡ alerts_in shared ++ arc_value last ∷ []

@@ -5,6 +5,7 @@ pub use Rattle.am_labels.specs.Printing
 pub use Rattle.am_alert.specs.Moments
 pub use Rattle.am_alert.specs.Alerts
 pub use Rattle.am_alert.specs.Merging
+pub mod Shared
 pub mod Journal
 pub mod Stored
 pub mod Broadcast

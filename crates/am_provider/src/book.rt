@@ -34,6 +34,7 @@ use crate::call::Call;
 use crate::faults::{AlreadyClosed, PutFault, SubFault};
 use crate::log::Log;
 use crate::pass::Pass;
+use crate::shared_alerts::SharedAlerts;
 use crate::store::Store;
 use crate::subscription::Subscription;
 use am_alert::{Moment, Post};
@@ -136,10 +137,10 @@ impl Book {
         }
         self.journal.reserve(ENTRIES)?;
         self.log.reserve(count)?;
-        let absorbed = self.stored.absorb(valid.as_slice(), now)?;
+        let alerts = SharedAlerts::new(*self.journal.allocator(), valid)?;
+        let absorbed = self.stored.absorb(alerts.as_slice(), now)?;
         let place = self.log.push_reserved(absorbed.batch);
-        self.journal
-            .push_reserved(Call::Posted { now, alerts: valid });
+        self.journal.push_reserved(Call::Posted { now, alerts });
         self.posts += 1;
         Ok(Posted {
             valid: count as u32,

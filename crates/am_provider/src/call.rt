@@ -1,12 +1,13 @@
 //! The entries of a Book's journal.
 
-use am_alert::{Alerts, Moment};
+use crate::shared_alerts::SharedAlerts;
+use am_alert::Moment;
 
 /// An accepted call of the Book.
 #[derive(Debug, Drop)]
 pub enum Call {
     /// The valid alerts of a post, as they were posted.
-    Posted { now: Moment, alerts: Alerts },
+    Posted { now: Moment, alerts: SharedAlerts },
     /// Resolved alerts were removed.
     Collected(Moment),
     /// A subscription took the lane.

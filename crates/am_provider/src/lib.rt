@@ -24,6 +24,7 @@ mod faults;
 mod laws;
 mod log;
 mod pass;
+mod shared_alerts;
 mod store;
 mod subscription;
 
@@ -33,4 +34,5 @@ pub use call::Call;
 pub use faults::{AlreadyClosed, PutFault, SubFault};
 pub use laws::journal_laws;
 pub use pass::Pass;
+pub use shared_alerts::{SharedAlert, SharedAlerts};
 pub use subscription::Subscription;

@@ -5,11 +5,11 @@ ghost use Rattle.std.specs.Prelude.{if◌then◌else◌, nat_eq, length, drop, s
 ghost use Rattle.std.specs.Prelude.{vec_len, vec_capacity};
 ghost use Rattle.std.specs.Option.{option_copied};
 ghost use Rattle.am_provider.specs.Broadcast.{items_of};
-ghost use Rattle.am_provider.specs.inside.Shared.{alerts_in};
+ghost use Rattle.am_provider.specs.Shared.{alerts_in};
 ghost use Rattle.am_provider.specs.inside.Batches.{batches_in, AreEnds, HasRoom};
 ghost use Rattle.am_provider.specs.inside.Cuts.{batch_start};
 
-use crate::store::SharedAlert;
+use crate::shared_alerts::SharedAlert;
 use am_alert::Alert;
 use std::alloc::{AllocError, Global};
 

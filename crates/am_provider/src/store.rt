@@ -4,21 +4,19 @@ ghost use Rattle.std.specs.Prelude.{◌≡◌, [], IfOk, OnOk, OnErr, length, fi
 ghost use Rattle.std.specs.Arc.{arc_value};
 ghost use Rattle.am_alert.specs.Merging.{is_resolved_at};
 ghost use Rattle.am_provider.specs.AlertList.{with_alerts, batch_by_list};
-ghost use Rattle.am_provider.specs.inside.Shared.{alerts_in};
+ghost use Rattle.am_provider.specs.Shared.{alerts_in};
 ghost use Rattle.am_provider.specs.inside.Undone.{all_undone};
 
 mod absorb;
 
+use crate::shared_alerts::SharedAlert;
 use crate::store::absorb::{Absorbed, absorb_each};
-use am_alert::{Alert, Moment};
+use am_alert::Moment;
 use am_labels::LabelSet;
 use indexmap::IndexMap;
 use std::alloc::{AllocError, Global};
 use std::marker::Model;
 use std::sync::Arc;
-
-/// An alert that the store, the log and openings have in common, so that none of them copies it.
-pub(crate) type SharedAlert = Arc<Alert, Global>;
 
 /// Alerts by their label sets, in the order in which those began.
 pub(crate) type AlertMap = IndexMap<LabelSet, SharedAlert>;
@@ -73,12 +71,16 @@ impl Store {
 
     /// Absorbs reports one after another, and answers what each became with what takes it all back.
     /// If memory runs out for one, all stays as it was.
-    pub(crate) fn absorb(&mut self, news: &[Alert], now: Moment) -> Result<Absorbed, AllocError>
-        ensures batch { IfOk result
-            (λ done. alerts_in done.batch.items ≡ batch_by_list now news.now self.old) }
+    pub(crate) fn absorb(
+        &mut self,
+        news: &[SharedAlert],
+        now: Moment,
+    ) -> Result<Absorbed, AllocError>
+        ensures batch { IfOk result (λ done.
+            alerts_in done.batch.items ≡ batch_by_list now (alerts_in news.now) self.old) }
         ensures undo { IfOk result (λ done. all_undone done.undo.items self.new ≡ self.old) }
         ensures store { OnOk result
-            (self.new ≡ with_alerts (batch_by_list now news.now self.old) self.old) }
+            (self.new ≡ with_alerts (batch_by_list now (alerts_in news.now) self.old) self.old) }
         ensures err { OnErr result (self.new ≡ self.old) }
     {
         absorb_each(&mut self.alerts, news, now)

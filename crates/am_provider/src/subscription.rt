@@ -3,13 +3,13 @@
 ghost use Rattle.std.specs.Prelude.{◌≡◌, ◌-◌, ◌<◌, ◌≤◌, ◌^◌, ◌++◌, ⊤, Some, false, slice_get, length, drop};
 ghost use Rattle.std.specs.Option.{is_some, option_copied};
 ghost use Rattle.am_provider.specs.Broadcast.{items_of};
-ghost use Rattle.am_provider.specs.inside.Shared.{alerts_in};
+ghost use Rattle.am_provider.specs.Shared.{alerts_in};
 ghost use Rattle.am_provider.specs.inside.Batches.{batches_in, AreEnds};
 
 use crate::answers::{Ended, Step};
 use crate::book::Book;
 use crate::log::Log;
-use crate::store::SharedAlert;
+use crate::shared_alerts::SharedAlert;
 use am_alert::Alert;
 use std::marker::Model;
 
@@ -28,7 +28,7 @@ pub struct Subscription {
 impl Model for Subscription {
     ghost use Rattle.std.specs.Prelude.{◌<◌, ◌^◌, length};
     ghost use Rattle.am_provider.specs.BookView.{SubscriptionView, coded_subscription};
-    ghost use Rattle.am_provider.specs.inside.Shared.{alerts_in};
+    ghost use Rattle.am_provider.specs.Shared.{alerts_in};
 
     ghost Value = { SubscriptionView };
 

@@ -12,11 +12,11 @@ use Rattle.std.specs.List.{AllWithin}
 use Rattle.std.proofs.lemmas.Bool.{cases_lt}
 use Rattle.am_labels.specs.Texts.{text_cmp}
 
-both : (a b : Bool) → T (a && b) → T a × T b
+pub both : (a b : Bool) → T (a && b) → T a × T b
 both true b h = (tt, h)
 both false b h = absurd h
 
-less : (o : Ordering) → T (is_lt o) → o ≡ Less
+pub less : (o : Ordering) → T (is_lt o) → o ≡ Less
 less Less h = refl
 less Equal h = absurd h
 less Greater h = absurd h

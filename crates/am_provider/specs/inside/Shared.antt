@@ -9,10 +9,6 @@ use Rattle.am_alert.specs.declared.alert.Alert.{Alert}
 use Rattle.am_provider.specs.declared.store.absorb.Change.{Change}
 use Rattle.am_provider.specs.declared.store.absorb.Change.TheVariants.{Added, Replaced}
 
--- shared alerts as the alerts that they are
-abbrev pub alerts_in : List (Arc Alert Global) → List Alert
-alerts_in shared = map arc_value shared
-
 -- the stored alerts, by the entries of their map
 abbrev pub stored_in : List (Labels × Arc Alert Global) → List Alert
 stored_in entries = map (λ entry. arc_value entry.1) entries

@@ -6,14 +6,16 @@ ghost use Rattle.std.specs.Arc.{arc_value};
 ghost use Rattle.std.specs.Option.{option_copied};
 ghost use Rattle.am_alert.specs.Merging.{absorbed};
 ghost use Rattle.am_provider.specs.AlertList.{lookup, with_alert, with_alerts, batch_by_list};
-ghost use Rattle.am_provider.specs.inside.Shared.{alerts_in, stored_in, AreKeptByLabels};
+ghost use Rattle.am_provider.specs.Shared.{alerts_in};
+ghost use Rattle.am_provider.specs.inside.Shared.{stored_in, AreKeptByLabels};
 ghost use Rattle.am_provider.specs.inside.Shared.{taken_back, all_taken_back};
 ghost use Rattle.am_provider.specs.inside.Undone.{all_undone};
 
-use crate::store::{AlertMap, SharedAlert};
-use am_alert::{Alert, Moment, absorb};
+use crate::shared_alerts::SharedAlert;
+use crate::store::AlertMap;
+use am_alert::{Alert, Moment, merge_overlapping};
 use am_labels::LabelSet;
-use std::alloc::AllocError;
+use std::alloc::{AllocError, Global};
 use std::mem;
 use std::sync::Arc;
 
@@ -37,16 +39,17 @@ pub(crate) struct Absorbed {
 /// Absorbs reports one after another, and answers what each became.
 pub(crate) fn absorb_each(
     alerts: &mut AlertMap,
-    news: &[Alert],
+    news: &[SharedAlert],
     now: Moment,
 ) -> Result<Absorbed, AllocError>
     requires { AreKeptByLabels alerts.old.entries }
     ensures batch { IfOk result (λ done.
-        alerts_in done.batch.items ≡ batch_by_list now news.now (stored_in alerts.old.entries)) }
+        alerts_in done.batch.items
+        ≡ batch_by_list now (alerts_in news.now) (stored_in alerts.old.entries)) }
     ensures undo { IfOk result (λ done. all_undone done.undo.items (stored_in alerts.new.entries)
         ≡ stored_in alerts.old.entries) }
     ensures stored { OnOk result (stored_in alerts.new.entries
-        ≡ with_alerts (batch_by_list now news.now (stored_in alerts.old.entries))
+        ≡ with_alerts (batch_by_list now (alerts_in news.now) (stored_in alerts.old.entries))
         (stored_in alerts.old.entries)) }
     ensures kept { AreKeptByLabels alerts.new.entries }
     ensures err { OnErr result (alerts.new.entries ≡ alerts.old.entries) }
@@ -75,12 +78,12 @@ pub(crate) fn absorb_each(
 // Absorbs one report. Answers what it became, and what it changed.
 fn absorb_one(
     alerts: &mut AlertMap,
-    new: &Alert,
+    new: &SharedAlert,
     now: Moment,
 ) -> Result<(SharedAlert, Change), AllocError>
     requires { AreKeptByLabels alerts.old.entries }
-    ensures became { IfOk result (λ done. arc_value done.0
-        ≡ absorbed now (lookup new.now.labels (stored_in alerts.old.entries)) new.now) }
+    ensures became { IfOk result (λ done. let new = arc_value new.now in
+        arc_value done.0 ≡ absorbed now (lookup new.labels (stored_in alerts.old.entries)) new) }
     ensures stored { IfOk result (λ done. stored_in alerts.new.entries
         ≡ with_alert (arc_value done.0) (stored_in alerts.old.entries)) }
     ensures kept { AreKeptByLabels alerts.new.entries }
@@ -89,7 +92,7 @@ fn absorb_one(
     ensures err { OnErr result (alerts.new.entries ≡ alerts.old.entries) }
 {
     let alloc = *alerts.allocator();
-    let became = Arc::new(alloc, absorb(stored_alert(alerts, &new.labels), new, now)?)?;
+    let became = outcome_of(alloc, stored_alert(alerts, &new.labels), new, now)?;
     let shared = Arc::try_clone(&became)?;
     match alerts.get_index_of(&new.labels) {
         Some(at) => {
@@ -100,6 +103,22 @@ fn absorb_one(
             alerts.insert(new.labels.copy()?, shared)?;
             Ok((became, Change::Added))
         }
+    }
+}
+
+// What a report becomes: itself where it isn't merged.
+fn outcome_of(
+    alloc: Global,
+    stored: Option<&Alert>,
+    new: &SharedAlert,
+    now: Moment,
+) -> Result<SharedAlert, AllocError>
+    ensures { IfOk result (λ became.
+        arc_value became ≡ absorbed now (option_copied stored.entry) (arc_value new.now)) }
+{
+    match merge_overlapping(stored, new, now)? {
+        Some(merged) => Ok(Arc::new(alloc, merged)?),
+        None => Arc::try_clone(new),
     }
 }
 

@@ -1,5 +1,6 @@
-use Rattle.std.proofs.Common.{◌≡◌, Ok, rules}
+use Rattle.std.proofs.Common.{◌≡◌, ◌+◌, length, Ok, arith, rules}
 use Rattle.std.specs.Duration.{as_nanos}
+use Rattle.std.specs.Vec.Iter.{into_iter_items, into_iter_len}
 use Rattle.std.proofs.lemmas.List.Elements.{All-weaker}
 use Rattle.serde_json.specs.View.{items_view}
 use Rattle.am_alert.specs.Posts.{elements_of}
@@ -11,11 +12,15 @@ use Rattle.am_alert.proofs.post_reader.read_elements.Goals as goal
 pub invariant_of-result : goal.invariant_of-result
 invariant_of-result c =
     let timeout = as_nanos c.args.resolve_timeout in
-    let reads : elements_of c.args.now timeout 0 (items_view c.args.elements.now) ≡ Ok (c.loop-i.valid.items, c.loop-i.faults.items) =
-    all_read c.args.now timeout c.loop-i.i c.args.elements.now c.loop-i.valid.items c.loop-i.faults.items c.loop-i-test.false c.loop-i.invariant.1 in
-    let told = are_told c.args.now timeout 0 (items_view c.args.elements.now) (c.loop-i.valid.items, c.loop-i.faults.items) reads in
+    let valid = c.loop-element.valid.items in
+    let faults = c.loop-element.faults.items in
+    let rest = into_iter_items c.loop-element.element-iterator in
+    let none : into_iter_len c.loop-element.element-iterator ≡ 0 = search rules in
+    let reads : elements_of c.args.now timeout 0 (items_view c.args.elements.items) ≡ Ok (valid, faults) =
+    all_read c.args.now timeout (length valid + length faults) rest _ valid faults (omega (arith, none, c.loop-element.invariant.1)) c.loop-element.invariant.2 in
+    let told = are_told c.args.now timeout 0 (items_view c.args.elements.items) (valid, faults) reads in
     record {
       few = search rules;
-      well_formed = All-weaker (λ alert. IsWellFormed alert × (alert.updated ≡ c.args.now)) IsWellFormed (λ alert h. h.0) c.loop-i.valid.items told.valid;
+      well_formed = All-weaker (λ alert. IsWellFormed alert × (alert.updated ≡ c.args.now)) IsWellFormed (λ alert h. h.0) valid told.valid;
       rising = told.rising;
     }

@@ -9,4 +9,4 @@ copied_variant (Some x) = refl
 
 pub returns : goal.returns
 returns c =
-    c.is_some.ensures ∙ (copied_variant c.find.result ∙ contains_found c.self.inside.pairs.items c.args.self.now c.args.name.now (option_copied c.find.result) c.self.invariant c.self.view_is (search rules))
+    c.is_some.ensures ∙ (copied_variant c.find.result ∙ contains_found c.self.inside.pairs c.args.self.now c.args.name.now (option_copied c.find.result) c.self.invariant c.self.view_is (search rules))

@@ -5,7 +5,7 @@ use Rattle.am_alert.specs.declared.post.TheConstants.{MAX_ALERTS}
 use Rattle.am_provider.specs.declared.book.TheConstants.{LOG_END}
 use Rattle.am_provider.specs.declared.call.Call.TheVariants.{Posted}
 use Rattle.am_provider.specs.AlertList.{with_alerts, batch_by_list}
-use Rattle.am_provider.specs.inside.Shared.{alerts_in}
+use Rattle.am_provider.specs.Shared.{alerts_in}
 use Rattle.am_provider.specs.BookView.{BookView}
 use Rattle.am_provider.specs.inside.Batches.{batches_in, AreEnds}
 use Rattle.am_provider.proofs.Entries.{length_batch, length_became}
@@ -15,14 +15,14 @@ use Rattle.am_provider.proofs.book.Book.post.Goals as goal
 
 pub push_reserved-place-requires-clause-room : goal.push_reserved-place-requires-clause-room
 push_reserved-place-requires-clause-room c =
-    let count : length c.in_ok-absorbed.absorbed.batch.items ≡ length c.as_slice.result.now = length_became c.in_ok-absorbed.absorbed.batch.items c.args.now c.as_slice.result.now c.self.inside.stored c.in_ok-absorbed.ensures.batch in
-    let news : length c.as_slice.result.now ≡ length c.as_slice-count.result.now = search rules in
+    let count : length c.in_ok-absorbed.absorbed.batch.items ≡ length (alerts_in c.as_slice.result.now) = length_became c.in_ok-absorbed.absorbed.batch.items c.args.now (alerts_in c.as_slice.result.now) c.self.inside.stored c.in_ok-absorbed.ensures.batch in
+    let news : length (alerts_in c.as_slice.result.now) ≡ length c.as_slice-count.result.now = search rules in
     (omega (arith, c.in_ok-reserve-2.ensures.room, count, news), c.in_ok-reserve-2.ensures.room.1)
 
 pub returns-clause-place : goal.returns-clause-place
 returns-clause-place c =
-    let count : length c.in_ok-absorbed.absorbed.batch.items ≡ length c.as_slice.result.now = length_became c.in_ok-absorbed.absorbed.batch.items c.args.now c.as_slice.result.now c.self.inside.stored c.in_ok-absorbed.ensures.batch in
-    let news : length c.as_slice.result.now ≡ length c.args.post.valid = search rules in
+    let count : length c.in_ok-absorbed.absorbed.batch.items ≡ length (alerts_in c.as_slice.result.now) = length_became c.in_ok-absorbed.absorbed.batch.items c.args.now (alerts_in c.as_slice.result.now) c.self.inside.stored c.in_ok-absorbed.ensures.batch in
+    let news : length (alerts_in c.as_slice.result.now) ≡ length c.args.post.valid = search rules in
     let log : length (batches_in c.reserve-2.new.self) ≡ length c.args.self.now.log = ap length c.in_ok-reserve-2.ensures.batches ∙ ap (λ (s : BookView). length s.log) c.self.view_is in
     c.push_reserved-place.ensures.place
     ∙ (ap (λ n. cond (nat_eq n 0) None (Some (length (batches_in c.reserve-2.new.self)))) (count ∙ news)
@@ -30,7 +30,7 @@ returns-clause-place c =
 
 pub invariant_of-self-2 : goal.invariant_of-self-2
 invariant_of-self-2 c =
-    let news : c.as_slice.result.now ≡ c.args.post.valid = search rules in
+    let news : (alerts_in c.as_slice.result.now) ≡ c.args.post.valid = search rules in
     let batch = alerts_in c.in_ok-absorbed.absorbed.batch.items in
     let sent : batch ≡ batch_by_list c.args.now c.args.post.valid c.self.inside.stored = c.in_ok-absorbed.ensures.batch ∙ ap (λ news. batch_by_list c.args.now news c.self.inside.stored) news in
     let store : c.absorb.new.self ≡ with_alerts batch c.self.inside.stored = c.in_ok-absorbed.ensures.store ∙ ap (λ batch. with_alerts batch c.self.inside.stored) (ap (λ news. batch_by_list c.args.now news c.self.inside.stored) news ∙ sym sent) in

@@ -1,6 +1,6 @@
 use Rattle.std.proofs.Common.{◌≡◌, ◌+◌, ◌≤◌, length, set, ◌++◌, ◌∷◌, [], refl, sym, subst, arith, rules, vec_len, vec_capacity, true}
 use Rattle.am_provider.specs.declared.call.Call.TheVariants.{Subscribed}
-use Rattle.am_provider.specs.inside.Shared.{alerts_in}
+use Rattle.am_provider.specs.Shared.{alerts_in}
 use Rattle.am_provider.specs.inside.Batches.{batches_in}
 use Rattle.am_provider.specs.BookView.{BelongsTo}
 use Rattle.am_provider.specs.inside.BookInside.{view_of}

@@ -2,7 +2,7 @@ use Rattle.std.proofs.Common.{◌≡◌, ◌≤◌, ◌<◌, Some, length, drop,
 use Rattle.std.specs.Arc.{arc_value}
 use Rattle.std.specs.Option.{option_map}
 use Rattle.std.proofs.lemmas.Option.{slice_get_read}
-use Rattle.am_provider.specs.inside.Shared.{alerts_in}
+use Rattle.am_provider.specs.Shared.{alerts_in}
 use Rattle.am_provider.specs.inside.Cuts.{batch_start}
 use Rattle.am_provider.proofs.Cuts.{cut_length, found_from, none_from}
 use Rattle.am_provider.proofs.log.Log.get.Goals as goal

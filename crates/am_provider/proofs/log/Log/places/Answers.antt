@@ -1,6 +1,6 @@
 use Rattle.std.proofs.Common.{◌≡◌, length, sym, ◌∙◌, rules}
 use Rattle.std.proofs.Common.{vec_len}
-use Rattle.am_provider.specs.inside.Shared.{alerts_in}
+use Rattle.am_provider.specs.Shared.{alerts_in}
 use Rattle.am_provider.proofs.Cuts.{cut_length}
 use Rattle.am_provider.proofs.log.Log.places.Goals as goal
 

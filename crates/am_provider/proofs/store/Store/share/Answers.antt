@@ -1,6 +1,6 @@
 use Rattle.std.proofs.Common.{◌≡◌, ◌++◌, ap, ◌∙◌, rules, []}
 use Rattle.std.specs.HashMap.{values}
-use Rattle.am_provider.specs.inside.Shared.{alerts_in}
+use Rattle.am_provider.specs.Shared.{alerts_in}
 use Rattle.am_provider.proofs.Entries.{values_stored}
 use Rattle.am_provider.proofs.store.Store.share.Goals as goal
 

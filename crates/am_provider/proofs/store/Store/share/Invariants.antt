@@ -1,5 +1,5 @@
 use Rattle.std.proofs.Common.{◌≡◌, ◌++◌}
-use Rattle.am_provider.specs.inside.Shared.{alerts_in}
+use Rattle.am_provider.specs.Shared.{alerts_in}
 use Rattle.am_provider.proofs.store.Store.share.Given as goal
 
 abbrev pub invariant-loop-alert : goal.invariant-loop-alert
