@@ -4,7 +4,7 @@ ghost use Rattle.std.specs.Prelude.{◌≡◌, IfOk, Some};
 ghost use Rattle.am_alert.specs.Printing.{alert_text};
 
 use crate::moment::Moment;
-use am_labels::{LabelSet, Text};
+use am_labels::{LabelSet, SharedText};
 use std::alloc::AllocError;
 use std::fmt;
 
@@ -21,7 +21,7 @@ pub struct Alert {
     /// Whether the end was not given, and is the report's moment and the resolve timeout.
     pub timeout: bool,
     /// The `generatorURL`, as it was posted.
-    pub generator: Text,
+    pub generator: SharedText,
 }
 
 impl Alert {
@@ -34,6 +34,8 @@ impl Alert {
         self.end <= now
     }
 
+    /// The same alert once more, which shares its texts. It takes no memory, and fails only where
+    /// 2^63 copies are there already.
     pub fn copy(&self) -> Result<Alert, AllocError>
         ensures { IfOk result (λ copy. copy ≡ self.now) }
     {

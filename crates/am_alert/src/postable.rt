@@ -9,7 +9,7 @@ ghost use Rattle.am_alert.specs.Postables.{annotations_of, given, has_value, if_
 
 use crate::moment::Moment;
 use crate::time_text::read_time;
-use am_labels::{LabelSet, Text};
+use am_labels::{LabelSet, SharedText, Text};
 use serde_json::{Map, Value};
 use std::alloc::{AllocError, AllocFailed, Global};
 
@@ -49,7 +49,7 @@ pub(crate) struct Postable {
     pub(crate) annotations: LabelSet,
     pub(crate) start: Option<Moment>,
     pub(crate) end: Option<Moment>,
-    pub(crate) generator: Text,
+    pub(crate) generator: SharedText,
 }
 
 #[tactic(auto, unfolding(crate::specs::Postables::postable_of))]
@@ -138,14 +138,12 @@ fn annotations_of(alloc: Global, value: Option<Value>) -> Result<LabelSet, Membe
     Ok(LabelSet::from_texts(alloc, pairs_from(alloc, value)?)?)
 }
 
-fn generator_of(alloc: Global, value: Option<Value>) -> Result<Text, MemberFault>
+fn generator_of(alloc: Global, value: Option<Value>) -> Result<SharedText, MemberFault>
     ensures { Reads (λ t. t) result (if_given [] as_str (option_map view value)) }
 {
     match value {
-        None => Ok(Text {
-            text: String::new(alloc),
-        }),
-        Some(Value::String(text)) => Ok(Text { text }),
+        None => Ok(SharedText::new()),
+        Some(Value::String(text)) => Ok(SharedText::from_text(alloc, Text { text })?),
         Some(_) => Err(MemberFault::Bad),
     }
 }

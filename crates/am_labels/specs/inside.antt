@@ -2,4 +2,5 @@
 pub mod Comparisons
 pub mod Pairs
 pub mod Searches
+pub mod SharedTexts
 pub mod SplitAnswers

@@ -30,6 +30,7 @@ mod prepared_matchers;
 mod quoted;
 mod search;
 mod shared_pairs;
+mod shared_text;
 mod text;
 
 pub use label_name::LabelName;
@@ -42,4 +43,5 @@ pub use operator::Operator;
 pub use prepared_matcher::PreparedMatcher;
 pub use prepared_matchers::PreparedMatchers;
 pub use quoted::Quoted;
+pub use shared_text::SharedText;
 pub use text::Text;

@@ -8,8 +8,8 @@ use std::test::Fail;
 
 fn report(alloc: Global, start: &str, end: &str) -> Result<Alert, Fail> {
     Ok(Alert {
-        labels: LabelSet::new(alloc),
-        annotations: LabelSet::new(alloc),
+        labels: LabelSet::new(),
+        annotations: LabelSet::new(),
         start: moment(start)?,
         end: moment(end)?,
         updated: moment(start)?,

@@ -40,6 +40,6 @@ fn comparisons(rt: HostRuntime) -> Result<(), Fail> {
     let other = LabelSet::from_pairs(rt.alloc(), pairs)?;
     assert!(rt; one != other);
     assert!(rt; one < other);
-    assert!(rt; LabelSet::new(rt.alloc()) < one);
+    assert!(rt; LabelSet::new() < one);
     Ok(())
 }

@@ -52,7 +52,7 @@ fn with_label(alloc: Global, name: &str, value: &str) -> Result<LabelSet, AllocE
 fn admits(alloc: Global, text: &str, value: &str) -> Result<bool, Fail> {
     let mut matcher = read(alloc, text)?;
     let labels = if value.is_empty() {
-        LabelSet::new(alloc)
+        LabelSet::new()
     } else {
         with_label(alloc, "foo", value)?
     };
