@@ -3,7 +3,7 @@ use Rattle.std.proofs.Common.{◌≡◌, ℕ, suc, ◌+◌, ◌<◌, Bool, true,
 use Rattle.std.specs.Bool.{OnTrue}
 use Rattle.std.specs.List.{All, Any, onto_first}
 use Rattle.std.proofs.lemmas.List.{length-append}
-use Rattle.std.proofs.lemmas.List.Elements.{All-head, All-nil, All-push, All-tail}
+use Rattle.std.proofs.lemmas.List.Elements.{All-append, All-head, All-nil, All-push, All-tail}
 use Rattle.std.proofs.lemmas.List.Quantifiers.{Any-push}
 use Rattle.am_replay.specs.Inputs.{HasExcess, IsMeasured}
 use Rattle.am_script.specs.Script.{is_line_feed, lines_of}
@@ -53,6 +53,18 @@ module _ (text : List ℕ) (ended open_bytes : ℕ) (was : IsMeasured text ended
     plain = All-push (λ b. is_line_feed b ≡ false) was.last byte was.plain is;
     count = was.count;
     size = ap (λ (n : ℕ). n + 1) was.size ∙ sym (length-append was.last (byte ∷ []));
+  }
+
+  pub measured_part : (part : List ℕ) → IsPlain part → IsMeasured (text ++ part) ended (open_bytes + length part)
+  measured_part part plain = record {
+    front = was.front;
+    last = was.last ++ part;
+    done = was.done;
+    parts = ap (λ (all : List ℕ). all ++ part) was.parts ∙ append_assoc was.front was.last part;
+    lines = was.lines;
+    plain = All-append (λ b. is_line_feed b ≡ false) was.last part was.plain plain;
+    count = was.count;
+    size = ap (λ (n : ℕ). n + length part) was.size ∙ sym (length-append was.last part);
   }
 
   its_lines : lines_of text ≡ was.done ++ lines_of was.last

@@ -45,3 +45,12 @@ read_excess (Some xs) (Some ys) (Some zs) front bytes text taken rest begun read
             ∙ (sym (append_assoc front taken (rest ++ zs)) ∙ ap (λ (l : List ℕ). l ++ (rest ++ zs)) (sym grown))),
       ),
     )
+
+-- one part more of the bytes was taken
+pub part_taken : (taken rest part others bytes : List ℕ) → taken ++ rest ≡ bytes → part ++ others ≡ rest → (taken ++ part) ++ others ≡ bytes
+part_taken taken rest part others bytes so_far parts =
+    append_assoc taken part others ∙ (ap (λ (left : List ℕ). taken ++ left) parts ∙ so_far)
+
+pub part_added : (begun text taken part new : List ℕ) → text ≡ begun ++ taken → new ≡ text ++ part → new ≡ begun ++ (taken ++ part)
+part_added begun text taken part new so_far added =
+    added ∙ (ap (λ (front : List ℕ). front ++ part) so_far ∙ append_assoc begun taken part)

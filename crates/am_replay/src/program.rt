@@ -1,6 +1,7 @@
 //! A whole run of the program, over any reader and writer.
 
-ghost use Rattle.std.specs.Prelude.{◌≡◌, ◌≢◌, [], IfOk, if◌then◌else◌, string_bytes};
+ghost use Rattle.std.specs.Prelude.{◌≡◌, ◌≢◌, [], Ok, IfOk, IfErr, if◌then◌else◌, string_bytes};
+ghost use Rattle.am_script.specs.Script.{Checks, IsRefused, lines_of};
 ghost use Rattle.std.specs.Io.KnownBytes.{Keeps};
 ghost use Rattle.am_replay.specs.Printing.{report_text};
 ghost use Rattle.am_replay.specs.Replays.{ComesTo, IsReplay, ran_out_of_memory};
@@ -11,7 +12,8 @@ use crate::io::output::write_text;
 use crate::report::Report;
 use crate::runner::run_script;
 use crate::status::Status;
-use am_script::{Refusal, ScriptFault, read_script};
+use am_provider::Book;
+use am_script::{Line, Refusal, ScriptFault, read_script};
 use std::alloc::{AllocError, Global};
 use std::io::{Read, Write};
 
@@ -41,13 +43,16 @@ fn replay<I: Read, O: Write>(alloc: Global, input: &mut I, out: &mut O) -> Statu
         Err(Failure::OutOfMemory) => return Status::OutOfMemory,
         Err(_) => return Status::ReadFailed,
     };
-    let Ok(outcome) = outcome_of(alloc, &text) else {
+    let Ok(outcome) = outcome_of(alloc, text) else {
         return Status::OutOfMemory;
     };
-    match write_text(out, outcome.output.as_bytes()) {
+    let status = match write_text(out, outcome.output.as_bytes()) {
         Ok(()) => outcome.status,
         Err(_) => Status::WriteFailed,
-    }
+    };
+    // Nobody who reads the output waits for this.
+    drop(outcome);
+    status
 }
 
 // What a script comes to: how the replay is to end, and all that is to be printed.
@@ -55,35 +60,47 @@ fn replay<I: Read, O: Write>(alloc: Global, input: &mut I, out: &mut O) -> Statu
 struct Outcome {
     status: Status,
     output: String,
+    // What was run, to be let go after the output was written.
+    ran: Option<(Report, Book)>,
 }
 
-fn outcome_of(alloc: Global, text: &[u8]) -> Result<Outcome, AllocError>
+fn outcome_of(alloc: Global, text: Vec<u8>) -> Result<Outcome, AllocError>
     ensures { IfOk result
-        (λ outcome. ComesTo text.now outcome.status (string_bytes outcome.output)) }
+        (λ outcome. ComesTo text.items outcome.status (string_bytes outcome.output)) }
 {
-    match read_script(alloc, text) {
-        Ok(lines) => ran(alloc, &run_script(alloc, &lines)?),
+    match take_lines(alloc, text) {
+        Ok(lines) => ran(alloc, run_script(alloc, lines)?),
         Err(ScriptFault::Refused(refusal)) => Ok(Outcome {
             status: Status::Refused,
             output: format!(in alloc; "{refusal}\n")?,
+            ran: None,
         }),
         Err(ScriptFault::NoMemory) => Err(AllocError),
     }
 }
 
-fn ran(alloc: Global, report: &Report) -> Result<Outcome, AllocError>
-    ensures output { IfOk result (λ outcome. string_bytes outcome.output
-        ≡ report_text report.now.answers.items report.now.counts) }
-    ensures status { IfOk result (λ outcome. outcome.status
-        ≡ (if ran_out_of_memory report.now.answers.items then Status.CallOutOfMemory else Status.Done)) }
+// Reads a script, and lets its text go.
+fn take_lines(alloc: Global, text: Vec<u8>) -> Result<Vec<Line>, ScriptFault>
+    ensures read { IfOk result (λ lines. Checks 1 [] (lines_of text.items) (Ok lines.items)) }
+    ensures refused { IfErr result (IsRefused text.items) }
 {
-    let status = if report.ran_out_of_memory() {
+    read_script(alloc, &text)
+}
+
+fn ran(alloc: Global, ran: (Report, Book)) -> Result<Outcome, AllocError>
+    ensures output { IfOk result (λ outcome. string_bytes outcome.output
+        ≡ report_text ran.0.answers.items ran.0.counts) }
+    ensures status { IfOk result (λ outcome. outcome.status
+        ≡ (if ran_out_of_memory ran.0.answers.items then Status.CallOutOfMemory else Status.Done)) }
+{
+    let status = if ran.0.ran_out_of_memory() {
         Status::CallOutOfMemory
     } else {
         Status::Done
     };
     Ok(Outcome {
         status,
-        output: report.text(alloc)?,
+        output: ran.0.text(alloc)?,
+        ran: Some(ran),
     })
 }

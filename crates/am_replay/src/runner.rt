@@ -7,20 +7,22 @@ ghost use Rattle.am_replay.specs.Sessions.{IsReady, view_of};
 use crate::answers::{Answer, Answered};
 use crate::report::Report;
 use crate::session::{Session, one};
+use am_provider::Book;
 use am_script::{Command, Line};
 use std::alloc::{AllocError, Global};
 
-/// Runs the lines in their order. At the end the subscriptions that are still open are left.
-pub fn run_script(alloc: Global, lines: &[Line]) -> Result<Report, AllocError>
-    ensures { IfOk result (λ report. (desk : SessionView)
-        × Runs empty_session lines.now desk report.answers.items
-        × (report.counts ≡ counts_of desk.book)) }
+/// Runs the lines in their order, and lets each go when it was run. At the end the subscriptions
+/// that are still open are left. The Book comes with the report, to be let go later.
+pub fn run_script(alloc: Global, lines: Vec<Line>) -> Result<(Report, Book), AllocError>
+    ensures { IfOk result (λ ran. (desk : SessionView)
+        × Runs empty_session lines.items desk ran.0.answers.items
+        × (ran.0.counts ≡ counts_of desk.book)) }
 {
     let mut session = Session::begin(alloc)?;
     let ran = run_lines(alloc, &mut session, lines);
-    let counts = session.end();
+    let (counts, book) = session.end();
     match ran {
-        Ok(answers) => Ok(Report { answers, counts }),
+        Ok(answers) => Ok((Report { answers, counts }, book)),
         Err(error) => Err(error),
     }
 }
@@ -28,17 +30,19 @@ pub fn run_script(alloc: Global, lines: &[Line]) -> Result<Report, AllocError>
 fn run_lines(
     alloc: Global,
     session: &mut Session,
-    lines: &[Line],
+    lines: Vec<Line>,
 ) -> Result<Vec<Answered>, AllocError>
     requires { IsReady session.old }
     ensures ready { IsReady session.new }
     ensures runs { IfOk result
-        (λ answers. Runs (view_of session.old) lines.now (view_of session.new) answers.items) }
+        (λ answers. Runs (view_of session.old) lines.items (view_of session.new) answers.items) }
 {
     let mut answers = Vec::new(alloc);
     for line in lines {
-        let given = run_line(alloc, session, line)?;
-        add_answers(&mut answers, line.number, given)?;
+        let given = run_line(alloc, session, &line)?;
+        let number = line.number;
+        drop(line);
+        add_answers(&mut answers, number, given)?;
     }
     Ok(answers)
 }

@@ -168,20 +168,20 @@ impl Session {
         }
     }
 
-    /// The Book's counts. Then the open subscriptions are left.
-    pub fn end(mut self) -> Counts
+    /// The Book's counts, and the Book. After the count the open subscriptions are left.
+    pub fn end(mut self) -> (Counts, Book)
         requires { IsReady self }
-        ensures { result ≡ counts_of (view_of self).book }
+        ensures { result.0 ≡ counts_of (view_of self).book }
     {
         let counts = self.book.counts();
         self.leave_all();
         let Session {
-            book: _,
+            book,
             passes: _,
             opened,
         } = self;
         opened.destroy_empty();
-        counts
+        (counts, book)
     }
 
     // Leaves the open subscriptions, by thread and then in the order of their opening.

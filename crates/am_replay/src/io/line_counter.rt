@@ -1,9 +1,9 @@
 //! Taking a script's bytes in, up to the first excess over a limit.
 
-ghost use Rattle.std.specs.Prelude.{◌≡◌, ◌≤◌, ◌∷◌, [], ◌++◌, length, IfOk, OnOk};
+ghost use Rattle.std.specs.Prelude.{◌≡◌, ◌≤◌, ◌∷◌, [], ◌++◌, length, false, All, IfOk, OnOk};
 ghost use Rattle.std.specs.Bool.{OnTrue, OnFalse};
 ghost use Rattle.am_replay.specs.Inputs.{HasExcess, IsMeasured, TakesIn};
-ghost use Rattle.am_script.specs.Script.{lines_of};
+ghost use Rattle.am_script.specs.Script.{is_line_feed, lines_of};
 
 use am_script::{LONGEST_LINE, MOST_LINES};
 use std::alloc::{AllocError, Global};
@@ -39,13 +39,38 @@ impl LineCounter {
             ((self.new.ended ≤ 65536) × (self.new.last ≤ 8388608))) }
         ensures taken { IfOk result (TakesIn self.old.text.items bytes.now self.new.text.items) }
     {
-        for byte in bytes {
+        let mut rest = bytes;
+        while !rest.is_empty() {
+            let (part, others) = before_line_feed(rest);
+            self.push_part(part)?;
+            if self.is_excessive() {
+                return Ok(true);
+            }
+            let Some((byte, others)) = others.split_first() else {
+                return Ok(false);
+            };
             self.push(*byte)?;
             if self.is_excessive() {
                 return Ok(true);
             }
+            rest = others;
         }
         Ok(false)
+    }
+
+    // Adds bytes without a line feed.
+    fn push_part(&mut self, part: &[u8]) -> Result<(), AllocError>
+        requires measured { IsMeasured self.old.text.items self.old.ended self.old.last }
+        requires few { (self.old.ended ≤ 65536) × (self.old.last ≤ 8388608) }
+        requires plain { All (λ byte. is_line_feed byte ≡ false) part.now }
+        ensures measured { OnOk result
+            (IsMeasured self.new.text.items self.new.ended self.new.last) }
+        ensures few { OnOk result (self.new.ended ≤ 65537) }
+        ensures text { OnOk result (self.new.text.items ≡ self.old.text.items ++ part.now) }
+    {
+        self.text.extend_from_slice(part)?;
+        self.last += part.len();
+        Ok(())
     }
 
     fn push(&mut self, byte: u8) -> Result<(), AllocError>
@@ -87,5 +112,16 @@ impl LineCounter {
         } else {
             self.ended
         }
+    }
+}
+
+// The bytes before the first line feed, and those from it on.
+fn before_line_feed(bytes: &[u8]) -> (&[u8], &[u8])
+    ensures parts { result.0.now ++ result.1.now ≡ bytes.now }
+    ensures plain { All (λ byte. is_line_feed byte ≡ false) result.0.now }
+{
+    match bytes.iter().position(|byte| *byte == b'\n') {
+        Some(end) => bytes.split_at(end),
+        None => bytes.split_at(bytes.len()),
     }
 }

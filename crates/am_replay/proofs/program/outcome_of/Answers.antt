@@ -9,14 +9,13 @@ use Rattle.am_replay.proofs.program.outcome_of.Goals as goal
 
 pub returns-in_ok-run_script-in-Ok : goal.returns-in_ok-run_script-in-Ok
 returns-in_ok-run_script-in-Ok c =
-    let report = c.in_ok-run_script-in-Ok.field-0 in
+    let ran = c.in_ok-run_script-in-Ok.field-0 in
     let run = c.in_ok-run_script-in-Ok.ensures in
-    let runs = subst (λ (lines : List Line). Runs empty_session lines run.0 report.answers.items) c.deref.ensures.value run.1 in
     if_ok_both c.ran.result c.ran.ensures.output c.ran.ensures.status
-    (λ outcome said ends. comes c.args.text.now c.in-Ok.lines.items run.0 report.answers.items c.in-Ok.ensures.read runs report.counts outcome.status (string_bytes outcome.output) run.2 said ends)
+    (λ outcome said ends. comes c.args.text.items c.in-Ok.lines.items run.0 ran.0.answers.items c.in-Ok.ensures.read run.1 ran.0.counts outcome.status (string_bytes outcome.output) run.2 said ends)
 
 pub returns-in_ok-format-in-Err-Refused : goal.returns-in_ok-format-in-Err-Refused
 returns-in_ok-format-in-Err-Refused c =
     let checks = rw c.in-Err-Refused.field-0-is at c.in-Err-Refused.ensures.refused in
     let said : string_bytes c.in_ok-format-in-Err-Refused.field-0 ≡ refusal_text c.in-Err-Refused.refusal ++ 10 ∷ [] = c.in_ok-format-in-Err-Refused.ensures.ok in
-    subst (λ (output : List ℕ). ComesTo c.args.text.now Refused output) (sym said) (refused c.in-Err-Refused.refusal checks)
+    subst (λ (output : List ℕ). ComesTo c.args.text.items Refused output) (sym said) (refused c.in-Err-Refused.refusal checks)
