@@ -1,6 +1,5 @@
 -- Removing a member of an object.
 use Rattle.std.proofs.Common.{◌≡◌, ℕ, List, [], ◌∷◌, String, refl, sym, ap, ◌∙◌, cond, Less, Equal, Greater, Some, nat_cmp, string_bytes}
-
 use Rattle.std.specs.Ordering.{is_eq, match_ordering}
 use Rattle.std.specs.declared.cmp.Ordering.{Ordering}
 use Rattle.std.specs.Cmp.Lexicographic.{slice_cmp}

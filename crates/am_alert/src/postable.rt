@@ -174,10 +174,7 @@ fn pairs_from(alloc: Global, value: Value) -> Result<Vec<(Text, Text)>, MemberFa
     pairs_of(alloc, members)
 }
 
-fn pairs_of(
-    alloc: Global,
-    members: Map<String, Value>,
-) -> Result<Vec<(Text, Text)>, MemberFault>
+fn pairs_of(alloc: Global, members: Map<String, Value>) -> Result<Vec<(Text, Text)>, MemberFault>
     ensures { Reads (λ v. v.items) result (pairs_of (members_view members.entries)) }
 {
     let mut pairs = Vec::with_capacity(alloc, members.len())?;

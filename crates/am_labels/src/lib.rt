@@ -2,13 +2,14 @@
 //!
 //! A label set is what an alert is known by. It is made of pairs of texts, and of pairs with one
 //! name the last holds. A matcher is read from a text such as `severity=~"page|crit"`; a missing
-//! label counts as empty. It is asked as `&mut`, though it stays as it was. Memory is taken by what
-//! makes, reads or copies something, and by a pattern's search.
+//! label counts as empty. Who asks it often prepares it: then its pattern's search is kept, and
+//! asking takes no memory. A label set's copies share its texts.
 //!
 //! ```text
 //! let labels = LabelSet::from_pairs(alloc, pairs)?;   // a Vec<(String, String)>
-//! let mut matcher = Matcher::read(alloc, "severity=~\"page|crit\"")?;
-//! if matcher.admits(&labels)? {
+//! let matcher = Matcher::read(alloc, "severity=~\"page|crit\"")?;
+//! let mut prepared = matcher.prepare()?;
+//! if prepared.admits(&labels) {
 //!     println!(rt; "{labels}")?;                      // {alertname="DiskFull",severity="page"}
 //! }
 //! ```

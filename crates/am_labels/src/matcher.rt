@@ -85,11 +85,7 @@ impl Matcher {
         ensures memory { OnErr result (is_of_pattern self.now.operator ≡ true) }
     {
         let search = self.comparison.search(self.value.allocator())?;
-        Ok(PreparedMatcher::new(
-            self.name.as_str(),
-            self.value.as_str(),
-            search,
-        ))
+        Ok(PreparedMatcher::new(self.name.as_str(), self.value.as_str(), search))
     }
 
     /// Whether it admits a label set. A missing label counts as empty. Only a pattern takes memory,

@@ -2,7 +2,7 @@
 
 use crate::posts::moment;
 use am_alert::{Alert, absorb, merge, overlaps};
-use am_labels::{LabelSet, Text};
+use am_labels::{LabelSet, SharedText, Text};
 use std::alloc::Global;
 use std::test::Fail;
 
@@ -14,7 +14,7 @@ fn report(alloc: Global, start: &str, end: &str) -> Result<Alert, Fail> {
         end: moment(end)?,
         updated: moment(start)?,
         timeout: false,
-        generator: Text::from_str(alloc, "g")?,
+        generator: SharedText::from_text(alloc, Text::from_str(alloc, "g")?)?,
     })
 }
 
@@ -30,6 +30,7 @@ fn later_report_extends_the_stored_one(rt: HostRuntime) -> Result<(), Fail> {
     assert!(rt; held.start == stored.start && held.end == new.end);
     let first = absorb(None, &new, new.start)?;
     assert!(rt; first.start == new.start && first.generator == new.generator);
+    assert_eq!(rt; first.generator.as_str(), "g");
     assert!(rt; first.resolved_at(new.end) && !first.resolved_at(new.start));
     Ok(())
 }

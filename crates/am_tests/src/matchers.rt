@@ -1,7 +1,9 @@
 //! Matchers: what their texts are read as, what they admit, and that a call which was refused
 //! memory can be made again.
 
-use am_labels::{LabelSet, MatchFault, Matcher, Matchers, Operator};
+use am_labels::{
+    LabelSet, MatchFault, Matcher, Matchers, Operator, PreparedMatcher, PreparedMatchers,
+};
 use std::alloc::{AllocError, Global};
 use std::test::Fail;
 
@@ -48,7 +50,7 @@ fn with_label(alloc: Global, name: &str, value: &str) -> Result<LabelSet, AllocE
 }
 
 // Whether the matcher of a text admits the one label `foo` with this value, or where it is empty no
-// label at all.
+// label at all. Prepared, it answers the same, also when it is asked again.
 fn admits(alloc: Global, text: &str, value: &str) -> Result<bool, Fail> {
     let mut matcher = read(alloc, text)?;
     let labels = if value.is_empty() {
@@ -56,10 +58,29 @@ fn admits(alloc: Global, text: &str, value: &str) -> Result<bool, Fail> {
     } else {
         with_label(alloc, "foo", value)?
     };
-    match matcher.admits(&labels) {
-        Err(AllocError) => Ok(matcher.admits(&labels)?),
-        Ok(answer) => Ok(answer),
+    let answer = match matcher.admits(&labels) {
+        Err(AllocError) => matcher.admits(&labels)?,
+        Ok(answer) => answer,
+    };
+    let same = match matcher.prepare() {
+        Err(AllocError) => stays(&mut matcher.prepare()?, &labels, answer),
+        Ok(mut prepared) => stays(&mut prepared, &labels, answer),
+    };
+    if same {
+        Ok(answer)
+    } else {
+        Err(Fail::from("prepared it answers otherwise"))
     }
+}
+
+// Whether a prepared matcher gives this answer, asked again and again.
+fn stays(matcher: &mut PreparedMatcher<'_>, labels: &LabelSet, answer: bool) -> bool {
+    for _ in 0..3 {
+        if matcher.admits(labels) != answer {
+            return false;
+        }
+    }
+    true
 }
 
 #[test]
@@ -180,21 +201,40 @@ fn list(alloc: Global, texts: &[&str]) -> Result<Matchers, Fail> {
     Ok(Matchers { matchers })
 }
 
-fn all_admit(mut matchers: Matchers, labels: &LabelSet) -> Result<bool, Fail> {
-    match matchers.admits(labels) {
-        Err(AllocError) => Ok(matchers.admits(labels)?),
-        Ok(answer) => Ok(answer),
+fn all_admit(alloc: Global, texts: &[&str], labels: &LabelSet) -> Result<bool, Fail> {
+    let mut matchers = list(alloc, texts)?;
+    let answer = match matchers.admits(labels) {
+        Err(AllocError) => matchers.admits(labels)?,
+        Ok(answer) => answer,
+    };
+    let same = match matchers.prepare(alloc) {
+        Err(AllocError) => all_stay(&mut matchers.prepare(alloc)?, labels, answer),
+        Ok(mut prepared) => all_stay(&mut prepared, labels, answer),
+    };
+    if same {
+        Ok(answer)
+    } else {
+        Err(Fail::from("prepared they answer otherwise"))
     }
+}
+
+fn all_stay(matchers: &mut PreparedMatchers<'_>, labels: &LabelSet, answer: bool) -> bool {
+    for _ in 0..3 {
+        if matchers.admits(labels) != answer {
+            return false;
+        }
+    }
+    true
 }
 
 #[test]
 fn lists(rt: HostRuntime) -> Result<(), Fail> {
     let alloc = rt.alloc();
     let labels = with_label(alloc, "foo", "bar")?;
-    assert!(rt; all_admit(list(alloc, &[])?, &labels)?);
-    assert!(rt; all_admit(list(alloc, &["foo=~b.r"])?, &labels)?);
-    assert!(rt; all_admit(list(alloc, &["foo=bar", "a!~b"])?, &labels)?);
-    assert!(rt; !all_admit(list(alloc, &["foo=bar", "a=b"])?, &labels)?);
-    assert!(rt; !all_admit(list(alloc, &["a=b", "foo=bar"])?, &labels)?);
+    assert!(rt; all_admit(alloc, &[], &labels)?);
+    assert!(rt; all_admit(alloc, &["foo=~b.r"], &labels)?);
+    assert!(rt; all_admit(alloc, &["foo=bar", "a!~b"], &labels)?);
+    assert!(rt; !all_admit(alloc, &["foo=bar", "a=b"], &labels)?);
+    assert!(rt; !all_admit(alloc, &["a=b", "foo=bar"], &labels)?);
     Ok(())
 }

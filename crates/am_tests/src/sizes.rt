@@ -2,7 +2,7 @@
 
 use crate::posts::moment;
 use am_alert::{Alert, AlertFault, MAX_ALERTS, Post, read_post};
-use am_labels::{LabelSet, Text};
+use am_labels::{LabelSet, SharedText, Text};
 use std::alloc::{AllocError, Global};
 use std::test::Fail;
 use std::time::Duration;
@@ -91,9 +91,12 @@ fn alert_of(alloc: Global, set: usize, labels: usize) -> Result<Alert, Fail> {
         end: moment("2024-01-01T10:05:00Z")?,
         updated: moment("2024-01-01T10:00:00Z")?,
         timeout: true,
-        generator: Text {
-            text: format!(in alloc; "g{set}")?,
-        },
+        generator: SharedText::from_text(
+            alloc,
+            Text {
+                text: format!(in alloc; "g{set}")?,
+            },
+        )?,
     })
 }
 

@@ -8,10 +8,10 @@ use Rattle.am_labels.proofs.comparison.Comparison.search.Goals.{in-Equal, in-Not
 pub returns-clause-search : goal.returns-clause-search
 returns-clause-search c value with =
     elim c.match-self.branch [
-      in-Equal w ↦ subst (IsSearchWith value) (sym w.result-is) tt
-    | in-NotEqual w ↦ subst (IsSearchWith value) (sym w.result-is) tt
-    | in-MatchRegexp+in_ok-matcher-in-MatchRegexp w ↦
-      subst (IsSearchWith value) (sym w.result-is) (searches w.in-MatchRegexp.regex w.in_ok-matcher-in-MatchRegexp.field-0 value w.in_ok-matcher-in-MatchRegexp.ensures.pattern (subst (IsComparisonWith value) w.in-MatchRegexp.is with))
-    | in-MatchNotRegexp+in_ok-matcher-in-MatchNotRegexp w ↦
-      subst (IsSearchWith value) (sym w.result-is) (searches w.in-MatchNotRegexp.regex w.in_ok-matcher-in-MatchNotRegexp.field-0 value w.in_ok-matcher-in-MatchNotRegexp.ensures.pattern (subst (IsComparisonWith value) w.in-MatchNotRegexp.is with))
+      | in-Equal w ↦ subst (IsSearchWith value) (sym w.result-is) tt
+      | in-NotEqual w ↦ subst (IsSearchWith value) (sym w.result-is) tt
+      | in-MatchRegexp+in_ok-matcher-in-MatchRegexp w ↦
+          subst (IsSearchWith value) (sym w.result-is) (searches w.in-MatchRegexp.regex w.in_ok-matcher-in-MatchRegexp.field-0 value w.in_ok-matcher-in-MatchRegexp.ensures.pattern (subst (IsComparisonWith value) w.in-MatchRegexp.is with))
+      | in-MatchNotRegexp+in_ok-matcher-in-MatchNotRegexp w ↦
+          subst (IsSearchWith value) (sym w.result-is) (searches w.in-MatchNotRegexp.regex w.in_ok-matcher-in-MatchNotRegexp.field-0 value w.in_ok-matcher-in-MatchNotRegexp.ensures.pattern (subst (IsComparisonWith value) w.in-MatchNotRegexp.is with))
     ]

@@ -15,8 +15,8 @@ as_entries c =
     let rising = λ (e : true ≡ is_sorted text_cmp c.args.pairs.items). sym (entries_rising c.args.pairs.items (subst T e tt)) in
     c.in_ok-from_vec.ensures
     ∙ elim c.if-are_ascending.branch [
-      then-are_ascending w ↦ ap (λ (v : Vec (List ℕ × List ℕ) Global). v.items) w.pairs-is ∙ rising (search rules)
-    | else-are_ascending+in_ok-pairs w ↦ search rules
+      | then-are_ascending w ↦ ap (λ (v : Vec (List ℕ × List ℕ) Global). v.items) w.pairs-is ∙ rising (search rules)
+      | else-are_ascending+in_ok-pairs w ↦ search rules
     ]
 
 pub invariant_of-result : goal.invariant_of-result
