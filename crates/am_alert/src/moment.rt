@@ -41,6 +41,11 @@ impl Model for Moment {
 }
 
 impl Moment {
+    /// The last instant, 9999-12-30T22:00:00.999999999Z.
+    pub const MAX: Moment = Moment {
+        nanoseconds: MOMENTS - 1,
+    };
+
     /// The instant that many nanoseconds after 0001-01-01T00:00:00Z.
     pub fn new(nanoseconds: u128) -> Moment
         requires { nanoseconds < moments }
@@ -54,19 +59,10 @@ impl Moment {
     pub fn try_new(nanoseconds: u128) -> Option<Moment>
         ensures { result ≡ (if nat_lt nanoseconds moments then Some nanoseconds else None) }
     {
-        if nanoseconds < MOMENTS {
+        if nanoseconds <= Moment::MAX.nanoseconds {
             Some(Moment { nanoseconds })
         } else {
             None
-        }
-    }
-
-    /// The last instant, 9999-12-30T22:00:00.999999999Z.
-    pub fn last() -> Moment
-        ensures { result ≡ moments - 1 }
-    {
-        Moment {
-            nanoseconds: MOMENTS - 1,
         }
     }
 

@@ -113,3 +113,15 @@ fn bytes_that_are_not_utf8(rt: HostRuntime) -> Result<(), Fail> {
     assert!(rt; matches!(read(alloc, "")?, Err(PostFault::NotJson)));
     Ok(())
 }
+
+#[test]
+fn last_moment(rt: HostRuntime) -> Result<(), Fail> {
+    let last = Moment::MAX;
+    assert_eq!(rt;
+        last.to_string(rt.alloc())?.as_str(),
+        "9999-12-30T22:00:00.999999999Z"
+    );
+    assert!(rt; Moment::try_new(last.nanoseconds()) == Some(last));
+    assert!(rt; Moment::try_new(last.nanoseconds() + 1).is_none());
+    Ok(())
+}

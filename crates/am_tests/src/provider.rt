@@ -18,7 +18,7 @@ fn moment(seconds: u32) -> Moment {
     let since_year_1 = YEAR_2024 + u64::from(seconds);
     match Moment::try_new(u128::from(since_year_1) * 1_000_000_000) {
         Some(moment) => moment,
-        None => Moment::last(),
+        None => Moment::MAX,
     }
 }
 
