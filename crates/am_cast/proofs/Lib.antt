@@ -1,0 +1,10 @@
+pub mod Accounts
+pub mod Cursors
+pub mod Kept
+pub mod Lanes
+pub mod Seats
+pub mod Slots
+pub mod Tails
+pub mod WriterSteps
+pub mod Writers
+pub mod steps

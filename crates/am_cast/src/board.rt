@@ -1,0 +1,42 @@
+//! The steps on the table, one file for each kind.
+
+mod admit;
+mod clear;
+mod close;
+mod cut;
+mod fill;
+mod hand;
+mod harvest;
+mod leave;
+mod look;
+mod note;
+mod open;
+mod pass;
+mod publish;
+mod recover;
+mod retire;
+mod slot;
+mod take;
+mod take_in;
+mod tell;
+mod weigh;
+
+pub(crate) use admit::admit_lane;
+pub(crate) use clear::clear_slot;
+pub(crate) use close::close_log;
+pub(crate) use cut::cut_lane;
+pub(crate) use fill::fill_slot;
+pub(crate) use hand::hand_own;
+pub(crate) use harvest::find_word;
+pub(crate) use leave::{leave_bare, leave_with_key};
+pub(crate) use look::look_at_log;
+pub(crate) use note::note_log;
+pub(crate) use open::open_lane;
+pub(crate) use pass::pass_place;
+pub(crate) use publish::publish_batch;
+pub(crate) use recover::recover_key;
+pub(crate) use retire::retire_lane;
+pub(crate) use take::take_key;
+pub(crate) use take_in::take_in;
+pub(crate) use tell::{new_seat, tell_seat};
+pub(crate) use weigh::weigh_view;
