@@ -1,3 +1,4 @@
+pub mod KeyRows
 pub mod Accounts
 pub mod Cursors
 pub mod Kept

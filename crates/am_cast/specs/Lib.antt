@@ -11,3 +11,4 @@ pub mod Posters
 pub mod Refusals
 pub mod Names
 pub mod Core
+pub mod inside

@@ -6,6 +6,7 @@ mod board;
 pub mod cursor;
 pub mod day;
 pub mod feed;
+mod key_rows;
 pub mod kinds;
 pub mod laws;
 pub mod lends;
