@@ -13,7 +13,7 @@ use Rattle.am_cast.specs.declared.views.LaneView.{LaneView}
 use Rattle.am_cast.specs.declared.views.View.{View}
 use Rattle.am_cast.specs.Rule.{idle, Homes, slot, lane_word, LaneOk, HasWriter, HasLane, SeatOk, Ruled}
 use Rattle.am_cast.specs.Changes.{with_account}
-use Rattle.am_cast.specs.Core.{core, LaneTo, AccountTo, BothTo}
+use Rattle.am_cast.proofs.Events.{behind, LaneTo, AccountTo, BothTo}
 use Rattle.am_cast.specs.Steps.{KnowsOf}
 use Rattle.am_cast.proofs.Slots.{put, put_here, put_else, put_same, at_length}
 
@@ -97,6 +97,8 @@ module _ {B K A : Type 0} (key : B → ℕ → K) where
           writer = writer_is;
           lane_is = lane_is;
           noted = mine.noted;
+          counts = mine.counts;
+          counted = mine.counted;
           heard = mine.heard;
           whole = mine.whole;
           owns = mine.owns;
@@ -105,6 +107,8 @@ module _ {B K A : Type 0} (key : B → ℕ → K) where
           writer = other_writer r.tail r.seat r.account r.lane r.lane_seat l b' v' id j t.0 why_account w.writer k.writer;
           lane_is = other_lane_is r.tail r.seat r.account r.lane r.lane_seat l b' v' id j t.0 why_lane w.lane k.lane_is;
           noted = k.noted;
+          counts = k.counts;
+          counted = k.counted;
           heard = k.heard;
           whole = k.whole;
           owns = k.owns;
@@ -147,7 +151,7 @@ module _ {B K A : Type 0} (key : B → ℕ → K) where
       → ((m : ℕ) → m ≢ v.number → get_or words' (lane_word m) 0 ≡ get_or s.words (lane_word m) 0)
       → ((m i : ℕ) → m < 8 → m ≢ v.number → get_elem? homes' (slot r.tail.places m i) ≡ get_elem? s.homes (slot r.tail.places m i))
       → LaneOk key r.tail (r.account v.number) v' words' homes' v.number
-      → (q : Ruled key record { words = words'; homes = homes'; views = set s.views id (record u { lane = Some v' }) }) × LaneTo (core r) (core q) v.number v'
+      → (q : Ruled key record { words = words'; homes = homes'; views = set s.views id (record u { lane = Some v' }) }) × LaneTo (behind r) (behind q) v.number v'
   unfolding lane_step one_lane
   lane_stepped s r id u v v' words' homes' at is number wide deep tail word slots here = (
     lane_step s r id u v v' words' homes' at is number wide deep tail word slots here,
@@ -227,7 +231,7 @@ module _ {B K A : Type 0} (key : B → ℕ → K) where
       → ((m i : ℕ) → m < 8 → m ≢ l → get_elem? homes' (slot r.tail.places m i) ≡ get_elem? s.homes (slot r.tail.places m i))
       → (b'.stand ≡ idle → b.stand ≡ idle)
       → LaneOk key r.tail b' (r.lane l) words' homes' l
-      → (p : Ruled key record { words = words'; homes = homes'; views = set s.views id (record u { writer = Some (with_account l b' q) }) }) × AccountTo (core r) (core p) l b'
+      → (p : Ruled key record { words = words'; homes = homes'; views = set s.views id (record u { writer = Some (with_account l b' q) }) }) × AccountTo (behind r) (behind p) l b'
   unfolding writer_step one_lane
   writer_stepped s r id u l q b b' words' homes' at o wide deep tail word slots still here = (
     writer_step s r id u l q b b' words' homes' at o wide deep tail word slots still here,
@@ -249,7 +253,7 @@ module _ {B K A : Type 0} (key : B → ℕ → K) where
       → HasWriter r.tail r.seat (put r.account l b') (put r.lane l v') r.lane_seat id dk
       → HasLane r.tail r.seat (put r.account l b') (put r.lane l v') r.lane_seat id ln
       → LaneOk key r.tail b' v' words' homes' l
-      → (q : Ruled key record { words = words'; homes = homes'; views = set s.views id (record u { writer = dk; lane = ln }) }) × BothTo (core r) (core q) l v' b'
+      → (q : Ruled key record { words = words'; homes = homes'; views = set s.views id (record u { writer = dk; lane = ln }) }) × BothTo (behind r) (behind q) l v' b'
   unfolding one_lane
   one_laned s r l b' v' id u dk ln words' homes' small at wide deep tail word slots why_account why_lane spare writer_is lane_is here = (
     one_lane s r l b' v' id u dk ln words' homes' small at wide deep tail word slots why_account why_lane spare writer_is lane_is here,

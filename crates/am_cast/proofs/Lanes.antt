@@ -8,16 +8,19 @@ use Rattle.atomic_table.proofs.Lists.{set_here, set_else}
 use Rattle.am_cast.specs.declared.views.Tail.{Tail}
 use Rattle.am_cast.specs.declared.views.Account.{Account}
 use Rattle.am_cast.specs.declared.views.LaneView.{LaneView}
-use Rattle.am_cast.specs.Rule.{idle, live, cut, Homes, Has, slot, Sound, LaneOk}
-use Rattle.am_cast.specs.Core.{Core, LaneTo}
+use Rattle.am_cast.specs.Rule.{idle, live, cut, vacated, Homes, Has, slot, Sound, LaneOk}
+use Rattle.am_cast.proofs.Events.{Behind, LaneTo}
 use Rattle.am_cast.proofs.Slots.{apart, one_turn_on, slot_inside, prefix_length, prefix_at}
 
-pub live_of : (n : ℕ) → n < 3 → n ≢ idle → n / 2 ≡ 0 → n ≡ live
-live_of n a b c = omega arith
+pub live_of : (n : ℕ) → n < 4 → n ≢ idle → n ≢ vacated → n / 2 ≡ 0 → n ≡ live
+live_of n a b c d = omega arith
+
+pub cut_of : (n : ℕ) → n < 4 → n ≢ idle → n ≢ live → n ≢ vacated → n ≡ cut
+cut_of n a b c d = omega arith
 
 module _ {B K A : Type 0} where
   -- what a lane becomes, by what it was
-  pub to_lane : {c d : Core B K A} {l : ℕ} {v : LaneView B A} (f : LaneView B A → LaneView B A) → v ≡ c.lane l → LaneTo c d l (f v) → LaneTo c d l (f (c.lane l))
+  pub to_lane : {c d : Behind B K A} {l : ℕ} {v : LaneView B A} (f : LaneView B A → LaneView B A) → v ≡ c.lane l → LaneTo c d l (f v) → LaneTo c d l (f (c.lane l))
   to_lane f e t = record { tail = t.tail; accounts = t.accounts; others = t.others; lane = t.lane ∙ ap f e }
 
 module _ {B K A : Type 0} (key : B → ℕ → K) where
@@ -42,7 +45,7 @@ module _ {B K A : Type 0} (key : B → ℕ → K) where
         old = λ i a ne. ne;
         new = λ i a _ e. omega arith;
       })
-      (λ dead. let severed : b.stand ≡ cut = omega arith in let k = sd.keeps severed held in let aways = sd.counts.aways k.0 in let is = k.1 in let stop = aways.1 in let above = aways.2 in record {
+      (λ dead. let there = (sd.seen.holds held).0 in let severed : b.stand ≡ cut = cut_of b.stand stands used dead (λ e. true≢false (sym there ∙ sd.vacates e)) in let k = sd.keeps severed held in let aways = sd.counts.aways k.0 in let is = k.1 in let stop = aways.1 in let above = aways.2 in record {
         at = b.known + t.places;
         from = omega arith;
         to = omega arith;

@@ -1,6 +1,7 @@
 pub mod KeyRows
 pub mod Accounts
 pub mod Cursors
+pub mod Events
 pub mod Kept
 pub mod Lanes
 pub mod Seats

@@ -1,5 +1,5 @@
 -- A seat is cut in two, or takes in another's; and the rule at the start.
-use Rattle.std.proofs.Common.{◌≡◌, ◌≢◌, ℕ, zero, suc, ◌*◌, ◌<◌, List, [], ◌∷◌, ◌++◌, replicate, length, get_or, set, sym, refl, ap, ◌∙◌, subst, ⊎_elim, arith, Option, Some, None, true, false, true≢false, length-set}
+use Rattle.std.proofs.Common.{◌≡◌, ◌≢◌, ℕ, zero, suc, ◌*◌, ◌<◌, List, [], ◌∷◌, ◌++◌, replicate, length, get_or, set, sym, refl, ap, ◌∙◌, subst, ⊎_elim, arith, Option, Some, None, true, false, true≢false, length-set, length-append, ◌<◌}
 use mathlib.Core.Option.{some, some-ne-none}
 use mathlib.Core.List.{IsPrefix}
 use lib.ListN.{get_elem?, length-map}
@@ -12,7 +12,7 @@ use Rattle.am_cast.specs.declared.views.LaneView.{LaneView}
 use Rattle.am_cast.specs.declared.views.View.{View}
 use Rattle.am_cast.specs.Rule.{idle, gone, slot, lane_word, HasWriter, HasLane, SeatOk, Ruled, first_account, first_lane, first_tail, first_view, blank}
 use Rattle.am_cast.specs.Changes.{copied, log_of, front_of, closed_of, told_of, without_lane, only_lane, without_own, only_own, either_one, both_of}
-use Rattle.am_cast.proofs.Slots.{put, put_here, put_else, becomes, becomes_here, becomes_else, slot_inside, at_end, prefix_nil, owns_nothing, owns_else, owns_there, owns_both}
+use Rattle.am_cast.proofs.Slots.{prefix_back, put, put_here, put_else, becomes, becomes_here, becomes_else, slot_inside, at_end, prefix_nil, owns_nothing, owns_else, owns_there, owns_both}
 use Rattle.am_cast.proofs.Kept.{St, lane_ok}
 
 abbrev pub none_of : (K : Type 0) → Option K
@@ -61,7 +61,7 @@ module _ {B K A : Type 0} (key : B → ℕ → K) where
   -- a copy of what a seat has seen of the log
   pub tells : (id : ℕ) (v : View B K A) → Splits (Ruled key) id v v (copied v)
   tells id v s r at = let h = log_heard s r id v at v.writer v.lane refl refl in
-      splits_to s r id v (copied v) r.lane_seat r.owner r.spare (r.each_seat id v at) record { writer = tt; lane_is = tt; noted = prefix_nil r.tail.log; heard = h.0; whole = h.1; owns = owns_nothing r.tail.log r.owner (length s.views) } (λ j u ne e. r.each_seat j u e)
+      splits_to s r id v (copied v) r.lane_seat r.owner r.spare (r.each_seat id v at) record { writer = tt; lane_is = tt; noted = prefix_nil r.tail.log; counts = omega arith; counted = λ k o _ a. absurd (omega arith); heard = h.0; whole = h.1; owns = owns_nothing r.tail.log r.owner (length s.views) } (λ j u ne e. r.each_seat j u e)
 
   dealt_else : (t : Tail B) (seat : ℕ) (account : ℕ → Account K A) (lane : ℕ → LaneView B A) (lane_seat : ℕ → ℕ) (l new id j : ℕ) → lane_seat l ≡ id → j ≢ id → (ln : Option (LaneView B A)) → HasLane t seat account lane lane_seat j ln → HasLane t seat account lane (put lane_seat l new) j ln
   dealt_else t seat account lane lane_seat l new id j mine ne None k = tt
@@ -77,11 +77,13 @@ module _ {B K A : Type 0} (key : B → ℕ → K) where
       let mine = r.each_seat id w at in let k = lane_ok key s r id w v at is in let new : ℕ = length s.views in let lane_seat' = put r.lane_seat v.number new in
       splits_to s r id (without_lane w) (only_lane w) lane_seat' r.owner
       (λ l a e. put_else r.lane_seat v.number new l (λ h. k.2 (ap (λ (m : ℕ). (r.account m).stand) (sym h) ∙ e)) ∙ r.spare l a e)
-      record { writer = any_writer r.tail r.seat r.account r.lane r.lane_seat lane_seat' id w.writer mine.writer; lane_is = tt; noted = mine.noted; heard = mine.heard; whole = mine.whole; owns = mine.owns }
+      record { writer = any_writer r.tail r.seat r.account r.lane r.lane_seat lane_seat' id w.writer mine.writer; lane_is = tt; noted = mine.noted; counts = mine.counts; counted = mine.counted; heard = mine.heard; whole = mine.whole; owns = mine.owns }
       record {
         writer = tt;
         lane_is = subst (HasLane r.tail r.seat r.account r.lane lane_seat' new) (sym is) (k.0, sym k.3, put_here r.lane_seat v.number new, k.2);
         noted = prefix_nil r.tail.log;
+        counts = omega arith;
+        counted = λ k o _ a. absurd (omega arith);
         heard = prefix_nil r.tail.log;
         whole = λ e. absurd (true≢false (sym e));
         owns = owns_nothing r.tail.log r.owner new;
@@ -90,6 +92,8 @@ module _ {B K A : Type 0} (key : B → ℕ → K) where
         writer = any_writer r.tail r.seat r.account r.lane r.lane_seat lane_seat' j u.writer o.writer;
         lane_is = dealt_else r.tail r.seat r.account r.lane r.lane_seat v.number new id j k.1 ne u.lane o.lane_is;
         noted = o.noted;
+        counts = o.counts;
+        counted = o.counted;
         heard = o.heard;
         whole = o.whole;
         owns = o.owns;
@@ -100,9 +104,9 @@ module _ {B K A : Type 0} (key : B → ℕ → K) where
   hands id w s r at =
       let mine = r.each_seat id w at in let new : ℕ = length s.views in let owner' : ℕ → ℕ = λ p. becomes new id (r.owner p) in
       splits_to s r id (without_own w) (only_own w) r.lane_seat owner' r.spare
-      record { writer = mine.writer; lane_is = mine.lane_is; noted = mine.noted; heard = mine.heard; whole = mine.whole; owns = owns_nothing r.tail.log owner' id }
-      record { writer = tt; lane_is = tt; noted = prefix_nil r.tail.log; heard = prefix_nil r.tail.log; whole = λ e. absurd (true≢false (sym e)); owns = owns_there r.tail.log r.owner new id w.own mine.owns }
-      (λ j u ne e. let o = r.each_seat j u e in record { writer = o.writer; lane_is = o.lane_is; noted = o.noted; heard = o.heard; whole = o.whole; owns = owns_else r.tail.log r.owner new id j u.own ne o.owns })
+      record { writer = mine.writer; lane_is = mine.lane_is; noted = mine.noted; counts = omega arith; counted = λ k o _ a. absurd (omega arith); heard = mine.heard; whole = mine.whole; owns = owns_nothing r.tail.log owner' id }
+      record { writer = tt; lane_is = tt; noted = prefix_nil r.tail.log; counts = omega arith; counted = λ k o _ a. absurd (omega arith); heard = prefix_nil r.tail.log; whole = λ e. absurd (true≢false (sym e)); owns = owns_there r.tail.log r.owner new id w.own mine.owns }
+      (λ j u ne e. let o = r.each_seat j u e in record { writer = o.writer; lane_is = o.lane_is; noted = o.noted; counts = o.counts; counted = o.counted; heard = o.heard; whole = o.whole; owns = owns_else r.tail.log r.owner new id j u.own ne o.owns })
 
   module _ (t : Tail B) (seat : ℕ) (account : ℕ → Account K A) (lane : ℕ → LaneView B A) (lane_seat : ℕ → ℕ) (to from : ℕ) where
     writer_else : (j : ℕ) → j ≢ from → (dk : Option (WriterView B K A)) → HasWriter t seat account lane lane_seat j dk → HasWriter t (becomes to from seat) account lane (λ l. becomes to from (lane_seat l)) j dk
@@ -151,12 +155,14 @@ module _ {B K A : Type 0} (key : B → ℕ → K) where
         spare = λ l a e. ap (becomes id other) (r.spare l a e);
         each_lane = r.each_lane;
         each_seat = λ j u e. ⊎_elim
-            (λ (z : (j ≡ other) × (blank ≡ u)). subst (λ (z : ℕ × View B K A). K' z.0 z.1) (λ i. (sym z.0 i, z.1 i)) record { writer = tt; lane_is = tt; noted = prefix_nil r.tail.log; heard = prefix_nil r.tail.log; whole = λ h. absurd (true≢false (sym h)); owns = owns_nothing r.tail.log owner' other })
+            (λ (z : (j ≡ other) × (blank ≡ u)). subst (λ (z : ℕ × View B K A). K' z.0 z.1) (λ i. (sym z.0 i, z.1 i)) record { writer = tt; lane_is = tt; noted = prefix_nil r.tail.log; counts = omega arith; counted = λ k o _ a. absurd (omega arith); heard = prefix_nil r.tail.log; whole = λ h. absurd (true≢false (sym h)); owns = owns_nothing r.tail.log owner' other })
             (λ (z : (j ≢ other) × (get_elem? (set s.views id (both_of v w)) j ≡ some u)). ⊎_elim
             (λ (y : (j ≡ id) × (both_of v w ≡ u)). subst (λ (z : ℕ × View B K A). K' z.0 z.1) (λ i. (sym y.0 i, y.1 i)) record {
               writer = writer_both r.tail r.seat r.account r.lane r.lane_seat id other ne v.writer w.writer mine.writer theirs.writer;
               lane_is = lane_both r.tail r.seat r.account r.lane r.lane_seat id other ne v.lane w.lane mine.lane_is theirs.lane_is;
               noted = mine.noted;
+              counts = let h = mine.counts in omega (arith, length-append v.own w.own);
+              counted = λ k o e a. let h = mine.counts in mine.counted k o (prefix_back v.own (v.own ++ w.own) k o (w.own, refl) (omega arith) e) a;
               heard = theirs.heard;
               whole = theirs.whole;
               owns = owns_both r.tail.log r.owner id other v.own w.own ne mine.owns theirs.owns;
@@ -165,6 +171,8 @@ module _ {B K A : Type 0} (key : B → ℕ → K) where
               writer = writer_else r.tail r.seat r.account r.lane r.lane_seat id other j z.0 u.writer o.writer;
               lane_is = lane_else r.tail r.seat r.account r.lane r.lane_seat id other j z.0 u.lane o.lane_is;
               noted = o.noted;
+              counts = o.counts;
+              counted = o.counted;
               heard = o.heard;
               whole = o.whole;
               owns = owns_else r.tail.log r.owner id other j u.own z.0 o.owns;
@@ -190,12 +198,13 @@ module _ {B K A : Type 0} (key : B → ℕ → K) where
     spare = λ _ _ _. refl;
     each_lane = λ l small. record {
       sound = record {
-        seen = record { number = refl; places = refl; begins = prefix_nil []; high = omega arith; holds = λ e. absurd (true≢false (sym e)); told = λ e. absurd (true≢false (sym e)) };
+        seen = record { number = refl; places = refl; begins = prefix_nil []; begun = λ e. absurd (true≢false (sym e)); unbegun = λ e _. absurd (true≢false (sym e)); high = omega arith; holds = λ e. absurd (true≢false (sym e)); told = λ e. absurd (true≢false (sym e)) };
         counts = record { stands = omega arith; low = omega arith; clear = omega arith; room = omega arith; stops = omega arith; lives = λ e. absurd (omega arith); lays = λ k e. absurd (no_key k e); aways = λ e. absurd (true≢false (sym e)) };
         turn = refl;
         note = refl;
         start = refl;
         idles = λ _. refl;
+        vacates = λ _. refl;
         mid = omega arith;
         halves = λ _. omega arith;
         cuts = λ e. absurd (true≢false (sym e));
@@ -209,7 +218,7 @@ module _ {B K A : Type 0} (key : B → ℕ → K) where
     };
     each_seat = λ j u e. ⊎_elim
         (λ (t : (j ≡ 0) × (first_view places ≡ u)). subst (λ (z : View B K A). SeatOk (first_tail places) 0 (λ _. first_account) (first_lane places) (λ _. 0) (λ _. 0) j z) t.1
-        record { writer = (refl, refl, each_first, t.0); lane_is = tt; noted = prefix_nil []; heard = prefix_nil []; whole = λ h. absurd (true≢false (sym h)); owns = owns_nothing [] (λ _. 0) j })
+        record { writer = (refl, refl, each_first, t.0); lane_is = tt; noted = prefix_nil []; counts = omega arith; counted = λ k o _ a. absurd (omega arith); heard = prefix_nil []; whole = λ h. absurd (true≢false (sym h)); owns = owns_nothing [] (λ _. 0) j })
         (λ (t : (j ≢ 0) × (get_elem? (first_view places ∷ []) j ≡ some u)). absurd (beyond j u t.0 t.1)) (at_set (first_view places ∷ []) 0 j (first_view places) u e);
   }
     where

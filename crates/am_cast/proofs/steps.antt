@@ -1,4 +1,4 @@
--- Each kind of step keeps the rule, and is an event of the core.
+-- Each kind of step keeps the rule, and is an event of the behind.
 pub mod Admit
 pub mod Clear
 pub mod Close

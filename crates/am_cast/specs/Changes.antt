@@ -9,7 +9,7 @@ use Rattle.am_cast.specs.declared.views.WriterView.{WriterView}
 use Rattle.am_cast.specs.declared.views.LaneView.{LaneView}
 use Rattle.am_cast.specs.declared.views.Own.{Own}
 use Rattle.am_cast.specs.declared.views.View.{View}
-use Rattle.am_cast.specs.Rule.{idle, live, cut}
+use Rattle.am_cast.specs.Rule.{idle, live, cut, vacated}
 
 abbrev pub with_writer : {B K A : Type 0} → WriterView B K A → View B K A → View B K A
 with_writer q w = record w { writer = Some q }
@@ -48,18 +48,22 @@ loaded b = record b { loads = b.loads + 1 }
 
 -- the lane has left: it gets no key more
 abbrev pub marked : {K A : Type 0} → Account K A → Account K A
-marked b = record b { stand = cut; loads = b.loads + 1 }
+marked b = record b { stand = vacated; loads = b.loads + 1 }
 
 -- the word n was found
 abbrev pub known_to : {K A : Type 0} → ℕ → Account K A → Account K A
 known_to n b = record b { known = n / 4; half = n / 2; loads = b.loads + 1 }
 
 -- the key that was away is the one key left
-abbrev pub back : {K A : Type 0} → Account K A → Account K A
-back b = record b { away = false; cleared = b.known; stop = suc b.known }
+abbrev pub returned : {K A : Type 0} → Account K A → Account K A
+returned b = record b { away = false; cleared = b.known; stop = suc b.known }
+
+-- the lane is found to have passed so many places, and the key that was away is the one key left
+abbrev pub back : {K A : Type 0} → ℕ → Account K A → Account K A
+back passed b = record (returned b) { known = passed }
 
 abbrev pub back_if : {K A : Type 0} → Bool → Account K A → Account K A
-back_if true b = back b
+back_if true b = returned b
 back_if false b = b
 
 abbrev pub retired : {K A : Type 0} → Account K A → Account K A
@@ -129,21 +133,21 @@ told_of None h = h
 
 -- a view that knows of the log what this one knows
 abbrev pub copied : {B K A : Type 0} → View B K A → View B K A
-copied w = record { writer = None; lane = None; noted = []; heard = log_of w.writer (front_of w.lane w.noted); whole = closed_of w.writer (told_of w.lane false); own = [] }
+copied w = record { writer = None; lane = None; noted = []; heard = log_of w.writer (front_of w.lane w.noted); whole = closed_of w.writer (told_of w.lane false); own = []; counted = 0 }
 
 -- the lane gets a seat of its own
 abbrev pub without_lane : {B K A : Type 0} → View B K A → View B K A
 without_lane w = record w { lane = None }
 
 abbrev pub only_lane : {B K A : Type 0} → View B K A → View B K A
-only_lane w = record { writer = None; lane = w.lane; noted = []; heard = []; whole = false; own = [] }
+only_lane w = record { writer = None; lane = w.lane; noted = []; heard = []; whole = false; own = []; counted = 0 }
 
 -- the own places go to another seat
 abbrev pub without_own : {B K A : Type 0} → View B K A → View B K A
-without_own w = record w { own = [] }
+without_own w = record w { own = []; counted = 0 }
 
 abbrev pub only_own : {B K A : Type 0} → View B K A → View B K A
-only_own w = record { writer = None; lane = None; noted = []; heard = []; whole = false; own = w.own }
+only_own w = record { writer = None; lane = None; noted = []; heard = []; whole = false; own = w.own; counted = 0 }
 
 abbrev pub either_one : {X : Type 0} → Option X → Option X → Option X
 either_one (Some x) o = Some x
@@ -151,4 +155,4 @@ either_one None o = o
 
 -- all that two seats know and own, and of the log what the second has heard
 abbrev pub both_of : {B K A : Type 0} → View B K A → View B K A → View B K A
-both_of v w = record { writer = either_one v.writer w.writer; lane = either_one v.lane w.lane; noted = v.noted; heard = w.heard; whole = w.whole; own = v.own ++ w.own }
+both_of v w = record { writer = either_one v.writer w.writer; lane = either_one v.lane w.lane; noted = v.noted; heard = w.heard; whole = w.whole; own = v.own ++ w.own; counted = v.counted }

@@ -1,75 +1,104 @@
--- The core behind a table that meets the rule, and its events.
-use Rattle.std.specs.Prelude.{◌≡◌, ◌≢◌, ℕ, ◌+◌, ◌/◌, ◌<◌, length, Option, true, false, slice_index}
+-- The state of am_steps' core behind a table that meets the rule.
+use Rattle.std.specs.Prelude.{◌≡◌, ℕ, zero, suc, ◌/◌, ◌%◌, ◌<◌, Bool, true, false, List, [], ◌∷◌, take, drop, length, ◌==◌, slice_index, Option, if◌then◌else◌, nat_lt, map}
 use lib.ListN.{get_elem?}
-use mathlib.Core.Option.{some}
+use mathlib.Core.Option as maybe
+use mathlib.Core.Option.{some, none}
 use Rattle.atomic_table.specs.Table.{State, Act, Valid, stepped, carried_after}
-use Rattle.am_cast.specs.declared.views.Tail.{Tail}
+use Rattle.am_steps.specs.declared.lane_record.LaneRecord.{LaneRecord}
+use Rattle.am_steps.specs.declared.cursor.Cursor.{Cursor}
+use Rattle.am_steps.specs.declared.lane.Lane.{Lane}
+use Rattle.am_steps.specs.declared.lane.Lane.TheVariants.{Idle, Admitted, Open, Left}
+use Rattle.am_steps.specs.declared.poster.Poster.{Poster}
+use Rattle.am_steps.specs.declared.event.Event as event
+use Rattle.am_steps.specs.declared.event.Event.TheVariants as does
+use Rattle.am_steps.specs.States as steps
+use Rattle.am_steps.specs.Runs.{LeadsTo}
 use Rattle.am_cast.specs.declared.views.Account.{Account}
 use Rattle.am_cast.specs.declared.views.LaneView.{LaneView}
+use Rattle.am_cast.specs.declared.views.Own.{Own}
 use Rattle.am_cast.specs.declared.views.View.{View}
-use Rattle.am_cast.specs.Rule.{Ruled, idle, live, cut, bit}
-use Rattle.am_cast.specs.Changes.{opened, seeing, holding, cut_off, further, left, longer_tail, shut_tail, grown, known_to, marked, back, loaded, severed, new_lane, admitted, retired}
+use Rattle.am_cast.specs.Rule.{cut, gone, vacated, blank, Ruled}
 use Rattle.am_cast.specs.Steps.{SeatState}
 
-pub record Core (B K A : Type 0) : Type 0 where
-  pub tail : Tail B
-  pub account : ℕ → Account K A
-  pub lane : ℕ → LaneView B A
+module _ {K A : Type 0} where
+  -- the key of the place known was in the cursor's hand, when the writer found the lane's word last
+  abbrev pub is_key_out : Account K A → Bool
+  is_key_out b = if b.stand == cut then b.away else (b.half % 2 == 1)
 
-abbrev pub core : {B K A : Type 0} {key : B → ℕ → K} {s : State (Option K) (View B K A)} → Ruled key s → Core B K A
-core r = record { tail = r.tail; account = r.account; lane = r.lane }
+  -- what the core's writer records of a lane
+  abbrev pub record_behind : Account K A → LaneRecord
+  record_behind b = record { start = b.start; known = b.known; key_out = is_key_out b; cut = b.stand == cut }
 
--- one lane is now v, and nothing else has changed
-pub record LaneTo {B K A : Type 0} (c d : Core B K A) (l : ℕ) (v : LaneView B A) : Type 0 where
-  pub tail : d.tail ≡ c.tail
-  pub accounts : (m : ℕ) → d.account m ≡ c.account m
-  pub others : (m : ℕ) → m ≢ l → d.lane m ≡ c.lane m
-  pub lane : d.lane l ≡ v
+module _ {B A : Type 0} where
+  -- what the core's cursor knows
+  abbrev pub cursor_behind : LaneView B A → Cursor B
+  cursor_behind v = record { passed = v.passed; held = v.held; seen = length v.front; told = v.told; told_cut = v.cut; got = drop v.start (take v.passed v.front) }
 
--- of one lane the writer now knows b, and nothing else has changed
-pub record AccountTo {B K A : Type 0} (c d : Core B K A) (l : ℕ) (b : Account K A) : Type 0 where
-  pub tail : d.tail ≡ c.tail
-  pub lanes : (m : ℕ) → d.lane m ≡ c.lane m
-  pub others : (m : ℕ) → m ≢ l → d.account m ≡ c.account m
-  pub account : d.account l ≡ b
+module _ {B : Type 0} where
+  abbrev pub post_of : Own B → ℕ × B
+  post_of o = (o.place, o.name)
 
--- one lane is now v, of which the writer knows b, and nothing else has changed
-pub record BothTo {B K A : Type 0} (c d : Core B K A) (l : ℕ) (v : LaneView B A) (b : Account K A) : Type 0 where
-  pub tail : d.tail ≡ c.tail
-  pub lanes : (m : ℕ) → m ≢ l → d.lane m ≡ c.lane m
-  pub accounts : (m : ℕ) → m ≢ l → d.account m ≡ c.account m
-  pub lane : d.lane l ≡ v
-  pub account : d.account l ≡ b
+  -- a poster that knows of so many places, and noted these posts as its own
+  abbrev pub poster_of : ℕ → List (Own B) → Poster B
+  poster_of known own = record { places_known = known; own = map post_of own }
 
--- the writer's work on its slots changes nothing that the core sees
-pub record SameAccount {K A : Type 0} (b b' : Account K A) : Type 0 where
-  pub stand : b'.stand ≡ b.stand
-  pub turn : b'.turn ≡ b.turn
-  pub note : b'.note ≡ b.note
-  pub start : b'.start ≡ b.start
-  pub known : b'.known ≡ b.known
-  pub half : b'.half ≡ b.half
+  -- a lane that isn't idle: left, or admitted, or open
+  abbrev pub used_lane : Bool → Bool → LaneRecord → Cursor B → Lane B
+  used_lane true true m r = Open m r
+  used_lane true false m r = Admitted m
+  used_lane false begun m r = Left m
 
--- the events: each where it is possible, and what it changes
-pub data Event (B K A : Type 0) : Core B K A → Core B K A → Type 0 where
-  open_lane : (c d : Core B K A) (l : ℕ) → LaneTo c d l (opened (c.lane l)) → Event B K A c d
-  look : (c d : Core B K A) (l : ℕ) → LaneTo c d l (seeing c.tail.log c.tail.closed (c.lane l)) → Event B K A c d
-  take : (c d : Core B K A) (l : ℕ) → (c.account l).stand ≡ live → (c.lane l).held ≡ false → (c.lane l).passed < length (c.lane l).front → LaneTo c d l (holding (c.lane l)) → Event B K A c d
-  take_cut : (c d : Core B K A) (l : ℕ) → (c.account l).stand ≡ cut → (c.lane l).held ≡ false → (c.lane l).passed < length (c.lane l).front → LaneTo c d l (cut_off (c.lane l)) → Event B K A c d
-  pass : (c d : Core B K A) (l n : ℕ) → (c.lane l).held ≡ true → LaneTo c d l (further n (c.lane l)) → Event B K A c d
-  publish : (c d : Core B K A) (x : B) → c.tail.closed ≡ false → ((l : ℕ) → l < 8 → (c.account l).stand ≡ live → (c.account l).stop < (c.account l).cleared + c.tail.places) → d.tail ≡ longer_tail x c.tail → ((l : ℕ) → d.account l ≡ grown (c.account l)) → ((l : ℕ) → d.lane l ≡ c.lane l) → Event B K A c d
-  close : (c d : Core B K A) → d.tail ≡ shut_tail c.tail → ((l : ℕ) → d.account l ≡ c.account l) → ((l : ℕ) → d.lane l ≡ c.lane l) → Event B K A c d
-  harvest : (c d : Core B K A) (l n : ℕ) → (c.account l).stand ≡ live → (c.lane l).here ≡ true → n / 4 ≡ (c.lane l).passed → AccountTo c d l (known_to n (c.account l)) → Event B K A c d
-  mark : (c d : Core B K A) (l : ℕ) → (c.account l).stand ≡ live → (c.lane l).here ≡ false → AccountTo c d l (marked (c.account l)) → Event B K A c d
-  recover : (c d : Core B K A) (l : ℕ) → (c.account l).stand ≡ cut → (c.lane l).held ≡ false → AccountTo c d l (back (loaded (c.account l))) → Event B K A c d
-  peek : (c d : Core B K A) (l : ℕ) → AccountTo c d l (loaded (c.account l)) → Event B K A c d
-  sever : (c d : Core B K A) (l h : ℕ) → (c.account l).stand ≡ live → (c.lane l).here ≡ true → (c.lane l).passed ≡ (c.account l).known → h ≡ bit (c.lane l).held → length c.tail.log ≡ (c.account l).known + c.tail.places → AccountTo c d l (severed h (c.account l)) → Event B K A c d
-  admit : (c d : Core B K A) (l : ℕ) (note : Option A) → (c.account l).stand ≡ idle → BothTo c d l (new_lane note l c.tail (c.account l)) (admitted note (length c.tail.log) (c.account l)) → Event B K A c d
-  retire : (c d : Core B K A) (l : ℕ) → (c.account l).stand ≢ idle → (c.lane l).here ≡ false → BothTo c d l (c.lane l) (retired (c.account l)) → Event B K A c d
-  work : (c d : Core B K A) (l : ℕ) (b' : Account K A) → SameAccount (c.account l) b' → AccountTo c d l b' → Event B K A c d
-  leave : (c d : Core B K A) (l : ℕ) → LaneTo c d l (left (c.lane l)) → Event B K A c d
+  -- an idle lane has no record, and one that the writer has found vacated has none any more
+  abbrev pub lane_standing : ℕ → Lane B → Lane B
+  lane_standing (suc zero) v = v
+  lane_standing (suc (suc zero)) v = v
+  lane_standing _ v = Idle
 
--- `Allows`, where the step is an event too
-abbrev pub AllowsAs : {B K A : Type 0} → (B → ℕ → K) → ℕ → ℕ → SeatState B K A → ℕ → (ℕ → ℕ) → (ℕ → SeatState B K A → Type 0) → Type 0
-AllowsAs {B = B} {K = K} {A = A} key slots id me i f then = (s : State (Option K) (View B K A)) (r : Ruled key s) → length s.homes ≡ slots → get_elem? s.views id ≡ some me.0 → slice_index s.words i < 18446744073709551616
-    → (w : View B K A) × (a : Act (Option K)) × Valid s.homes me.1 a × ((q : Ruled key (stepped s i (f (slice_index s.words i)) id me.1 w a)) × Event B K A (core r) (core q)) × then (slice_index s.words i) (w, carried_after me.1 a)
+module _ {B K A : Type 0} where
+  -- a lane of the core
+  abbrev pub lane_behind : Account K A → LaneView B A → Lane B
+  lane_behind b v = lane_standing b.stand (used_lane v.here v.begun (record_behind b) (cursor_behind v))
+
+  -- a poster of the core, by its seat
+  abbrev pub poster_behind : View B K A → Poster B
+  poster_behind w = poster_of (length w.noted) (take w.counted w.own)
+
+  abbrev pub view_or_blank : maybe.Option (View B K A) → View B K A
+  view_or_blank (some w) = w
+  view_or_blank none = blank
+
+-- the core's state behind a table, where the poster p has the seat `seat_of p`
+abbrev pub state_of : {B K A : Type 0} {key : B → ℕ → K} {s : State (Option K) (View B K A)} → ℕ → (ℕ → ℕ) → Ruled key s → steps.Core B
+state_of {s = s} posters seat_of r = record {
+  places = r.tail.places;
+  log = r.tail.log;
+  closed = r.tail.closed;
+  lanes = 8;
+  lane = λ l. if nat_lt l 8 then lane_behind (r.account l) (r.lane l) else Idle;
+  posters = posters;
+  poster = λ p. poster_behind (view_or_blank (get_elem? s.views (seat_of p)));
+}
+
+module _ {B : Type 0} where
+  -- the events of a load of a lane's word that finds n: a lane that has left is retired
+  abbrev pub found_events : ℕ → ℕ → List (event.Event B)
+  found_events l n = if n == gone then (does.Retire l ∷ []) else (does.Harvest l ∷ [])
+
+  -- those of a look at a cut lane whose key is away: nothing, where it is still away
+  abbrev pub recover_events : ℕ → ℕ → List (event.Event B)
+  recover_events l n = if (n / 2 % 2) == 0 then (does.Harvest l ∷ []) else []
+
+  -- those of an exchange that looks for the word `old` and finds n
+  abbrev pub cut_events : ℕ → ℕ → ℕ → List (event.Event B)
+  cut_events l old n = if n == old then (does.Cut l ∷ []) else found_events l n
+
+  -- those of a lane's seat coming home: nothing, where the writer had found it vacated
+  abbrev pub retire_events : ℕ → ℕ → List (event.Event B)
+  retire_events l stand = if stand == vacated then [] else (does.Retire l ∷ [])
+
+-- `Allows` of the table, where the step keeps the rule and is these events of the core too, by the word that it finds
+abbrev pub AllowsAs : {B K A : Type 0} → (B → ℕ → K) → ℕ → ℕ → SeatState B K A → ℕ → (ℕ → ℕ) → (ℕ → List (event.Event B)) → (ℕ → SeatState B K A → Type 0) → Type 0
+AllowsAs {B = B} {K = K} {A = A} key slots id me i f es tells = (s : State (Option K) (View B K A)) (r : Ruled key s) → length s.homes ≡ slots → get_elem? s.views id ≡ some me.0 → slice_index s.words i < 18446744073709551616
+    → (w : View B K A) × (a : Act (Option K)) × Valid s.homes me.1 a
+    × ((q : Ruled key (stepped s i (f (slice_index s.words i)) id me.1 w a)) × ((posters : ℕ) (seat_of : ℕ → ℕ) → LeadsTo (state_of posters seat_of r) (es (slice_index s.words i)) (state_of posters seat_of q)))
+    × tells (slice_index s.words i) (w, carried_after me.1 a)

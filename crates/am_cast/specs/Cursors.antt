@@ -22,6 +22,7 @@ pub record CursorOk (table : TableId) (seat_table : TableId) (m : SeatState Name
   pub lane : IsLane m (lane_of m.0)
   pub alone : (m.0.writer ≡ None) × (m.0.own ≡ [])
   pub here : (lane_of m.0).here ≡ true
+  pub begun : (lane_of m.0).begun ≡ true
   pub number_is : (lane_of m.0).number ≡ number
   pub small : number < 8
   pub places_is : (lane_of m.0).places ≡ places

@@ -26,6 +26,10 @@ live = 1
 abbrev pub cut : ℕ
 cut = 2
 
+-- the lane has left, which the writer has found, and its seat hasn't come home
+abbrev pub vacated : ℕ
+vacated = 3
+
 -- the longest log
 abbrev pub most : ℕ
 most = 2251799813685248
@@ -61,18 +65,28 @@ Homes K = List (maybe.Option (Option K))
 abbrev pub Has : {K : Type 0} → Homes K → ℕ → ℕ → ℕ → Option K → Type 0
 Has homes places l i y = get_elem? homes (slot places l i) ≡ some (some y)
 
+-- a lane that has not begun
+pub record IsUnbegun {B A : Type 0} (v : LaneView B A) : Type 0 where
+  pub passed : v.passed ≡ v.start
+  pub held : v.held ≡ false
+  pub seen : length v.front ≡ v.start
+  pub told : v.told ≡ false
+  pub cut : v.cut ≡ false
+
 -- what a lane has seen
 pub record Seen {B A : Type 0} (t : Tail B) (v : LaneView B A) (l : ℕ) : Type 0 where
   pub number : v.number ≡ l
   pub places : v.places ≡ t.places
   pub begins : IsPrefix v.front t.log
+  pub begun : v.begun ≡ true → v.here ≡ true
+  pub unbegun : v.here ≡ true → v.begun ≡ false → IsUnbegun v
   pub high : v.passed ≤ length v.front
   pub holds : v.held ≡ true → (v.here ≡ true) × (v.passed < length v.front)
   pub told : v.told ≡ true → (t.closed ≡ true) × (v.front ≡ t.log)
 
 -- the writer's numbers of a lane
 pub record Counts {B K A : Type 0} (t : Tail B) (b : Account K A) : Type 0 where
-  pub stands : b.stand < 3
+  pub stands : b.stand < 4
   pub low : b.start ≤ b.known
   pub clear : b.cleared ≤ b.stop
   pub room : b.stop ≤ b.cleared + t.places
@@ -89,6 +103,7 @@ pub record Sound {B K A : Type 0} (t : Tail B) (b : Account K A) (v : LaneView B
   pub note : v.note ≡ b.note
   pub start : v.start ≡ b.start
   pub idles : b.stand ≡ idle → v.here ≡ false
+  pub vacates : b.stand ≡ vacated → v.here ≡ false
   pub mid : b.known ≤ v.passed
   pub halves : v.here ≡ true → b.half ≤ 2 * v.passed + bit v.held
   pub cuts : v.cut ≡ true → b.stand ≢ live
@@ -130,6 +145,8 @@ pub record SeatOk {B K A : Type 0} (tail : Tail B) (seat : ℕ) (account : ℕ �
   pub writer : HasWriter tail seat account lane lane_seat j w.writer
   pub lane_is : HasLane tail seat account lane lane_seat j w.lane
   pub noted : IsPrefix w.noted tail.log
+  pub counts : w.counted ≤ length w.own
+  pub counted : (k : ℕ) (o : Own B) → get_elem? w.own k ≡ some o → k < w.counted → o.place < length w.noted
   pub heard : IsPrefix w.heard tail.log
   pub whole : w.whole ≡ true → (tail.closed ≡ true) × (w.heard ≡ tail.log)
   pub owns : Owns tail.log owner j w.own
@@ -165,7 +182,7 @@ abbrev pub first_writer : {B K A : Type 0} → ℕ → WriterView B K A
 first_writer places = record { tail = first_tail places; accounts = replicate 8 first_account }
 
 abbrev pub blank : {B K A : Type 0} → View B K A
-blank = record { writer = None; lane = None; noted = []; heard = []; whole = false; own = [] }
+blank = record { writer = None; lane = None; noted = []; heard = []; whole = false; own = []; counted = 0 }
 
 abbrev pub first_view : {B K A : Type 0} → ℕ → View B K A
-first_view places = record { writer = Some (first_writer places); lane = None; noted = []; heard = []; whole = false; own = [] }
+first_view places = record { writer = Some (first_writer places); lane = None; noted = []; heard = []; whole = false; own = []; counted = 0 }

@@ -56,7 +56,7 @@ module _ {B K A : Type 0} where
   -- a look at a cut lane, whose key is away
   abbrev pub Recovers : StepAt K → SeatState B K A → ℕ → SeatState B K A → Type 0
   Recovers st m n m' = (m'.1 ≡ m.1) × ((l : ℕ) (q : WriterView B K A) (b : Account K A) → st.word ≡ lane_word l → KnowsOf m.0 l q b
-      → (n / 2 % 2 ≡ 0 → SetsAccount l q (back (loaded b)) m.0 m'.0) × (n / 2 % 2 ≢ 0 → SetsAccount l q (loaded b) m.0 m'.0))
+      → (n / 2 % 2 ≡ 0 → SetsAccount l q (back (n / 4) (loaded b)) m.0 m'.0 × (b.known ≤ n / 4) × (n / 4 ≤ length q.tail.log)) × (n / 2 % 2 ≢ 0 → SetsAccount l q (loaded b) m.0 m'.0))
 
   abbrev pub Cuts : StepAt K → SeatState B K A → ℕ → SeatState B K A → Type 0
   Cuts st m n m' = (m'.1 ≡ m.1) × ((l : ℕ) (q : WriterView B K A) (b : Account K A) → st.word ≡ lane_word l → KnowsOf m.0 l q b
@@ -107,4 +107,4 @@ module _ {B K A : Type 0} where
   -- a seat notes the log, and its own places stand there
   abbrev pub Notes : StepAt K → SeatState B K A → ℕ → SeatState B K A → Type 0
   Notes st m n m' = (m'.1 ≡ m.1) × ((front : List B) × (told : Bool) × IsPrefix m.0.noted front × IsPrefix m.0.heard front × Stand m.0.own front
-      × (n ≡ tail_word (length front) told) × (length front ≤ most) × (m'.0 ≡ record m.0 { noted = front }))
+      × (n ≡ tail_word (length front) told) × (length front ≤ most) × (m'.0 ≡ record m.0 { noted = front; counted = length m.0.own }))

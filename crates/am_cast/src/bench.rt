@@ -1,6 +1,6 @@
 //! The writer's steps, one lane at a time.
 ghost use Rattle.std.specs.Prelude.{◌≡◌, ◌≢◌, ◌+◌, ◌*◌, ◌/◌, ◌%◌, ◌<◌, ◌≤◌, true, false, length, None, Some, [], ℕ, suc, IfSome, IfNone};
-ghost use Rattle.am_cast.specs.Rule.{idle, live, cut, gone, most, bit, Sound};
+ghost use Rattle.am_cast.specs.Rule.{idle, live, cut, vacated, gone, most, bit, Sound};
 ghost use Rattle.am_cast.specs.Changes.{with_account, longer_tail, loaded, marked, back, clearing, laying, severed, known_to, longer, both_of, shut, admitted, new_lane, opened, retired, left};
 ghost use Rattle.am_cast.specs.Seats.{account_of, lane_of, IsPast, IsKey};
 ghost use Rattle.am_cast.specs.Keys.{key_of};
@@ -58,7 +58,7 @@ impl<N: Feed> Bench<N> {
     {
         let found = board::find_word(&cast.board.shared, &mut self.seat, lane);
         if found == u64::MAX {
-            self.stand[lane] = 2;
+            self.stand[lane] = 3;
             return found;
         }
         self.known[lane] = found / 4;
@@ -88,14 +88,16 @@ impl<N: Feed> Bench<N> {
     /// A look at a cut lane whose key is away. Answers whether it is back.
     pub(crate) fn recover(&mut self, cast: &Cast<N>, lane: usize) -> bool
         requires { let b = account_of self.old lane in (lane < 8) × (b.stand ≡ cut) × (b.away ≡ true) × (b.cleared ≡ b.stop) × (b.out ≡ 0) }
-        ensures back { result ≡ true → OneAccount self.old self.new lane (back (loaded (account_of self.old lane))) }
+        ensures back { let b = account_of self.old lane in let c = account_of self.new lane in result ≡ true → OneAccount self.old self.new lane (back c.known (loaded b)) × (b.known ≤ c.known) × (c.known ≤ length self.old.tail.log) }
         ensures away { result ≡ false → OneAccount self.old self.new lane (loaded (account_of self.old lane)) }
     {
-        let is_back = board::recover_key(&cast.board.shared, &mut self.seat, lane);
-        if is_back {
+        let found = board::recover_key(&cast.board.shared, &mut self.seat, lane);
+        if found / 2 % 2 == 0 {
             self.away[lane] = 0;
+            self.known[lane] = found / 4;
+            return true;
         }
-        is_back
+        false
     }
 
     /// The lane's keys of the places from `from` to `to` are taken out.
@@ -135,7 +137,7 @@ impl<N: Feed> Bench<N> {
         requires { (lane < 8) × Calm self.old × ((account_of self.old lane).stand ≡ live) }
         ensures only { OnlyAccount self.old self.new lane (account_of self.new lane) }
         ensures calm { IsCalm (length self.old.tail.log) self.old.tail.places (account_of self.new lane) }
-        ensures account { let b = account_of self.old lane in let c = account_of self.new lane in (c.loads ≡ b.loads + 1) × (b.known ≤ c.known) × (result ≡ gone → c.stand ≡ cut) × (result ≢ gone → (c.stand ≡ live) × (c.known ≡ result / 4) × (c.half ≡ result / 2) × (b.half ≤ c.half) × (result % 2 ≡ 0)) }
+        ensures account { let b = account_of self.old lane in let c = account_of self.new lane in (c.loads ≡ b.loads + 1) × (b.known ≤ c.known) × (result ≡ gone → c.stand ≡ vacated) × (result ≢ gone → (c.stand ≡ live) × (c.known ≡ result / 4) × (c.half ≡ result / 2) × (b.half ≤ c.half) × (result % 2 ≡ 0)) }
     {
         let from = self.known_of(lane);
         let found = self.load(cast, lane);
@@ -156,8 +158,8 @@ impl<N: Feed> Bench<N> {
         ensures calm { IsCalm (length self.old.tail.log) self.old.tail.places (account_of self.new lane) }
         ensures account { let b = account_of self.old lane in let c = account_of self.new lane in (c.stand ≡ b.stand) × (c.loads ≡ b.loads + 1) }
     {
+        let place = self.known_of(lane);
         if self.recover(cast, lane) {
-            let place = self.known_of(lane);
             self.clear_to(cast, lane, place, place + 1);
         }
     }
@@ -233,6 +235,7 @@ impl<N: Feed> Bench<N> {
     }
 
     pub(crate) fn close(&mut self, cast: &Cast<N>)
+        requires { self.old.tail.closed ≡ false }
         ensures { self.new ≡ shut self.old }
     {
         board::close_log(&cast.board.shared, &mut self.seat, self.count);
@@ -246,7 +249,7 @@ impl<N: Feed> Bench<N> {
         lane: usize,
         note: &Option<Note>,
     ) -> Cursor<'a, N>
-        requires { (lane < 8) × Calm self.old × ((account_of self.old lane).stand ≡ idle) × (note.now ≢ None) }
+        requires { (lane < 8) × Calm self.old × (self.old.tail.closed ≡ false) × ((account_of self.old lane).stand ≡ idle) × (note.now ≢ None) }
         ensures writer { OneAccount self.old self.new lane (admitted note.now (length self.old.tail.log) (account_of self.old lane)) }
         ensures cursor { result ≡ opened (new_lane note.now lane self.old.tail (account_of self.old lane)) }
     {
@@ -358,7 +361,7 @@ impl<N: Feed> Bench<N> {
 
     // The lane is cut, if its word is still `word`. Answers the word that was found.
     fn sever(&mut self, cast: &Cast<N>, lane: usize, word: u64) -> u64
-        requires account { let b = account_of self.old lane in (lane < 8) × (word < gone) × IsBehind self.old lane × IsCalm (length self.old.tail.log) self.old.tail.places b × (word / 4 ≡ b.known) }
+        requires account { let b = account_of self.old lane in (lane < 8) × (word < gone) × IsBehind self.old lane × IsCalm (length self.old.tail.log) self.old.tail.places b × (word / 4 ≡ b.known) × (word / 2 ≡ b.half) }
         ensures cut { result ≡ word → OneAccount self.old self.new lane (severed (result / 2 % 2) (account_of self.old lane)) }
         ensures gone { result ≢ word → result ≡ gone → OneAccount self.old self.new lane (marked (account_of self.old lane)) }
         ensures found { result ≢ word → result ≢ gone → OneAccount self.old self.new lane (known_to result (account_of self.old lane)) × ((account_of self.old lane).known ≤ result / 4) × (result / 4 ≤ length self.old.tail.log) × ((account_of self.old lane).half ≤ result / 2) × (result % 2 ≡ 0) }
@@ -370,7 +373,7 @@ impl<N: Feed> Bench<N> {
             return found;
         }
         if found == u64::MAX {
-            self.stand[lane] = 2;
+            self.stand[lane] = 3;
             return found;
         }
         self.known[lane] = found / 4;
@@ -380,12 +383,12 @@ impl<N: Feed> Bench<N> {
     // One exchange on the word of a lane that is as far behind as may be, and its keys that are free then are taken out.
     fn cut_once(&mut self, cast: &Cast<N>, lane: usize, word: u64) -> u64
         requires calm { (lane < 8) × Calm self.old }
-        requires word { (word < gone) × IsBehind self.old lane × (word / 4 ≡ (account_of self.old lane).known) }
+        requires word { (word < gone) × IsBehind self.old lane × (word / 4 ≡ (account_of self.old lane).known) × (word / 2 ≡ (account_of self.old lane).half) }
         ensures only { OnlyAccount self.old self.new lane (account_of self.new lane) }
         ensures calm { IsCalm (length self.old.tail.log) self.old.tail.places (account_of self.new lane) }
         ensures loads { (account_of self.old lane).loads ≤ (account_of self.new lane).loads }
         ensures cut { result ≡ word → (account_of self.new lane).stand ≡ cut }
-        ensures gone { result ≡ gone → (account_of self.new lane).stand ≡ cut }
+        ensures gone { result ≡ gone → (account_of self.new lane).stand ≡ vacated }
         ensures found { result ≢ word → result ≢ gone → ((account_of self.new lane).stand ≡ live) × ((account_of self.new lane).known ≡ result / 4) × ((account_of self.new lane).half ≡ result / 2) × ((account_of self.old lane).half ≤ result / 2) × (result % 2 ≡ 0) }
     {
         let known = self.known_of(lane);

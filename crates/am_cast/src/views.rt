@@ -11,7 +11,7 @@ pub struct Tail<B> {
 
 /// What the writer knows of one lane.
 pub struct Account<K, A> {
-    /// 0 idle, 1 live, 2 cut.
+    /// 0 idle, 1 live, 2 cut, 3 vacated: it has left, and its seat hasn't come home.
     pub stand: u64,
     /// How often it was admitted.
     pub turn: u64,
@@ -79,4 +79,6 @@ pub struct View<B, K, A> {
     pub whole: bool,
     /// The places that are this seat's own.
     pub own: LinkedList<Own<B>>,
+    /// So many of them it has noted, the first ones.
+    pub counted: u64,
 }

@@ -93,7 +93,9 @@ impl<N: Feed> Writer<N> {
     pub fn close(&mut self, cast: &Cast<N>)
         ensures { self.new.tail ≡ shut_tail self.old.tail }
     {
-        self.bench.close(cast);
+        if !self.bench.is_closed() {
+            self.bench.close(cast);
+        }
     }
 
     /// The lowest idle lane, starting at the log's length.
@@ -101,6 +103,9 @@ impl<N: Feed> Writer<N> {
         ensures tail { self.new.tail ≡ self.old.tail }
         ensures some { IfSome result (λ v. ((account_of self.old v.number).stand ≡ idle) × (v ≡ opened (new_lane (Some note) v.number self.old.tail (account_of self.old v.number)))) }
     {
+        if self.bench.is_closed() {
+            return None;
+        }
         match self.bench.idle_lane() {
             Some(lane) => Some(self.bench.admit(cast, lane, &Some(note))),
             None => None,

@@ -1,5 +1,5 @@
 -- A lane is given out.
-use Rattle.std.proofs.Common.{◌≡◌, ℕ, ◌+◌, ◌*◌, ◌≤◌, List, length, set, sym, refl, ap, ◌∙◌, inl, arith, Option, Some, None, true≢false, length-set, get_or-set_other, get_or-set_same}
+use Rattle.std.proofs.Common.{[], ◌∷◌, false, ◌≡◌, ℕ, ◌+◌, ◌*◌, ◌≤◌, List, length, set, sym, refl, ap, ◌∙◌, inl, arith, Option, Some, None, true≢false, length-set, get_or-set_other, get_or-set_same}
 use mathlib.Core.Option.{none}
 use lib.ListN.{get_elem?}
 use Rattle.atomic_table.specs.Table.{step, keeps, Allows}
@@ -10,16 +10,17 @@ use Rattle.am_cast.specs.declared.views.LaneView.{LaneView}
 use Rattle.am_cast.specs.declared.views.View.{View}
 use Rattle.am_cast.specs.Rule.{idle, live, lane_word, Ruled}
 use Rattle.am_cast.specs.Changes.{with_account, admitted, new_lane}
-use Rattle.am_cast.specs.Core.{core, admit, AllowsAs}
+use Rattle.am_steps.specs.declared.event.Event.TheVariants as does
+use Rattle.am_cast.proofs.Events.{behind, admit, AllowsEvent}
 use Rattle.am_cast.specs.Steps.{SeatState, KnowsOf, Admits}
 use Rattle.am_cast.proofs.Slots.{put_here, same_slot, prefix_self}
 use Rattle.am_cast.proofs.Kept.{one_laned, writer_ok, sets_account}
 use Rattle.am_cast.proofs.WriterSteps.{none_some, retell}
 
 module _ {B K A : Type 0} (key : B → ℕ → K) where
-  pub admits_as : (note : Option A) (slots id : ℕ) (me : SeatState B K A) (l : ℕ) (q : WriterView B K A) (b : Account K A) (new : ℕ) → KnowsOf me.0 l q b → b.stand ≡ idle → b.cleared ≡ b.stop → b.out ≡ 0 → b.laid ≡ None → new ≡ 4 * length q.tail.log
-      → AllowsAs key slots id me (lane_word l) (λ _. new) (λ _. Admits note (step slots (lane_word l) new 0 none) me new)
-  admits_as note slots id me l q b new has resting all_clear bare unlaid new_is₀ s r deep at fits =
+  pub admits_as : (note : Option A) (slots id : ℕ) (me : SeatState B K A) (l : ℕ) (q : WriterView B K A) (b : Account K A) (new : ℕ) → KnowsOf me.0 l q b → q.tail.closed ≡ false → b.stand ≡ idle → b.cleared ≡ b.stop → b.out ≡ 0 → b.laid ≡ None → new ≡ 4 * length q.tail.log
+      → AllowsEvent key slots id me (lane_word l) (λ _. new) (λ _. does.Admit l ∷ []) (λ _. Admits note (step slots (lane_word l) new 0 none) me new)
+  admits_as note slots id me l q b new has open₀ resting all_clear bare unlaid new_is₀ s r deep at fits =
       let o = writer_ok key s r id me.0 l q b at has in let ok = o.ok in let sd = ok.sound in let c = sd.counts in let t : Tail B = r.tail in let p : ℕ = t.places in
       let n : ℕ = length t.log in let at_word : ℕ = lane_word l in let small = o.small in let wide = r.wide in let stops = c.stops in
       let new_is : new ≡ 4 * n = new_is₀ ∙ ap (λ (t : Tail B). 4 * length t.log) o.tail in
@@ -37,12 +38,13 @@ module _ {B K A : Type 0} (key : B → ℕ → K) where
             (small, put_here r.lane l v', mine, λ e. absurd (let f : live ≡ idle = ap (λ (c : Account K A). c.stand) (sym (put_here r.account l b')) ∙ e in omega arith))
             record {
               sound = record {
-                seen = record { number = refl; places = refl; begins = prefix_self t.log; high = omega arith; holds = λ e. absurd (true≢false (sym e)); told = λ e. absurd (true≢false (sym e)) };
+                seen = record { number = refl; places = refl; begins = prefix_self t.log; begun = λ e. absurd (true≢false (sym e)); unbegun = λ _ _. record { passed = refl; held = refl; seen = refl; told = refl; cut = refl }; high = omega arith; holds = λ e. absurd (true≢false (sym e)); told = λ e. absurd (true≢false (sym e)) };
                 counts = record { stands = omega arith; low = omega arith; clear = omega arith; room = omega arith; stops = omega arith; lives = λ _. (refl, omega arith, λ i _ _ z. omega arith); lays = λ k e. absurd (none_some k e); aways = λ e. absurd (true≢false (sym e)) };
                 turn = refl;
                 note = refl;
                 start = refl;
                 idles = λ e. absurd (omega arith);
+                vacates = λ e. absurd (omega arith);
                 mid = omega arith;
                 halves = λ _. (let e : 2 * n ≤ 2 * n + 0 = omega arith in e);
                 cuts = λ e. absurd (true≢false (sym e));
@@ -54,7 +56,7 @@ module _ {B K A : Type 0} (key : B → ℕ → K) where
                   ap (get_elem? s.homes) j.3 ∙ ok.empty j.0 j.1 (omega arith) (λ z. omega arith) (λ z. absurd (let a = (c.aways z).0 in omega arith)) (λ _. unlaid);
               laid = λ k e. absurd (none_some k e);
               away = λ e. absurd (true≢false (sym e));
-            } in (kept.0, admit (core r) (core kept.0) l note stand_is record { tail = kept.1.tail; lanes = kept.1.lanes; accounts = kept.1.accounts; lane = kept.1.lane ∙ ap (λ (c : Account K A). new_lane note l t c) (sym o.account); account = kept.1.account ∙ ap (λ (c : Account K A). admitted note n c) (sym o.account) })),
+            } in (kept.0, admit (behind r) (behind kept.0) l note small (ap (λ (t : Tail B). t.closed) (sym o.tail) ∙ open₀) stand_is record { tail = kept.1.tail; lanes = kept.1.lanes; accounts = kept.1.accounts; lane = kept.1.lane ∙ ap (λ (c : Account K A). new_lane note l t c) (sym o.account); account = kept.1.account ∙ ap (λ (c : Account K A). admitted note n c) (sym o.account) }, refl)),
         (
           refl,
           λ l' q' b₁ e has'. retell (λ m d c. w' ≡ record me.0 { writer = Some (with_account m (admitted note (length d.tail.log) c) d); lane = Some (new_lane note m d.tail c) }) me.0 l l' q q' b b₁ has has' (omega arith)
@@ -62,6 +64,6 @@ module _ {B K A : Type 0} (key : B → ℕ → K) where
         ),
       )
 
-  pub admits : (note : Option A) (slots id : ℕ) (me : SeatState B K A) (l : ℕ) (q : WriterView B K A) (b : Account K A) (new : ℕ) → KnowsOf me.0 l q b → b.stand ≡ idle → b.cleared ≡ b.stop → b.out ≡ 0 → b.laid ≡ None → new ≡ 4 * length q.tail.log
+  pub admits : (note : Option A) (slots id : ℕ) (me : SeatState B K A) (l : ℕ) (q : WriterView B K A) (b : Account K A) (new : ℕ) → KnowsOf me.0 l q b → q.tail.closed ≡ false → b.stand ≡ idle → b.cleared ≡ b.stop → b.out ≡ 0 → b.laid ≡ None → new ≡ 4 * length q.tail.log
       → Allows (Ruled key) slots id me (lane_word l) (λ _. new) (λ _. Admits note (step slots (lane_word l) new 0 none) me new)
-  admits note slots id me l q b new has resting all_clear bare unlaid new_is₀ s r deep at fits = let y = admits_as note slots id me l q b new has resting all_clear bare unlaid new_is₀ s r deep at fits in (y.0, y.1, y.2, y.3.0, y.4)
+  admits note slots id me l q b new has open₀ resting all_clear bare unlaid new_is₀ s r deep at fits = let y = admits_as note slots id me l q b new has open₀ resting all_clear bare unlaid new_is₀ s r deep at fits in (y.0, y.1, y.2, y.3.0, y.4)

@@ -1,5 +1,5 @@
 -- The writer takes the slot of a place that was passed.
-use Rattle.std.proofs.Common.{◌≡◌, ◌≢◌, ℕ, suc, ◌+◌, ◌<◌, ◌≤◌, ◌∷◌, set, sym, refl, ap, ◌∙◌, arith, Some, true, true≢false}
+use Rattle.std.proofs.Common.{[], ◌≡◌, ◌≢◌, ℕ, suc, ◌+◌, ◌<◌, ◌≤◌, ◌∷◌, set, sym, refl, ap, ◌∙◌, arith, Some, true, true≢false}
 use mathlib.Core.Logic.{dite}
 use mathlib.Core.Option.{none, some, some-injective}
 use native.Mathlib.Decide.{ℕ_discrete}
@@ -12,10 +12,11 @@ use Rattle.am_cast.specs.declared.views.WriterView.{WriterView}
 use Rattle.am_cast.specs.declared.views.LaneView.{LaneView}
 use Rattle.am_cast.specs.Rule.{idle, live, slot, writer_word, Sound, Ruled}
 use Rattle.am_cast.specs.Changes.{with_writer, with_account, reaching}
-use Rattle.am_cast.specs.Core.{AllowsAs}
+use Rattle.am_cast.proofs.Events.{AllowsEvent}
 use Rattle.am_cast.specs.Steps.{SeatState, KnowsOf, SetsAccount, Gathers}
 use Rattle.am_cast.proofs.Slots.{apart, at_below, prefix_length}
 use Rattle.am_cast.proofs.Kept.{writer_ok}
+use Rattle.am_cast.proofs.Lanes.{cut_of}
 use Rattle.am_cast.proofs.WriterSteps.{retell, slot_step}
 
 module _ {B K A : Type 0} (key : B → ℕ → K) where
@@ -32,12 +33,12 @@ module _ {B K A : Type 0} (key : B → ℕ → K) where
         inside = low₂ ne;
         not_held = λ h z. dite (ℕ_discrete b.stand idle)
             (λ e. absurd (true≢false (sym (sd.seen.holds h).0 ∙ sd.idles e)))
-            (λ used. let k = sd.keeps (omega arith) h in let k₁ = k.1 in let a = (sd.counts.aways k.0).2 in absurd (omega arith));
+            (λ used. let k = sd.keeps (cut_of b.stand stands used ne (λ e. true≢false (sym (sd.seen.holds h).0 ∙ sd.vacates e))) h in let k₁ = k.1 in let a = (sd.counts.aways k.0).2 in absurd (omega arith));
       })
 
   -- the writer takes the slot of a place that the lane has passed
   pub gathers_as : (slots id : ℕ) (me : SeatState B K A) (l : ℕ) (q : WriterView B K A) (b : Account K A) → KnowsOf me.0 l q b → b.out ≡ 0 → (b.stand ≡ live → b.cleared < b.known) → (b.stand ≢ live → b.cleared < b.stop)
-      → AllowsAs key slots id me (writer_word l) (λ n. n) (Gathers key (step slots (writer_word l) 0 0 none) me)
+      → AllowsEvent key slots id me (writer_word l) (λ n. n) (λ _. []) (Gathers key (step slots (writer_word l) 0 0 none) me)
   gathers_as slots id me l q b has bare low₁ low₂ s r deep at fits =
       let o = writer_ok key s r id me.0 l q b at has in let ok = o.ok in let sd = ok.sound in let c = sd.counts in let p : ℕ = r.tail.places in
       let g = gone_by r.tail b (r.lane l) l sd low₁ low₂ in let inside = g.inside in let stops = c.stops in let room = c.room in let clear = c.clear in
@@ -55,6 +56,7 @@ module _ {B K A : Type 0} (key : B → ℕ → K) where
             note = sd.note;
             start = sd.start;
             idles = sd.idles;
+            vacates = sd.vacates;
             mid = sd.mid;
             halves = sd.halves;
             cuts = sd.cuts;
@@ -65,7 +67,7 @@ module _ {B K A : Type 0} (key : B → ℕ → K) where
           empty = λ i a d e f h. beside i (omega arith) d (λ z. omega arith) ∙ ok.empty i a d (λ z. omega arith) f h;
           laid = λ y e. let f = (c.lays y e).1 in beside b.stop clear f (λ z. omega arith) ∙ ok.laid y e;
           away = λ e y f h. let a = c.aways e in let a₁ = a.1 in let a₂ = a.2 in set_else s.homes k (slot p l b.known) none (apart p l b.known b.known b.cleared (omega arith) (omega arith) (omega arith) (omega arith) (λ z. omega arith)) ∙ ok.away e y f h;
-        }) record { stand = refl; turn = refl; note = refl; start = refl; known = refl; half = refl },
+        }) record { stand = refl; turn = refl; note = refl; start = refl; known = refl; half = refl; away = refl },
         λ l' q' b₁ y e has' f. retell (λ m d c. (y : B) → get_elem? d.tail.log c.cleared ≡ some y → SetsAccount m d (reaching c.cleared c) me.0 (with_writer (with_account l b' q) me.0) × ((k, Some (key x.0 l)) ∷ me.1 ≡ (slot d.tail.places m c.cleared, Some (key y m)) ∷ me.1)) me.0 l l' q q' b b₁ has has' (omega arith)
             (λ y f. (refl, (let name : x.0 ≡ y = some-injective x.0 y (sym x.1 ∙ ap (λ (t : Tail B). get_elem? t.log b.cleared) (sym o.tail) ∙ f) in λ i. (slot (sym o.tail i).places l b.cleared, Some (key (name i) l)) ∷ me.1))) y f,
       )

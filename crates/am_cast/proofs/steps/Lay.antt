@@ -9,9 +9,10 @@ use Rattle.am_cast.specs.declared.views.Tail.{Tail}
 use Rattle.am_cast.specs.declared.views.Account.{Account}
 use Rattle.am_cast.specs.declared.views.WriterView.{WriterView}
 use Rattle.am_cast.specs.declared.views.View.{View}
+use Rattle.am_cast.specs.Core.{poster_behind}
 use Rattle.am_cast.specs.Rule.{live, slot, writer_word, Ruled}
 use Rattle.am_cast.specs.Changes.{with_writer, with_account, laying}
-use Rattle.am_cast.specs.Core.{core, Event, AllowsAs}
+use Rattle.am_cast.proofs.Events.{behind, Event, AllowsEvent}
 use Rattle.am_cast.specs.Steps.{SeatState, KnowsOf, SetsAccount, Lays}
 use Rattle.am_cast.proofs.Slots.{apart, slot_inside}
 use Rattle.am_cast.proofs.Kept.{same_some, writer_ok}
@@ -20,7 +21,7 @@ use Rattle.am_cast.proofs.WriterSteps.{none_some, retell, slot_step}
 module _ {B K A : Type 0} (key : B → ℕ → K) where
   -- the writer gives the slot back with the next key in it
   pub lays_as : (slots id : ℕ) (me : SeatState B K A) (l : ℕ) (q : WriterView B K A) (b : Account K A) (x : K) (cs : List (ℕ × Option K)) → KnowsOf me.0 l q b → b.stand ≡ live → b.out ≡ suc b.stop → b.stop < b.cleared + q.tail.places → me.1 ≡ (slot q.tail.places l b.stop, Some x) ∷ cs
-      → AllowsAs key slots id me (writer_word l) (λ n. n) (Lays (step slots (writer_word l) 0 0 none) me)
+      → AllowsEvent key slots id me (writer_word l) (λ n. n) (λ _. []) (Lays (step slots (writer_word l) 0 0 none) me)
   lays_as slots id me l q b x cs has alive is_out space₀ carried s r deep at fits =
       let o = writer_ok key s r id me.0 l q b at has in let ok = o.ok in let sd = ok.sound in let c = sd.counts in let p : ℕ = r.tail.places in
       let space : b.stop < b.cleared + p = subst (λ (t : Tail B). b.stop < b.cleared + t.places) o.tail space₀ in
@@ -30,7 +31,7 @@ module _ {B K A : Type 0} (key : B → ℕ → K) where
       let beside : (i : ℕ) → b.cleared ≤ i → i < b.cleared + p → i ≢ b.stop → get_elem? (set s.homes k h) (slot p l i) ≡ get_elem? s.homes (slot p l i) = λ i a c ne. set_else s.homes k (slot p l i) h (apart p l b.cleared i b.stop a c clear space ne) in
       let here : get_elem? (set s.homes k h) k ≡ some h = set_here s.homes k h (slot_inside p l b.stop (length s.homes) o.small r.some_places r.deep) in
       let is : me.1 ≡ (k, Some x) ∷ cs = carried ∙ ap (λ (t : Tail B). let c : List (ℕ × Option K) = (slot t.places l b.stop, Some x) ∷ cs in c) o.tail in
-      subst (λ (c : List (ℕ × Option K)). (u : View B K A) × (a : Act (Option K)) × Valid s.homes c a × ((p : Ruled key (stepped s (writer_word l) (get_or s.words (writer_word l) 0) id c u a)) × Event B K A (core r) (core p)) × Lays (step slots (writer_word l) 0 0 none) (me.0, c) (get_or s.words (writer_word l) 0) (u, carried_after c a)) (sym is) (
+      subst (λ (c : List (ℕ × Option K)). (u : View B K A) × (a : Act (Option K)) × Valid s.homes c a × ((p : Ruled key (stepped s (writer_word l) (get_or s.words (writer_word l) 0) id c u a)) × Event B K A (behind r) [] (behind p) × (poster_behind u ≡ poster_behind me.0)) × Lays (step slots (writer_word l) 0 0 none) (me.0, c) (get_or s.words (writer_word l) 0) (u, carried_after c a)) (sym is) (
         with_writer (with_account l b' q) me.0,
         gives,
         tt,
@@ -42,6 +43,7 @@ module _ {B K A : Type 0} (key : B → ℕ → K) where
             note = sd.note;
             start = sd.start;
             idles = sd.idles;
+            vacates = sd.vacates;
             mid = sd.mid;
             halves = sd.halves;
             cuts = sd.cuts;
@@ -52,7 +54,7 @@ module _ {B K A : Type 0} (key : B → ℕ → K) where
           empty = λ i a d e f g. let ne : i ≢ b.stop = (λ z. none_some x (sym (g z))) in beside i (omega arith) d ne ∙ ok.empty i a d (λ z. ne (omega arith)) f (λ z. absurd (ne z));
           laid = λ y e. here ∙ ap (λ (z : K). some (some (Some z))) (same_some x y (Some x) refl e);
           away = λ z. absurd (not_away z);
-        }) record { stand = refl; turn = refl; note = refl; start = refl; known = refl; half = refl },
+        }) record { stand = refl; turn = refl; note = refl; start = refl; known = refl; half = refl; away = refl },
         (
           refl,
           λ l' q' b₁ i y e has' f. let one : x ≡ y = same_some x y (Some x) refl (ap (λ (c : List (ℕ × Option K)). first_or c) f) in

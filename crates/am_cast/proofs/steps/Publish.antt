@@ -1,5 +1,5 @@
 -- The writer makes a place.
-use Rattle.std.proofs.Common.{◌≡◌, ◌≢◌, ℕ, suc, ◌+◌, ◌<◌, List, [], ◌∷◌, ◌++◌, length, get_or, set, sym, refl, ap, ◌∙◌, subst, ⊎_elim, arith, Some, None, true, false, true≢false, length-set, length-append, get_or-set_other, get_or-set_same}
+use Rattle.std.proofs.Common.{take, ◌≤◌, zero, ◌≡◌, ◌≢◌, ℕ, suc, ◌+◌, ◌<◌, List, [], ◌∷◌, ◌++◌, length, get_or, set, sym, refl, ap, ◌∙◌, subst, ⊎_elim, arith, Some, None, true, false, true≢false, length-set, length-append, get_or-set_other, get_or-set_same}
 use mathlib.Core.Logic.{dite}
 use mathlib.Core.Option.{none, some}
 use mathlib.Core.List.{IsPrefix}
@@ -12,14 +12,27 @@ use Rattle.am_cast.specs.declared.views.Account.{Account}
 use Rattle.am_cast.specs.declared.views.WriterView.{WriterView}
 use Rattle.am_cast.specs.declared.views.LaneView.{LaneView}
 use Rattle.am_cast.specs.declared.views.View.{View}
+use Rattle.am_cast.specs.declared.views.Own.{Own}
+use Rattle.am_cast.specs.Core.{poster_of}
 use Rattle.am_cast.specs.Rule.{live, most, Homes, slot, lane_word, tail_word, Seen, LaneOk, HasWriter, SeatOk, Ruled}
 use Rattle.am_cast.specs.Changes.{grown, longer_tail, longer, own_at}
-use Rattle.am_cast.specs.Core.{core, publish, AllowsAs}
+use Rattle.am_steps.specs.declared.event.Event.TheVariants as does
+use Rattle.am_cast.proofs.Events.{behind, publish, AllowsEvent}
 use Rattle.am_cast.specs.Steps.{SeatState, Publishes}
 use Rattle.am_cast.proofs.Slots.{put, put_here, put_else, at_length, at_end, prefix_more, owns_still, owns_one_more}
 use Rattle.am_cast.proofs.Kept.{same_some}
 use Rattle.am_cast.proofs.Tails.{any_lane, grown_else, grown_live, grown_stand, others_writer}
 use Rattle.am_cast.proofs.WriterSteps.{none_some}
+
+module _ {B : Type 0} where
+  -- the posts that were counted stay the first ones
+  pub take_still : (n : ℕ) (xs : List (Own B)) (o : Own B) → n ≤ length xs → take n (xs ++ o ∷ []) ≡ take n xs
+  take_still zero xs o h = refl
+  take_still (suc n) [] o h = absurd (omega arith)
+  take_still (suc n) (x ∷ xs) o h = ap (λ (ys : List (Own B)). x ∷ ys) (take_still n xs o (omega arith))
+
+  pub counted_still : (n : ℕ) (xs : List (Own B)) (o : Own B) (known : ℕ) → n ≤ length xs → poster_of known (take n (xs ++ o ∷ [])) ≡ poster_of known (take n xs)
+  counted_still n xs o known h = ap (poster_of known) (take_still n xs o h)
 
 module _ {B K A : Type 0} (key : B → ℕ → K) where
   -- one lane, where the log grows
@@ -28,7 +41,7 @@ module _ {B K A : Type 0} (key : B → ℕ → K) where
   lane_grows t b v words words' homes l x is_open bare laid same ok =
       let sd = ok.sound in let c = sd.counts in let t' : Tail B = longer_tail x t in let n : ℕ = length t.log in let more : length t'.log ≡ n + 1 = length-append t.log (x ∷ []) in
       let not_told : v.told ≡ true → ⊥ = (λ e. true≢false (sym (sd.seen.told e).0 ∙ is_open)) in let stops = c.stops in
-      let seen : Seen t' v l = record { number = sd.seen.number; places = sd.seen.places; begins = prefix_more v.front t.log x sd.seen.begins; high = sd.seen.high; holds = sd.seen.holds; told = λ e. absurd (not_told e) } in
+      let seen : Seen t' v l = record { number = sd.seen.number; places = sd.seen.places; begins = prefix_more v.front t.log x sd.seen.begins; begun = sd.seen.begun; unbegun = sd.seen.unbegun; high = sd.seen.high; holds = sd.seen.holds; told = λ e. absurd (not_told e) } in
       dite (ℕ_discrete b.stand live)
       (λ (alive : b.stand ≡ live).
       let f = c.lives alive in let stop = f.0 in let space = (c.lays (key x l) (laid alive)).1 in let clear = c.clear in
@@ -42,6 +55,7 @@ module _ {B K A : Type 0} (key : B → ℕ → K) where
           note = sd.note;
           start = sd.start;
           idles = sd.idles;
+          vacates = sd.vacates;
           mid = sd.mid;
           halves = sd.halves;
           cuts = sd.cuts;
@@ -63,6 +77,7 @@ module _ {B K A : Type 0} (key : B → ℕ → K) where
           note = sd.note;
           start = sd.start;
           idles = sd.idles;
+          vacates = sd.vacates;
           mid = sd.mid;
           halves = sd.halves;
           cuts = sd.cuts;
@@ -77,7 +92,7 @@ module _ {B K A : Type 0} (key : B → ℕ → K) where
 
   pub publishes_as : (x : B) (slots id : ℕ) (me : SeatState B K A) (q : WriterView B K A) (new : ℕ) → me.0.writer ≡ Some q → q.tail.closed ≡ false → length q.tail.log < most
       → ((l : ℕ) (b : Account K A) → get_elem? q.accounts l ≡ some b → (b.out ≡ 0) × (b.stand ≡ live → b.laid ≡ Some (key x l))) → new ≡ tail_word (length q.tail.log + 1) false
-      → AllowsAs key slots id me 0 (λ _. new) (λ _. Publishes x (step slots 0 new 0 none) me new)
+      → AllowsEvent key slots id me 0 (λ _. new) (λ _. does.Publish x ∷ []) (λ _. Publishes x (step slots 0 new 0 none) me new)
   publishes_as x slots id me q new is is_open₀ few₀ ready new_is₀ s r deep at fits =
       let mine = r.each_seat id me.0 at in let k = subst (HasWriter r.tail r.seat r.account r.lane r.lane_seat id) is mine.writer in let t : Tail B = r.tail in let n : ℕ = length t.log in
       let is_open : t.closed ≡ false = ap (λ (t : Tail B). t.closed) (sym k.0) ∙ is_open₀ in
@@ -110,6 +125,8 @@ module _ {B K A : Type 0} (key : B → ℕ → K) where
                 writer = (ap (longer_tail x) k.0, length-map q.accounts grown ∙ k.1, (λ m a. at_map grown q.accounts m (r.account m) (k.2 m a)), k.3);
                 lane_is = any_lane key t t' r.seat r.account account' r.lane r.lane_seat id (λ m. grown_stand (r.account m)) me.0.lane mine.lane_is;
                 noted = prefix_more me.0.noted t.log x mine.noted;
+                counts = let h = mine.counts in omega (arith, length-append me.0.own (own_at n x ∷ []));
+                counted = λ k y f a. ⊎_elim (λ old. mine.counted k y old a) (λ (z : (k ≡ length me.0.own) × (own_at n x ≡ y)). let z₀ = z.0 in let h = mine.counts in absurd (omega arith)) (at_end me.0.own (own_at n x) y k f);
                 heard = prefix_more me.0.heard t.log x mine.heard;
                 whole = λ h. absurd (true≢false (sym (mine.whole h).0 ∙ is_open));
                 owns = owns_one_more t.log t'.log r.owner owner' id me.0.own (own_at n x) grows same_owner (omega arith) (at_last t.log x n refl) (put_here r.owner n id) mine.owns;
@@ -118,12 +135,14 @@ module _ {B K A : Type 0} (key : B → ℕ → K) where
                 writer = others_writer key t t' r.seat r.account account' r.lane r.lane_seat j (λ h. z.0 (h ∙ sym k.3)) u.writer o.writer;
                 lane_is = any_lane key t t' r.seat r.account account' r.lane r.lane_seat j (λ m. grown_stand (r.account m)) u.lane o.lane_is;
                 noted = prefix_more u.noted t.log x o.noted;
+                counts = o.counts;
+                counted = o.counted;
                 heard = prefix_more u.heard t.log x o.heard;
                 whole = λ h. absurd (true≢false (sym (o.whole h).0 ∙ is_open));
                 owns = owns_still t.log t'.log r.owner owner' j u.own grows same_owner o.owns;
               })
               (at_set s.views id j w' u e);
-        } in (kept, publish (core r) (core kept) x is_open (λ l a alive. ((r.each_lane l a).sound.counts.lays (key x l) ((ready l (r.account l) (k.2 l a)).1 alive)).1) refl (λ _. refl) (λ _. refl))),
+        } in (kept, publish (behind r) (behind kept) x is_open (λ l a alive. ((r.each_lane l a).sound.counts.lays (key x l) ((ready l (r.account l) (k.2 l a)).1 alive)).1) refl (λ _. refl) (λ _. refl), counted_still me.0.counted me.0.own (own_at n x) (length me.0.noted) mine.counts)),
         (
           refl,
           λ u e. let one : q ≡ u = same_some q u me.0.writer is e in

@@ -1,5 +1,5 @@
 -- The writer takes the slot of the next place.
-use Rattle.std.proofs.Common.{◌≡◌, ◌≢◌, ℕ, suc, ◌+◌, ◌<◌, ◌≤◌, List, ◌∷◌, set, sym, refl, ap, ◌∙◌, subst, arith, Option, None, true}
+use Rattle.std.proofs.Common.{[], ◌≡◌, ◌≢◌, ℕ, suc, ◌+◌, ◌<◌, ◌≤◌, List, ◌∷◌, set, sym, refl, ap, ◌∙◌, subst, arith, Option, None, true}
 use mathlib.Core.Option.{none}
 use lib.ListN.{get_elem?}
 use Rattle.atomic_table.specs.Table.{step, takes, Allows}
@@ -9,7 +9,7 @@ use Rattle.am_cast.specs.declared.views.Account.{Account}
 use Rattle.am_cast.specs.declared.views.WriterView.{WriterView}
 use Rattle.am_cast.specs.Rule.{live, slot, writer_word, Ruled}
 use Rattle.am_cast.specs.Changes.{with_writer, with_account, reaching}
-use Rattle.am_cast.specs.Core.{AllowsAs}
+use Rattle.am_cast.proofs.Events.{AllowsEvent}
 use Rattle.am_cast.specs.Steps.{SeatState, KnowsOf, SetsAccount, Reaches}
 use Rattle.am_cast.proofs.Slots.{apart}
 use Rattle.am_cast.proofs.Kept.{writer_ok}
@@ -18,7 +18,7 @@ use Rattle.am_cast.proofs.WriterSteps.{none_some, retell, slot_step}
 module _ {B K A : Type 0} (key : B → ℕ → K) where
   -- the writer takes the slot of the next place
   pub reaches_as : (slots id : ℕ) (me : SeatState B K A) (l : ℕ) (q : WriterView B K A) (b : Account K A) → KnowsOf me.0 l q b → b.stand ≡ live → b.out ≡ 0 → b.laid ≡ None → b.stop < b.cleared + q.tail.places
-      → AllowsAs key slots id me (writer_word l) (λ n. n) (Reaches (step slots (writer_word l) 0 0 none) me)
+      → AllowsEvent key slots id me (writer_word l) (λ n. n) (λ _. []) (Reaches (step slots (writer_word l) 0 0 none) me)
   reaches_as slots id me l q b has alive bare unlaid space₀ s r deep at fits =
       let o = writer_ok key s r id me.0 l q b at has in let ok = o.ok in let sd = ok.sound in let c = sd.counts in let p : ℕ = r.tail.places in
       let space : b.stop < b.cleared + p = subst (λ (t : Tail B). b.stop < b.cleared + t.places) o.tail space₀ in
@@ -36,6 +36,7 @@ module _ {B K A : Type 0} (key : B → ℕ → K) where
             note = sd.note;
             start = sd.start;
             idles = sd.idles;
+            vacates = sd.vacates;
             mid = sd.mid;
             halves = sd.halves;
             cuts = sd.cuts;
@@ -46,7 +47,7 @@ module _ {B K A : Type 0} (key : B → ℕ → K) where
           empty = λ i a d e f g. beside i (omega arith) d (λ z. e (ap suc (sym z))) ∙ ok.empty i a d (λ z. omega arith) f g;
           laid = λ y z. absurd (none_some y (sym unlaid ∙ z));
           away = λ z. absurd (not_away z);
-        }) record { stand = refl; turn = refl; note = refl; start = refl; known = refl; half = refl },
+        }) record { stand = refl; turn = refl; note = refl; start = refl; known = refl; half = refl; away = refl },
         λ l' q' b₁ e has'. retell (λ m d c. SetsAccount m d (reaching c.stop c) me.0 (with_writer (with_account l b' q) me.0) × ((k, None) ∷ me.1 ≡ (slot d.tail.places m c.stop, None) ∷ me.1)) me.0 l l' q q' b b₁ has has' (omega arith)
             (refl, ap (λ (t : Tail B). let c : List (ℕ × Option K) = (slot t.places l b.stop, None) ∷ me.1 in c) (sym o.tail)),
       )

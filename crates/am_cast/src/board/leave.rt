@@ -23,7 +23,7 @@ pub(crate) fn leave_bare<B, K, A, R: Keyed<B, K>>(
     lane: usize,
 )
     requires table { (seat.old.table_id ≡ top.now.table_id) × IsSized top.now.table_id × (lane < 8) }
-    requires lane { let v = lane_of seat.old.me.0 in IsLane seat.old.me v × (lane ≡ v.number) × (v.held ≡ false) }
+    requires lane { let v = lane_of seat.old.me.0 in IsLane seat.old.me v × (lane ≡ v.number) × (v.begun ≡ true) × (v.held ≡ false) }
     ensures same { (seat.new.table_id ≡ seat.old.table_id) × (seat.new.me.1 ≡ seat.old.me.1) }
     ensures lane { seat.new.me.0 ≡ with_lane (left (lane_of seat.old.me.0)) seat.old.me.0 }
 {
@@ -40,7 +40,7 @@ pub(crate) fn leave_with_key<B, K, A, R: Keyed<B, K>>(
 )
     requires table { (seat.old.table_id ≡ top.now.table_id) × IsSized top.now.table_id × (lane < 8) }
     requires lane { let v = lane_of seat.old.me.0 in IsLane seat.old.me v × (lane ≡ v.number) × (at ≡ slot v.places v.number v.passed) }
-    requires held { let v = lane_of seat.old.me.0 in (v.held ≡ true) × HasOut seat.old.me v × IsKey R.key v.front v.passed v.number key }
+    requires held { let v = lane_of seat.old.me.0 in (v.begun ≡ true) × (v.held ≡ true) × HasOut seat.old.me v × IsKey R.key v.front v.passed v.number key }
     ensures same { (seat.new.table_id ≡ seat.old.table_id) × (seat.new.me.1 ≡ []) }
     ensures lane { seat.new.me.0 ≡ with_lane (left (lane_of seat.old.me.0)) seat.old.me.0 }
 {

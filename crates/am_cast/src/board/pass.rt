@@ -26,7 +26,7 @@ pub(crate) fn pass_place<B, K, A, R: Keyed<B, K>>(
 ) -> bool
     requires table { (seat.old.table_id ≡ top.now.table_id) × IsSized top.now.table_id × (lane < 8) }
     requires lane { let v = lane_of seat.old.me.0 in IsLane seat.old.me v × (lane ≡ v.number) × (at ≡ slot v.places v.number v.passed) }
-    requires held { let v = lane_of seat.old.me.0 in (v.held ≡ true) × HasOut seat.old.me v × IsKey R.key v.front v.passed v.number key }
+    requires held { let v = lane_of seat.old.me.0 in (v.begun ≡ true) × (v.held ≡ true) × HasOut seat.old.me v × IsKey R.key v.front v.passed v.number key }
     ensures same { (seat.new.table_id ≡ seat.old.table_id) × (seat.new.me.1 ≡ []) }
     ensures lane { let v = lane_of seat.old.me.0 in seat.new.me.0 ≡ with_lane (record v { passed = v.passed + 1; held = false; cut = result }) seat.old.me.0 }
 {

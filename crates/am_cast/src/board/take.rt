@@ -28,7 +28,7 @@ pub(crate) fn take_key<B, K, A, R: Keyed<B, K>>(
 ) -> Option<K>
     requires table { (seat.old.table_id ≡ top.now.table_id) × IsSized top.now.table_id × (lane < 8) × (passed ≤ most) }
     requires lane { let v = lane_of seat.old.me.0 in IsLane seat.old.me v × (lane ≡ v.number) × (passed ≡ v.passed) × (at ≡ slot v.places v.number v.passed) }
-    requires ready { let v = lane_of seat.old.me.0 in (v.here ≡ true) × (v.held ≡ false) × (v.passed < length v.front) × (seat.old.me.1 ≡ []) }
+    requires ready { let v = lane_of seat.old.me.0 in (v.begun ≡ true) × (v.held ≡ false) × (v.passed < length v.front) × (seat.old.me.1 ≡ []) }
     ensures same { seat.new.table_id ≡ seat.old.table_id }
     ensures took { let v = lane_of seat.old.me.0 in Took R.key seat.old.me v (holding v) (cut_off v) seat.new.me result }
 {

@@ -5,4 +5,4 @@ use Rattle.am_cast.proofs.board.open.open_lane.Goals as goal
 
 pub load-requires : goal.load-requires
 load-requires g c = let r = c.requires.lane in let t = c.requires.table in
-    (t.0, omega arith, rw r.1 (opens g.R.Keyed.key _ _ c.args.seat.now.me (lane_of c.args.seat.now.me.0) r.0))
+    (t.0, omega arith, rw r.1 (opens g.R.Keyed.key _ _ c.args.seat.now.me (lane_of c.args.seat.now.me.0) r.0 r.2 r.3))

@@ -1,4 +1,4 @@
-use Rattle.std.proofs.Common.{rules, arith, refl}
+use Rattle.std.proofs.Common.{arith, refl}
 use Rattle.am_cast.specs.Seats.{writer_of, account_of}
 use Rattle.am_cast.proofs.Accounts.{knows_of}
 use Rattle.am_cast.proofs.steps.Recover.{recovers}
@@ -10,8 +10,8 @@ load-requires g c = let t = c.requires.table in let d = c.requires.writer in let
 
 pub returns-clause-back : goal.returns-clause-back
 returns-clause-back g c e = let t = c.requires.table in let d = c.requires.writer in let q = writer_of c.args.seat.now.me.0 in let all = d.1 in
-    (c.load.ensures.2.1 c.args.lane q (account_of q c.args.lane) refl (knows_of c.args.seat.now.me.0 q c.args.lane d.0.0 (omega arith))).0 (search rules)
+    (c.load.ensures.2.1 c.args.lane q (account_of q c.args.lane) refl (knows_of c.args.seat.now.me.0 q c.args.lane d.0.0 (omega arith))).0 e
 
 pub returns-clause-away : goal.returns-clause-away
 returns-clause-away g c e = let t = c.requires.table in let d = c.requires.writer in let q = writer_of c.args.seat.now.me.0 in let all = d.1 in
-    (c.load.ensures.2.1 c.args.lane q (account_of q c.args.lane) refl (knows_of c.args.seat.now.me.0 q c.args.lane d.0.0 (omega arith))).1 (search rules)
+    (c.load.ensures.2.1 c.args.lane q (account_of q c.args.lane) refl (knows_of c.args.seat.now.me.0 q c.args.lane d.0.0 (omega arith))).1 e
