@@ -3,10 +3,12 @@ pub mod Accounts
 pub mod Cursors
 pub mod Events
 pub mod Kept
+pub mod KindLaws
 pub mod Lanes
 pub mod Seats
 pub mod Slots
 pub mod Tails
+pub mod Ties
 pub mod WriterSteps
 pub mod Writers
 pub mod steps

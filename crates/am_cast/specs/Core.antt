@@ -16,6 +16,7 @@ use Rattle.am_steps.specs.Runs.{LeadsTo}
 use Rattle.am_cast.specs.declared.views.Account.{Account}
 use Rattle.am_cast.specs.declared.views.LaneView.{LaneView}
 use Rattle.am_cast.specs.declared.views.Own.{Own}
+use Rattle.am_cast.specs.declared.views.Tail.{Tail}
 use Rattle.am_cast.specs.declared.views.View.{View}
 use Rattle.am_cast.specs.Rule.{cut, gone, vacated, blank, Ruled}
 use Rattle.am_cast.specs.Steps.{SeatState}
@@ -67,17 +68,21 @@ module _ {B K A : Type 0} where
   view_or_blank (some w) = w
   view_or_blank none = blank
 
+-- the core's state behind a log's tail, what the writer knows of each lane, the lanes and the posters
+abbrev pub core_behind : {B K A : Type 0} → ℕ → (ℕ → Poster B) → Tail B → (ℕ → Account K A) → (ℕ → LaneView B A) → steps.Core B
+core_behind posters poster t account lane = record {
+  places = t.places;
+  log = t.log;
+  closed = t.closed;
+  lanes = 8;
+  lane = λ l. if nat_lt l 8 then lane_behind (account l) (lane l) else Idle;
+  posters = posters;
+  poster = poster;
+}
+
 -- the core's state behind a table, where the poster p has the seat `seat_of p`
 abbrev pub state_of : {B K A : Type 0} {key : B → ℕ → K} {s : State (Option K) (View B K A)} → ℕ → (ℕ → ℕ) → Ruled key s → steps.Core B
-state_of {s = s} posters seat_of r = record {
-  places = r.tail.places;
-  log = r.tail.log;
-  closed = r.tail.closed;
-  lanes = 8;
-  lane = λ l. if nat_lt l 8 then lane_behind (r.account l) (r.lane l) else Idle;
-  posters = posters;
-  poster = λ p. poster_behind (view_or_blank (get_elem? s.views (seat_of p)));
-}
+state_of {s = s} posters seat_of r = core_behind posters (λ p. poster_behind (view_or_blank (get_elem? s.views (seat_of p)))) r.tail r.account r.lane
 
 module _ {B : Type 0} where
   -- the events of a load of a lane's word that finds n: a lane that has left is retired

@@ -12,3 +12,4 @@ pub mod Refusals
 pub mod Names
 pub mod Core
 pub mod inside
+pub mod Laws

@@ -7,10 +7,9 @@ ghost use Rattle.am_cast.specs.inside.KeyRows.{bucket_of, row_at, MayTake, row_w
 mod bucket;
 mod row;
 
+use am_segment::SegKey;
 pub(crate) use bucket::Bucket;
 pub(crate) use row::Row;
-
-use am_segment::SegKey;
 use std::alloc::{AllocError, Global};
 use std::marker::Model;
 

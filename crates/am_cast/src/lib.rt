@@ -8,6 +8,7 @@ pub mod day;
 pub mod feed;
 mod key_rows;
 pub mod kinds;
+pub mod laws;
 pub mod lends;
 pub mod parts;
 pub mod pass;

@@ -1,0 +1,92 @@
+//! What each kind of step is to the core of am_steps, so that its words (a sound state, a place that is needed, a place
+//! that is freed) are those of the table. Each law is a function that does nothing.
+//! `B` is what is known of a batch, `K` a key of one, `A` what a subscription notes down, and `R` says which key of a
+//! batch is each lane's.
+ghost use Rattle.am_cast.specs.Laws.{OpensTheLane, LooksAtTheLog, TakesTheKey, PassesThePlace, LeavesBare, LeavesWithKey, FindsTheWord, RecoversTheKey, CutsTheLane, AdmitsTheLane, RetiresTheLane, PublishesTheBatch, ClosesTheLog, ReachesASlot, LaysAKey, GathersAKey, ClearsASlot};
+
+use crate::rule::Keyed;
+
+/// A lane that was given out begins: Open.
+pub fn an_open_is_an_event<B, K, A, R: Keyed<B, K>>()
+    ensures { OpensTheLane B K A R.key }
+{}
+
+/// A lane that has begun looks how long the log is: Look.
+pub fn a_look_is_an_event<B, K, A, R: Keyed<B, K>>()
+    ensures { LooksAtTheLog B K A R.key }
+{}
+
+/// A lane exchanges its word for one that shows the key of the next place in its hand: Take.
+pub fn a_take_is_an_event<B, K, A, R: Keyed<B, K>>()
+    ensures { TakesTheKey B K A R.key }
+{}
+
+/// A lane gives the key in its hand back and adds 2 to its word: Pass.
+pub fn a_pass_is_an_event<B, K, A, R: Keyed<B, K>>()
+    ensures { PassesThePlace B K A R.key }
+{}
+
+/// A lane with no key in its hand is left: Leave.
+pub fn a_leave_is_an_event<B, K, A, R: Keyed<B, K>>()
+    ensures { LeavesBare B K A R.key }
+{}
+
+/// A lane gives the key in its hand back and is left: Leave.
+pub fn a_leave_with_a_key_is_an_event<B, K, A, R: Keyed<B, K>>()
+    ensures { LeavesWithKey B K A R.key }
+{}
+
+/// The writer finds a live lane's word: Harvest, or Retire where the lane has left.
+pub fn a_harvest_is_an_event<B, K, A, R: Keyed<B, K>>()
+    ensures { FindsTheWord B K A R.key }
+{}
+
+/// The writer looks at a cut lane whose key is away: Harvest, where the key is back, else nothing.
+pub fn a_recovery_is_an_event<B, K, A, R: Keyed<B, K>>()
+    ensures { RecoversTheKey B K A R.key }
+{}
+
+/// The writer exchanges the word that it found last for one more: Cut, or what it finds in place of it.
+pub fn a_cut_is_an_event<B, K, A, R: Keyed<B, K>>()
+    ensures { CutsTheLane B K A R.key }
+{}
+
+/// The writer gives an idle lane out: Admit.
+pub fn an_admit_is_an_event<B, K, A, R: Keyed<B, K>>()
+    ensures { AdmitsTheLane B K A R.key }
+{}
+
+/// A lane's seat came home: Retire, or nothing where the writer had found that it has left.
+pub fn a_retire_is_an_event<B, K, A, R: Keyed<B, K>>()
+    ensures { RetiresTheLane B K A R.key }
+{}
+
+/// The writer makes a place, where each live lane has its key of it: Publish.
+pub fn a_publish_is_an_event<B, K, A, R: Keyed<B, K>>()
+    ensures { PublishesTheBatch B K A R.key }
+{}
+
+/// The writer closes the log: Close.
+pub fn a_close_is_an_event<B, K, A, R: Keyed<B, K>>()
+    ensures { ClosesTheLog B K A R.key }
+{}
+
+/// The writer takes a lane's slot of the next place: nothing.
+pub fn a_reach_is_silent<B, K, A, R: Keyed<B, K>>()
+    ensures { ReachesASlot B K A R.key }
+{}
+
+/// The writer gives the slot back with a key in it: nothing.
+pub fn a_lay_is_silent<B, K, A, R: Keyed<B, K>>()
+    ensures { LaysAKey B K A R.key }
+{}
+
+/// The writer takes the slot of a place that the lane has passed: nothing.
+pub fn a_gather_is_silent<B, K, A, R: Keyed<B, K>>()
+    ensures { GathersAKey B K A R.key }
+{}
+
+/// The writer gives the slot back empty: nothing.
+pub fn a_clear_is_silent<B, K, A, R: Keyed<B, K>>()
+    ensures { ClearsASlot B K A R.key }
+{}
