@@ -1,18 +1,12 @@
 -- The laws of the kinds of step.
-use Rattle.std.proofs.Common.{◌≡◌, ◌≢◌, ℕ, suc, ◌+◌, ◌*◌, ◌/◌, ◌%◌, ◌^◌, ◌<◌, List, [], ◌∷◌, length, Option, Some, None, true, false, ◌==◌}
-use mathlib.Core.Option.{none, some}
-use lib.ListN.{get_elem?}
+use Rattle.std.proofs.Common.{ℕ, ◌+◌, ◌%◌, ◌^◌, [], ◌∷◌, ◌==◌}
+use mathlib.Core.Option.{none}
 use prog.Atomic.{either}
-use Rattle.atomic_table.specs.Table.{step, State}
+use Rattle.atomic_table.specs.Table.{step}
 use Rattle.am_steps.specs.declared.event.Event.TheVariants as does
-use Rattle.am_steps.specs.Soundness.{IsSound}
-use Rattle.am_cast.specs.declared.views.Account.{Account}
-use Rattle.am_cast.specs.declared.views.LaneView.{LaneView}
-use Rattle.am_cast.specs.declared.views.View.{View}
-use Rattle.am_cast.specs.declared.views.WriterView.{WriterView}
-use Rattle.am_cast.specs.Rule.{idle, live, cut, gone, most, tail_word, lane_word, writer_word, slot, Ruled}
-use Rattle.am_cast.specs.Steps.{SeatState, KnowsOf, Opens, Looks, Takes, Passes, Leaves, Harvests, Recovers, Cuts, Admits, Retires, Publishes, Closes, Reaches, Lays, Gathers, Clears}
-use Rattle.am_cast.specs.Core.{state_of, found_events, recover_events, cut_events, retire_events, AllowsAs}
+use Rattle.am_cast.specs.Rule.{lane_word, writer_word}
+use Rattle.am_cast.specs.Steps.{Opens, Looks, Takes, Passes, Leaves, Harvests, Recovers, Cuts, Admits, Retires, Publishes, Closes, Reaches, Lays, Gathers, Clears}
+use Rattle.am_cast.specs.Core.{found_events, recover_events, cut_events, retire_events}
 use Rattle.am_cast.proofs.Ties.{shown_as}
 use Rattle.am_cast.specs.Laws.{OpensTheLane, LooksAtTheLog, TakesTheKey, PassesThePlace, LeavesBare, LeavesWithKey, FindsTheWord, RecoversTheKey, CutsTheLane, AdmitsTheLane, RetiresTheLane, PublishesTheBatch, ClosesTheLog, ReachesASlot, LaysAKey, GathersAKey, ClearsASlot}
 use Rattle.am_cast.proofs.steps.Admit.{admits_as}

@@ -6,6 +6,7 @@ pub mod Kept
 pub mod KindLaws
 pub mod Lanes
 pub mod Seats
+pub mod Shown
 pub mod Slots
 pub mod Tails
 pub mod Ties

@@ -1,5 +1,5 @@
 -- Each kind of step is these events of the core.
-use Rattle.std.proofs.Common.{◌≡◌, ◌≢◌, ℕ, zero, suc, ◌+◌, ◌-◌, ◌*◌, ◌/◌, ◌%◌, ◌<◌, ◌≤◌, ◌⊎◌, inl, inr, List, [], ◌∷◌, ◌++◌, length, take, drop, set, get_or, sym, refl, ap, ◌∙◌, subst, arith, Option, Some, None, Bool, true, false, true≢false, ◌||◌, ◌==◌, nat_lt, if◌then◌else◌, slice_get, length-append}
+use Rattle.std.proofs.Common.{◌≡◌, ◌≢◌, ℕ, zero, suc, ◌+◌, ◌*◌, ◌/◌, ◌%◌, ◌<◌, ◌≤◌, ◌⊎◌, inl, inr, List, [], ◌∷◌, ◌++◌, length, take, drop, set, get_or, sym, refl, ap, ◌∙◌, subst, arith, Some, Bool, true, false, true≢false, ◌||◌, ◌==◌, nat_lt, if◌then◌else◌, slice_get}
 use Rattle.std.proofs.lemmas.Bool.{eq-eqb, ne_eqb, lt-ltb, le-ltb, cases_lt}
 use Rattle.std.proofs.lemmas.Option.{none-some}
 use mathlib.Core.Logic.{dite}
@@ -9,7 +9,6 @@ use mathlib.Core.Option.{some, some-injective}
 use native.Mathlib.Decide.{ℕ_discrete}
 use lib.ListN.{get_elem?}
 use lib.Seq.{take-append-le}
-use Rattle.atomic_table.specs.Table.{State}
 use Rattle.atomic_table.proofs.Lists.{set_here, set_else}
 use Rattle.am_steps.specs.declared.lane_record.LaneRecord.{LaneRecord}
 use Rattle.am_steps.specs.declared.cursor.Cursor.{Cursor}
@@ -18,7 +17,7 @@ use Rattle.am_steps.specs.declared.lane.Lane.TheVariants.{Idle, Admitted, Open, 
 use Rattle.am_steps.specs.declared.poster.Poster.{Poster}
 use Rattle.am_steps.specs.declared.event.Event as event
 use Rattle.am_steps.specs.declared.event.Event.TheVariants as does
-use Rattle.am_steps.specs.States.{Core, LaneWord, record_of, with_record, word_of, new_record, new_cursor}
+use Rattle.am_steps.specs.States.{Core, record_of, with_record, word_of, new_record}
 use Rattle.am_steps.specs.Steps as steps
 use Rattle.am_steps.specs.Steps.{Step, SameLog, OnlyLane, OnlyLog, HasRoom, one_further}
 use Rattle.am_steps.specs.Runs.{LeadsTo, none, then as leads}
@@ -26,14 +25,14 @@ use Rattle.am_cast.specs.declared.views.Tail.{Tail}
 use Rattle.am_cast.specs.declared.views.Account.{Account}
 use Rattle.am_cast.specs.declared.views.LaneView.{LaneView}
 use Rattle.am_cast.specs.declared.views.View.{View}
-use Rattle.am_cast.specs.Rule.{idle, live, cut, vacated, gone, bit, IsUnbegun, Sound, Ruled}
-use Rattle.am_cast.specs.Changes.{opened, seeing, holding, cut_off, further, left, longer_tail, shut_tail, grown, grown_as, known_to, marked, back, loaded, severed, new_lane, admitted, retired}
-use Rattle.am_cast.specs.Core.{is_key_out, record_behind, cursor_behind, used_lane, lane_standing, lane_behind, poster_behind, view_or_blank, core_behind, state_of, found_events, recover_events, cut_events, retire_events, AllowsAs}
+use Rattle.am_cast.specs.Rule.{idle, live, cut, vacated, gone, bit, Sound}
+use Rattle.am_cast.specs.Changes.{opened, seeing, holding, cut_off, further, left, grown_as, known_to, marked, back, loaded, severed, retired}
+use Rattle.am_cast.specs.Core.{is_key_out, record_behind, cursor_behind, used_lane, lane_standing, lane_behind, poster_behind, view_or_blank, core_behind, found_events, recover_events, cut_events, retire_events, AllowsAs}
 use Rattle.am_cast.specs.Steps.{SeatState}
 use Rattle.am_cast.proofs.Events as kind
 use Rattle.am_cast.proofs.Events.{Behind, behind, LaneTo, AccountTo, BothTo, SameAccount, Event, AllowsEvent}
 use Rattle.am_cast.proofs.Kept.{same_some}
-use Rattle.am_cast.proofs.Slots.{at_length, at_below, prefix_length}
+use Rattle.am_cast.proofs.Slots.{at_length, at_below}
 
 module _ {X : Type 0} where
   pub get_at : (xs : List X) (i : ℕ) (x : X) → get_elem? xs i ≡ some x → slice_get xs i ≡ Some x
@@ -78,7 +77,7 @@ module _ {X : Type 0} where
 abbrev pub IsUsed : ℕ → Type 0
 IsUsed n = (n ≡ live) ⊎ (n ≡ cut)
 
-used_by : (n : ℕ) → n < 4 → n ≢ idle → n ≢ vacated → IsUsed n
+pub used_by : (n : ℕ) → n < 4 → n ≢ idle → n ≢ vacated → IsUsed n
 used_by n a b c = dite (ℕ_discrete n live) (λ e. inl e) (λ ne. inr (omega arith))
 
 module _ {B : Type 0} where
@@ -87,19 +86,19 @@ module _ {B : Type 0} where
   standing n v (inr e) = ap (λ (n : ℕ). lane_standing n v) e
 
   -- only a used lane has a record
-  standing_record : (n : ℕ) (v : Lane B) (m : LaneRecord) → record_of (lane_standing n v) ≡ Some m → IsUsed n × (record_of v ≡ Some m)
+  pub standing_record : (n : ℕ) (v : Lane B) (m : LaneRecord) → record_of (lane_standing n v) ≡ Some m → IsUsed n × (record_of v ≡ Some m)
   standing_record zero v m e = absurd (none-some m e)
   standing_record (suc zero) v m e = (inl refl, e)
   standing_record (suc (suc zero)) v m e = (inr refl, e)
   standing_record (suc (suc (suc n))) v m e = absurd (none-some m e)
 
-  inside : (l : ℕ) (v : Lane B) → l < 8 → (if nat_lt l 8 then v else Idle) ≡ v
+  pub inside : (l : ℕ) (v : Lane B) → l < 8 → (if nat_lt l 8 then v else Idle) ≡ v
   inside l v small = ap (λ (b : Bool). if b then v else Idle) (lt-ltb l 8 small)
 
   one : (c d : Core B) (e : event.Event B) → Step c e d → LeadsTo c (e ∷ []) d
   one c d e s = leads c d d e [] s (none d)
 
-  used_record : (here begun : Bool) (m : LaneRecord) (r : Cursor B) → record_of (used_lane here begun m r) ≡ Some m
+  pub used_record : (here begun : Bool) (m : LaneRecord) (r : Cursor B) → record_of (used_lane here begun m r) ≡ Some m
   used_record true true m r = refl
   used_record true false m r = refl
   used_record false begun m r = refl
@@ -142,7 +141,7 @@ or_true : (b : Bool) → (b || true) ≡ true
 or_true true = refl
 or_true false = refl
 
-by_bool : (b : Bool) {P : Type 0} → (b ≡ true → P) → (b ≡ false → P) → P
+pub by_bool : (b : Bool) {P : Type 0} → (b ≡ true → P) → (b ≡ false → P) → P
 by_bool true f g = f refl
 by_bool false f g = g refl
 
@@ -150,7 +149,7 @@ module _ {K A : Type 0} where
   live_flags : (b : Account K A) → b.stand ≡ live → (n : ℕ) (h : Bool) → b.half % 2 ≡ bit h → (is_key_out b ≡ h) × ((b.stand == cut) ≡ false)
   live_flags b e n h f = let uncut : (b.stand == cut) ≡ false = ne_eqb b.stand cut (λ z. omega arith) in (ap (λ (c : Bool). if c then b.away else (b.half % 2 == 1)) uncut ∙ bit_tells h (b.half % 2) f, uncut)
 
-  cut_flag : (b : Account K A) → b.stand ≡ cut → (b.stand == cut) ≡ true
+  pub cut_flag : (b : Account K A) → b.stand ≡ cut → (b.stand == cut) ≡ true
   cut_flag b e = eq-eqb b.stand cut e
 
 module _ {B K A : Type 0} where
@@ -158,13 +157,13 @@ module _ {B K A : Type 0} where
   used_is : (b : Account K A) (v : LaneView B A) → IsUsed b.stand → lane_behind b v ≡ used_lane v.here v.begun (record_behind b) (cursor_behind v)
   used_is b v used = standing b.stand (used_lane v.here v.begun (record_behind b) (cursor_behind v)) used
 
-  open_is : (b : Account K A) (v : LaneView B A) → IsUsed b.stand → v.here ≡ true → v.begun ≡ true → lane_behind b v ≡ Open (record_behind b) (cursor_behind v)
+  pub open_is : (b : Account K A) (v : LaneView B A) → IsUsed b.stand → v.here ≡ true → v.begun ≡ true → lane_behind b v ≡ Open (record_behind b) (cursor_behind v)
   open_is b v used here begun = used_is b v used ∙ (λ i. used_lane (here i) (begun i) (record_behind b) (cursor_behind v))
 
-  admitted_is : (b : Account K A) (v : LaneView B A) → IsUsed b.stand → v.here ≡ true → v.begun ≡ false → lane_behind b v ≡ Admitted (record_behind b)
+  pub admitted_is : (b : Account K A) (v : LaneView B A) → IsUsed b.stand → v.here ≡ true → v.begun ≡ false → lane_behind b v ≡ Admitted (record_behind b)
   admitted_is b v used here begun = used_is b v used ∙ (λ i. used_lane (here i) (begun i) (record_behind b) (cursor_behind v))
 
-  left_is : (b : Account K A) (v : LaneView B A) → IsUsed b.stand → v.here ≡ false → lane_behind b v ≡ Left (record_behind b)
+  pub left_is : (b : Account K A) (v : LaneView B A) → IsUsed b.stand → v.here ≡ false → lane_behind b v ≡ Left (record_behind b)
   left_is b v used here = used_is b v used ∙ (λ i. used_lane (here i) v.begun (record_behind b) (cursor_behind v))
 
   record_is : (b : Account K A) (v : LaneView B A) → IsUsed b.stand → record_of (lane_behind b v) ≡ Some (record_behind b)

@@ -7,12 +7,15 @@ use prog.Atomic.{either}
 use Rattle.atomic_table.specs.Table.{step, State}
 use Rattle.am_steps.specs.declared.event.Event.TheVariants as does
 use Rattle.am_steps.specs.Soundness.{IsSound}
+use Rattle.am_steps.specs.Needed.{IsFreed}
 use Rattle.am_cast.specs.declared.views.Account.{Account}
 use Rattle.am_cast.specs.declared.views.LaneView.{LaneView}
 use Rattle.am_cast.specs.declared.views.View.{View}
 use Rattle.am_cast.specs.declared.views.WriterView.{WriterView}
 use Rattle.am_cast.specs.Rule.{idle, live, cut, gone, most, tail_word, lane_word, writer_word, slot, Ruled}
 use Rattle.am_cast.specs.Steps.{SeatState, KnowsOf, Opens, Looks, Takes, Passes, Leaves, Harvests, Recovers, Cuts, Admits, Retires, Publishes, Closes, Reaches, Lays, Gathers, Clears}
+use Rattle.am_cast.specs.Freed.{IsGathered, IsOut, IsFreedFor}
+use Rattle.am_cast.specs.Seats.{account_of}
 use Rattle.am_cast.specs.Core.{state_of, found_events, recover_events, cut_events, retire_events, AllowsAs}
 
 module _ (B K A : Type 0) (key : B → ℕ → K) where
@@ -83,3 +86,16 @@ module _ (B K A : Type 0) (key : B → ℕ → K) where
   -- the writer gives the slot back empty: nothing
   abbrev pub ClearsASlot : Type 0
   ClearsASlot = (slots id : ℕ) (me : SeatState B K A) (l : ℕ) (q : WriterView B K A) (b : Account K A) (cs : List (ℕ × Option K)) → KnowsOf me.0 l q b → b.out ≡ suc b.cleared → (b.stand ≡ live → b.cleared < b.known) → (b.stand ≢ live → b.cleared < b.stop) → me.1 ≡ (slot q.tail.places l b.cleared, None) ∷ cs → AllowsAs key slots id me (writer_word l) (λ n. n) (λ _. []) (Clears (step slots (writer_word l) 0 0 none) me)
+
+  -- what a table shows is a sound state of the core, whichever seats are the posters'
+  abbrev pub ShowsASoundState : Type 0
+  ShowsASoundState = (s : State (Option K) (View B K A)) (r : Ruled key s) (posters : ℕ) (seat_of : ℕ → ℕ) → IsSound (state_of posters seat_of r)
+
+  -- the places that the core names freed are those that the writer's view does
+  abbrev pub KnowsWhatIsFreed : Type 0
+  KnowsWhatIsFreed = (s : State (Option K) (View B K A)) (r : Ruled key s) (id : ℕ) (u : View B K A) (q : WriterView B K A) (posters : ℕ) (seat_of : ℕ → ℕ) (i : ℕ) → get_elem? s.views id ≡ some u → u.writer ≡ Some q
+      → (IsFreed (state_of posters seat_of r) i → IsFreedFor q i) × (IsFreedFor q i → IsFreed (state_of posters seat_of r) i)
+
+  -- of a place that is freed no lane's key is out, where the writer has taken out all that it may
+  abbrev pub FreedIsHome : Type 0
+  FreedIsHome = (q : WriterView B K A) (i l : ℕ) → l < 8 → IsGathered (account_of q l) → IsFreedFor q i → IsOut (account_of q l) i → ⊥

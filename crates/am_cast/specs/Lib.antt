@@ -13,3 +13,4 @@ pub mod Names
 pub mod Core
 pub mod inside
 pub mod Laws
+pub mod Freed

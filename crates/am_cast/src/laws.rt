@@ -2,7 +2,7 @@
 //! that is freed) are those of the table. Each law is a function that does nothing.
 //! `B` is what is known of a batch, `K` a key of one, `A` what a subscription notes down, and `R` says which key of a
 //! batch is each lane's.
-ghost use Rattle.am_cast.specs.Laws.{OpensTheLane, LooksAtTheLog, TakesTheKey, PassesThePlace, LeavesBare, LeavesWithKey, FindsTheWord, RecoversTheKey, CutsTheLane, AdmitsTheLane, RetiresTheLane, PublishesTheBatch, ClosesTheLog, ReachesASlot, LaysAKey, GathersAKey, ClearsASlot};
+ghost use Rattle.am_cast.specs.Laws.{ShowsASoundState, KnowsWhatIsFreed, FreedIsHome, OpensTheLane, LooksAtTheLog, TakesTheKey, PassesThePlace, LeavesBare, LeavesWithKey, FindsTheWord, RecoversTheKey, CutsTheLane, AdmitsTheLane, RetiresTheLane, PublishesTheBatch, ClosesTheLog, ReachesASlot, LaysAKey, GathersAKey, ClearsASlot};
 
 use crate::rule::Keyed;
 
@@ -89,4 +89,19 @@ pub fn a_gather_is_silent<B, K, A, R: Keyed<B, K>>()
 /// The writer gives the slot back empty: nothing.
 pub fn a_clear_is_silent<B, K, A, R: Keyed<B, K>>()
     ensures { ClearsASlot B K A R.key }
+{}
+
+/// What a table shows is a sound state of the core.
+pub fn a_table_shows_a_sound_state<B, K, A, R: Keyed<B, K>>()
+    ensures { ShowsASoundState B K A R.key }
+{}
+
+/// The writer's view names the same places freed as the core.
+pub fn the_writer_knows_what_is_freed<B, K, A, R: Keyed<B, K>>()
+    ensures { KnowsWhatIsFreed B K A R.key }
+{}
+
+/// Of a place that is freed no lane's key is out, where the writer has taken out all that it may.
+pub fn a_freed_place_has_no_key_out<B, K, A, R: Keyed<B, K>>()
+    ensures { FreedIsHome B K A R.key }
 {}
