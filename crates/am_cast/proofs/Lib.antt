@@ -5,6 +5,7 @@ pub mod Events
 pub mod Kept
 pub mod KindLaws
 pub mod Lanes
+pub mod Notes
 pub mod Seats
 pub mod Shown
 pub mod Slots

@@ -1,5 +1,5 @@
 -- The state of am_steps' core behind a table that meets the rule.
-use Rattle.std.specs.Prelude.{◌≡◌, ℕ, zero, suc, ◌/◌, ◌%◌, ◌<◌, Bool, true, false, List, [], ◌∷◌, take, drop, length, ◌==◌, slice_index, Option, if◌then◌else◌, nat_lt, map}
+use Rattle.std.specs.Prelude.{◌≡◌, ◌≢◌, ℕ, zero, suc, ◌/◌, ◌%◌, ◌<◌, Bool, true, false, List, [], ◌∷◌, take, drop, length, ◌==◌, slice_index, Option, Some, None, if◌then◌else◌, nat_lt, map}
 use lib.ListN.{get_elem?}
 use mathlib.Core.Option as maybe
 use mathlib.Core.Option.{some, none}
@@ -101,9 +101,29 @@ module _ {B : Type 0} where
   abbrev pub retire_events : ℕ → ℕ → List (event.Event B)
   retire_events l stand = if stand == vacated then [] else (does.Retire l ∷ [])
 
+module _ {B : Type 0} where
+  -- a Note for each of these places
+  abbrev pub note_posts : ℕ → List (Own B) → List (event.Event B)
+  note_posts p [] = []
+  note_posts p (o ∷ os) = does.Note p (Some (post_of o)) ∷ note_posts p os
+
+  -- the events of a poster's load of the tail word, with the places that are its own since the last: at least one Note
+  abbrev pub note_events : ℕ → List (Own B) → List (event.Event B)
+  note_events p [] = does.Note p None ∷ []
+  note_events p (o ∷ os) = note_posts p (o ∷ os)
+
 -- `Allows` of the table, where the step keeps the rule and is these events of the core too, by the word that it finds
 abbrev pub AllowsAs : {B K A : Type 0} → (B → ℕ → K) → ℕ → ℕ → SeatState B K A → ℕ → (ℕ → ℕ) → (ℕ → List (event.Event B)) → (ℕ → SeatState B K A → Type 0) → Type 0
 AllowsAs {B = B} {K = K} {A = A} key slots id me i f es tells = (s : State (Option K) (View B K A)) (r : Ruled key s) → length s.homes ≡ slots → get_elem? s.views id ≡ some me.0 → slice_index s.words i < 18446744073709551616
     → (w : View B K A) × (a : Act (Option K)) × Valid s.homes me.1 a
     × ((q : Ruled key (stepped s i (f (slice_index s.words i)) id me.1 w a)) × ((posters : ℕ) (seat_of : ℕ → ℕ) → LeadsTo (state_of posters seat_of r) (es (slice_index s.words i)) (state_of posters seat_of q)))
     × tells (slice_index s.words i) (w, carried_after me.1 a)
+
+-- the same of a Note: these events where the seat is the poster p's and no other poster's, and none where it is no poster's
+abbrev pub AllowsNote : {B K A : Type 0} → (B → ℕ → K) → ℕ → ℕ → SeatState B K A → (ℕ → SeatState B K A → Type 0) → Type 0
+AllowsNote {B = B} {K = K} {A = A} key slots id me tells = (s : State (Option K) (View B K A)) (r : Ruled key s) → length s.homes ≡ slots → get_elem? s.views id ≡ some me.0 → slice_index s.words 0 < 18446744073709551616
+    → (w : View B K A) × (a : Act (Option K)) × Valid s.homes me.1 a
+    × ((q : Ruled key (stepped s 0 (slice_index s.words 0) id me.1 w a))
+    × ((posters : ℕ) (seat_of : ℕ → ℕ) (p : ℕ) → p < posters → seat_of p ≡ id → ((k : ℕ) → k ≢ p → seat_of k ≢ id) → LeadsTo (state_of posters seat_of r) (note_events p (drop me.0.counted me.0.own)) (state_of posters seat_of q))
+    × ((posters : ℕ) (seat_of : ℕ → ℕ) → ((k : ℕ) → seat_of k ≢ id) → LeadsTo (state_of posters seat_of r) [] (state_of posters seat_of q)))
+    × tells (slice_index s.words 0) (w, carried_after me.1 a)

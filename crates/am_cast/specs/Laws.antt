@@ -13,10 +13,10 @@ use Rattle.am_cast.specs.declared.views.LaneView.{LaneView}
 use Rattle.am_cast.specs.declared.views.View.{View}
 use Rattle.am_cast.specs.declared.views.WriterView.{WriterView}
 use Rattle.am_cast.specs.Rule.{idle, live, cut, gone, most, tail_word, lane_word, writer_word, slot, Ruled}
-use Rattle.am_cast.specs.Steps.{SeatState, KnowsOf, Opens, Looks, Takes, Passes, Leaves, Harvests, Recovers, Cuts, Admits, Retires, Publishes, Closes, Reaches, Lays, Gathers, Clears}
+use Rattle.am_cast.specs.Steps.{SeatState, KnowsOf, Opens, Looks, Takes, Passes, Leaves, Harvests, Recovers, Cuts, Admits, Retires, Publishes, Closes, Reaches, Lays, Gathers, Clears, Notes}
 use Rattle.am_cast.specs.Freed.{IsGathered, IsOut, IsFreedFor}
 use Rattle.am_cast.specs.Seats.{account_of}
-use Rattle.am_cast.specs.Core.{state_of, found_events, recover_events, cut_events, retire_events, AllowsAs}
+use Rattle.am_cast.specs.Core.{state_of, found_events, recover_events, cut_events, retire_events, AllowsAs, AllowsNote}
 
 module _ (B K A : Type 0) (key : B → ℕ → K) where
   -- a lane that was given out begins: Open
@@ -86,6 +86,10 @@ module _ (B K A : Type 0) (key : B → ℕ → K) where
   -- the writer gives the slot back empty: nothing
   abbrev pub ClearsASlot : Type 0
   ClearsASlot = (slots id : ℕ) (me : SeatState B K A) (l : ℕ) (q : WriterView B K A) (b : Account K A) (cs : List (ℕ × Option K)) → KnowsOf me.0 l q b → b.out ≡ suc b.cleared → (b.stand ≡ live → b.cleared < b.known) → (b.stand ≢ live → b.cleared < b.stop) → me.1 ≡ (slot q.tail.places l b.cleared, None) ∷ cs → AllowsAs key slots id me (writer_word l) (λ n. n) (λ _. []) (Clears (step slots (writer_word l) 0 0 none) me)
+
+  -- a seat notes how long the log is: a Note of its poster for each place that became its own since, or one for none
+  abbrev pub NotesTheLog : Type 0
+  NotesTheLog = (slots id : ℕ) (me : SeatState B K A) → AllowsNote key slots id me (Notes (step slots 0 0 0 none) me)
 
   -- what a table shows is a sound state of the core, whichever seats are the posters'
   abbrev pub ShowsASoundState : Type 0

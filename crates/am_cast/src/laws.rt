@@ -2,7 +2,7 @@
 //! that is freed) are those of the table. Each law is a function that does nothing.
 //! `B` is what is known of a batch, `K` a key of one, `A` what a subscription notes down, and `R` says which key of a
 //! batch is each lane's.
-ghost use Rattle.am_cast.specs.Laws.{ShowsASoundState, KnowsWhatIsFreed, FreedIsHome, OpensTheLane, LooksAtTheLog, TakesTheKey, PassesThePlace, LeavesBare, LeavesWithKey, FindsTheWord, RecoversTheKey, CutsTheLane, AdmitsTheLane, RetiresTheLane, PublishesTheBatch, ClosesTheLog, ReachesASlot, LaysAKey, GathersAKey, ClearsASlot};
+ghost use Rattle.am_cast.specs.Laws.{ShowsASoundState, KnowsWhatIsFreed, FreedIsHome, NotesTheLog, OpensTheLane, LooksAtTheLog, TakesTheKey, PassesThePlace, LeavesBare, LeavesWithKey, FindsTheWord, RecoversTheKey, CutsTheLane, AdmitsTheLane, RetiresTheLane, PublishesTheBatch, ClosesTheLog, ReachesASlot, LaysAKey, GathersAKey, ClearsASlot};
 
 use crate::rule::Keyed;
 
@@ -89,6 +89,11 @@ pub fn a_gather_is_silent<B, K, A, R: Keyed<B, K>>()
 /// The writer gives the slot back empty: nothing.
 pub fn a_clear_is_silent<B, K, A, R: Keyed<B, K>>()
     ensures { ClearsASlot B K A R.key }
+{}
+
+/// A seat notes how long the log is: a Note of its poster for each place that became its own since, or one for none.
+pub fn a_note_is_an_event<B, K, A, R: Keyed<B, K>>()
+    ensures { NotesTheLog B K A R.key }
 {}
 
 /// What a table shows is a sound state of the core.

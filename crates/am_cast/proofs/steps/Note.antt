@@ -1,5 +1,5 @@
 -- A seat notes how long the log is.
-use Rattle.std.proofs.Common.{◌≡◌, ◌≢◌, arith, length, ℕ, List, get_or, set, sym, refl, subst, ⊎_elim}
+use Rattle.std.proofs.Common.{◌∙◌, ap, ◌≡◌, ◌≢◌, arith, length, ℕ, List, get_or, set, sym, refl, subst, ⊎_elim}
 use mathlib.Core.Option.{none, some}
 use lib.ListN.{get_elem?}
 use lib.Seq.{set-get_or}
@@ -7,8 +7,9 @@ use Rattle.atomic_table.specs.Table.{step, keeps, Allows}
 use Rattle.atomic_table.proofs.Lists.{at_set}
 use Rattle.am_cast.specs.declared.views.Tail.{Tail}
 use Rattle.am_cast.specs.declared.views.View.{View}
-use Rattle.am_cast.specs.Rule.{SeatOk, Ruled}
+use Rattle.am_cast.specs.Rule.{lane_word, SeatOk, Ruled}
 use Rattle.am_cast.specs.Steps.{SeatState, Notes}
+use Rattle.am_cast.proofs.Kept.{stays}
 use Rattle.am_cast.proofs.Slots.{at_length, prefix_self}
 
 module _ {B K A : Type 0} (key : B → ℕ → K) where
@@ -20,20 +21,20 @@ module _ {B K A : Type 0} (key : B → ℕ → K) where
         w',
         keeps,
         tt,
-        subst (λ (ws : List ℕ). Ruled key record { words = ws; homes = s.homes; views = set s.views id w' }) (sym same) record {
+        record {
           tail = r.tail;
           seat = r.seat;
           account = r.account;
           lane = r.lane;
           lane_seat = r.lane_seat;
           owner = r.owner;
-          wide = r.wide;
+          wide = ap length same ∙ r.wide;
           deep = r.deep;
           some_places = r.some_places;
           few = r.few;
-          word = r.word;
+          word = ap (λ (ws : List ℕ). get_or ws 0 0) same ∙ r.word;
           spare = r.spare;
-          each_lane = r.each_lane;
+          each_lane = λ m a. stays key r.tail (r.account m) (r.lane m) s.words words s.homes s.homes m (ap (λ (ws : List ℕ). get_or ws (lane_word m) 0) same) (λ i. refl) (r.each_lane m a);
           each_seat = λ j u e. ⊎_elim
               (λ (z : (j ≡ id) × (w' ≡ u)). subst (λ (z : ℕ × View B K A). SeatOk r.tail r.seat r.account r.lane r.lane_seat r.owner z.0 z.1) (λ i. (sym z.0 i, z.1 i)) record { writer = mine.writer; lane_is = mine.lane_is; noted = prefix_self t.log; counts = omega arith; counted = λ k o e _. at_length t.log o.place o.name (mine.owns.each k o e).0; heard = mine.heard; whole = mine.whole; owns = mine.owns })
               (λ (z : (j ≢ id) × (get_elem? s.views j ≡ some u)). r.each_seat j u z.1)
