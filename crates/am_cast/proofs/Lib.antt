@@ -9,6 +9,7 @@ pub mod Notes
 pub mod Seats
 pub mod Shown
 pub mod Slots
+pub mod Splits
 pub mod Tails
 pub mod Ties
 pub mod WriterSteps

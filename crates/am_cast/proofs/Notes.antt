@@ -65,7 +65,7 @@ module _ {B K A : Type 0} (posters : ℕ) (t : Tail B) (account : ℕ → Accoun
   abbrev core_with : (ℕ → Poster B) → Core B
   core_with posts = core_behind posters posts t account lane
 
-  same_posters : (P Q : ℕ → Poster B) → ((k : ℕ) → Q k ≡ P k) → LeadsTo (core_with P) [] (core_with Q)
+  pub same_posters : (P Q : ℕ → Poster B) → ((k : ℕ) → Q k ≡ P k) → LeadsTo (core_with P) [] (core_with Q)
   same_posters P Q e = let now : core_with P ≡ core_with Q = (λ i. core_with (λ k. sym (e k) i)) in subst (LeadsTo (core_with P) []) now (runs.none (core_with P))
 
   only_poster : (P Q : ℕ → Poster B) (p : ℕ) (v : Poster B) → Q p ≡ v → ((k : ℕ) → k ≢ p → Q k ≡ P k) → OnlyPoster (core_with P) p v (core_with Q)

@@ -20,7 +20,7 @@ none_of K = None
 
 module _ {B K A : Type 0} (key : B → ℕ → K) where
   -- a seat is cut in two
-  splits_to : (s : St B K A) (r : Ruled key s) (id : ℕ) (left right : View B K A) (lane_seat' owner' : ℕ → ℕ) → ((l : ℕ) → l < 8 → (r.account l).stand ≡ idle → lane_seat' l ≡ r.seat)
+  unfoldable pub splits_to : (s : St B K A) (r : Ruled key s) (id : ℕ) (left right : View B K A) (lane_seat' owner' : ℕ → ℕ) → ((l : ℕ) → l < 8 → (r.account l).stand ≡ idle → lane_seat' l ≡ r.seat)
       → SeatOk r.tail r.seat r.account r.lane lane_seat' owner' id left → SeatOk r.tail r.seat r.account r.lane lane_seat' owner' (length s.views) right
       → ((j : ℕ) (u : View B K A) → j ≢ id → get_elem? s.views j ≡ some u → SeatOk r.tail r.seat r.account r.lane lane_seat' owner' j u)
       → Ruled key record { words = s.words; homes = s.homes; views = set s.views id left ++ right ∷ [] }
@@ -47,7 +47,7 @@ module _ {B K A : Type 0} (key : B → ℕ → K) where
         (at_end (set s.views id left) right u j e);
   }
 
-  log_heard : (s : St B K A) (r : Ruled key s) (id : ℕ) (u : View B K A) → get_elem? s.views id ≡ some u → (dk : Option (WriterView B K A)) (ln : Option (LaneView B A)) → u.writer ≡ dk → u.lane ≡ ln
+  pub log_heard : (s : St B K A) (r : Ruled key s) (id : ℕ) (u : View B K A) → get_elem? s.views id ≡ some u → (dk : Option (WriterView B K A)) (ln : Option (LaneView B A)) → u.writer ≡ dk → u.lane ≡ ln
       → IsPrefix (log_of dk (front_of ln u.noted)) r.tail.log × (closed_of dk (told_of ln false) ≡ true → (r.tail.closed ≡ true) × (log_of dk (front_of ln u.noted) ≡ r.tail.log))
   log_heard s r id u at (Some q) ln e f = let k = subst (HasWriter r.tail r.seat r.account r.lane r.lane_seat id) e (r.each_seat id u at).writer in
       ((let g : IsPrefix r.tail.log r.tail.log = prefix_refl r.tail.log in subst (λ (t : Tail B). IsPrefix t.log r.tail.log) (sym k.0) g), (λ h. (sym (ap (λ (t : Tail B). t.closed) k.0) ∙ h, ap (λ (t : Tail B). t.log) k.0)))
@@ -59,20 +59,20 @@ module _ {B K A : Type 0} (key : B → ℕ → K) where
   log_heard s r id u at None None e f = let k = r.each_seat id u at in (k.noted, (λ h. absurd (true≢false (sym h))))
 
   -- a copy of what a seat has seen of the log
-  pub tells : (id : ℕ) (v : View B K A) → Splits (Ruled key) id v v (copied v)
+  unfoldable pub tells : (id : ℕ) (v : View B K A) → Splits (Ruled key) id v v (copied v)
   tells id v s r at = let h = log_heard s r id v at v.writer v.lane refl refl in
       splits_to s r id v (copied v) r.lane_seat r.owner r.spare (r.each_seat id v at) record { writer = tt; lane_is = tt; noted = prefix_nil r.tail.log; counts = omega arith; counted = λ k o _ a. absurd (omega arith); heard = h.0; whole = h.1; owns = owns_nothing r.tail.log r.owner (length s.views) } (λ j u ne e. r.each_seat j u e)
 
-  dealt_else : (t : Tail B) (seat : ℕ) (account : ℕ → Account K A) (lane : ℕ → LaneView B A) (lane_seat : ℕ → ℕ) (l new id j : ℕ) → lane_seat l ≡ id → j ≢ id → (ln : Option (LaneView B A)) → HasLane t seat account lane lane_seat j ln → HasLane t seat account lane (put lane_seat l new) j ln
+  pub dealt_else : (t : Tail B) (seat : ℕ) (account : ℕ → Account K A) (lane : ℕ → LaneView B A) (lane_seat : ℕ → ℕ) (l new id j : ℕ) → lane_seat l ≡ id → j ≢ id → (ln : Option (LaneView B A)) → HasLane t seat account lane lane_seat j ln → HasLane t seat account lane (put lane_seat l new) j ln
   dealt_else t seat account lane lane_seat l new id j mine ne None k = tt
   dealt_else t seat account lane lane_seat l new id j mine ne (Some v) k = (k.0, k.1, put_else lane_seat l new v.number (λ e. ne (sym k.2 ∙ ap lane_seat e ∙ mine)) ∙ k.2, k.3)
 
-  any_writer : (t : Tail B) (seat : ℕ) (account : ℕ → Account K A) (lane : ℕ → LaneView B A) (lane_seat lane_seat' : ℕ → ℕ) (j : ℕ) (dk : Option (WriterView B K A)) → HasWriter t seat account lane lane_seat j dk → HasWriter t seat account lane lane_seat' j dk
+  pub any_writer : (t : Tail B) (seat : ℕ) (account : ℕ → Account K A) (lane : ℕ → LaneView B A) (lane_seat lane_seat' : ℕ → ℕ) (j : ℕ) (dk : Option (WriterView B K A)) → HasWriter t seat account lane lane_seat j dk → HasWriter t seat account lane lane_seat' j dk
   any_writer t seat account lane lane_seat lane_seat' j None k = tt
   any_writer t seat account lane lane_seat lane_seat' j (Some q) k = k
 
   -- the lane gets a seat of its own
-  pub deals : (id : ℕ) (w : View B K A) (v : LaneView B A) → w.lane ≡ Some v → Splits (Ruled key) id w (without_lane w) (only_lane w)
+  unfoldable pub deals : (id : ℕ) (w : View B K A) (v : LaneView B A) → w.lane ≡ Some v → Splits (Ruled key) id w (without_lane w) (only_lane w)
   deals id w v is s r at =
       let mine = r.each_seat id w at in let k = lane_ok key s r id w v at is in let new : ℕ = length s.views in let lane_seat' = put r.lane_seat v.number new in
       splits_to s r id (without_lane w) (only_lane w) lane_seat' r.owner
@@ -100,7 +100,7 @@ module _ {B K A : Type 0} (key : B → ℕ → K) where
       })
 
   -- the own places get a seat of their own
-  pub hands : (id : ℕ) (w : View B K A) → Splits (Ruled key) id w (without_own w) (only_own w)
+  unfoldable pub hands : (id : ℕ) (w : View B K A) → Splits (Ruled key) id w (without_own w) (only_own w)
   hands id w s r at =
       let mine = r.each_seat id w at in let new : ℕ = length s.views in let owner' : ℕ → ℕ = λ p. becomes new id (r.owner p) in
       splits_to s r id (without_own w) (only_own w) r.lane_seat owner' r.spare
@@ -109,32 +109,32 @@ module _ {B K A : Type 0} (key : B → ℕ → K) where
       (λ j u ne e. let o = r.each_seat j u e in record { writer = o.writer; lane_is = o.lane_is; noted = o.noted; counts = o.counts; counted = o.counted; heard = o.heard; whole = o.whole; owns = owns_else r.tail.log r.owner new id j u.own ne o.owns })
 
   module _ (t : Tail B) (seat : ℕ) (account : ℕ → Account K A) (lane : ℕ → LaneView B A) (lane_seat : ℕ → ℕ) (to from : ℕ) where
-    writer_else : (j : ℕ) → j ≢ from → (dk : Option (WriterView B K A)) → HasWriter t seat account lane lane_seat j dk → HasWriter t (becomes to from seat) account lane (λ l. becomes to from (lane_seat l)) j dk
+    pub writer_else : (j : ℕ) → j ≢ from → (dk : Option (WriterView B K A)) → HasWriter t seat account lane lane_seat j dk → HasWriter t (becomes to from seat) account lane (λ l. becomes to from (lane_seat l)) j dk
     writer_else j ne None k = tt
     writer_else j ne (Some q) k = (k.0, k.1, k.2, k.3 ∙ sym (becomes_else to from seat (λ e. ne (k.3 ∙ e))))
 
-    writer_came : (dk : Option (WriterView B K A)) → HasWriter t seat account lane lane_seat from dk → HasWriter t (becomes to from seat) account lane (λ l. becomes to from (lane_seat l)) to dk
+    pub writer_came : (dk : Option (WriterView B K A)) → HasWriter t seat account lane lane_seat from dk → HasWriter t (becomes to from seat) account lane (λ l. becomes to from (lane_seat l)) to dk
     writer_came None k = tt
     writer_came (Some q) k = (k.0, k.1, k.2, sym (becomes_here to from seat (sym k.3)))
 
-    lane_else : (j : ℕ) → j ≢ from → (ln : Option (LaneView B A)) → HasLane t seat account lane lane_seat j ln → HasLane t (becomes to from seat) account lane (λ l. becomes to from (lane_seat l)) j ln
+    pub lane_else : (j : ℕ) → j ≢ from → (ln : Option (LaneView B A)) → HasLane t seat account lane lane_seat j ln → HasLane t (becomes to from seat) account lane (λ l. becomes to from (lane_seat l)) j ln
     lane_else j ne None k = tt
     lane_else j ne (Some v) k = (k.0, k.1, becomes_else to from (lane_seat v.number) (λ e. ne (sym k.2 ∙ e)) ∙ k.2, k.3)
 
-    lane_came : (ln : Option (LaneView B A)) → HasLane t seat account lane lane_seat from ln → HasLane t (becomes to from seat) account lane (λ l. becomes to from (lane_seat l)) to ln
+    pub lane_came : (ln : Option (LaneView B A)) → HasLane t seat account lane lane_seat from ln → HasLane t (becomes to from seat) account lane (λ l. becomes to from (lane_seat l)) to ln
     lane_came None k = tt
     lane_came (Some v) k = (k.0, k.1, becomes_here to from (lane_seat v.number) k.2, k.3)
 
-    writer_both : to ≢ from → (a b : Option (WriterView B K A)) → HasWriter t seat account lane lane_seat to a → HasWriter t seat account lane lane_seat from b → HasWriter t (becomes to from seat) account lane (λ l. becomes to from (lane_seat l)) to (either_one a b)
+    pub writer_both : to ≢ from → (a b : Option (WriterView B K A)) → HasWriter t seat account lane lane_seat to a → HasWriter t seat account lane lane_seat from b → HasWriter t (becomes to from seat) account lane (λ l. becomes to from (lane_seat l)) to (either_one a b)
     writer_both ne (Some q) b j k = writer_else to ne (Some q) j
     writer_both ne None b j k = writer_came b k
 
-    lane_both : to ≢ from → (a b : Option (LaneView B A)) → HasLane t seat account lane lane_seat to a → HasLane t seat account lane lane_seat from b → HasLane t (becomes to from seat) account lane (λ l. becomes to from (lane_seat l)) to (either_one a b)
+    pub lane_both : to ≢ from → (a b : Option (LaneView B A)) → HasLane t seat account lane lane_seat to a → HasLane t seat account lane lane_seat from b → HasLane t (becomes to from seat) account lane (λ l. becomes to from (lane_seat l)) to (either_one a b)
     lane_both ne (Some v) b j k = lane_else to ne (Some v) j
     lane_both ne None b j k = lane_came b k
 
   -- a seat takes in all of another's
-  pub hears : (id other : ℕ) (v w : View B K A) → Joins (Ruled key) id v other w (both_of v w) blank
+  unfoldable pub hears : (id other : ℕ) (v w : View B K A) → Joins (Ruled key) id v other w (both_of v w) blank
   hears id other v w s r at apart₀ there₀ =
       let ne : id ≢ other = λ e. apart₀ (sym e) in
       let there : get_elem? s.views other ≡ some w = sym (set_else s.views id other (both_of v w) apart₀) ∙ there₀ in

@@ -1,6 +1,6 @@
 -- What each kind of step is to the core of am_steps, whatever the table is that it steps on: it keeps the rule, its seat
 -- has what `Opens`, `Looks`, .. say, and the core's state goes through the events named.
-use Rattle.std.specs.Prelude.{◌≡◌, ◌≢◌, ℕ, suc, ◌+◌, ◌*◌, ◌/◌, ◌%◌, ◌^◌, ◌<◌, List, [], ◌∷◌, length, Option, Some, None, true, false, ◌==◌}
+use Rattle.std.specs.Prelude.{◌≡◌, ◌≢◌, ℕ, suc, ◌+◌, ◌*◌, ◌/◌, ◌%◌, ◌^◌, ◌<◌, List, [], ◌∷◌, ◌++◌, slice_set, length, Option, Some, None, true, false, ◌==◌}
 use mathlib.Core.Option.{none, some}
 use lib.ListN.{get_elem?}
 use prog.Atomic.{either}
@@ -12,11 +12,12 @@ use Rattle.am_cast.specs.declared.views.Account.{Account}
 use Rattle.am_cast.specs.declared.views.LaneView.{LaneView}
 use Rattle.am_cast.specs.declared.views.View.{View}
 use Rattle.am_cast.specs.declared.views.WriterView.{WriterView}
-use Rattle.am_cast.specs.Rule.{idle, live, cut, gone, most, tail_word, lane_word, writer_word, slot, Ruled}
-use Rattle.am_cast.specs.Steps.{SeatState, KnowsOf, Opens, Looks, Takes, Passes, Leaves, Harvests, Recovers, Cuts, Admits, Retires, Publishes, Closes, Reaches, Lays, Gathers, Clears, Notes}
+use Rattle.am_cast.specs.Rule.{idle, live, cut, gone, most, tail_word, lane_word, writer_word, slot, blank, Ruled}
+use Rattle.am_cast.specs.Steps.{SeatState, KnowsOf, Opens, Looks, Takes, Passes, Leaves, Harvests, Recovers, Cuts, Admits, Retires, Publishes, Closes, Reaches, Lays, Gathers, Clears, Notes, Weighs}
+use Rattle.am_cast.specs.Changes.{copied, without_lane, only_lane, without_own, only_own, both_of}
 use Rattle.am_cast.specs.Freed.{IsGathered, IsOut, IsFreedFor}
 use Rattle.am_cast.specs.Seats.{account_of}
-use Rattle.am_cast.specs.Core.{state_of, found_events, recover_events, cut_events, retire_events, AllowsAs, AllowsNote}
+use Rattle.am_cast.specs.Core.{state_of, found_events, recover_events, cut_events, retire_events, AllowsAs, AllowsNote, StaysAs}
 
 module _ (B K A : Type 0) (key : B → ℕ → K) where
   -- a lane that was given out begins: Open
@@ -90,6 +91,27 @@ module _ (B K A : Type 0) (key : B → ℕ → K) where
   -- a seat notes how long the log is: a Note of its poster for each place that became its own since, or one for none
   abbrev pub NotesTheLog : Type 0
   NotesTheLog = (slots id : ℕ) (me : SeatState B K A) → AllowsNote key slots id me (Notes (step slots 0 0 0 none) me)
+
+  -- a seat compares what it knows: nothing
+  abbrev pub WeighsTheView : Type 0
+  WeighsTheView = (slots id : ℕ) (me : SeatState B K A) → AllowsAs key slots id me 0 (λ n. n) (λ _. []) (Weighs (step slots 0 0 0 none) me)
+
+  -- a new seat has heard what another has seen: the state stays
+  abbrev pub TellsASeat : Type 0
+  TellsASeat = (s : State (Option K) (View B K A)) (r : Ruled key s) (id : ℕ) (v : View B K A) → get_elem? s.views id ≡ some v → StaysAs s r (slice_set s.views id v ++ copied v ∷ []) (λ _. Unit {0})
+
+  -- the lane in a view gets a seat of its own: the state stays
+  abbrev pub DealsALane : Type 0
+  DealsALane = (s : State (Option K) (View B K A)) (r : Ruled key s) (id : ℕ) (w : View B K A) (v : LaneView B A) → w.lane ≡ Some v → get_elem? s.views id ≡ some w → StaysAs s r (slice_set s.views id (without_lane w) ++ only_lane w ∷ []) (λ _. Unit {0})
+
+  -- the own places of a seat that is no poster's get a seat of their own: the state stays
+  abbrev pub HandsOwnPlaces : Type 0
+  HandsOwnPlaces = (s : State (Option K) (View B K A)) (r : Ruled key s) (id : ℕ) (w : View B K A) → get_elem? s.views id ≡ some w → StaysAs s r (slice_set s.views id (without_own w) ++ only_own w ∷ []) (λ seat. seat ≢ id)
+
+  -- a seat takes in all that another has, which is no poster's and is spent: the state stays
+  abbrev pub TakesInASeat : Type 0
+  TakesInASeat = (s : State (Option K) (View B K A)) (r : Ruled key s) (id other : ℕ) (v w : View B K A) → get_elem? s.views id ≡ some v → other ≢ id → get_elem? s.views other ≡ some w
+      → StaysAs s r (slice_set (slice_set s.views id (both_of v w)) other blank) (λ seat. seat ≢ other)
 
   -- what a table shows is a sound state of the core, whichever seats are the posters'
   abbrev pub ShowsASoundState : Type 0

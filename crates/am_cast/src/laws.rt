@@ -2,7 +2,7 @@
 //! that is freed) are those of the table. Each law is a function that does nothing.
 //! `B` is what is known of a batch, `K` a key of one, `A` what a subscription notes down, and `R` says which key of a
 //! batch is each lane's.
-ghost use Rattle.am_cast.specs.Laws.{ShowsASoundState, KnowsWhatIsFreed, FreedIsHome, NotesTheLog, OpensTheLane, LooksAtTheLog, TakesTheKey, PassesThePlace, LeavesBare, LeavesWithKey, FindsTheWord, RecoversTheKey, CutsTheLane, AdmitsTheLane, RetiresTheLane, PublishesTheBatch, ClosesTheLog, ReachesASlot, LaysAKey, GathersAKey, ClearsASlot};
+ghost use Rattle.am_cast.specs.Laws.{ShowsASoundState, KnowsWhatIsFreed, FreedIsHome, NotesTheLog, WeighsTheView, TellsASeat, DealsALane, HandsOwnPlaces, TakesInASeat, OpensTheLane, LooksAtTheLog, TakesTheKey, PassesThePlace, LeavesBare, LeavesWithKey, FindsTheWord, RecoversTheKey, CutsTheLane, AdmitsTheLane, RetiresTheLane, PublishesTheBatch, ClosesTheLog, ReachesASlot, LaysAKey, GathersAKey, ClearsASlot};
 
 use crate::rule::Keyed;
 
@@ -94,6 +94,31 @@ pub fn a_clear_is_silent<B, K, A, R: Keyed<B, K>>()
 /// A seat notes how long the log is: a Note of its poster for each place that became its own since, or one for none.
 pub fn a_note_is_an_event<B, K, A, R: Keyed<B, K>>()
     ensures { NotesTheLog B K A R.key }
+{}
+
+/// A seat compares what it knows: nothing.
+pub fn a_weigh_is_silent<B, K, A, R: Keyed<B, K>>()
+    ensures { WeighsTheView B K A R.key }
+{}
+
+/// A new seat has heard what another has seen: the state stays.
+pub fn a_tell_is_silent<B, K, A, R: Keyed<B, K>>()
+    ensures { TellsASeat B K A R.key }
+{}
+
+/// The lane in a view gets a seat of its own: the state stays.
+pub fn a_deal_is_silent<B, K, A, R: Keyed<B, K>>()
+    ensures { DealsALane B K A R.key }
+{}
+
+/// The own places of a seat that is no poster's get a seat of their own: the state stays.
+pub fn a_hand_is_silent<B, K, A, R: Keyed<B, K>>()
+    ensures { HandsOwnPlaces B K A R.key }
+{}
+
+/// A seat takes in all that another has, which is no poster's and is spent: the state stays.
+pub fn a_seat_taken_in_is_silent<B, K, A, R: Keyed<B, K>>()
+    ensures { TakesInASeat B K A R.key }
 {}
 
 /// What a table shows is a sound state of the core.

@@ -1,18 +1,19 @@
 -- A seat compares what it knows.
-use Rattle.std.proofs.Common.{◌≡◌, ◌≢◌, ℕ, List, get_or, set, sym, refl, subst, true}
+use Rattle.std.proofs.Common.{◌≡◌, ◌≢◌, ℕ, List, get_or, set, length, sym, refl, ap, ◌∙◌, subst, true}
 use mathlib.Core.Option.{none}
 use mathlib.Core.List.{IsPrefix}
+use lib.ListN.{get_elem?}
 use lib.Seq.{set-get_or}
 use Rattle.atomic_table.specs.Table.{step, keeps, Allows}
 use Rattle.atomic_table.proofs.Lists.{set_again}
 use Rattle.am_cast.specs.declared.views.Tail.{Tail}
 use Rattle.am_cast.specs.declared.views.Account.{Account}
 use Rattle.am_cast.specs.declared.views.View.{View}
-use Rattle.am_cast.specs.Rule.{idle, Sound, HasWriter, Ruled}
+use Rattle.am_cast.specs.Rule.{lane_word, idle, Sound, HasWriter, Ruled}
 use Rattle.am_cast.specs.Changes.{Stand}
 use Rattle.am_cast.specs.Steps.{SeatState, Weighs}
 use Rattle.am_cast.proofs.Slots.{prefix_back}
-use Rattle.am_cast.proofs.Kept.{writer_ok, lane_ok}
+use Rattle.am_cast.proofs.Kept.{writer_ok, lane_ok, stays}
 
 module _ {B K A : Type 0} (key : B → ℕ → K) where
   -- a load that changes nothing, and tells what the parts of a view say of each other
@@ -23,7 +24,22 @@ module _ {B K A : Type 0} (key : B → ℕ → K) where
         me.0,
         keeps,
         tt,
-        subst (λ (z : List ℕ × List (View B K A)). Ruled key record { words = z.0; homes = s.homes; views = z.1 }) (λ i. (sym same i, sym views i)) r,
+        record {
+          tail = r.tail;
+          seat = r.seat;
+          account = r.account;
+          lane = r.lane;
+          lane_seat = r.lane_seat;
+          owner = r.owner;
+          wide = ap length same ∙ r.wide;
+          deep = r.deep;
+          some_places = r.some_places;
+          few = r.few;
+          word = ap (λ (ws : List ℕ). get_or ws 0 0) same ∙ r.word;
+          spare = r.spare;
+          each_lane = λ m a. stays key r.tail (r.account m) (r.lane m) s.words words s.homes s.homes m (ap (λ (ws : List ℕ). get_or ws (lane_word m) 0) same) (λ i. refl) (r.each_lane m a);
+          each_seat = λ j u e. r.each_seat j u (ap (λ (vs : List (View B K A)). get_elem? vs j) (sym views) ∙ e);
+        },
         (
           refl,
           refl,
