@@ -1,4 +1,4 @@
--- The state of am_steps' core behind a table that meets the rule.
+-- The state of am_steps' core behind a table that meets the rule, and which of its events a step is.
 use Rattle.std.specs.Prelude.{◌≡◌, ◌≢◌, ℕ, zero, suc, ◌/◌, ◌%◌, ◌<◌, Bool, true, false, List, [], ◌∷◌, take, drop, length, ◌==◌, slice_index, Option, Some, None, if◌then◌else◌, nat_lt, map}
 use lib.ListN.{get_elem?}
 use mathlib.Core.Option as maybe
@@ -69,7 +69,8 @@ module _ {B K A : Type 0} where
   view_or_blank none = blank
 
 -- the core's state behind a log's tail, what the writer knows of each lane, the lanes and the posters
-abbrev pub core_behind : {B K A : Type 0} → ℕ → (ℕ → Poster B) → Tail B → (ℕ → Account K A) → (ℕ → LaneView B A) → steps.Core B
+abbrev pub core_behind : {B K A : Type 0} → ℕ → (ℕ → Poster B) → Tail B → (ℕ → Account K A) → (ℕ → LaneView B A)
+    → steps.Core B
 core_behind posters poster t account lane = record {
   places = t.places;
   log = t.log;
@@ -81,8 +82,10 @@ core_behind posters poster t account lane = record {
 }
 
 -- the core's state behind a table, where the poster p has the seat `seat_of p`
-abbrev pub state_of : {B K A : Type 0} {key : B → ℕ → K} {s : State (Option K) (View B K A)} → ℕ → (ℕ → ℕ) → Ruled key s → steps.Core B
-state_of {s = s} posters seat_of r = core_behind posters (λ p. poster_behind (view_or_blank (get_elem? s.views (seat_of p)))) r.tail r.account r.lane
+abbrev pub state_of : {B K A : Type 0} {key : B → ℕ → K} {s : State (Option K) (View B K A)} → ℕ → (ℕ → ℕ)
+    → Ruled key s → steps.Core B
+state_of {s = s} posters seat_of r = core_behind posters
+    (λ p. poster_behind (view_or_blank (get_elem? s.views (seat_of p)))) r.tail r.account r.lane
 
 module _ {B : Type 0} where
   -- the events of a load of a lane's word that finds n: a lane that has left is retired
@@ -113,15 +116,20 @@ module _ {B : Type 0} where
   note_events p (o ∷ os) = note_posts p (o ∷ os)
 
 -- `Allows` of the table, where the step keeps the rule and is these events of the core too, by the word that it finds
-abbrev pub AllowsAs : {B K A : Type 0} → (B → ℕ → K) → ℕ → ℕ → SeatState B K A → ℕ → (ℕ → ℕ) → (ℕ → List (event.Event B)) → (ℕ → SeatState B K A → Type 0) → Type 0
-AllowsAs {B = B} {K = K} {A = A} key slots id me i f es tells = (s : State (Option K) (View B K A)) (r : Ruled key s) → length s.homes ≡ slots → get_elem? s.views id ≡ some me.0 → slice_index s.words i < 18446744073709551616
+abbrev pub AllowsAs : {B K A : Type 0} → (B → ℕ → K) → ℕ → ℕ → SeatState B K A → ℕ → (ℕ → ℕ)
+    → (ℕ → List (event.Event B)) → (ℕ → SeatState B K A → Type 0) → Type 0
+AllowsAs {B = B} {K = K} {A = A} key slots id me i f es tells = (s : State (Option K) (View B K A))
+    (r : Ruled key s) → length s.homes ≡ slots → get_elem? s.views id ≡ some me.0
+    → slice_index s.words i < 18446744073709551616
     → (w : View B K A) × (a : Act (Option K)) × Valid s.homes me.1 a
     × ((q : Ruled key (stepped s i (f (slice_index s.words i)) id me.1 w a)) × ((posters : ℕ) (seat_of : ℕ → ℕ) → LeadsTo (state_of posters seat_of r) (es (slice_index s.words i)) (state_of posters seat_of q)))
     × tells (slice_index s.words i) (w, carried_after me.1 a)
 
 -- the same of a Note: these events where the seat is the poster p's and no other poster's, and none where it is no poster's
-abbrev pub AllowsNote : {B K A : Type 0} → (B → ℕ → K) → ℕ → ℕ → SeatState B K A → (ℕ → SeatState B K A → Type 0) → Type 0
-AllowsNote {B = B} {K = K} {A = A} key slots id me tells = (s : State (Option K) (View B K A)) (r : Ruled key s) → length s.homes ≡ slots → get_elem? s.views id ≡ some me.0 → slice_index s.words 0 < 18446744073709551616
+abbrev pub AllowsNote : {B K A : Type 0} → (B → ℕ → K) → ℕ → ℕ → SeatState B K A → (ℕ → SeatState B K A → Type 0)
+    → Type 0
+AllowsNote {B = B} {K = K} {A = A} key slots id me tells = (s : State (Option K) (View B K A)) (r : Ruled key s)
+    → length s.homes ≡ slots → get_elem? s.views id ≡ some me.0 → slice_index s.words 0 < 18446744073709551616
     → (w : View B K A) × (a : Act (Option K)) × Valid s.homes me.1 a
     × ((q : Ruled key (stepped s 0 (slice_index s.words 0) id me.1 w a))
     × ((posters : ℕ) (seat_of : ℕ → ℕ) (p : ℕ) → p < posters → seat_of p ≡ id → ((k : ℕ) → k ≢ p → seat_of k ≢ id) → LeadsTo (state_of posters seat_of r) (note_events p (drop me.0.counted me.0.own)) (state_of posters seat_of q))
@@ -129,6 +137,7 @@ AllowsNote {B = B} {K = K} {A = A} key slots id me tells = (s : State (Option K)
     × tells (slice_index s.words 0) (w, carried_after me.1 a)
 
 -- a table with other views, where the rule holds still and the core's state stays, for posters whose seats are such
-abbrev pub StaysAs : {B K A : Type 0} {key : B → ℕ → K} (s : State (Option K) (View B K A)) → Ruled key s → List (View B K A) → (ℕ → Type 0) → Type 0
+abbrev pub StaysAs : {B K A : Type 0} {key : B → ℕ → K} (s : State (Option K) (View B K A)) → Ruled key s
+    → List (View B K A) → (ℕ → Type 0) → Type 0
 StaysAs {key = key} s r views IsPosters = (q : Ruled key record { words = s.words; homes = s.homes; views = views })
     × ((posters : ℕ) (seat_of : ℕ → ℕ) → ((k : ℕ) → IsPosters (seat_of k)) → LeadsTo (state_of posters seat_of r) [] (state_of posters seat_of q))

@@ -31,4 +31,5 @@ module _ {K A : Type 0} where
 
 -- the place is in the log, and the writer keeps no lane's key of it
 abbrev pub IsFreedFor : {B K A : Type 0} → WriterView B K A → ℕ → Type 0
-IsFreedFor q i = (i < length q.tail.log) × ((l : ℕ) (m : LaneRecord) → l < 8 → record_kept (account_of q l) ≡ Some m → KeepsKey m i → ⊥)
+IsFreedFor q i = (i < length q.tail.log)
+    × ((l : ℕ) (m : LaneRecord) → l < 8 → record_kept (account_of q l) ≡ Some m → KeepsKey m i → ⊥)

@@ -10,6 +10,7 @@ use Rattle.am_cast.specs.declared.views.View.{View}
 use Rattle.am_cast.specs.Rule.{live, slot, first_lane, first_writer, first_account}
 use Rattle.am_cast.specs.Steps.{SeatState}
 
+-- the value of an option, or else x
 abbrev pub some_or : {X : Type 0} → X → Option X → X
 some_or x (Some y) = y
 some_or x None = x
@@ -18,9 +19,11 @@ some_or x None = x
 abbrev pub lane_of : {B K A : Type 0} → View B K A → LaneView B A
 lane_of w = some_or (first_lane 0 0) w.lane
 
+-- the writer's part of this view
 abbrev pub writer_of : {B K A : Type 0} → View B K A → WriterView B K A
 writer_of w = some_or (first_writer 0) w.writer
 
+-- the table has all its words
 abbrev pub IsSized : TableId → Type 0
 IsSized z = z.words ≡ 144
 
@@ -37,10 +40,13 @@ abbrev pub HasOut : {B K A : Type 0} → SeatState B K A → LaneView B A → Ty
 HasOut m v = m.1 ≡ (slot v.places v.number v.passed, None) ∷ []
 
 -- an answer of Take
-abbrev pub Took : {B K A : Type 0} → (B → ℕ → K) → SeatState B K A → LaneView B A → LaneView B A → LaneView B A → SeatState B K A → Option K → Type 0
-Took key m v held cut m' (Some k) = (m'.0 ≡ record m.0 { lane = Some held }) × HasOut m' v × IsKey key v.front v.passed v.number k
+abbrev pub Took : {B K A : Type 0} → (B → ℕ → K) → SeatState B K A → LaneView B A → LaneView B A → LaneView B A
+    → SeatState B K A → Option K → Type 0
+Took key m v held cut m' (Some k) = (m'.0 ≡ record m.0 { lane = Some held }) × HasOut m' v
+    × IsKey key v.front v.passed v.number k
 Took key m v held cut m' None = (m'.0 ≡ record m.0 { lane = Some cut }) × (m'.1 ≡ m.1)
 
+-- what the writer knows of the lane l
 abbrev pub account_of : {B K A : Type 0} → WriterView B K A → ℕ → Account K A
 account_of q l = slice_index_or q.accounts l first_account
 

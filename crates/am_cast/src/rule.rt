@@ -1,6 +1,6 @@
-//! The rule of the table, and its kinds of step.
-//! Word 0 is twice the length of the log, and one more where it is closed. Word 16 l + 16 is lane l's.
-//! Slot 8 * (i % places) + l holds the key of place i for lane l.
+//! What holds of the table between two steps, whichever seat stepped last. `specs/Rule.antt` says it: the words, the slots
+//! and what each seat knows agree with one log, one account of each lane and one cursor's view of each lane. `board` has
+//! the steps, and what each word and slot is for.
 ghost use Rattle.std.specs.Prelude.{ℕ, Option};
 
 use crate::views::View;
@@ -13,6 +13,7 @@ pub trait Keyed<B, K> {
     ghost key: { B → ℕ → K };
 }
 
+/// The rule of a log's table. `R` says which key of a batch is each lane's.
 pub struct LogRule<R> {
     of: PhantomData<R>,
 }
@@ -25,10 +26,13 @@ impl<B, K, A, R: Keyed<B, K>> TableRule<Option<K>, View<B, K, A>, u64> for LogRu
     ghost first = { λ places. first_view places };
 }
 
+/// The table of a log. `B` is what is known of a batch, `K` a key of one, `A` what a subscription notes down.
 pub type Board<B, K, A, R> = Table<Option<K>, View<B, K, A>, u64, LogRule<R>, Global>;
 
+/// What the seats share of it.
 pub type Top<B, K, A, R> = Shared<Option<K>, View<B, K, A>, u64, LogRule<R>>;
 
+/// One seat: what it knows, and the slots in its hand.
 pub type LogSeat<B, K, A> = Seat<Option<K>, View<B, K, A>>;
 
 /// What a subscription notes down. A caller picks it.
