@@ -7,7 +7,7 @@ use prog.Atomic.{either}
 use Rattle.atomic_table.specs.Table.{step, State}
 use Rattle.am_steps.specs.declared.event.Event.TheVariants as does
 use Rattle.am_steps.specs.Soundness.{IsSound}
-use Rattle.am_steps.specs.Needed.{IsFreed}
+use Rattle.am_steps.specs.Needed.{IsNeeded, IsFreed}
 use Rattle.am_cast.specs.declared.views.Account.{Account}
 use Rattle.am_cast.specs.declared.views.LaneView.{LaneView}
 use Rattle.am_cast.specs.declared.views.View.{View}
@@ -193,3 +193,16 @@ module _ (B K A : Type 0) (key : B → ℕ → K) where
   abbrev pub FreedIsHome : Type 0
   FreedIsHome = (q : WriterView B K A) (i l : ℕ) → l < 8 → IsGathered (account_of q l) → IsFreedFor q i
       → IsOut (account_of q l) i → ⊥
+
+  -- and a place of the log of which no lane's key is out is freed, where the writer has taken out all that it may and each
+  -- live lane has its keys up to the log's end
+  abbrev pub HomeIsFreed : Type 0
+  HomeIsFreed = (q : WriterView B K A) (i : ℕ) → i < length q.tail.log
+      → ((l : ℕ) → l < 8 → IsGathered (account_of q l) × ((account_of q l).stand ≡ live → (account_of q l).stop ≡ length q.tail.log) × (IsOut (account_of q l) i → ⊥))
+      → IsFreedFor q i
+
+  -- no place that a lane needs is one that the writer's view names freed
+  abbrev pub NeededIsNotFreedFor : Type 0
+  NeededIsNotFreedFor = (s : State (Option K) (View B K A)) (r : Ruled key s) (id : ℕ) (u : View B K A)
+      (q : WriterView B K A) (posters : ℕ) (seat_of : ℕ → ℕ) (i : ℕ) → get_elem? s.views id ≡ some u
+      → u.writer ≡ Some q → IsNeeded (state_of posters seat_of r) i → IsFreedFor q i → ⊥

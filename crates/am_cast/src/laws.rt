@@ -2,9 +2,10 @@
 //! that is freed) are those of the table. Each law is a function that does nothing.
 //! `B` is what is known of a batch, `K` a key of one, `A` what a subscription notes down, and `R` says which key of a
 //! batch is each lane's.
-ghost use Rattle.am_cast.specs.Laws.{ShowsASoundState, KnowsWhatIsFreed, FreedIsHome, NotesTheLog, WeighsTheView, TellsASeat, DealsALane, HandsOwnPlaces, TakesInASeat, OpensTheLane, LooksAtTheLog, TakesTheKey, PassesThePlace, LeavesBare, LeavesWithKey, FindsTheWord, RecoversTheKey, CutsTheLane, AdmitsTheLane, RetiresTheLane, PublishesTheBatch, ClosesTheLog, ReachesASlot, LaysAKey, GathersAKey, ClearsASlot};
+ghost use Rattle.am_cast.specs.Laws.{ShowsASoundState, KnowsWhatIsFreed, FreedIsHome, HomeIsFreed, NeededIsNotFreedFor, NotesTheLog, WeighsTheView, TellsASeat, DealsALane, HandsOwnPlaces, TakesInASeat, OpensTheLane, LooksAtTheLog, TakesTheKey, PassesThePlace, LeavesBare, LeavesWithKey, FindsTheWord, RecoversTheKey, CutsTheLane, AdmitsTheLane, RetiresTheLane, PublishesTheBatch, ClosesTheLog, ReachesASlot, LaysAKey, GathersAKey, ClearsASlot};
 
 use crate::rule::Keyed;
+use am_steps::a_needed_place_is_not_freed;
 
 /// A lane that was given out begins: Open.
 pub fn an_open_is_an_event<B, K, A, R: Keyed<B, K>>()
@@ -135,3 +136,15 @@ pub fn the_writer_knows_what_is_freed<B, K, A, R: Keyed<B, K>>()
 pub fn a_freed_place_has_no_key_out<B, K, A, R: Keyed<B, K>>()
     ensures { FreedIsHome B K A R.key }
 {}
+
+/// A place of which no lane's key is out is freed, where the writer has taken out all that it may.
+pub fn a_place_with_no_key_out_is_freed<B, K, A, R: Keyed<B, K>>()
+    ensures { HomeIsFreed B K A R.key }
+{}
+
+/// No place that a lane needs is one that the writer's view names freed.
+pub fn a_needed_place_is_not_freed_by_the_writer<B, K, A, R: Keyed<B, K>>()
+    ensures { NeededIsNotFreedFor B K A R.key }
+{
+    a_needed_place_is_not_freed::<B>();
+}
