@@ -1,5 +1,6 @@
 pub mod KeyRows
 pub mod Accounts
+pub mod Begins
 pub mod Cursors
 pub mod Events
 pub mod Kept

@@ -1,18 +1,19 @@
 -- What each kind of step is to the core of am_steps, whatever the table is that it steps on: it keeps the rule, its seat
 -- has what `Opens`, `Looks`, .. say, and the core's state goes through the events named.
-use Rattle.std.specs.Prelude.{◌≡◌, ◌≢◌, ℕ, suc, ◌+◌, ◌*◌, ◌/◌, ◌%◌, ◌^◌, ◌<◌, List, [], ◌∷◌, ◌++◌, slice_set, length, Option, Some, None, true, false, ◌==◌}
+use Rattle.std.specs.Prelude.{◌≡◌, ◌≢◌, ℕ, suc, ◌+◌, ◌*◌, ◌/◌, ◌%◌, ◌^◌, ◌<◌, List, [], ◌∷◌, ◌++◌, slice_set, slice_index, length, Option, Some, None, true, false, ◌==◌}
 use mathlib.Core.Option.{none, some}
 use lib.ListN.{get_elem?}
 use prog.Atomic.{either}
-use Rattle.atomic_table.specs.Table.{step, State}
+use Rattle.atomic_table.specs.Table.{step, State, opening}
 use Rattle.am_steps.specs.declared.event.Event.TheVariants as does
+use Rattle.am_steps.specs.States.{first_state}
 use Rattle.am_steps.specs.Soundness.{IsSound}
 use Rattle.am_steps.specs.Needed.{IsNeeded, IsFreed}
 use Rattle.am_cast.specs.declared.views.Account.{Account}
 use Rattle.am_cast.specs.declared.views.LaneView.{LaneView}
 use Rattle.am_cast.specs.declared.views.View.{View}
 use Rattle.am_cast.specs.declared.views.WriterView.{WriterView}
-use Rattle.am_cast.specs.Rule.{idle, live, cut, gone, most, tail_word, lane_word, writer_word, slot, blank, Ruled}
+use Rattle.am_cast.specs.Rule.{idle, live, cut, gone, most, tail_word, lane_word, writer_word, slot, blank, first_view, Ruled}
 use Rattle.am_cast.specs.Steps.{SeatState, KnowsOf, Opens, Looks, Takes, Passes, Leaves, Harvests, Recovers, Cuts, Admits, Retires, Publishes, Closes, Reaches, Lays, Gathers, Clears, Notes, Weighs}
 use Rattle.am_cast.specs.Changes.{copied, without_lane, only_lane, without_own, only_own, both_of}
 use Rattle.am_cast.specs.Freed.{IsGathered, IsOut, IsFreedFor}
@@ -175,6 +176,13 @@ module _ (B K A : Type 0) (key : B → ℕ → K) where
   TakesInASeat = (s : State (Option K) (View B K A)) (r : Ruled key s) (id other : ℕ) (v w : View B K A)
       → get_elem? s.views id ≡ some v → other ≢ id → get_elem? s.views other ≡ some w
       → StaysAs s r (slice_set (slice_set s.views id (both_of v w)) other blank) (λ seat. seat ≢ other)
+
+  -- a table as it is made, with empty slots, meets the rule, and shows the core's first state with eight lanes
+  abbrev pub BeginsAtTheFirstState : Type 0
+  BeginsAtTheFirstState = (words : List ℕ) (slots : List (Option K)) (places : ℕ) → length words ≡ 144
+      → slice_index words 0 ≡ 0 → ((l : ℕ) → l < 8 → slice_index words (lane_word l) ≡ gone)
+      → length slots ≡ 8 * places → ((i : ℕ) → i < length slots → get_elem? slots i ≡ some None) → 0 < places
+      → (r : Ruled key (opening words slots (first_view {A = A} places))) × ((posters : ℕ) (seat_of : ℕ → ℕ) → state_of posters seat_of r ≡ first_state places 8 posters)
 
   -- what a table shows is a sound state of the core, whichever seats are the posters'
   abbrev pub ShowsASoundState : Type 0

@@ -2,7 +2,14 @@
 //! that is freed) are those of the table. Each law is a function that does nothing.
 //! `B` is what is known of a batch, `K` a key of one, `A` what a subscription notes down, and `R` says which key of a
 //! batch is each lane's.
-ghost use Rattle.am_cast.specs.Laws.{ShowsASoundState, KnowsWhatIsFreed, FreedIsHome, HomeIsFreed, NeededIsNotFreedFor, NotesTheLog, WeighsTheView, TellsASeat, DealsALane, HandsOwnPlaces, TakesInASeat, OpensTheLane, LooksAtTheLog, TakesTheKey, PassesThePlace, LeavesBare, LeavesWithKey, FindsTheWord, RecoversTheKey, CutsTheLane, AdmitsTheLane, RetiresTheLane, PublishesTheBatch, ClosesTheLog, ReachesASlot, LaysAKey, GathersAKey, ClearsASlot};
+ghost use Rattle.am_cast.specs.Laws.{BeginsAtTheFirstState};
+ghost use Rattle.am_cast.specs.Laws.{ShowsASoundState, KnowsWhatIsFreed, FreedIsHome, HomeIsFreed};
+ghost use Rattle.am_cast.specs.Laws.{NeededIsNotFreedFor, NotesTheLog, WeighsTheView, TellsASeat};
+ghost use Rattle.am_cast.specs.Laws.{DealsALane, HandsOwnPlaces, TakesInASeat, OpensTheLane};
+ghost use Rattle.am_cast.specs.Laws.{LooksAtTheLog, TakesTheKey, PassesThePlace, LeavesBare};
+ghost use Rattle.am_cast.specs.Laws.{LeavesWithKey, FindsTheWord, RecoversTheKey, CutsTheLane};
+ghost use Rattle.am_cast.specs.Laws.{AdmitsTheLane, RetiresTheLane, PublishesTheBatch, ClosesTheLog};
+ghost use Rattle.am_cast.specs.Laws.{ReachesASlot, LaysAKey, GathersAKey, ClearsASlot};
 
 use crate::rule::Keyed;
 use am_steps::a_needed_place_is_not_freed;
@@ -120,6 +127,11 @@ pub fn a_hand_is_silent<B, K, A, R: Keyed<B, K>>()
 /// A seat takes in all that another has, which is no poster's and is spent: the state stays.
 pub fn a_seat_taken_in_is_silent<B, K, A, R: Keyed<B, K>>()
     ensures { TakesInASeat B K A R.key }
+{}
+
+/// A table as it is made shows the core's first state.
+pub fn a_new_table_shows_the_first_state<B, K, A, R: Keyed<B, K>>()
+    ensures { BeginsAtTheFirstState B K A R.key }
 {}
 
 /// What a table shows is a sound state of the core.

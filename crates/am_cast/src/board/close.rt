@@ -1,5 +1,5 @@
 //! The writer closes the log.
-ghost use Rattle.std.specs.Prelude.{false, Option, [], length, ◌*◌, ◌+◌, ◌<◌, ◌≡◌, ◌≤◌};
+ghost use Rattle.std.specs.Prelude.{false, [], length, ◌≡◌, ◌≤◌};
 ghost use Rattle.am_cast.specs.Rule.{most};
 ghost use Rattle.am_cast.specs.Changes.{shut, with_writer};
 ghost use Rattle.am_cast.specs.Steps.{Closes};
@@ -21,7 +21,8 @@ pub(crate) fn close_log<B, K, A, R: Keyed<B, K>>(
     count: u64,
 )
     requires table { (seat.old.table_id ≡ top.now.table_id) × IsSized top.now.table_id × (count ≤ most) }
-    requires writer { let q = writer_of seat.old.me.0 in IsWriter seat.old.me q × (q.tail.closed ≡ false) × (count ≡ length q.tail.log) }
+    requires writer { let q = writer_of seat.old.me.0 in
+        IsWriter seat.old.me q × (q.tail.closed ≡ false) × (count ≡ length q.tail.log) }
     ensures same { (seat.new.table_id ≡ seat.old.table_id) × (seat.new.me.1 ≡ []) }
     ensures writer { let q = writer_of seat.old.me.0 in seat.new.me.0 ≡ with_writer (shut q) seat.old.me.0 }
 {

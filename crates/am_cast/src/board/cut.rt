@@ -1,5 +1,5 @@
 //! The writer cuts a lane.
-ghost use Rattle.std.specs.Prelude.{None, Option, [], length, ◌%◌, ◌*◌, ◌+◌, ◌/◌, ◌<◌, ◌≡◌, ◌≢◌};
+ghost use Rattle.std.specs.Prelude.{None, [], length, ◌%◌, ◌+◌, ◌/◌, ◌<◌, ◌≡◌, ◌≢◌};
 ghost use Rattle.am_cast.specs.Rule.{cut, gone, live};
 ghost use Rattle.am_cast.specs.Changes.{severed, with_account, with_writer};
 ghost use Rattle.am_cast.specs.Steps.{Cuts, Finds};
@@ -24,10 +24,16 @@ pub(crate) fn cut_lane<B, K, A, R: Keyed<B, K>>(
 ) -> u64
     requires table { (seat.old.table_id ≡ top.now.table_id) × IsSized top.now.table_id × (lane < 8) × (old < gone) }
     requires writer { let q = writer_of seat.old.me.0 in IsWriter seat.old.me q × (length q.accounts ≡ 8) }
-    requires account { let q = writer_of seat.old.me.0 in let b = account_of q lane in (b.stand ≡ live) × (b.cleared ≡ b.known) × (b.stop ≡ b.known + q.tail.places) × (b.out ≡ 0) × (b.laid ≡ None) × (old / 4 ≡ b.known) × (old / 2 ≡ b.half) }
+    requires account { let q = writer_of seat.old.me.0 in
+        let b = account_of q lane in
+        (b.stand ≡ live) × (b.cleared ≡ b.known) × (b.stop ≡ b.known + q.tail.places) × (b.out ≡ 0)
+        × (b.laid ≡ None) × (old / 4 ≡ b.known) × (old / 2 ≡ b.half) }
     ensures same { (seat.new.table_id ≡ seat.old.table_id) × (seat.new.me.1 ≡ []) }
-    ensures cut { let q = writer_of seat.old.me.0 in result ≡ old → seat.new.me.0 ≡ with_writer (with_account lane (severed (result / 2 % 2) (account_of q lane)) q) seat.old.me.0 }
-    ensures moved { let q = writer_of seat.old.me.0 in result ≢ old → Finds lane q (account_of q lane) result seat.old.me.0 seat.new.me.0 }
+    ensures cut { let q = writer_of seat.old.me.0 in
+        result ≡ old
+        → seat.new.me.0 ≡ with_writer (with_account lane (severed (result / 2 % 2) (account_of q lane)) q) seat.old.me.0 }
+    ensures moved { let q = writer_of seat.old.me.0 in
+        result ≢ old → Finds lane q (account_of q lane) result seat.old.me.0 seat.new.me.0 }
 {
     top.compare_exchange::<Cut>(seat, 16 * lane + 16, old, old + 1)
 }

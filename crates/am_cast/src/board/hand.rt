@@ -1,5 +1,5 @@
 //! A seat's own places go to another.
-ghost use Rattle.std.specs.Prelude.{◌/◌, ◌<◌, ◌≡◌};
+ghost use Rattle.std.specs.Prelude.{◌≡◌};
 ghost use Rattle.am_cast.specs.Changes.{both_of, left, only_own, without_own};
 ghost use Rattle.am_cast.specs.Seats.{IsSized};
 
@@ -22,9 +22,12 @@ pub(crate) fn hand_own<B, K, A, R: Keyed<B, K>>(
     from: &mut LogSeat<B, K, A>,
     to: &mut LogSeat<B, K, A>,
 )
-    requires table { (from.old.table_id ≡ top.now.table_id) × (to.old.table_id ≡ top.now.table_id) × IsSized top.now.table_id }
-    ensures from { (from.new.table_id ≡ from.old.table_id) × (from.new.me.1 ≡ from.old.me.1) × (from.new.me.0 ≡ without_own from.old.me.0) }
-    ensures to { (to.new.table_id ≡ to.old.table_id) × (to.new.me.1 ≡ to.old.me.1) × (to.new.me.0 ≡ both_of to.old.me.0 (only_own from.old.me.0)) }
+    requires table { (from.old.table_id ≡ top.now.table_id) × (to.old.table_id ≡ top.now.table_id)
+        × IsSized top.now.table_id }
+    ensures from { (from.new.table_id ≡ from.old.table_id) × (from.new.me.1 ≡ from.old.me.1)
+        × (from.new.me.0 ≡ without_own from.old.me.0) }
+    ensures to { (to.new.table_id ≡ to.old.table_id) × (to.new.me.1 ≡ to.old.me.1)
+        × (to.new.me.0 ≡ both_of to.old.me.0 (only_own from.old.me.0)) }
 {
     let own = top.split_seat::<Hand>(from);
     top.join_seat::<Hear>(to, own);

@@ -1,5 +1,5 @@
 //! A lane is left.
-ghost use Rattle.std.specs.Prelude.{Option, [], false, true, ◌*◌, ◌+◌, ◌/◌, ◌<◌, ◌≡◌};
+ghost use Rattle.std.specs.Prelude.{[], false, true, ◌<◌, ◌≡◌};
 ghost use Rattle.am_cast.specs.Rule.{slot};
 ghost use Rattle.am_cast.specs.Changes.{left, with_lane};
 ghost use Rattle.am_cast.specs.Steps.{Leaves};
@@ -23,7 +23,8 @@ pub(crate) fn leave_bare<B, K, A, R: Keyed<B, K>>(
     lane: usize,
 )
     requires table { (seat.old.table_id ≡ top.now.table_id) × IsSized top.now.table_id × (lane < 8) }
-    requires lane { let v = lane_of seat.old.me.0 in IsLane seat.old.me v × (lane ≡ v.number) × (v.begun ≡ true) × (v.held ≡ false) }
+    requires lane { let v = lane_of seat.old.me.0 in
+        IsLane seat.old.me v × (lane ≡ v.number) × (v.begun ≡ true) × (v.held ≡ false) }
     ensures same { (seat.new.table_id ≡ seat.old.table_id) × (seat.new.me.1 ≡ seat.old.me.1) }
     ensures lane { seat.new.me.0 ≡ with_lane (left (lane_of seat.old.me.0)) seat.old.me.0 }
 {
@@ -39,8 +40,11 @@ pub(crate) fn leave_with_key<B, K, A, R: Keyed<B, K>>(
     lane: usize,
 )
     requires table { (seat.old.table_id ≡ top.now.table_id) × IsSized top.now.table_id × (lane < 8) }
-    requires lane { let v = lane_of seat.old.me.0 in IsLane seat.old.me v × (lane ≡ v.number) × (at ≡ slot v.places v.number v.passed) }
-    requires held { let v = lane_of seat.old.me.0 in (v.begun ≡ true) × (v.held ≡ true) × HasOut seat.old.me v × IsKey R.key v.front v.passed v.number key }
+    requires lane { let v = lane_of seat.old.me.0 in
+        IsLane seat.old.me v × (lane ≡ v.number) × (at ≡ slot v.places v.number v.passed) }
+    requires held { let v = lane_of seat.old.me.0 in
+        (v.begun ≡ true) × (v.held ≡ true) × HasOut seat.old.me v
+        × IsKey R.key v.front v.passed v.number key }
     ensures same { (seat.new.table_id ≡ seat.old.table_id) × (seat.new.me.1 ≡ []) }
     ensures lane { seat.new.me.0 ≡ with_lane (left (lane_of seat.old.me.0)) seat.old.me.0 }
 {

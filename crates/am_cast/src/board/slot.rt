@@ -1,7 +1,6 @@
 //! Slots in hand.
-ghost use Rattle.std.specs.Prelude.{None, Some, ◌/◌, ◌<◌, ◌∷◌, ◌≡◌};
+ghost use Rattle.std.specs.Prelude.{None, Some, ◌∷◌, ◌≡◌};
 ghost use Rattle.atomic_table.specs.Table.{rest};
-ghost use Rattle.am_cast.specs.Rule.{slot};
 
 use crate::rule::{Keyed, LogSeat, Top};
 
@@ -14,7 +13,8 @@ pub(crate) fn lay_in<B, K, A, R: Keyed<B, K>>(
 )
     requires table { seat.old.table_id ≡ top.now.table_id }
     requires bare { seat.old.me.1 ≡ (at, None) ∷ rest seat.old.me.1 }
-    ensures same { (seat.new.table_id ≡ seat.old.table_id) × (seat.new.id ≡ seat.old.id) × (seat.new.me.0 ≡ seat.old.me.0) }
+    ensures same { (seat.new.table_id ≡ seat.old.table_id) × (seat.new.id ≡ seat.old.id)
+        × (seat.new.me.0 ≡ seat.old.me.0) }
     ensures hand { seat.new.me.1 ≡ (at, Some key) ∷ rest seat.old.me.1 }
 {
     match top.exchange(seat, at, Some(key)) {

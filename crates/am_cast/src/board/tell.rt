@@ -1,5 +1,5 @@
 //! A seat is told what another has seen.
-ghost use Rattle.std.specs.Prelude.{[], ◌/◌, ◌<◌, ◌≡◌};
+ghost use Rattle.std.specs.Prelude.{[], ◌≡◌};
 ghost use Rattle.am_cast.specs.Changes.{both_of, copied, left};
 ghost use Rattle.am_cast.specs.Seats.{IsSized};
 
@@ -22,9 +22,11 @@ pub(crate) fn tell_seat<B, K, A, R: Keyed<B, K>>(
     from: &mut LogSeat<B, K, A>,
     to: &mut LogSeat<B, K, A>,
 )
-    requires table { (from.old.table_id ≡ top.now.table_id) × (to.old.table_id ≡ top.now.table_id) × IsSized top.now.table_id }
+    requires table { (from.old.table_id ≡ top.now.table_id) × (to.old.table_id ≡ top.now.table_id)
+        × IsSized top.now.table_id }
     ensures from { (from.new.table_id ≡ from.old.table_id) × (from.new.me ≡ from.old.me) }
-    ensures to { (to.new.table_id ≡ to.old.table_id) × (to.new.me.1 ≡ to.old.me.1) × (to.new.me.0 ≡ both_of to.old.me.0 (copied from.old.me.0)) }
+    ensures to { (to.new.table_id ≡ to.old.table_id) × (to.new.me.1 ≡ to.old.me.1)
+        × (to.new.me.0 ≡ both_of to.old.me.0 (copied from.old.me.0)) }
 {
     let copy = top.split_seat::<Tell>(from);
     top.join_seat::<Hear>(to, copy);

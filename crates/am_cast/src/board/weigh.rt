@@ -1,5 +1,5 @@
 //! A seat compares what it knows.
-ghost use Rattle.std.specs.Prelude.{Option, ◌/◌, ◌<◌, ◌≡◌};
+ghost use Rattle.std.specs.Prelude.{◌≡◌};
 ghost use Rattle.am_cast.specs.Steps.{Weighed, Weighs};
 ghost use Rattle.am_cast.specs.Seats.{IsSized};
 
@@ -19,7 +19,8 @@ pub(crate) fn weigh_view<B, K, A, R: Keyed<B, K>>(
     seat: &mut LogSeat<B, K, A>,
 )
     requires table { (seat.old.table_id ≡ top.now.table_id) × IsSized top.now.table_id }
-    ensures same { (seat.new.table_id ≡ seat.old.table_id) × (seat.new.me.0 ≡ seat.old.me.0) × (seat.new.me.1 ≡ seat.old.me.1) }
+    ensures same { (seat.new.table_id ≡ seat.old.table_id) × (seat.new.me.0 ≡ seat.old.me.0)
+        × (seat.new.me.1 ≡ seat.old.me.1) }
     ensures weighed { Weighed seat.old.me.0 }
 {
     top.load::<Weigh>(seat, 0);
