@@ -1,0 +1,267 @@
+-- A step that touches one lane keeps the rule.
+use Rattle.std.proofs.Common.{◌≡◌, ◌≢◌, ℕ, ◌<◌, ◌⊎◌, List, length, get_or, set, sym, refl, ap, ◌∙◌, subst, ⊎_elim, inl, inr, arith, Option, Some, None, length-set}
+use mathlib.Core.Logic.{dite}
+use mathlib.Core.Option.{some, some-injective}
+use native.Mathlib.Decide.{ℕ_discrete}
+use lib.ListN.{get_elem?}
+use Rattle.atomic_table.specs.Table.{State}
+use Rattle.atomic_table.proofs.Lists.{at_set, set_here, set_else}
+use Rattle.am_cast.specs.declared.views.Tail.{Tail}
+use Rattle.am_cast.specs.declared.views.Account.{Account}
+use Rattle.am_cast.specs.declared.views.WriterView.{WriterView}
+use Rattle.am_cast.specs.declared.views.LaneView.{LaneView}
+use Rattle.am_cast.specs.declared.views.View.{View}
+use Rattle.am_cast.specs.Rule.{idle, Homes, slot, lane_word, LaneOk, HasWriter, HasLane, SeatOk, Ruled}
+use Rattle.am_cast.specs.Changes.{with_account}
+use Rattle.am_cast.proofs.Events.{behind, LaneTo, AccountTo, BothTo}
+use Rattle.am_cast.specs.Steps.{KnowsOf}
+use Rattle.am_cast.proofs.Slots.{put, put_here, put_else, put_same, at_length}
+
+pub some_or : {X : Type 0} → X → Option X → X
+some_or x (Some y) = y
+some_or x None = x
+
+pub same_some : {X : Type 0} (x y : X) (o : Option X) → o ≡ Some x → o ≡ Some y → x ≡ y
+unfolding some_or
+same_some x y o e f = ap (some_or x) (sym e ∙ f)
+
+abbrev pub St : Type 0 → Type 0 → Type 0 → Type 0
+St B K A = State (Option K) (View B K A)
+
+module _ {B K A : Type 0} (key : B → ℕ → K) where
+  -- a lane whose word and slots a step does not touch
+  pub stays : (t : Tail B) (b : Account K A) (v : LaneView B A) (words words' : List ℕ) (homes homes' : Homes K) (l : ℕ) → get_or words' (lane_word l) 0 ≡ get_or words (lane_word l) 0
+      → ((i : ℕ) → get_elem? homes' (slot t.places l i) ≡ get_elem? homes (slot t.places l i)) → LaneOk key t b v words homes l → LaneOk key t b v words' homes' l
+  stays t b v words words' homes homes' l word same ok = record {
+    sound = ok.sound;
+    word = word ∙ ok.word;
+    keys = λ i x a c d e f. same i ∙ ok.keys i x a c d e f;
+    empty = λ i a c d e f. same i ∙ ok.empty i a c d e f;
+    laid = λ k e. same b.stop ∙ ok.laid k e;
+    away = λ e x f g. same b.known ∙ ok.away e x f g;
+  }
+
+  pub other_writer : (t : Tail B) (seat : ℕ) (account : ℕ → Account K A) (lane : ℕ → LaneView B A) (lane_seat : ℕ → ℕ) (l : ℕ) (b' : Account K A) (v' : LaneView B A) (id j : ℕ) → j ≢ id → (id ≡ seat) ⊎ (b' ≡ account l) → (dk : Option (WriterView B K A))
+      → HasWriter t seat account lane lane_seat j dk → HasWriter t seat (put account l b') (put lane l v') lane_seat j dk
+  other_writer t seat account lane lane_seat l b' v' id j ne why None k = tt
+  other_writer t seat account lane lane_seat l b' v' id j ne why (Some q) k =
+      ⊎_elim (λ (e : id ≡ seat). absurd (ne (k.3 ∙ sym e))) (λ (e : b' ≡ account l). (k.0, k.1, (λ m a. k.2 m a ∙ ap some (sym (put_same account l b' m e))), k.3)) why
+
+  pub other_lane_is : (t : Tail B) (seat : ℕ) (account : ℕ → Account K A) (lane : ℕ → LaneView B A) (lane_seat : ℕ → ℕ) (l : ℕ) (b' : Account K A) (v' : LaneView B A) (id j : ℕ) → j ≢ id
+      → (lane_seat l ≡ id) ⊎ ((v' ≡ lane l) × (b'.stand ≡ idle → (account l).stand ≡ idle)) → (ln : Option (LaneView B A))
+      → HasLane t seat account lane lane_seat j ln → HasLane t seat (put account l b') (put lane l v') lane_seat j ln
+  other_lane_is t seat account lane lane_seat l b' v' id j ne why None k = tt
+  other_lane_is t seat account lane lane_seat l b' v' id j ne why (Some v) k = dite (ℕ_discrete v.number l)
+      (λ (e : v.number ≡ l). ⊎_elim (λ (h : lane_seat l ≡ id). absurd (ne (sym k.2 ∙ ap lane_seat e ∙ h)))
+      (λ (h : (v' ≡ lane l) × (b'.stand ≡ idle → (account l).stand ≡ idle)). (
+        k.0,
+        put_same lane l v' v.number h.0 ∙ k.1,
+        k.2,
+        λ z. k.3 (ap (λ (m : ℕ). (account m).stand) e ∙ h.1 (ap (λ (c : Account K A). c.stand) (sym (put_here account l b') ∙ ap (put account l b') (sym e)) ∙ z)),
+      )) why)
+      (λ (other : v.number ≢ l). (k.0, put_else lane l v' v.number other ∙ k.1, k.2, λ z. k.3 (ap (λ (c : Account K A). c.stand) (sym (put_else account l b' v.number other)) ∙ z)))
+
+  -- a step that changes the lane l, what the writer knows of it, and one view
+  unfoldable pub one_lane : (s : St B K A) (r : Ruled key s) (l : ℕ) (b' : Account K A) (v' : LaneView B A) (id : ℕ) (u : View B K A) (dk : Option (WriterView B K A)) (ln : Option (LaneView B A)) (words' : List ℕ) (homes' : Homes K)
+      → l < 8 → get_elem? s.views id ≡ some u → length words' ≡ length s.words → length homes' ≡ length s.homes → get_or words' 0 0 ≡ get_or s.words 0 0
+      → ((m : ℕ) → m ≢ l → get_or words' (lane_word m) 0 ≡ get_or s.words (lane_word m) 0)
+      → ((m i : ℕ) → m < 8 → m ≢ l → get_elem? homes' (slot r.tail.places m i) ≡ get_elem? s.homes (slot r.tail.places m i))
+      → (id ≡ r.seat) ⊎ (b' ≡ r.account l)
+      → (r.lane_seat l ≡ id) ⊎ ((v' ≡ r.lane l) × (b'.stand ≡ idle → (r.account l).stand ≡ idle))
+      → (b'.stand ≡ idle → r.lane_seat l ≡ r.seat)
+      → HasWriter r.tail r.seat (put r.account l b') (put r.lane l v') r.lane_seat id dk
+      → HasLane r.tail r.seat (put r.account l b') (put r.lane l v') r.lane_seat id ln
+      → LaneOk key r.tail b' v' words' homes' l
+      → Ruled key record { words = words'; homes = homes'; views = set s.views id (record u { writer = dk; lane = ln }) }
+  one_lane s r l b' v' id u dk ln words' homes' small at wide deep tail word slots why_account why_lane spare writer_is lane_is here = record {
+    tail = r.tail;
+    seat = r.seat;
+    account = put r.account l b';
+    lane = put r.lane l v';
+    lane_seat = r.lane_seat;
+    owner = r.owner;
+    wide = wide ∙ r.wide;
+    deep = deep ∙ r.deep;
+    some_places = r.some_places;
+    few = r.few;
+    word = tail ∙ r.word;
+    spare = λ m a e. dite (ℕ_discrete m l)
+        (λ h. ap r.lane_seat h ∙ spare (ap (λ (c : Account K A). c.stand) (sym (put_here r.account l b') ∙ ap (put r.account l b') (sym h)) ∙ e))
+        (λ ne. r.spare m a (ap (λ (c : Account K A). c.stand) (sym (put_else r.account l b' m ne)) ∙ e));
+    each_lane = λ m a. dite (ℕ_discrete m l)
+        (λ e. subst (λ (z : ℕ × Account K A × LaneView B A). LaneOk key r.tail z.1 z.2 words' homes' z.0) (λ i. (sym e i, (sym (put_here r.account l b') ∙ ap (put r.account l b') (sym e)) i, (sym (put_here r.lane l v') ∙ ap (put r.lane l v') (sym e)) i)) here)
+        (λ ne. subst (λ (z : Account K A × LaneView B A). LaneOk key r.tail z.0 z.1 words' homes' m) (λ i. (sym (put_else r.account l b' m ne) i, sym (put_else r.lane l v' m ne) i))
+        (stays r.tail (r.account m) (r.lane m) s.words words' s.homes homes' m (word m ne) (λ i. slots m i a ne) (r.each_lane m a)));
+    each_seat = λ j w e. let mine = r.each_seat id u at in let account' = put r.account l b' in let lane' = put r.lane l v' in let w' : View B K A = record u { writer = dk; lane = ln } in ⊎_elim
+        (λ (t : (j ≡ id) × (w' ≡ w)). subst (λ (z : ℕ × View B K A). SeatOk r.tail r.seat account' lane' r.lane_seat r.owner z.0 z.1) (λ i. (sym t.0 i, t.1 i)) record {
+          writer = writer_is;
+          lane_is = lane_is;
+          noted = mine.noted;
+          counts = mine.counts;
+          counted = mine.counted;
+          heard = mine.heard;
+          whole = mine.whole;
+          owns = mine.owns;
+        })
+        (λ (t : (j ≢ id) × (get_elem? s.views j ≡ some w)). let k = r.each_seat j w t.1 in record {
+          writer = other_writer r.tail r.seat r.account r.lane r.lane_seat l b' v' id j t.0 why_account w.writer k.writer;
+          lane_is = other_lane_is r.tail r.seat r.account r.lane r.lane_seat l b' v' id j t.0 why_lane w.lane k.lane_is;
+          noted = k.noted;
+          counts = k.counts;
+          counted = k.counted;
+          heard = k.heard;
+          whole = k.whole;
+          owns = k.owns;
+        })
+        (at_set s.views id j w' w e);
+  }
+
+  pub same_writer : (t : Tail B) (seat : ℕ) (account : ℕ → Account K A) (lane : ℕ → LaneView B A) (lane_seat : ℕ → ℕ) (l : ℕ) (b' : Account K A) (v' : LaneView B A) (j : ℕ) → b' ≡ account l → (dk : Option (WriterView B K A))
+      → HasWriter t seat account lane lane_seat j dk → HasWriter t seat (put account l b') (put lane l v') lane_seat j dk
+  same_writer t seat account lane lane_seat l b' v' j e None k = tt
+  same_writer t seat account lane lane_seat l b' v' j e (Some q) k = (k.0, k.1, (λ m a. k.2 m a ∙ ap some (sym (put_same account l b' m e))), k.3)
+
+  -- what the rule says of the lane in a view
+  pub lane_ok : (s : St B K A) (r : Ruled key s) (id : ℕ) (u : View B K A) (v : LaneView B A) → get_elem? s.views id ≡ some u → u.lane ≡ Some v
+      → (v.number < 8) × (r.lane_seat v.number ≡ id) × ((r.account v.number).stand ≢ idle) × (v ≡ r.lane v.number) × LaneOk key r.tail (r.account v.number) v s.words s.homes v.number
+  lane_ok s r id u v at is =
+      let k = subst (HasLane r.tail r.seat r.account r.lane r.lane_seat id) is (r.each_seat id u at).lane_is in
+      (k.0, k.2, k.3, sym k.1, subst (λ (z : LaneView B A). LaneOk key r.tail (r.account v.number) z s.words s.homes v.number) k.1 (r.each_lane v.number k.0))
+
+  -- a step of the lane in a view
+  unfoldable pub lane_step : (s : St B K A) (r : Ruled key s) (id : ℕ) (u : View B K A) (v v' : LaneView B A) (words' : List ℕ) (homes' : Homes K) → get_elem? s.views id ≡ some u → u.lane ≡ Some v → v'.number ≡ v.number
+      → length words' ≡ length s.words → length homes' ≡ length s.homes → get_or words' 0 0 ≡ get_or s.words 0 0
+      → ((m : ℕ) → m ≢ v.number → get_or words' (lane_word m) 0 ≡ get_or s.words (lane_word m) 0)
+      → ((m i : ℕ) → m < 8 → m ≢ v.number → get_elem? homes' (slot r.tail.places m i) ≡ get_elem? s.homes (slot r.tail.places m i))
+      → LaneOk key r.tail (r.account v.number) v' words' homes' v.number
+      → Ruled key record { words = words'; homes = homes'; views = set s.views id (record u { lane = Some v' }) }
+  lane_step s r id u v v' words' homes' at is number wide deep tail word slots here =
+      let o = lane_ok s r id u v at is in let l : ℕ = v.number in let b : Account K A = r.account l in
+      one_lane s r l b v' id u u.writer (Some v') words' homes' o.0 at wide deep tail word slots (inr refl) (inl o.1) (λ e. absurd (o.2 e))
+      (same_writer r.tail r.seat r.account r.lane r.lane_seat l b v' id refl u.writer (r.each_seat id u at).writer) (
+        subst (λ (n : ℕ). n < 8) (sym number) o.0,
+        ap (put r.lane l v') number ∙ put_here r.lane l v',
+        ap r.lane_seat number ∙ o.1,
+        λ z. o.2 (ap (λ (c : Account K A). c.stand) (sym (put_same r.account l b v'.number refl ∙ ap r.account number)) ∙ z),
+      )
+      here
+
+  pub lane_stepped : (s : St B K A) (r : Ruled key s) (id : ℕ) (u : View B K A) (v v' : LaneView B A) (words' : List ℕ) (homes' : Homes K) → get_elem? s.views id ≡ some u → u.lane ≡ Some v → v'.number ≡ v.number
+      → length words' ≡ length s.words → length homes' ≡ length s.homes → get_or words' 0 0 ≡ get_or s.words 0 0
+      → ((m : ℕ) → m ≢ v.number → get_or words' (lane_word m) 0 ≡ get_or s.words (lane_word m) 0)
+      → ((m i : ℕ) → m < 8 → m ≢ v.number → get_elem? homes' (slot r.tail.places m i) ≡ get_elem? s.homes (slot r.tail.places m i))
+      → LaneOk key r.tail (r.account v.number) v' words' homes' v.number
+      → (q : Ruled key record { words = words'; homes = homes'; views = set s.views id (record u { lane = Some v' }) }) × LaneTo (behind r) (behind q) v.number v'
+  unfolding lane_step one_lane
+  lane_stepped s r id u v v' words' homes' at is number wide deep tail word slots here = (
+    lane_step s r id u v v' words' homes' at is number wide deep tail word slots here,
+    record {
+      tail = refl;
+      accounts = λ m. put_same r.account v.number (r.account v.number) m refl;
+      others = λ m ne. put_else r.lane v.number v' m ne;
+      lane = put_here r.lane v.number v';
+    },
+  )
+
+  pub same_lane : (t : Tail B) (seat : ℕ) (account : ℕ → Account K A) (lane : ℕ → LaneView B A) (lane_seat : ℕ → ℕ) (l : ℕ) (b' : Account K A) (v' : LaneView B A) (j : ℕ) → v' ≡ lane l → (b'.stand ≡ idle → (account l).stand ≡ idle) → (ln : Option (LaneView B A))
+      → HasLane t seat account lane lane_seat j ln → HasLane t seat (put account l b') (put lane l v') lane_seat j ln
+  same_lane t seat account lane lane_seat l b' v' j e still None k = tt
+  same_lane t seat account lane lane_seat l b' v' j e still (Some v) k = (
+    k.0,
+    put_same lane l v' v.number e ∙ k.1,
+    k.2,
+    λ z. k.3 (dite (ℕ_discrete v.number l)
+        (λ h. ap (λ (m : ℕ). (account m).stand) h ∙ still (ap (λ (c : Account K A). c.stand) (sym (put_here account l b') ∙ ap (put account l b') (sym h)) ∙ z))
+        (λ ne. ap (λ (c : Account K A). c.stand) (sym (put_else account l b' v.number ne)) ∙ z)),
+  )
+
+  -- what the rule says of the writer in a view, and of one lane
+  pub record WriterOk (s : St B K A) (r : Ruled key s) (id l : ℕ) (q : WriterView B K A) (b : Account K A) : Type 0 where
+    pub small : l < 8
+    pub tail : q.tail ≡ r.tail
+    pub all : length q.accounts ≡ 8
+    pub each : (m : ℕ) → m < 8 → get_elem? q.accounts m ≡ some (r.account m)
+    pub mine : id ≡ r.seat
+    pub account : r.account l ≡ b
+    pub ok : LaneOk key r.tail b (r.lane l) s.words s.homes l
+
+  pub writer_ok : (s : St B K A) (r : Ruled key s) (id : ℕ) (u : View B K A) (l : ℕ) (q : WriterView B K A) (b : Account K A) → get_elem? s.views id ≡ some u → KnowsOf u l q b → WriterOk s r id l q b
+  writer_ok s r id u l q b at has =
+      let k = subst (HasWriter r.tail r.seat r.account r.lane r.lane_seat id) has.0 (r.each_seat id u at).writer in
+      let inside = at_length q.accounts l b has.1 in let all = k.1 in let small : l < 8 = omega arith in
+      let is : r.account l ≡ b = some-injective _ _ (sym (k.2 l small) ∙ has.1) in record {
+        small = small;
+        tail = k.0;
+        all = k.1;
+        each = k.2;
+        mine = k.3;
+        account = is;
+        ok = subst (λ (c : Account K A). LaneOk key r.tail c (r.lane l) s.words s.homes l) is (r.each_lane l small);
+      }
+
+  -- the writer with one account changed
+  pub sets_account : (s : St B K A) (r : Ruled key s) (id l : ℕ) (q : WriterView B K A) (b b' : Account K A) (v' : LaneView B A) → WriterOk s r id l q b → HasWriter r.tail r.seat (put r.account l b') (put r.lane l v') r.lane_seat id (Some (with_account l b' q))
+  sets_account s r id l q b b' v' o = let small = o.small in let all = o.all in (
+    o.tail,
+    length-set q.accounts l b' ∙ o.all,
+    (λ m a. dite (ℕ_discrete m l)
+        (λ e. ap (get_elem? (set q.accounts l b')) e ∙ set_here q.accounts l b' (omega arith) ∙ ap some (sym (put_here r.account l b') ∙ ap (put r.account l b') (sym e)))
+        (λ ne. set_else q.accounts l m b' ne ∙ o.each m a ∙ ap some (sym (put_else r.account l b' m ne)))),
+    o.mine,
+  )
+
+  -- a step of the writer that touches one lane alone
+  unfoldable pub writer_step : (s : St B K A) (r : Ruled key s) (id : ℕ) (u : View B K A) (l : ℕ) (q : WriterView B K A) (b b' : Account K A) (words' : List ℕ) (homes' : Homes K) → get_elem? s.views id ≡ some u → WriterOk s r id l q b
+      → length words' ≡ length s.words → length homes' ≡ length s.homes → get_or words' 0 0 ≡ get_or s.words 0 0
+      → ((m : ℕ) → m ≢ l → get_or words' (lane_word m) 0 ≡ get_or s.words (lane_word m) 0)
+      → ((m i : ℕ) → m < 8 → m ≢ l → get_elem? homes' (slot r.tail.places m i) ≡ get_elem? s.homes (slot r.tail.places m i))
+      → (b'.stand ≡ idle → b.stand ≡ idle)
+      → LaneOk key r.tail b' (r.lane l) words' homes' l
+      → Ruled key record { words = words'; homes = homes'; views = set s.views id (record u { writer = Some (with_account l b' q) }) }
+  writer_step s r id u l q b b' words' homes' at o wide deep tail word slots still here =
+      let still' : b'.stand ≡ idle → (r.account l).stand ≡ idle = λ e. ap (λ (c : Account K A). c.stand) o.account ∙ still e in
+      one_lane s r l b' (r.lane l) id u (Some (with_account l b' q)) u.lane words' homes' o.small at wide deep tail word slots (inl o.mine) (inr (refl, still')) (λ e. r.spare l o.small (still' e))
+      (sets_account s r id l q b b' (r.lane l) o)
+      (same_lane r.tail r.seat r.account r.lane r.lane_seat l b' (r.lane l) id refl still' u.lane (r.each_seat id u at).lane_is)
+      here
+
+  pub writer_stepped : (s : St B K A) (r : Ruled key s) (id : ℕ) (u : View B K A) (l : ℕ) (q : WriterView B K A) (b b' : Account K A) (words' : List ℕ) (homes' : Homes K) → get_elem? s.views id ≡ some u → WriterOk s r id l q b
+      → length words' ≡ length s.words → length homes' ≡ length s.homes → get_or words' 0 0 ≡ get_or s.words 0 0
+      → ((m : ℕ) → m ≢ l → get_or words' (lane_word m) 0 ≡ get_or s.words (lane_word m) 0)
+      → ((m i : ℕ) → m < 8 → m ≢ l → get_elem? homes' (slot r.tail.places m i) ≡ get_elem? s.homes (slot r.tail.places m i))
+      → (b'.stand ≡ idle → b.stand ≡ idle)
+      → LaneOk key r.tail b' (r.lane l) words' homes' l
+      → (p : Ruled key record { words = words'; homes = homes'; views = set s.views id (record u { writer = Some (with_account l b' q) }) }) × AccountTo (behind r) (behind p) l b'
+  unfolding writer_step one_lane
+  writer_stepped s r id u l q b b' words' homes' at o wide deep tail word slots still here = (
+    writer_step s r id u l q b b' words' homes' at o wide deep tail word slots still here,
+    record {
+      tail = refl;
+      lanes = λ m. put_same r.lane l (r.lane l) m refl;
+      others = λ m ne. put_else r.account l b' m ne;
+      account = put_here r.account l b';
+    },
+  )
+
+  pub one_laned : (s : St B K A) (r : Ruled key s) (l : ℕ) (b' : Account K A) (v' : LaneView B A) (id : ℕ) (u : View B K A) (dk : Option (WriterView B K A)) (ln : Option (LaneView B A)) (words' : List ℕ) (homes' : Homes K)
+      → l < 8 → get_elem? s.views id ≡ some u → length words' ≡ length s.words → length homes' ≡ length s.homes → get_or words' 0 0 ≡ get_or s.words 0 0
+      → ((m : ℕ) → m ≢ l → get_or words' (lane_word m) 0 ≡ get_or s.words (lane_word m) 0)
+      → ((m i : ℕ) → m < 8 → m ≢ l → get_elem? homes' (slot r.tail.places m i) ≡ get_elem? s.homes (slot r.tail.places m i))
+      → (id ≡ r.seat) ⊎ (b' ≡ r.account l)
+      → (r.lane_seat l ≡ id) ⊎ ((v' ≡ r.lane l) × (b'.stand ≡ idle → (r.account l).stand ≡ idle))
+      → (b'.stand ≡ idle → r.lane_seat l ≡ r.seat)
+      → HasWriter r.tail r.seat (put r.account l b') (put r.lane l v') r.lane_seat id dk
+      → HasLane r.tail r.seat (put r.account l b') (put r.lane l v') r.lane_seat id ln
+      → LaneOk key r.tail b' v' words' homes' l
+      → (q : Ruled key record { words = words'; homes = homes'; views = set s.views id (record u { writer = dk; lane = ln }) }) × BothTo (behind r) (behind q) l v' b'
+  unfolding one_lane
+  one_laned s r l b' v' id u dk ln words' homes' small at wide deep tail word slots why_account why_lane spare writer_is lane_is here = (
+    one_lane s r l b' v' id u dk ln words' homes' small at wide deep tail word slots why_account why_lane spare writer_is lane_is here,
+    record {
+      tail = refl;
+      lanes = λ m ne. put_else r.lane l v' m ne;
+      accounts = λ m ne. put_else r.account l b' m ne;
+      lane = put_here r.lane l v';
+      account = put_here r.account l b';
+    },
+  )

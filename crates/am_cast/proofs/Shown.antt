@@ -1,0 +1,184 @@
+-- What the rule says of the core's state behind a table: it is sound, and the writer knows which places are freed.
+use Rattle.std.proofs.Common.{◌≡◌, ◌≢◌, ℕ, zero, suc, ◌-◌, ◌%◌, ◌<◌, ◌≤◌, inl, inr, List, [], ◌∷◌, length, map, take, drop, sym, refl, ap, ◌∙◌, subst, arith, Some, Bool, true, false, true≢false, cond, if◌then◌else◌, slice_get, ◌==◌}
+use Rattle.std.specs.List.{All}
+use Rattle.std.proofs.lemmas.Bool.{eq-eqb, ne_eqb, le-ltb, cases_lt}
+use Rattle.std.proofs.lemmas.Option.{none-some}
+use mathlib.Core.Logic.{dite}
+use mathlib.Core.Option as maybe
+use mathlib.Core.Option.{some, some-injective}
+use native.Mathlib.Decide.{ℕ_discrete}
+use lib.ListN.{get_elem?}
+use Rattle.am_steps.specs.declared.lane_record.LaneRecord.{LaneRecord}
+use Rattle.am_steps.specs.declared.lane.Lane.{Lane}
+use Rattle.am_steps.specs.declared.lane.Lane.TheVariants.{Idle}
+use Rattle.am_steps.specs.States.{record_of}
+use Rattle.am_steps.specs.Soundness.{IsLaneSound, IsPosterSound, IsSound}
+use Rattle.am_steps.specs.Needed.{KeepsKey, IsFreed}
+use Rattle.am_cast.specs.declared.views.Tail.{Tail}
+use Rattle.am_cast.specs.declared.views.Account.{Account}
+use Rattle.am_cast.specs.declared.views.LaneView.{LaneView}
+use Rattle.am_cast.specs.declared.views.Own.{Own}
+use Rattle.am_cast.specs.declared.views.WriterView.{WriterView}
+use Rattle.am_cast.specs.declared.views.View.{View}
+use Rattle.am_cast.specs.Rule.{idle, live, cut, vacated, Sound, HasWriter, Ruled}
+use Rattle.am_cast.specs.Core.{record_behind, cursor_behind, used_lane, lane_standing, lane_behind, post_of, poster_behind, view_or_blank, state_of}
+use Rattle.am_cast.specs.Freed.{only_used, record_kept, IsOut, IsGathered, IsFreedFor}
+use Rattle.am_cast.specs.Seats.{account_of}
+use Rattle.am_cast.proofs.Kept.{St, same_some}
+use Rattle.am_cast.proofs.Slots.{at_length, prefix_length}
+use Rattle.am_cast.proofs.Ties.{IsUsed, used_by, by_bool, cut_flag, open_is, admitted_is, left_is, used_record, standing_record, first_of, inside, get_at}
+use Rattle.am_cast.proofs.Accounts.{is_account_of}
+
+module _ {B K A : Type 0} where
+  lane_sound : (t : Tail B) (b : Account K A) (v : LaneView B A) (l : ℕ) → Sound t b v l → IsLaneSound t.log t.closed (lane_behind b v)
+  lane_sound t b v l sd = dite (ℕ_discrete b.stand idle)
+      (λ (e : b.stand ≡ idle). subst (λ (n : ℕ). IsLaneSound t.log t.closed (lane_standing n (used_lane v.here v.begun (record_behind b) (cursor_behind v)))) (sym e) tt)
+      (λ (used₀ : b.stand ≢ idle). dite (ℕ_discrete b.stand vacated)
+      (λ (e : b.stand ≡ vacated). subst (λ (n : ℕ). IsLaneSound t.log t.closed (lane_standing n (used_lane v.here v.begun (record_behind b) (cursor_behind v)))) (sym e) tt)
+      (λ (used₁ : b.stand ≢ vacated).
+      let used = used_by b.stand sd.counts.stands used₀ used₁ in
+      let long = prefix_length v.front t.log sd.seen.begins in let low = sd.counts.low in let mid = sd.mid in let high = sd.seen.high in let start = sd.start in
+      by_bool v.here
+      (λ (here : v.here ≡ true). by_bool v.begun
+      (λ (begun : v.begun ≡ true). subst (IsLaneSound t.log t.closed) (sym (open_is b v used here begun)) record {
+        got = (λ i. drop (start i) (sym (first_of v.front t.log v.passed sd.seen.begins high) i));
+        start = low;
+        known = mid;
+        passed = high;
+        seen = long;
+        held = λ h. (sd.seen.holds h).1;
+        told = λ h. let e = sd.seen.told h in (e.0, ap (λ (xs : List B). length xs) e.1);
+        told_cut = λ h. let dead = sd.cuts h in eq-eqb b.stand cut (cut_by b.stand used dead);
+        in_hand = λ c h. let is : b.stand ≡ cut = cut_from b.stand used c in let k = sd.keeps is h in (ap (λ (f : Bool). if f then b.away else (b.half % 2 == 1)) c ∙ k.0, sym k.1);
+      })
+      (λ (fresh : v.begun ≡ false). let u = sd.seen.unbegun here fresh in let at = u.passed in let seen = u.seen in subst (IsLaneSound t.log t.closed) (sym (admitted_is b v used here fresh)) (omega arith, omega arith)))
+      (λ (gone_from : v.here ≡ false). subst (IsLaneSound t.log t.closed) (sym (left_is b v used gone_from)) (low, omega arith))))
+    where
+      cut_by : (n : ℕ) → IsUsed n → n ≢ live → n ≡ cut
+      cut_by n (inl e) ne = absurd (ne e)
+      cut_by n (inr e) ne = e
+
+      cut_from : (n : ℕ) → IsUsed n → (n == cut) ≡ true → n ≡ cut
+      cut_from n (inl e) c = absurd (true≢false (sym c ∙ ne_eqb n cut (λ z. omega arith)))
+      cut_from n (inr e) c = e
+
+  -- which lanes have a record, and which
+  record_tells : (b : Account K A) (v : LaneView B A) (m : LaneRecord) → record_of (lane_behind b v) ≡ Some m → IsUsed b.stand × (record_behind b ≡ m)
+  record_tells b v m e =
+      let st = standing_record b.stand (used_lane v.here v.begun (record_behind b) (cursor_behind v)) m e in
+      (st.0, same_some (record_behind b) m (Some (record_behind b)) refl (sym (used_record v.here v.begun (record_behind b) (cursor_behind v)) ∙ st.1))
+
+  behind_at_most : (t : Tail B) (b : Account K A) (v : LaneView B A) (l : ℕ) (m : LaneRecord) → Sound t b v l → record_of (lane_behind b v) ≡ Some m → m.cut ≡ false → length t.log - m.known ≤ t.places
+  behind_at_most t b v l m sd e uncut =
+      let r = record_tells b v m e in let known : b.known ≡ m.known = ap (λ (m : LaneRecord). m.known) r.1 in
+      let alive : b.stand ≡ live = live_by b r.0 (ap (λ (m : LaneRecord). m.cut) r.1 ∙ uncut) in
+      let lives = sd.counts.lives alive in let stop = lives.0 in let cleared = lives.1 in let room = sd.counts.room in omega arith
+    where
+      live_by : (b : Account K A) → IsUsed b.stand → (b.stand == cut) ≡ false → b.stand ≡ live
+      live_by b (inl e) f = e
+      live_by b (inr e) f = absurd (true≢false (sym (cut_flag b e) ∙ f))
+
+module _ {B : Type 0} where
+  -- own posts by their places
+  posts_sound : (log : List B) (known : ℕ) (own : List (Own B)) → ((k : ℕ) (o : Own B) → get_elem? own k ≡ some o → (get_elem? log o.place ≡ some o.name) × (o.place < known))
+      → All (λ (post : ℕ × B). (slice_get log post.0 ≡ Some post.1) × (post.0 < known)) (map post_of own)
+  posts_sound log known [] h k d small = absurd (omega arith)
+  posts_sound log known (o ∷ os) h zero d small = let e = h zero o refl in (get_at log o.place o.name e.0, e.1)
+  posts_sound log known (o ∷ os) h (suc k) d small = posts_sound log known os (λ j p e. h (suc j) p e) k d (omega arith)
+
+  taken_at : (own : List (Own B)) (n k : ℕ) (o : Own B) → get_elem? (take n own) k ≡ some o → (get_elem? own k ≡ some o) × (k < n)
+  taken_at own zero k o e = absurd (let h = at_length {A = Own B} [] k o e in omega arith)
+  taken_at [] (suc n) k o e = absurd (let h = at_length {A = Own B} [] k o e in omega arith)
+  taken_at (x ∷ xs) (suc n) zero o e = (e, omega arith)
+  taken_at (x ∷ xs) (suc n) (suc k) o e = let t = taken_at xs n k o e in let small = t.1 in (t.0, omega arith)
+
+module _ {B K A : Type 0} (key : B → ℕ → K) where
+  poster_sound : (s : St B K A) (r : Ruled key s) (j : ℕ) (o : maybe.Option (View B K A)) → get_elem? s.views j ≡ o → IsPosterSound r.tail.log (poster_behind (view_or_blank o))
+  poster_sound s r j maybe.none e = record { places_known = omega arith; own = posts_sound r.tail.log 0 [] (λ k o f. absurd (let h = at_length {A = Own B} [] k o f in omega arith)) }
+  poster_sound s r j (some w) e = let ok = r.each_seat j w e in record {
+    places_known = prefix_length w.noted r.tail.log ok.noted;
+    own = posts_sound r.tail.log (length w.noted) (take w.counted w.own) (λ k o f. let t = taken_at w.own w.counted k o f in ((ok.owns.each k o t.0).0, ok.counted k o t.0 t.1));
+  }
+
+  -- what a table shows is a sound state of the core
+  pub is_sound : (s : St B K A) (r : Ruled key s) (posters : ℕ) (seat_of : ℕ → ℕ) → IsSound (state_of posters seat_of r)
+  is_sound s r posters seat_of = record {
+    lane = λ l. elim (cases_lt l 8) [
+      | inl small ↦ subst (IsLaneSound r.tail.log r.tail.closed) (sym (inside l (lane_behind (r.account l) (r.lane l)) small)) (lane_sound r.tail (r.account l) (r.lane l) l (r.each_lane l small).sound)
+      | inr big ↦ subst (λ (b : Bool). IsLaneSound r.tail.log r.tail.closed (if b then lane_behind (r.account l) (r.lane l) else Idle)) (sym (le-ltb l 8 big)) tt
+    ];
+    behind = λ l m is uncut. elim (cases_lt l 8) [
+      | inl small ↦ behind_at_most r.tail (r.account l) (r.lane l) l m (r.each_lane l small).sound (ap (λ (x : Lane B). record_of x) (sym (inside l (lane_behind (r.account l) (r.lane l)) small)) ∙ is) uncut
+      | inr big ↦ absurd (none-some m (ap (λ (b : Bool). record_of (if b then lane_behind (r.account l) (r.lane l) else Idle)) (sym (le-ltb l 8 big)) ∙ is))
+    ];
+    poster = λ p. poster_sound s r (seat_of p) (get_elem? s.views (seat_of p)) refl;
+  }
+
+module _ {K A : Type 0} where
+  kept_is : (b : Account K A) → IsUsed b.stand → record_kept b ≡ Some (record_behind b)
+  kept_is b (inl e) = ap (λ (n : ℕ). only_used n (record_behind b)) e
+  kept_is b (inr e) = ap (λ (n : ℕ). only_used n (record_behind b)) e
+
+  kept_tells : (b : Account K A) (m : LaneRecord) → record_kept b ≡ Some m → IsUsed b.stand × (record_behind b ≡ m)
+  kept_tells b m e = by b.stand m (record_behind b) e
+    where
+      by : (n : ℕ) (m m' : LaneRecord) → only_used n m' ≡ Some m → IsUsed n × (m' ≡ m)
+      by zero m m' e = absurd (none-some m e)
+      by (suc zero) m m' e = (inl refl, same_some m' m (Some m') refl e)
+      by (suc (suc zero)) m m' e = (inr refl, same_some m' m (Some m') refl e)
+      by (suc (suc (suc n))) m m' e = absurd (none-some m e)
+
+  -- where a key is out, the core's writer keeps it
+  pub out_is_kept : (b : Account K A) (i : ℕ) → IsGathered b → IsOut b i → (m : LaneRecord) × (record_kept b ≡ Some m) × KeepsKey m i
+  out_is_kept b i g (inl t) = dite (ℕ_discrete b.stand live)
+      (λ (e : b.stand ≡ live). let low = g.low in let at = g.live_is e in let t₀ = t.0 in let h₁ : b.start ≤ i = omega arith in let h₂ : b.known ≤ i = omega arith in
+      (record_behind b, kept_is b (inl e), subst (λ (f : Bool). cond f ((record_behind b).key_out ≡ true × (i ≡ b.known)) ((b.start ≤ i) × (b.known ≤ i))) (sym (ne_eqb b.stand cut (λ z. omega arith))) (h₁, h₂)))
+      (λ ne. absurd (let at = g.rest_is ne in let t₀ = t.0 in let t₁ = t.1 in omega arith))
+  out_is_kept b i g (inr t) = let e = g.away_is t.0 in let is = cut_flag b e in
+      (record_behind b, kept_is b (inr e), subst (λ (f : Bool). cond f (((if f then b.away else (b.half % 2 == 1)) ≡ true) × (i ≡ b.known)) ((b.start ≤ i) × (b.known ≤ i))) (sym is) (t.0, t.1))
+
+  -- and a key that it keeps is out
+  pub kept_is_out : (b : Account K A) (i : ℕ) (m : LaneRecord) → IsGathered b → (b.stand ≡ live → i < b.stop) → record_kept b ≡ Some m → KeepsKey m i → IsOut b i
+  kept_is_out b i m g inside e keeps = let k = kept_tells b m e in by k.0 (subst (λ (m : LaneRecord). KeepsKey m i) (sym k.1) keeps)
+    where
+      by : IsUsed b.stand → KeepsKey (record_behind b) i → IsOut b i
+      by (inl e) keeps = let h = subst (λ (f : Bool). cond f ((record_behind b).key_out ≡ true × (i ≡ b.known)) ((b.start ≤ i) × (b.known ≤ i))) (ne_eqb b.stand cut (λ z. omega arith)) keeps in let h₁ = h.1 in let at = g.live_is e in inl (omega arith, inside e)
+      by (inr e) keeps = let is = cut_flag b e in inr (subst (λ (f : Bool). cond f (((if f then b.away else (b.half % 2 == 1)) ≡ true) × (i ≡ b.known)) ((b.start ≤ i) × (b.known ≤ i))) is keeps)
+
+module _ {B K A : Type 0} where
+  record_of_behind : (b : Account K A) (v : LaneView B A) → record_of (lane_behind b v) ≡ record_kept b
+  record_of_behind b v = by b.stand (used_lane v.here v.begun (record_behind b) (cursor_behind v)) (record_behind b) (used_record v.here v.begun (record_behind b) (cursor_behind v))
+    where
+      by : (n : ℕ) (x : Lane B) (m : LaneRecord) → record_of x ≡ Some m → record_of (lane_standing n x) ≡ only_used n m
+      by zero x m e = refl
+      by (suc zero) x m e = e
+      by (suc (suc zero)) x m e = e
+      by (suc (suc (suc n))) x m e = refl
+
+module _ {B K A : Type 0} (key : B → ℕ → K) where
+  account_is : (s : St B K A) (r : Ruled key s) (id : ℕ) (u : View B K A) (q : WriterView B K A) → get_elem? s.views id ≡ some u → u.writer ≡ Some q → (q.tail ≡ r.tail) × ((l : ℕ) → l < 8 → account_of q l ≡ r.account l)
+  account_is s r id u q at is = let k = subst (HasWriter r.tail r.seat r.account r.lane r.lane_seat id) is (r.each_seat id u at).writer in
+      (k.0, λ l small. sym (is_account_of q l (r.account l) (k.2 l small)))
+
+  -- the writer knows which places are freed
+  pub freed_for : (s : St B K A) (r : Ruled key s) (id : ℕ) (u : View B K A) (q : WriterView B K A) (posters : ℕ) (seat_of : ℕ → ℕ) (i : ℕ) → get_elem? s.views id ≡ some u → u.writer ≡ Some q
+      → (IsFreed (state_of posters seat_of r) i → IsFreedFor q i) × (IsFreedFor q i → IsFreed (state_of posters seat_of r) i)
+  freed_for s r id u q posters seat_of i at is =
+      let k = account_is s r id u q at is in let long : length q.tail.log ≡ length r.tail.log = ap (λ (t : Tail B). length t.log) k.0 in
+      let record_at : (l : ℕ) → l < 8 → record_of ((state_of posters seat_of r).lane l) ≡ record_kept (account_of q l) = λ l small. ap (λ (x : Lane B). record_of x) (inside l (lane_behind (r.account l) (r.lane l)) small) ∙ record_of_behind (r.account l) (r.lane l) ∙ ap (λ (b : Account K A). record_kept b) (sym (k.1 l small)) in (
+        (λ (f : IsFreed (state_of posters seat_of r) i). let f₀ = f.0 in (omega arith, λ l m small e keeps. f.1 l m (record_at l small ∙ e) keeps)),
+        (λ (f : IsFreedFor q i). let f₀ = f.0 in (
+          omega arith,
+          λ l m e keeps. elim (cases_lt l 8) [
+            | inl small ↦ f.1 l m small (sym (record_at l small) ∙ e) keeps
+            | inr big ↦ absurd (none-some m (ap (λ (b : Bool). record_of (if b then lane_behind (r.account l) (r.lane l) else Idle)) (sym (le-ltb l 8 big)) ∙ e))
+          ],
+        )),
+      )
+
+  -- of a freed place no key is out, and where none is out the place is freed
+  pub freed_is_home : (q : WriterView B K A) (i l : ℕ) → l < 8 → IsGathered (account_of q l) → IsFreedFor q i → IsOut (account_of q l) i → ⊥
+  freed_is_home q i l small g f out = let k = out_is_kept (account_of q l) i g out in f.1 l k.0 small k.1 k.2
+
+  pub home_is_freed : (q : WriterView B K A) (i : ℕ) → i < length q.tail.log → ((l : ℕ) → l < 8 → IsGathered (account_of q l) × ((account_of q l).stand ≡ live → (account_of q l).stop ≡ length q.tail.log) × (IsOut (account_of q l) i → ⊥)) → IsFreedFor q i
+  home_is_freed q i inside all = (inside, λ l m small e keeps. let a = all l small in a.2 (kept_is_out (account_of q l) i m a.0 (λ alive. let stop = a.1 alive in omega arith) e keeps))

@@ -1,0 +1,19 @@
+-- Each kind of step keeps the rule, and is an event of the behind.
+pub mod Admit
+pub mod Clear
+pub mod Close
+pub mod Cut
+pub mod Gather
+pub mod Harvest
+pub mod Lay
+pub mod Leave
+pub mod Look
+pub mod Note
+pub mod Open
+pub mod Pass
+pub mod Publish
+pub mod Reach
+pub mod Recover
+pub mod Retire
+pub mod Take
+pub mod Weigh

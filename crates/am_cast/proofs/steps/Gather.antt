@@ -1,0 +1,77 @@
+-- The writer takes the slot of a place that was passed.
+use Rattle.std.proofs.Common.{[], ◌≡◌, ◌≢◌, ℕ, suc, ◌+◌, ◌<◌, ◌≤◌, ◌∷◌, set, sym, refl, ap, ◌∙◌, arith, Some, true, true≢false}
+use mathlib.Core.Logic.{dite}
+use mathlib.Core.Option.{none, some, some-injective}
+use native.Mathlib.Decide.{ℕ_discrete}
+use lib.ListN.{get_elem?}
+use Rattle.atomic_table.specs.Table.{step, takes, Allows}
+use Rattle.atomic_table.proofs.Lists.{set_else}
+use Rattle.am_cast.specs.declared.views.Tail.{Tail}
+use Rattle.am_cast.specs.declared.views.Account.{Account}
+use Rattle.am_cast.specs.declared.views.WriterView.{WriterView}
+use Rattle.am_cast.specs.declared.views.LaneView.{LaneView}
+use Rattle.am_cast.specs.Rule.{idle, live, slot, writer_word, Sound, Ruled}
+use Rattle.am_cast.specs.Changes.{with_writer, with_account, reaching}
+use Rattle.am_cast.proofs.Events.{AllowsEvent}
+use Rattle.am_cast.specs.Steps.{SeatState, KnowsOf, SetsAccount, Gathers}
+use Rattle.am_cast.proofs.Slots.{apart, at_below, prefix_length}
+use Rattle.am_cast.proofs.Kept.{writer_ok}
+use Rattle.am_cast.proofs.Lanes.{cut_of}
+use Rattle.am_cast.proofs.WriterSteps.{retell, slot_step}
+
+module _ {B K A : Type 0} (key : B → ℕ → K) where
+  -- the place that the writer empties next: no key of it is out
+  pub record Gone (t : Tail B) (b : Account K A) (v : LaneView B A) : Type 0 where
+    pub inside : b.cleared < b.stop
+    pub not_held : v.held ≡ true → b.cleared ≢ v.passed
+
+  pub gone_by : (t : Tail B) (b : Account K A) (v : LaneView B A) (l : ℕ) → Sound t b v l → (b.stand ≡ live → b.cleared < b.known) → (b.stand ≢ live → b.cleared < b.stop) → Gone t b v
+  gone_by t b v l sd low₁ low₂ =
+      let mid = sd.mid in let high = sd.seen.high in let long = prefix_length v.front t.log sd.seen.begins in let stands = sd.counts.stands in dite (ℕ_discrete b.stand live)
+      (λ e. let f = low₁ e in let stop = (sd.counts.lives e).0 in record { inside = omega arith; not_held = λ _ z. omega arith })
+      (λ ne. record {
+        inside = low₂ ne;
+        not_held = λ h z. dite (ℕ_discrete b.stand idle)
+            (λ e. absurd (true≢false (sym (sd.seen.holds h).0 ∙ sd.idles e)))
+            (λ used. let k = sd.keeps (cut_of b.stand stands used ne (λ e. true≢false (sym (sd.seen.holds h).0 ∙ sd.vacates e))) h in let k₁ = k.1 in let a = (sd.counts.aways k.0).2 in absurd (omega arith));
+      })
+
+  -- the writer takes the slot of a place that the lane has passed
+  pub gathers_as : (slots id : ℕ) (me : SeatState B K A) (l : ℕ) (q : WriterView B K A) (b : Account K A) → KnowsOf me.0 l q b → b.out ≡ 0 → (b.stand ≡ live → b.cleared < b.known) → (b.stand ≢ live → b.cleared < b.stop)
+      → AllowsEvent key slots id me (writer_word l) (λ n. n) (λ _. []) (Gathers key (step slots (writer_word l) 0 0 none) me)
+  gathers_as slots id me l q b has bare low₁ low₂ s r deep at fits =
+      let o = writer_ok key s r id me.0 l q b at has in let ok = o.ok in let sd = ok.sound in let c = sd.counts in let p : ℕ = r.tail.places in
+      let g = gone_by r.tail b (r.lane l) l sd low₁ low₂ in let inside = g.inside in let stops = c.stops in let room = c.room in let clear = c.clear in
+      let x = at_below r.tail.log b.cleared (omega arith) in
+      let b' : Account K A = reaching b.cleared b in let k : ℕ = slot p l b.cleared in
+      let beside : (i : ℕ) → b.cleared ≤ i → i < b.cleared + p → i ≢ b.cleared → get_elem? (set s.homes k none) (slot p l i) ≡ get_elem? s.homes (slot p l i) = λ i a d ne. set_else s.homes k (slot p l i) none (apart p l b.cleared i b.cleared a d (omega arith) (omega arith) ne) in (
+        with_writer (with_account l b' q) me.0,
+        takes k (Some (key x.0 l)),
+        ok.keys b.cleared x.0 (omega arith) inside x.1 (λ z. omega arith) g.not_held,
+        slot_step key s r id l me q b b' b.cleared none at o (λ z. z) (λ ws same. record {
+          sound = record {
+            seen = sd.seen;
+            counts = record { stands = c.stands; low = c.low; clear = c.clear; room = c.room; stops = c.stops; lives = λ e. let f = c.lives e in let a = low₁ e in (f.0, f.1, λ i a d z. omega arith); lays = c.lays; aways = c.aways };
+            turn = sd.turn;
+            note = sd.note;
+            start = sd.start;
+            idles = sd.idles;
+            vacates = sd.vacates;
+            mid = sd.mid;
+            halves = sd.halves;
+            cuts = sd.cuts;
+            keeps = sd.keeps;
+          };
+          word = same ∙ ok.word;
+          keys = λ i y a d e f h. beside i a (omega arith) (λ z. f (ap suc (sym z))) ∙ ok.keys i y a d e (λ z. omega arith) h;
+          empty = λ i a d e f h. beside i (omega arith) d (λ z. omega arith) ∙ ok.empty i a d (λ z. omega arith) f h;
+          laid = λ y e. let f = (c.lays y e).1 in beside b.stop clear f (λ z. omega arith) ∙ ok.laid y e;
+          away = λ e y f h. let a = c.aways e in let a₁ = a.1 in let a₂ = a.2 in set_else s.homes k (slot p l b.known) none (apart p l b.known b.known b.cleared (omega arith) (omega arith) (omega arith) (omega arith) (λ z. omega arith)) ∙ ok.away e y f h;
+        }) record { stand = refl; turn = refl; note = refl; start = refl; known = refl; half = refl; away = refl },
+        λ l' q' b₁ y e has' f. retell (λ m d c. (y : B) → get_elem? d.tail.log c.cleared ≡ some y → SetsAccount m d (reaching c.cleared c) me.0 (with_writer (with_account l b' q) me.0) × ((k, Some (key x.0 l)) ∷ me.1 ≡ (slot d.tail.places m c.cleared, Some (key y m)) ∷ me.1)) me.0 l l' q q' b b₁ has has' (omega arith)
+            (λ y f. (refl, (let name : x.0 ≡ y = some-injective x.0 y (sym x.1 ∙ ap (λ (t : Tail B). get_elem? t.log b.cleared) (sym o.tail) ∙ f) in λ i. (slot (sym o.tail i).places l b.cleared, Some (key (name i) l)) ∷ me.1))) y f,
+      )
+
+  pub gathers : (slots id : ℕ) (me : SeatState B K A) (l : ℕ) (q : WriterView B K A) (b : Account K A) → KnowsOf me.0 l q b → b.out ≡ 0 → (b.stand ≡ live → b.cleared < b.known) → (b.stand ≢ live → b.cleared < b.stop)
+      → Allows (Ruled key) slots id me (writer_word l) (λ n. n) (Gathers key (step slots (writer_word l) 0 0 none) me)
+  gathers slots id me l q b has bare low₁ low₂ s r deep at fits = let y = gathers_as slots id me l q b has bare low₁ low₂ s r deep at fits in (y.0, y.1, y.2, y.3.0, y.4)

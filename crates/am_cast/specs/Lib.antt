@@ -1,0 +1,16 @@
+pub mod Rule
+pub mod Changes
+pub mod Steps
+pub mod Seats
+pub mod Keys
+pub mod Cursors
+pub mod Starts
+pub mod Lent
+pub mod Writers
+pub mod Posters
+pub mod Refusals
+pub mod Names
+pub mod Core
+pub mod inside
+pub mod Laws
+pub mod Freed

@@ -1,0 +1,97 @@
+//! The writer's keys: those that came home wait in rows, one for each place, until the eighth is
+//! there and ends the segment.
+ghost use Rattle.std.specs.Prelude.{◌≡◌, ◌≢◌, ℕ, ◌<◌, ◌≤◌, List, ◌∷◌, ◌++◌, length, Some, None, IfOk, OnOk};
+ghost use Rattle.am_segment.specs.Segments.{KeyView};
+ghost use Rattle.am_cast.specs.inside.KeyRows.{bucket_of, row_at, MayTake, row_with};
+
+mod bucket;
+mod row;
+
+use am_segment::SegKey;
+pub(crate) use bucket::Bucket;
+pub(crate) use row::Row;
+use std::alloc::{AllocError, Global};
+use std::marker::Model;
+
+/// A bucket for each remainder of the number of places. A cut lane's old row stays beside the
+/// newer ones until its last key is home.
+pub(crate) struct KeyRows<T> {
+    buckets: Vec<Bucket<T>>,
+}
+
+impl<T> Model for KeyRows<T> {
+    ghost use Rattle.std.specs.Prelude.{List};
+    ghost use Rattle.std.specs.Coded.{coded_list};
+    ghost use Rattle.am_cast.specs.inside.KeyRows.{BucketView, coded_bucket, AreSorted};
+
+    ghost Value = { List (BucketView T) };
+
+    ghost coded = { coded_list (coded_bucket T.code) };
+
+    ghost view = { λ r. r.buckets.items };
+
+    ghost invariant = { λ r. AreSorted r.buckets.items };
+}
+
+impl<T> KeyRows<T> {
+    /// No rows, in so many buckets.
+    pub(crate) fn new(alloc: Global, places: usize) -> Result<KeyRows<T>, AllocError>
+        requires { 0 < places }
+        ensures count { IfOk result (λ rows. length rows ≡ places) }
+        ensures none { IfOk result (λ rows. (p : ℕ) → row_at rows p ≡ None) }
+    {
+        let mut buckets = Vec::with_capacity(alloc, places)?;
+        for _remainder in 0..places {
+            buckets.push_reserved(Bucket::new(alloc));
+        }
+        Ok(KeyRows { buckets })
+    }
+
+    /// Makes room for the place's row.
+    pub(crate) fn reserve(&mut self, place: u64) -> Result<(), AllocError>
+        ensures count { length self.new ≡ length self.old }
+        ensures rows { (p : ℕ) → row_at self.new p ≡ row_at self.old p }
+        ensures room { OnOk result (1 ≤ (bucket_of self.new place).room) }
+    {
+        let at = (place % self.buckets.len() as u64) as usize;
+        self.buckets[at].reserve()
+    }
+
+    /// The key goes to the others of its place. The eighth ends its segment.
+    pub(crate) fn bring(&mut self, place: u64, key: SegKey<T>)
+    where
+        T: Drop,
+        requires { (keys : List (KeyView T)) × (row_at self.old place ≡ Some keys) × MayTake keys key }
+        ensures count { length self.new ≡ length self.old }
+        ensures here { (keys : List (KeyView T)) → row_at self.old place ≡ Some keys
+            → row_at self.new place ≡ row_with keys key }
+        ensures others { (p : ℕ) → p ≢ place → row_at self.new p ≡ row_at self.old p }
+        ensures room { (p : ℕ) → (bucket_of self.old p).room ≤ (bucket_of self.new p).room }
+    {
+        let at = (place % self.buckets.len() as u64) as usize;
+        self.buckets[at].bring(place, key);
+    }
+
+    /// A row more, of a place that had none.
+    pub(crate) fn insert(&mut self, row: Row<T>)
+        requires room { 1 ≤ (bucket_of self.old row.place).room }
+        requires none { row_at self.old row.place ≡ None }
+        ensures count { length self.new ≡ length self.old }
+        ensures here { row_at self.new row.place ≡ Some row.keys }
+        ensures others { (p : ℕ) → p ≢ row.place → row_at self.new p ≡ row_at self.old p }
+    {
+        let at = (row.place() % self.buckets.len() as u64) as usize;
+        self.buckets[at].insert(row);
+    }
+
+    /// The end of rows that are all gone.
+    pub(crate) fn end(self)
+        requires { (p : ℕ) → row_at self p ≡ None }
+    {
+        let KeyRows { mut buckets } = self;
+        while let Some(bucket) = buckets.pop() {
+            bucket.end();
+        }
+        buckets.destroy_empty();
+    }
+}

@@ -1,0 +1,95 @@
+//! The rows of the places with one remainder: mostly one, and older ones while a key that was cut off is out.
+ghost use Rattle.std.specs.Prelude.{◌≡◌, ◌≢◌, ℕ, ◌+◌, ◌<◌, ◌≤◌, List, [], ◌∷◌, ◌++◌, Some, None, IfSome, IfNone, OnOk, OnErr};
+ghost use Rattle.am_segment.specs.Segments.{KeyView};
+ghost use Rattle.am_cast.specs.inside.KeyRows.{RowView, find_row, HasNoRow, AreApart, MayTake, row_with, IsRowOf, HaveRemainder};
+
+use crate::key_rows::row::Row;
+use am_segment::SegKey;
+use std::alloc::{AllocError, Global};
+use std::marker::Model;
+
+pub(crate) struct Bucket<T> {
+    rows: Vec<Row<T>>,
+}
+
+impl<T> Model for Bucket<T> {
+    ghost use Rattle.am_cast.specs.inside.KeyRows.{BucketView, coded_bucket};
+    ghost use Rattle.std.specs.Prelude.{◌-◌, vec_capacity, vec_len};
+
+    ghost Value = { BucketView T };
+
+    ghost coded = { coded_bucket T.code };
+
+    ghost view = { λ b. record { rows = b.rows.items; room = vec_capacity b.rows - vec_len b.rows } };
+}
+
+impl<T> Bucket<T> {
+    pub(crate) fn new(alloc: Global) -> Bucket<T>
+        ensures { result.rows ≡ [] }
+    {
+        Bucket {
+            rows: Vec::new(alloc),
+        }
+    }
+
+    /// Makes room for a row more.
+    pub(crate) fn reserve(&mut self) -> Result<(), AllocError>
+        ensures rows { self.new.rows ≡ self.old.rows }
+        ensures room { self.old.room ≤ self.new.room }
+        ensures ok { OnOk result (1 ≤ self.new.room) }
+    {
+        self.rows.reserve(1)
+    }
+
+    // The index of the place's row.
+    fn find(&self, place: u64) -> Option<usize>
+        ensures none { IfNone result (find_row place self.now.rows ≡ None) }
+        ensures some { IfSome result (λ k. IsRowOf place self.now.rows k) }
+    {
+        for (index, row) in self.rows.iter().enumerate() {
+            if row.place() == place {
+                return Some(index);
+            }
+        }
+        None
+    }
+
+    /// The key goes to the others of its place. The eighth ends its segment.
+    pub(crate) fn bring(&mut self, place: u64, key: SegKey<T>)
+    where
+        T: Drop,
+        requires row { (keys : List (KeyView T)) × (find_row place self.old.rows ≡ Some keys) × MayTake keys key }
+        requires apart { AreApart self.old.rows }
+        ensures here { (keys : List (KeyView T)) → find_row place self.old.rows ≡ Some keys
+            → find_row place self.new.rows ≡ row_with keys key }
+        ensures others { (p : ℕ) → p ≢ place → find_row p self.new.rows ≡ find_row p self.old.rows }
+        ensures apart { AreApart self.new.rows }
+        ensures remainder { (places n : ℕ) → HaveRemainder places n self.old.rows
+            → HaveRemainder places n self.new.rows }
+        ensures room { self.old.room ≤ self.new.room }
+    {
+        let Some(index) = self.find(place) else {
+            unreachable!()
+        };
+        self.rows[index].add(key);
+        if self.rows[index].is_full() {
+            self.rows.remove(index).end();
+        }
+    }
+
+    /// A row more, of a place that had none.
+    pub(crate) fn insert(&mut self, row: Row<T>)
+        requires room { 1 ≤ self.old.room }
+        ensures { self.new.rows ≡ self.old.rows ++ row ∷ [] }
+    {
+        self.rows.push_reserved(row);
+    }
+
+    /// The end of a bucket without rows.
+    pub(crate) fn end(self)
+        requires { self.rows ≡ [] }
+    {
+        let Bucket { rows } = self;
+        rows.destroy_empty();
+    }
+}

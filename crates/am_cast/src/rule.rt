@@ -1,0 +1,46 @@
+//! What holds of the table between two steps, whichever seat stepped last. `specs/Rule.antt` says it: the words, the slots
+//! and what each seat knows agree with one log, one account of each lane and one cursor's view of each lane. `board` has
+//! the steps, and what each word and slot is for.
+ghost use Rattle.std.specs.Prelude.{ℕ, Option};
+
+use crate::views::View;
+use atomic_table::{Seat, Shared, Table, TableRule};
+use std::alloc::Global;
+use std::marker::PhantomData;
+
+/// What the keys of a batch are: for each lane one.
+pub trait Keyed<B, K> {
+    ghost key: { B → ℕ → K };
+}
+
+/// The rule of a log's table. `R` says which key of a batch is each lane's.
+pub struct LogRule<R> {
+    of: PhantomData<R>,
+}
+
+impl<B, K, A, R: Keyed<B, K>> TableRule<Option<K>, View<B, K, A>, u64> for LogRule<R> {
+    ghost use Rattle.am_cast.specs.Rule.{Ruled, first_view};
+
+    ghost holds = { λ places. Ruled R.key };
+
+    ghost first = { λ places. first_view places };
+}
+
+/// The table of a log. `B` is what is known of a batch, `K` a key of one, `A` what a subscription notes down.
+pub type Board<B, K, A, R> = Table<Option<K>, View<B, K, A>, u64, LogRule<R>, Global>;
+
+/// What the seats share of it.
+pub type Top<B, K, A, R> = Shared<Option<K>, View<B, K, A>, u64, LogRule<R>>;
+
+/// One seat: what it knows, and the slots in its hand.
+pub type LogSeat<B, K, A> = Seat<Option<K>, View<B, K, A>>;
+
+/// What a subscription notes down. A caller picks it.
+pub trait Noted<A> {
+    ghost note: { Option A };
+}
+
+/// The name of a new batch. A caller picks it.
+pub trait Named<B> {
+    ghost name: { B };
+}

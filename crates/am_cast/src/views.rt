@@ -1,0 +1,84 @@
+//! What the seats of one log know. No value of these types is made.
+//! `B` is what is known of a batch, `K` a key of one, and `A` what a subscription notes down.
+use std::collections::LinkedList;
+
+/// What the tail word shows.
+pub struct Tail<B> {
+    pub places: u64,
+    pub log: LinkedList<B>,
+    pub closed: bool,
+}
+
+/// What the writer knows of one lane.
+pub struct Account<K, A> {
+    /// 0 idle, 1 live, 2 cut, 3 vacated: it has left, and its seat hasn't come home.
+    pub stand: u64,
+    /// How often it was admitted.
+    pub turn: u64,
+    pub note: Option<A>,
+    pub start: u64,
+    /// The number of places passed, as found last.
+    pub known: u64,
+    /// Half of the word, as found last: twice the number passed, and one more where a key was in hand.
+    pub half: u64,
+    /// The slots of the places below are empty.
+    pub cleared: u64,
+    /// Where the lane isn't live, it has no key from there on.
+    pub stop: u64,
+    /// The key of the place `known` was in the cursor's hand when the lane was cut, and isn't back yet.
+    pub away: bool,
+    /// 0, or 1 more than the place whose slot is in the writer's hand.
+    pub out: u64,
+    /// The key that lies in the slot of the next place.
+    pub laid: Option<K>,
+    pub loads: u64,
+}
+
+/// What the writer knows.
+pub struct WriterView<B, K, A> {
+    pub tail: Tail<B>,
+    /// One for each lane. A clause reads an array as a list, of any length.
+    pub accounts: LinkedList<Account<K, A>>,
+}
+
+/// What a lane knows.
+pub struct LaneView<B, A> {
+    pub number: u64,
+    pub places: u64,
+    pub turn: u64,
+    pub note: Option<A>,
+    pub start: u64,
+    /// It was admitted, and hasn't left.
+    pub here: bool,
+    pub begun: bool,
+    /// The log when it looked last.
+    pub front: LinkedList<B>,
+    pub passed: u64,
+    /// The key of the place `passed` is in its hand.
+    pub held: bool,
+    pub told: bool,
+    pub cut: bool,
+    pub looks: u64,
+}
+
+/// A place of the log, and what stands there.
+pub struct Own<B> {
+    pub place: u64,
+    pub name: B,
+}
+
+/// What a seat knows. Each part goes its own way at a split.
+pub struct View<B, K, A> {
+    pub writer: Option<WriterView<B, K, A>>,
+    pub lane: Option<LaneView<B, A>>,
+    /// The log when this seat noted it last.
+    pub noted: LinkedList<B>,
+    /// What another seat has seen of the log.
+    pub heard: LinkedList<B>,
+    /// The log was closed by then.
+    pub whole: bool,
+    /// The places that are this seat's own.
+    pub own: LinkedList<Own<B>>,
+    /// So many of them it has noted, the first ones.
+    pub counted: u64,
+}
