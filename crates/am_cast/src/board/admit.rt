@@ -33,9 +33,9 @@ pub(crate) fn admit_lane<B, K, A, R: Keyed<B, K>, X: Noted<A>>(
     seat: &mut LogSeat<B, K, A>,
     lane: usize,
     count: u64,
-    tag: &Snapshot<Option<A>>,
+    tag: &Snapshot<A>,
 ) -> LogSeat<B, K, A>
-    requires tag { tag.now.value ≡ X.note }
+    requires tag { X.note ≡ Some tag.now.value }
     requires table { (seat.old.table_id ≡ top.now.table_id) × IsSized top.now.table_id × (lane < 8) × (count ≤ most) }
     requires writer { let q = writer_of seat.old.me.0 in IsWriter seat.old.me q × (length q.accounts ≡ 8) × (q.tail.closed ≡ false) × (count ≡ length q.tail.log) × (seat.old.me.0.lane ≡ None) }
     requires account { let b = account_of (writer_of seat.old.me.0) lane in (b.stand ≡ idle) × (b.cleared ≡ b.stop) × (b.out ≡ 0) × (b.laid ≡ None) }
