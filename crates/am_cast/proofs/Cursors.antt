@@ -213,12 +213,13 @@ module _ {T P A : Type 0} where
   pub taken_front : (log : List (Name T P)) (c : CursorView T P A) → IsPrefix c.lane.front log → c.lane.start ≤ c.lane.passed → c.lane.passed ≤ length c.lane.front → IsPrefix (taken c) (all_items (drop c.lane.start log))
   taken_front log c p low high = let front : List (Name T P) = c.lane.front in let start : ℕ = c.lane.start in let at : ℕ = c.lane.passed in
       let before : List T = all_items (drop start (take at front)) in let here : List T = items_at front at in
-      let a = take_prefix here c.shown in let b = first_place (drop at front) in
-      (a.0 ++ (b.0 ++ all_items p.0),
-       append_assoc before (take c.shown here) (a.0 ++ (b.0 ++ all_items p.0))
-       ∙ ap (λ (l : List T). before ++ l) (sym (append_assoc (take c.shown here) a.0 (b.0 ++ all_items p.0)) ∙ ap (λ (l : List T). l ++ (b.0 ++ all_items p.0)) a.1 ∙ sym (append_assoc here b.0 (all_items p.0)) ∙ ap (λ (l : List T). l ++ all_items p.0) b.1)
-       ∙ sym (append_assoc before (all_items (drop at front)) (all_items p.0)) ∙ ap (λ (l : List T). l ++ all_items p.0) (sym (items_append (drop start (take at front)) (drop at front)) ∙ ap (λ (l : List (Name T P)). all_items l) (sym (drop_parts front start at low high)))
-       ∙ sym (items_append (drop start front) p.0) ∙ ap (λ (l : List (Name T P)). all_items l) (sym (drop_front front p.0 start (omega arith)) ∙ ap (λ (l : List (Name T P)). drop start l) p.1))
+      let a = take_prefix here c.shown in let b = first_place (drop at front) in (
+        a.0 ++ (b.0 ++ all_items p.0),
+        append_assoc before (take c.shown here) (a.0 ++ (b.0 ++ all_items p.0))
+            ∙ ap (λ (l : List T). before ++ l) (sym (append_assoc (take c.shown here) a.0 (b.0 ++ all_items p.0)) ∙ ap (λ (l : List T). l ++ (b.0 ++ all_items p.0)) a.1 ∙ sym (append_assoc here b.0 (all_items p.0)) ∙ ap (λ (l : List T). l ++ all_items p.0) b.1)
+            ∙ sym (append_assoc before (all_items (drop at front)) (all_items p.0)) ∙ ap (λ (l : List T). l ++ all_items p.0) (sym (items_append (drop start (take at front)) (drop at front)) ∙ ap (λ (l : List (Name T P)). all_items l) (sym (drop_parts front start at low high)))
+            ∙ sym (items_append (drop start front) p.0) ∙ ap (λ (l : List (Name T P)). all_items l) (sym (drop_front front p.0 start (omega arith)) ∙ ap (λ (l : List (Name T P)). drop start l) p.1),
+      )
 
   -- the same, of a cursor whose lane has come home
   pub taken_home : (t : Tail (Name T P)) (b : Account (KeyView T) A) (c : CursorView T P A) (l : ℕ) → Sound t b (left c.lane) l → IsPrefix (taken c) (all_items (drop c.lane.start t.log))

@@ -37,23 +37,33 @@ module _ {T P A : Type 0} (x : Name T P) where
       → FilledTo key_of q₀ x (k + 1) q' × Gathered x (λ l. is_live (account_of q₀ l)) (k + 1) keys'
   fill_step q₀ q q' k keys keys' small f g lives rests = let all = f.1 in let b : Account (KeyView T) A = account_of q₀ k in let was : account_of q k ≡ b = (f.2 k small).1 (omega arith) in
       dite (ℕ_discrete b.stand live)
-      (λ (e : b.stand ≡ live). let r = lives (ap (λ (b : Account (KeyView T) A). b.stand) was ∙ e) in let is = r.0 in
-          ((ap (λ (q : WriterView (Name T P) (KeyView T) A). q.tail) is ∙ f.0,
-            ap (λ (q : WriterView (Name T P) (KeyView T) A). length q.accounts) is ∙ Rattle.std.proofs.Common.length-set q.accounts k (laying (key_of x k) (account_of q k)) ∙ f.1,
-            λ l h. (λ below. dite (ℕ_discrete l k)
+      (λ (e : b.stand ≡ live). let r = lives (ap (λ (b : Account (KeyView T) A). b.stand) was ∙ e) in let is = r.0 in (
+        (
+          ap (λ (q : WriterView (Name T P) (KeyView T) A). q.tail) is ∙ f.0,
+          ap (λ (q : WriterView (Name T P) (KeyView T) A). length q.accounts) is ∙ Rattle.std.proofs.Common.length-set q.accounts k (laying (key_of x k) (account_of q k)) ∙ f.1,
+          λ l h. (
+            λ below. dite (ℕ_discrete l k)
                 (λ z. ap (λ (q : WriterView (Name T P) (KeyView T) A). account_of q l) is ∙ ap (λ (l : ℕ). account_of (with_account k (laying (key_of x k) (account_of q k)) q) l) z ∙ account_same q k (laying (key_of x k) (account_of q k)) (omega arith) ∙ ap (λ (b : Account (KeyView T) A). laying (key_of x k) b) was
-                    ∙ (λ i. filled_as key_of (sym e i) x k b) ∙ ap (λ (l : ℕ). filled_as key_of (account_of q₀ l).stand x l (account_of q₀ l)) (sym z))
+                ∙ (λ i. filled_as key_of (sym e i) x k b) ∙ ap (λ (l : ℕ). filled_as key_of (account_of q₀ l).stand x l (account_of q₀ l)) (sym z))
                 (λ ne. ap (λ (q : WriterView (Name T P) (KeyView T) A). account_of q l) is ∙ account_else q k l (laying (key_of x k) (account_of q k)) ne ∙ (f.2 l h).0 (omega arith)),
-             λ above. ap (λ (q : WriterView (Name T P) (KeyView T) A). account_of q l) is ∙ account_else q k l (laying (key_of x k) (account_of q k)) (λ z. omega arith) ∙ (f.2 l h).1 (omega arith))),
-           subst (λ (z : ℕ × List (KeyView T)). Gathered x (λ l. is_live (account_of q₀ l)) z.0 z.1) (λ i. (sym (add-one k) i, sym r.1 i)) (gathered_skip x (λ l. is_live (account_of q₀ l)) k keys g (live_is b e))))
-      (λ (ne₀ : b.stand ≢ live). let r = rests (λ e. ne₀ (ap (λ (b : Account (KeyView T) A). b.stand) (sym was) ∙ e)) in let is = r.0 in
-          ((ap (λ (q : WriterView (Name T P) (KeyView T) A). q.tail) is ∙ f.0,
-            ap (λ (q : WriterView (Name T P) (KeyView T) A). length q.accounts) is ∙ f.1,
-            λ l h. (λ below. ap (λ (q : WriterView (Name T P) (KeyView T) A). account_of q l) is ∙ dite (ℕ_discrete l k)
+            λ above. ap (λ (q : WriterView (Name T P) (KeyView T) A). account_of q l) is ∙ account_else q k l (laying (key_of x k) (account_of q k)) (λ z. omega arith) ∙ (f.2 l h).1 (omega arith),
+          ),
+        ),
+        subst (λ (z : ℕ × List (KeyView T)). Gathered x (λ l. is_live (account_of q₀ l)) z.0 z.1) (λ i. (sym (add-one k) i, sym r.1 i)) (gathered_skip x (λ l. is_live (account_of q₀ l)) k keys g (live_is b e)),
+      ))
+      (λ (ne₀ : b.stand ≢ live). let r = rests (λ e. ne₀ (ap (λ (b : Account (KeyView T) A). b.stand) (sym was) ∙ e)) in let is = r.0 in (
+        (
+          ap (λ (q : WriterView (Name T P) (KeyView T) A). q.tail) is ∙ f.0,
+          ap (λ (q : WriterView (Name T P) (KeyView T) A). length q.accounts) is ∙ f.1,
+          λ l h. (
+            λ below. ap (λ (q : WriterView (Name T P) (KeyView T) A). account_of q l) is ∙ dite (ℕ_discrete l k)
                 (λ z. ap (λ (l : ℕ). account_of q l) z ∙ was ∙ sym (filled_else key_of b.stand x k b ne₀) ∙ ap (λ (l : ℕ). filled_as key_of (account_of q₀ l).stand x l (account_of q₀ l)) (sym z))
                 (λ ne. (f.2 l h).0 (omega arith)),
-             λ above. ap (λ (q : WriterView (Name T P) (KeyView T) A). account_of q l) is ∙ (f.2 l h).1 (omega arith))),
-           subst (λ (z : ℕ × List (KeyView T)). Gathered x (λ l. is_live (account_of q₀ l)) z.0 z.1) (λ i. (sym (add-one k) i, sym r.1 i)) (gathered_more x (λ l. is_live (account_of q₀ l)) k keys g (else_is b ne₀))))
+            λ above. ap (λ (q : WriterView (Name T P) (KeyView T) A). account_of q l) is ∙ (f.2 l h).1 (omega arith),
+          ),
+        ),
+        subst (λ (z : ℕ × List (KeyView T)). Gathered x (λ l. is_live (account_of q₀ l)) z.0 z.1) (λ i. (sym (add-one k) i, sym r.1 i)) (gathered_more x (λ l. is_live (account_of q₀ l)) k keys g (else_is b ne₀)),
+      ))
 
   pub fill_none : (q : WriterView (Name T P) (KeyView T) A) → length q.accounts ≡ 8 → FilledTo key_of q x 0 q
   fill_none q all = (refl, all, λ l h. ((λ below. absurd (omega arith)), λ above. refl))
@@ -83,6 +93,7 @@ module _ {T P A : Type 0} (x : Name T P) where
       to : b.stand ≡ live → IsOut (record b { stop = suc b.stop; laid = None }) i → IsOut b i
       to e (slotted h k) = let l = (lives e).1 in slotted h (omega arith)
       to e (handed h k) = handed h k
+
       from : b.stand ≡ live → IsOut b i → IsOut (record b { stop = suc b.stop; laid = None }) i
       from e (slotted h k) = slotted h (omega arith)
       from e (handed h k) = handed h k
@@ -100,7 +111,7 @@ module _ {T P A : Type 0} (x : Name T P) where
   fits_longer q rows rows' n long ready fits others at_n i = let all = ready.0 in dite (ℕ_discrete i n)
       (λ e. subst (λ (j : ℕ). FitsAt (longer x q) j (row_at rows' j)) (sym e) at_n)
       (λ ne. subst (λ (o : Option (List (KeyView T))). FitsAt (longer x q) i o) (sym (others i ne)) (fits_ext q (longer x q) i (row_at rows i) (λ y e. prefix_at q.tail.log (q.tail.log ++ x ∷ []) i y (x ∷ [], refl) e)
-          (λ l h. ap (λ (b : Account (KeyView T) A). is_out b i) (account_longer q x l (omega arith)) ∙ grown_off (account_of q l) (length q.tail.log) i (ready.1 l h).0 (λ z. ne (z ∙ sym long))) (fits i)))
+      (λ l h. ap (λ (b : Account (KeyView T) A). is_out b i) (account_longer q x l (omega arith)) ∙ grown_off (account_of q l) (length q.tail.log) i (ready.1 l h).0 (λ z. ne (z ∙ sym long))) (fits i)))
 
   now_out : (q : WriterView (Name T P) (KeyView T) A) (n : ℕ) → n ≡ length q.tail.log → AreReady q → (l : ℕ) → l < 8 → is_out (account_of (longer x q) l) n ≡ is_live (account_of q l)
   now_out q n long ready l h = let all = ready.0 in let r = ready.1 l h in ap (λ (i : ℕ). is_out (account_of (longer x q) l) i) long ∙ ap (λ (b : Account (KeyView T) A). is_out b (length q.tail.log)) (account_longer q x l (omega arith)) ∙ grown_at (account_of q l) (length q.tail.log) r.0 r.1 (λ a. (r.2 a).1)
@@ -109,17 +120,19 @@ module _ {T P A : Type 0} (x : Name T P) where
   pub fits_row : (q q' : WriterView (Name T P) (KeyView T) A) (rows rows' : List (BucketView T)) (n : ℕ) (keys : List (KeyView T)) → q' ≡ longer x q → n ≡ length q.tail.log → AreReady q → RowsFit q rows
       → Gathered x (λ l. is_live (account_of q l)) 8 keys → nat_eq (length keys) 8 ≡ false → row_at rows' n ≡ Some keys → ((p : ℕ) → p ≢ n → row_at rows' p ≡ row_at rows p) → RowsFit q' rows'
   fits_row q q' rows rows' n keys is long ready fits g few here others = subst (λ (q : WriterView (Name T P) (KeyView T) A). RowsFit q rows') (sym is) (fits_longer q rows rows' n long ready fits others
-      (subst (λ (o : Option (List (KeyView T))). FitsAt (longer x q) n o) (sym here)
-        (x, at_last q.tail.log x n (sym long),
-         gathered_same x (λ l. is_live (account_of q l)) (λ l. is_out (account_of (longer x q) l) n) 8 keys (now_out q n long ready) g,
-         (let many = g.many in let ne : length keys ≢ 8 = (λ z. false≢true (sym few ∙ eq-eqb (length keys) 8 z)) in omega arith))))
+      (subst (λ (o : Option (List (KeyView T))). FitsAt (longer x q) n o) (sym here) (
+        x,
+        at_last q.tail.log x n (sym long),
+        gathered_same x (λ l. is_live (account_of q l)) (λ l. is_out (account_of (longer x q) l) n) 8 keys (now_out q n long ready) g,
+        (let many = g.many in let ne : length keys ≢ 8 = (λ z. false≢true (sym few ∙ eq-eqb (length keys) 8 z)) in omega arith),
+      )))
 
   -- no lane is live, and the segment has ended
   pub fits_ended : (q q' : WriterView (Name T P) (KeyView T) A) (rows : List (BucketView T)) (n : ℕ) (keys : List (KeyView T)) → q' ≡ longer x q → n ≡ length q.tail.log → AreReady q → RowsFit q rows
       → Gathered x (λ l. is_live (account_of q l)) 8 keys → nat_eq (length keys) 8 ≡ true → RowsFit q' rows
   fits_ended q q' rows n keys is long ready fits g full = subst (λ (q : WriterView (Name T P) (KeyView T) A). RowsFit q rows) (sym is) (fits_longer q rows rows n long ready fits (λ p ne. refl)
       (subst (λ (o : Option (List (KeyView T))). FitsAt (longer x q) n o) (sym (no_row_yet q rows n long fits))
-        (λ l h. now_out q n long ready l h ∙ gathered_clear x (λ l. is_live (account_of q l)) keys g (eqb-true (length keys) 8 full) l h)))
+      (λ l h. now_out q n long ready l h ∙ gathered_clear x (λ l. is_live (account_of q l)) keys g (eqb-true (length keys) 8 full) l h)))
 
 module _ {T P : Type 0} (x : Name T P) where
   -- the key of a lane was handed out, and the others are left

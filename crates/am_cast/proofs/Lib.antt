@@ -20,3 +20,4 @@ pub mod Waiting
 pub mod WriterSteps
 pub mod Writers
 pub mod steps
+pub mod FreedRows

@@ -79,6 +79,7 @@ module _ {K A : Type 0} where
       to : IsOut (known_to n b) i → IsOut b i
       to (slotted h k) = slotted h k
       to (handed h k) = absurd (false≢true (sym home ∙ h))
+
       from : IsOut b i → IsOut (known_to n b) i
       from (slotted h k) = slotted h k
       from (handed h k) = absurd (false≢true (sym home ∙ h))
@@ -89,6 +90,7 @@ module _ {K A : Type 0} where
       to : IsOut (back n (loaded b)) i → IsOut b i
       to (slotted h k) = handed away (omega arith)
       to (handed h k) = absurd (false≢true h)
+
       from : IsOut b i → IsOut (back n (loaded b)) i
       from (slotted h k) = absurd (omega arith)
       from (handed h k) = slotted (omega arith) (omega arith)
@@ -99,6 +101,7 @@ module _ {K A : Type 0} where
       to : IsOut (severed zero b) i → IsOut b i
       to (slotted h k) = slotted (omega arith) k
       to (handed h k) = absurd (false≢true h)
+
       from : IsOut b i → IsOut (severed zero b) i
       from (slotted h k) = slotted (omega arith) k
       from (handed h k) = absurd (false≢true (sym home ∙ h))
@@ -107,6 +110,7 @@ module _ {K A : Type 0} where
       to : IsOut (severed 1 b) i → IsOut b i
       to (slotted h k) = slotted (omega arith) k
       to (handed h k) = slotted (omega arith) (omega arith)
+
       from : IsOut b i → IsOut (severed 1 b) i
       from (slotted h k) = dite (ℕ_discrete i b.known) (λ e. handed refl e) (λ ne. slotted (omega arith) k)
       from (handed h k) = absurd (false≢true (sym home ∙ h))
@@ -125,6 +129,7 @@ module _ {K A : Type 0} where
       to : IsOut (clearing b) i → IsOut b i
       to (slotted h k) = slotted (omega arith) k
       to (handed h k) = handed h k
+
       from : IsOut b i → IsOut (clearing b) i
       from (slotted h k) = slotted (omega arith) k
       from (handed h k) = handed h k
@@ -143,9 +148,11 @@ module _ {K A : Type 0} where
       elim_bool : {X : Type 0} → (p : Bool) → (p ≡ true → X) → (p ≡ false → X) → X
       elim_bool true f g = f refl
       elim_bool false f g = g refl
+
       to : b.away ≡ true → IsOut (record (returned b) { stand = idle; loads = b.loads + 1 }) i → IsOut b i
       to e (slotted h k) = handed e (omega arith)
       to e (handed h k) = absurd (false≢true h)
+
       from : b.away ≡ true → IsOut b i → IsOut (record (returned b) { stand = idle; loads = b.loads + 1 }) i
       from e (slotted h k) = let c = clear e in absurd (omega arith)
       from e (handed h k) = slotted (omega arith) (omega arith)
@@ -265,8 +272,8 @@ module _ {T P A : Type 0} where
       → ((i : ℕ) → is_out b i ≡ is_out (account_of q l) i) → RowsFit q rows → RowsFit q' rows
   fits_one q q' rows l b is small same fits = subst (λ (q : WriterView (Name T P) (KeyView T) A). RowsFit q rows) (sym is) (λ i. fits_ext q (with_account l b q) i (row_at rows i) (λ x e. e)
       (λ m h. dite (ℕ_discrete m l)
-          (λ e. ap (λ (m : ℕ). is_out (account_of (with_account l b q) m) i) e ∙ ap (λ (b : Account (KeyView T) A). is_out b i) (account_here q l b small) ∙ same i ∙ ap (λ (m : ℕ). is_out (account_of q m) i) (sym e))
-          (λ ne. ap (λ (b : Account (KeyView T) A). is_out b i) (account_else q l m b ne))) (fits i))
+      (λ e. ap (λ (m : ℕ). is_out (account_of (with_account l b q) m) i) e ∙ ap (λ (b : Account (KeyView T) A). is_out b i) (account_here q l b small) ∙ same i ∙ ap (λ (m : ℕ). is_out (account_of q m) i) (sym e))
+      (λ ne. ap (λ (b : Account (KeyView T) A). is_out b i) (account_else q l m b ne))) (fits i))
 
   -- no account has changed
   pub fits_tail : (q q' : WriterView (Name T P) (KeyView T) A) (rows : List (BucketView T)) → q'.tail.log ≡ q.tail.log → q'.accounts ≡ q.accounts → RowsFit q rows → RowsFit q' rows
@@ -306,8 +313,8 @@ module _ {T P A : Type 0} where
       → ((account_of q l).away ≡ true → (account_of q l).known < (account_of q l).cleared) → q' ≡ with_account l (clearing (account_of q l)) q → (c : Coming q rows l place key) → Gathered c.x (λ l. is_out (account_of q' l) place) 8 (c.keys ++ key ∷ [])
   came q rows l place key q' _ inside small at low is c = subst (λ (k : KeyView T). Gathered c.x (λ l. is_out (account_of q' l) place) 8 (c.keys ++ k ∷ [])) (sym c.key_is)
       (gathered_one c.x (λ l. is_out (account_of q l) place) (λ l. is_out (account_of q' l) place) l 8 c.keys c.gathered small c.out
-          (ap (λ (q : WriterView (Name T P) (KeyView T) A). is_out (account_of q l) place) is ∙ ap (λ (b : Account (KeyView T) A). is_out b place) (account_here q l (clearing (account_of q l)) inside) ∙ ap (λ (i : ℕ). is_out (clearing (account_of q l)) i) at ∙ out_cleared (account_of q l) low)
-          (λ m ne. ap (λ (q : WriterView (Name T P) (KeyView T) A). is_out (account_of q m) place) is ∙ ap (λ (b : Account (KeyView T) A). is_out b place) (account_else q l m (clearing (account_of q l)) ne)))
+      (ap (λ (q : WriterView (Name T P) (KeyView T) A). is_out (account_of q l) place) is ∙ ap (λ (b : Account (KeyView T) A). is_out b place) (account_here q l (clearing (account_of q l)) inside) ∙ ap (λ (i : ℕ). is_out (clearing (account_of q l)) i) at ∙ out_cleared (account_of q l) low)
+      (λ m ne. ap (λ (q : WriterView (Name T P) (KeyView T) A). is_out (account_of q m) place) is ∙ ap (λ (b : Account (KeyView T) A). is_out b place) (account_else q l m (clearing (account_of q l)) ne)))
 
   pub may_bring : (q q' : WriterView (Name T P) (KeyView T) A) (rows : List (BucketView T)) (l place : ℕ) (key : KeyView T) → l < length q.accounts → l < 8 → place ≡ (account_of q l).cleared → place < (account_of q l).stop
       → ((account_of q l).away ≡ true → (account_of q l).known < (account_of q l).cleared) → q' ≡ with_account l (clearing (account_of q l)) q
@@ -321,11 +328,11 @@ module _ {T P A : Type 0} where
       → ((keys : List (KeyView T)) → row_at rows place ≡ Some keys → row_at rows' place ≡ row_with keys key) → ((p : ℕ) → p ≢ place → row_at rows' p ≡ row_at rows p) → RowsFit q' rows'
   brought q q' rows rows' l place key inside small at in_slot low is k fits here others i = dite (ℕ_discrete i place)
       (λ e. let c = coming q rows l place key small at in_slot k fits in let g = came q rows l place key q' c inside small at low is c in
-          subst (λ (j : ℕ). FitsAt q' j (row_at rows' j)) (sym e) (subst (λ (o : Option (List (KeyView T))). FitsAt q' place o) (sym (here c.keys c.row)) (now c.keys c.x (nat_eq (length c.keys) 7) refl (ap (λ (q : WriterView (Name T P) (KeyView T) A). get_elem? q.tail.log place) is ∙ c.name) g c.few)))
+      subst (λ (j : ℕ). FitsAt q' j (row_at rows' j)) (sym e) (subst (λ (o : Option (List (KeyView T))). FitsAt q' place o) (sym (here c.keys c.row)) (now c.keys c.x (nat_eq (length c.keys) 7) refl (ap (λ (q : WriterView (Name T P) (KeyView T) A). get_elem? q.tail.log place) is ∙ c.name) g c.few)))
       (λ ne. subst (λ (o : Option (List (KeyView T))). FitsAt q' i o) (sym (others i ne)) (fits_ext q q' i (row_at rows i) (λ x e. ap (λ (q : WriterView (Name T P) (KeyView T) A). get_elem? q.tail.log i) is ∙ e)
-          (λ m h. ap (λ (q : WriterView (Name T P) (KeyView T) A). is_out (account_of q m) i) is ∙ dite (ℕ_discrete m l)
-              (λ e. ap (λ (m : ℕ). is_out (account_of (with_account l (clearing (account_of q l)) q) m) i) e ∙ ap (λ (b : Account (KeyView T) A). is_out b i) (account_here q l (clearing (account_of q l)) inside) ∙ out_clearing (account_of q l) i (λ z. ne (z ∙ sym at)) ∙ ap (λ (m : ℕ). is_out (account_of q m) i) (sym e))
-              (λ off. ap (λ (b : Account (KeyView T) A). is_out b i) (account_else q l m (clearing (account_of q l)) off))) (fits i)))
+      (λ m h. ap (λ (q : WriterView (Name T P) (KeyView T) A). is_out (account_of q m) i) is ∙ dite (ℕ_discrete m l)
+      (λ e. ap (λ (m : ℕ). is_out (account_of (with_account l (clearing (account_of q l)) q) m) i) e ∙ ap (λ (b : Account (KeyView T) A). is_out b i) (account_here q l (clearing (account_of q l)) inside) ∙ out_clearing (account_of q l) i (λ z. ne (z ∙ sym at)) ∙ ap (λ (m : ℕ). is_out (account_of q m) i) (sym e))
+      (λ off. ap (λ (b : Account (KeyView T) A). is_out b i) (account_else q l m (clearing (account_of q l)) off))) (fits i)))
     where
       now : (keys : List (KeyView T)) (x : Name T P) (b : Bool) → nat_eq (length keys) 7 ≡ b → get_elem? q'.tail.log place ≡ some x → Gathered x (λ l. is_out (account_of q' l) place) 8 (keys ++ key ∷ []) → length keys < 8 → FitsAt q' place (cond b None (Some (keys ++ key ∷ [])))
       now keys x true e there g few = let seven = eqb-true (length keys) 7 e in let long = length-append keys (key ∷ []) in let many = g.many in outs_none (λ l. is_out (account_of q' l) place) 8 (omega arith)
@@ -347,6 +354,7 @@ module _ {T P A : Type 0} where
     where
       home : (l : ℕ) → l < 8 → is_out (account_of q l) p ≡ false
       home l h = let c = calm.1 l h in let i = idles l h in out_clear (account_of q l) p (c.rest_is (λ e. omega arith)) (not_true (account_of q l).away (λ e. let a = (c.away_is e).0 in omega arith))
+
       go : (o : Option (List (KeyView T))) → FitsAt q p o → o ≡ None
       go None f = refl
       go (Some keys) f = absurd (let g = f.2 in let many = g.many in let few = f.3 in let none_out = none_outs (λ l. is_out (account_of q l) p) 8 home in omega arith)

@@ -91,16 +91,19 @@ module _ {B K A : Type 0} (key : B → ℕ → K) where
       (ap (λ (b : Account K A). b.out) now ∙ calm.out, λ z. absurd (ne (sym (ap (λ (b : Account K A). b.stand) now) ∙ z))))
 
   pub filled_ready : (q q' : WriterView B K A) (x : B) → Calm q → FilledTo key q x 8 q' → AreReady q'
-  filled_ready q q' x c f = (f.1, λ l small. let b : Account K A = account_of q l in let calm = c.1 l small in let k = calm.known in let s = calm.stops in
-      let log : length q'.tail.log ≡ length q.tail.log = ap (λ (t : Tail B). length t.log) f.0 in
-      let is : account_of q' l ≡ filled_as key b.stand x l b = (f.2 l small).0 small in
-      dite (ℕ_discrete b.stand live)
-      (λ (e : b.stand ≡ live). let now : account_of q' l ≡ laying (key x l) b = is ∙ (λ i. filled_as key (e i) x l b) in let li = calm.live_is e in let l₀ = li.0 in let l₁ = li.1 in
-          subst (λ (z : Account K A). (z.stand ≡ live → (z.cleared ≤ z.stop) × (z.stop ≡ length q'.tail.log)) × (z.stop ≤ length q'.tail.log) × (z.away ≡ true → (z.stand ≡ 2) × (z.known < length q'.tail.log))) (sym now)
-          ((λ _. (omega arith, omega arith)), omega arith, λ a. let w = calm.away_is a in let w₁ = w.1 in (w.0, omega arith)))
-      (λ (ne : b.stand ≢ live). let now : account_of q' l ≡ b = is ∙ filled_else b.stand x l b ne in
-          subst (λ (z : Account K A). (z.stand ≡ live → (z.cleared ≤ z.stop) × (z.stop ≡ length q'.tail.log)) × (z.stop ≤ length q'.tail.log) × (z.away ≡ true → (z.stand ≡ 2) × (z.known < length q'.tail.log))) (sym now)
-          ((λ e. absurd (ne e)), omega arith, λ a. let w = calm.away_is a in let w₁ = w.1 in (w.0, omega arith))))
+  filled_ready q q' x c f = (
+    f.1,
+    λ l small. let b : Account K A = account_of q l in let calm = c.1 l small in let k = calm.known in let s = calm.stops in
+        let log : length q'.tail.log ≡ length q.tail.log = ap (λ (t : Tail B). length t.log) f.0 in
+        let is : account_of q' l ≡ filled_as key b.stand x l b = (f.2 l small).0 small in
+        dite (ℕ_discrete b.stand live)
+        (λ (e : b.stand ≡ live). let now : account_of q' l ≡ laying (key x l) b = is ∙ (λ i. filled_as key (e i) x l b) in let li = calm.live_is e in let l₀ = li.0 in let l₁ = li.1 in
+        subst (λ (z : Account K A). (z.stand ≡ live → (z.cleared ≤ z.stop) × (z.stop ≡ length q'.tail.log)) × (z.stop ≤ length q'.tail.log) × (z.away ≡ true → (z.stand ≡ 2) × (z.known < length q'.tail.log))) (sym now)
+        ((λ _. (omega arith, omega arith)), omega arith, λ a. let w = calm.away_is a in let w₁ = w.1 in (w.0, omega arith)))
+        (λ (ne : b.stand ≢ live). let now : account_of q' l ≡ b = is ∙ filled_else b.stand x l b ne in
+        subst (λ (z : Account K A). (z.stand ≡ live → (z.cleared ≤ z.stop) × (z.stop ≡ length q'.tail.log)) × (z.stop ≤ length q'.tail.log) × (z.away ≡ true → (z.stand ≡ 2) × (z.known < length q'.tail.log))) (sym now)
+        ((λ e. absurd (ne e)), omega arith, λ a. let w = calm.away_is a in let w₁ = w.1 in (w.0, omega arith))),
+  )
 
   pub calm_longer : (q q' : WriterView B K A) (x : B) → Calm q → HasRoom q 8 → FilledTo key q x 8 q' → Calm (longer x q')
   calm_longer q q' x c room f = let all = f.1 in (
@@ -113,9 +116,9 @@ module _ {B K A : Type 0} (key : B → ℕ → K) where
         dite (ℕ_discrete b.stand live)
         (λ (e : b.stand ≡ live). let now : account_of (longer x q') l ≡ record (laying (key x l) b) { stop = suc b.stop; laid = None } = first ∙ ap (λ (b : Account K A). grown b) (is ∙ (λ i. filled_as key (e i) x l b)) ∙ grown_live (laying (key x l) b) e in
         let li = calm.live_is e in let l₁ = li.1 in let space = room l small e in
-        subst (λ (z : Account K A). IsCalm (length (q'.tail.log ++ x ∷ [])) q'.tail.places z) (sym now) record { out = refl; laid = refl; known = omega arith; stops = omega arith; live_is = λ _. (li.0, omega arith, omega arith, li.3, li.4); rest_is = λ ne. absurd (ne e); away_is = λ z. absurd (let a = (calm.away_is z).0 in omega arith) })
+        subst (λ (z : Account K A). IsCalm (length (q'.tail.log ++ x ∷ [])) q'.tail.places z) (sym now) record { out = refl; laid = refl; low = calm.low; known = omega arith; stops = omega arith; live_is = λ _. (li.0, omega arith, omega arith, li.3, li.4); rest_is = λ ne. absurd (ne e); away_is = λ z. absurd (let a = (calm.away_is z).0 in omega arith) })
         (λ (ne : b.stand ≢ live). let now : account_of (longer x q') l ≡ b = first ∙ ap (λ (b : Account K A). grown b) (is ∙ filled_else b.stand x l b ne) ∙ grown_else b ne in
-        subst (λ (z : Account K A). IsCalm (length (q'.tail.log ++ x ∷ [])) q'.tail.places z) (sym now) record { out = calm.out; laid = calm.laid; known = omega arith; stops = omega arith; live_is = λ e. absurd (ne e); rest_is = calm.rest_is; away_is = λ z. let a = calm.away_is z in let a₁ = a.1 in (a.0, omega arith, a.2) }),
+        subst (λ (z : Account K A). IsCalm (length (q'.tail.log ++ x ∷ [])) q'.tail.places z) (sym now) record { out = calm.out; laid = calm.laid; low = calm.low; known = omega arith; stops = omega arith; live_is = λ e. absurd (ne e); rest_is = calm.rest_is; away_is = λ z. let a = calm.away_is z in let a₁ = a.1 in (a.0, omega arith, a.2) }),
   )
 
   -- a publish counts no load, and admits nobody

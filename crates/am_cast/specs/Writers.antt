@@ -22,6 +22,7 @@ pub record Moored {K A : Type 0} (b : Account K A) (stand known half away : ℕ)
 pub record IsCalm {K A : Type 0} (n places : ℕ) (b : Account K A) : Type 0 where
   pub out : b.out ≡ 0
   pub laid : b.laid ≡ None
+  pub low : b.start ≤ b.known
   pub known : b.known ≤ n
   pub stops : b.stop ≤ n
   pub live_is : b.stand ≡ live → (b.cleared ≡ b.known) × (b.stop ≡ n) × (n ≤ b.known + places) × (b.half / 2 ≡ b.known) × (b.away ≡ false)

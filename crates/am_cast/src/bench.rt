@@ -1,5 +1,5 @@
 //! The writer's steps, one lane at a time.
-ghost use Rattle.std.specs.Prelude.{◌≡◌, ◌≢◌, ◌+◌, ◌*◌, ◌/◌, ◌%◌, ◌<◌, ◌≤◌, true, false, length, None, Some, [], ℕ, suc, IfSome, IfNone, IfOk, ◌++◌, ◌∷◌, slice_index_or};
+ghost use Rattle.std.specs.Prelude.{◌↔◌, IsTrue, ◌≡◌, ◌≢◌, ◌+◌, ◌*◌, ◌/◌, ◌%◌, ◌<◌, ◌≤◌, true, false, length, None, Some, [], ℕ, suc, IfSome, IfNone, IfOk, ◌++◌, ◌∷◌, slice_index_or};
 ghost use Rattle.am_cast.specs.declared.name.Name.{Name};
 ghost use Rattle.am_cast.specs.Rule.{idle, live, cut, vacated, gone, most, bit, Sound};
 ghost use Rattle.am_cast.specs.Changes.{with_account, longer_tail, loaded, marked, back, clearing, laying, severed, known_to, longer, both_of, shut, admitted, new_lane, opened, retired, left};
@@ -8,6 +8,7 @@ ghost use Rattle.am_cast.specs.Cursors.{as_cursor};
 ghost use Rattle.am_cast.specs.Keys.{items_of, key_of};
 ghost use Rattle.am_cast.specs.Tags.{name_of};
 ghost use Rattle.am_cast.specs.Writers.{IsCalm, Calm, HasRoom, IsBehind, Harvested, FilledTo, AllLaid, AreReady, IsCutAs, SameAdmission, StaysAs, owner_of};
+ghost use Rattle.am_cast.specs.Freed.{IsFreedFor};
 ghost use Rattle.am_cast.specs.Benches.{OneAccount, OnlyAccount, KeepsRoom};
 ghost use Rattle.am_cast.specs.inside.KeyRows.{bucket_of};
 ghost use Rattle.am_cast.specs.inside.Waiting.{Gathered, is_live};
@@ -39,6 +40,7 @@ pub(crate) struct Bench<T, P, A, N: Feed> {
 }
 
 impl<T, P, A, N: Feed> Model for Bench<T, P, A, N> {
+    ghost use Rattle.am_cast.specs.Freed.{IsFreedFor};
     ghost use Rattle.am_cast.specs.Benches.{BenchView};
     ghost use Rattle.am_cast.specs.Seats.{writer_of};
     ghost use Rattle.am_cast.specs.Writers.{BenchOk};
@@ -230,7 +232,14 @@ impl<T: Drop, P, A, N: Feed> Bench<T, P, A, N> {
     }
 
     // Each live lane gets its key of the next place. The other keys go into the place's row.
-    fn fill(&mut self, cast: &Cast<T, P, A, N>, tag: &Tag<T, P>, first: SegKey<T>, rest: KeyRun<T>, row: Row<T>) -> Row<T>
+    fn fill(
+        &mut self,
+        cast: &Cast<T, P, A, N>,
+        tag: &Tag<T, P>,
+        first: SegKey<T>,
+        rest: KeyRun<T>,
+        row: Row<T>,
+    ) -> Row<T>
         requires writer { Calm self.old.desk × HasRoom self.old.desk 8 }
         requires keys { (first ≡ key_of (name_of tag.now) 0) × (rest ≡ key_of (name_of tag.now) 1) × (row.keys ≡ []) }
         ensures writer { FilledTo key_of self.old.desk (name_of tag.now) 8 self.new.desk }
@@ -251,7 +260,13 @@ impl<T: Drop, P, A, N: Feed> Bench<T, P, A, N> {
     }
 
     // The place is there, and becomes the other seat's own. Its row waits for the keys that are out.
-    fn store(&mut self, cast: &Cast<T, P, A, N>, tag: &Tag<T, P>, row: Row<T>, to: &mut LogSeat<T, P, A>)
+    fn store(
+        &mut self,
+        cast: &Cast<T, P, A, N>,
+        tag: &Tag<T, P>,
+        row: Row<T>,
+        to: &mut LogSeat<T, P, A>,
+    )
         requires writer { (self.old.desk.tail.closed ≡ false) × (length self.old.desk.tail.log < most) × AllLaid key_of self.old.desk (name_of tag.now) × AreReady self.old.desk }
         requires row { (row.place ≡ length self.old.desk.tail.log) × Gathered (name_of tag.now) (λ l. is_live (account_of self.old.desk l)) 8 row.keys
             × (1 ≤ (bucket_of self.old.rows row.place).room) }
@@ -344,7 +359,12 @@ impl<T: Drop, P, A, N: Feed> Bench<T, P, A, N> {
     }
 
     // A live lane's seat comes home, and its keys are taken out.
-    pub(crate) fn bring_live(&mut self, cast: &Cast<T, P, A, N>, lane: usize, other: LogSeat<T, P, A>)
+    pub(crate) fn bring_live(
+        &mut self,
+        cast: &Cast<T, P, A, N>,
+        lane: usize,
+        other: LogSeat<T, P, A>,
+    )
         requires calm { (lane < 8) × Calm self.old.desk × ((account_of self.old.desk lane).stand ≡ live) }
         requires other { (other.table_id ≡ N.table) × (other.me.1 ≡ []) × (other.me.0.writer ≡ None) × (other.me.0.own ≡ []) }
         requires lane { let v = lane_of other.me.0 in (other.me.0.lane ≡ Some v) × (v.number ≡ lane) × (v.here ≡ false) }
@@ -358,7 +378,12 @@ impl<T: Drop, P, A, N: Feed> Bench<T, P, A, N> {
     }
 
     // A cut lane's seat comes home, and so does a key that was away.
-    pub(crate) fn bring_cut(&mut self, cast: &Cast<T, P, A, N>, lane: usize, other: LogSeat<T, P, A>)
+    pub(crate) fn bring_cut(
+        &mut self,
+        cast: &Cast<T, P, A, N>,
+        lane: usize,
+        other: LogSeat<T, P, A>,
+    )
         requires calm { (lane < 8) × Calm self.old.desk × ((account_of self.old.desk lane).stand ≢ live) }
         requires other { (other.table_id ≡ N.table) × (other.me.1 ≡ []) × (other.me.0.writer ≡ None) × (other.me.0.own ≡ []) }
         requires lane { let v = lane_of other.me.0 in (other.me.0.lane ≡ Some v) × (v.number ≡ lane) × (v.here ≡ false) }
@@ -378,6 +403,14 @@ impl<T: Drop, P, A, N: Feed> Bench<T, P, A, N> {
         ensures { (result ≡ length self.now.desk.tail.log) × (result ≤ most) }
     {
         self.count
+    }
+
+    /// Whether the place is there and all its keys are back.
+    pub(crate) fn freed(&self, place: u64) -> bool
+        requires { Calm self.now.desk }
+        ensures { IsTrue result ↔ IsFreedFor self.now.desk place }
+    {
+        place < self.count && !self.rows.has(place)
     }
 
     pub(crate) fn is_closed(&self) -> bool

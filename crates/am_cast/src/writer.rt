@@ -1,5 +1,5 @@
 //! The writer of a log. It stands under the lock.
-ghost use Rattle.std.specs.Prelude.{◌≡◌, ◌≢◌, ◌+◌, ◌<◌, ◌≤◌, ◌∷◌, ◌++◌, [], true, false, ℕ, length, IfOk, IfErr, OnOk, OnErr, IsOk, ◌↔◌, Some, None, IfSome, IfNone, slice_index_or};
+ghost use Rattle.std.specs.Prelude.{◌↔◌, IsTrue, ◌≡◌, ◌≢◌, ◌+◌, ◌<◌, ◌≤◌, ◌∷◌, ◌++◌, [], true, false, ℕ, length, IfOk, IfErr, OnOk, OnErr, IsOk, ◌↔◌, Some, None, IfSome, IfNone, slice_index_or};
 ghost use mathlib.Core.List.{IsPrefix};
 ghost use Rattle.std.specs.Prelude.{drop};
 ghost use Rattle.am_cast.specs.declared.name.Name.{Name};
@@ -8,6 +8,7 @@ ghost use Rattle.am_cast.specs.Changes.{longer_tail, shut_tail, own_at, opened, 
 ghost use Rattle.am_cast.specs.Seats.{account_of};
 ghost use Rattle.am_cast.specs.Keys.{items_of, all_items};
 ghost use Rattle.am_cast.specs.Cursors.{as_cursor, taken, HasEnded};
+ghost use Rattle.am_cast.specs.Freed.{IsFreedFor};
 ghost use Rattle.am_cast.specs.Writers.{Calm, Harvested, HasRoom, IsBehind, StaysAs, SameAdmission, IsCutAs};
 ghost use Rattle.am_cast.specs.Refusals.{IsRefusal, IsCutRefusal, IsAdmitRefusal, IsOpen};
 
@@ -55,6 +56,14 @@ impl<T: Drop, P, A, N: Feed> Writer<T, P, A, N> {
         self.bench.len()
     }
 
+    /// Whether the place is there and the writer keeps no key of it: all its keys came home, and its
+    /// segment has ended.
+    pub fn freed(&self, place: u64) -> bool
+        ensures { IsTrue result ↔ IsFreedFor self.now place }
+    {
+        self.bench.freed(place)
+    }
+
     pub fn is_closed(&self) -> bool
         ensures { result ≡ self.now.tail.closed }
     {
@@ -94,18 +103,30 @@ impl<T: Drop, P, A, N: Feed> Writer<T, P, A, N> {
         ensures refused { IfErr result (λ e. (e.batch ≡ batch) × IsRefusal self.old self.new e.fault) }
     {
         if self.bench.is_closed() {
-            return Err(Refused { fault: PublishFault::Closed, batch });
+            return Err(Refused {
+                fault: PublishFault::Closed,
+                batch,
+            });
         }
         if self.bench.len() >= MOST_PLACES {
-            return Err(Refused { fault: PublishFault::LogEnd, batch });
+            return Err(Refused {
+                fault: PublishFault::LogEnd,
+                batch,
+            });
         }
         self.bench.harvest(cast);
         if let Some(lane) = self.bench.full_lane() {
             let passed = self.bench.known_of(lane);
-            return Err(Refused { fault: PublishFault::Full { lane, passed }, batch });
+            return Err(Refused {
+                fault: PublishFault::Full { lane, passed },
+                batch,
+            });
         }
         let Ok(row) = self.bench.reserve() else {
-            return Err(Refused { fault: PublishFault::NoMemory, batch });
+            return Err(Refused {
+                fault: PublishFault::NoMemory,
+                batch,
+            });
         };
         let place = self.bench.len();
         self.bench.post(cast, batch, post, row, &mut pass.seat);
@@ -132,14 +153,23 @@ impl<T: Drop, P, A, N: Feed> Writer<T, P, A, N> {
         ensures refused { IfErr result (λ e. (e.batch ≡ batch) × IsCutRefusal self.old e.fault) }
     {
         if self.bench.is_closed() {
-            return Err(Refused { fault: PublishFault::Closed, batch });
+            return Err(Refused {
+                fault: PublishFault::Closed,
+                batch,
+            });
         }
         if self.bench.len() >= MOST_PLACES {
-            return Err(Refused { fault: PublishFault::LogEnd, batch });
+            return Err(Refused {
+                fault: PublishFault::LogEnd,
+                batch,
+            });
         }
         self.bench.harvest(cast);
         let Ok(row) = self.bench.reserve() else {
-            return Err(Refused { fault: PublishFault::NoMemory, batch });
+            return Err(Refused {
+                fault: PublishFault::NoMemory,
+                batch,
+            });
         };
         let cut = self.bench.make_all_room(cast);
         let place = self.bench.len();

@@ -12,5 +12,8 @@ use Rattle.am_cast.proofs.Waiting.{fits_set, fits_one, fits_tail, out_known, out
 use Rattle.am_cast.proofs.bench.Bench.close.Goals as goal
 
 pub invariant_of-self : goal.invariant_of-self
-invariant_of-self g c = (search rules, subst (λ (w : View (Name g.row.T.Denot g.row.P.Denot) (KeyView g.row.T.Denot) g.row.A.Denot). Rattle.am_cast.specs.inside.Waiting.RowsFit (writer_of w) c.self.inside.rows) (sym c.close_log.ensures.writer)
-    (fits_tail (writer_of c.self.inside.seat.me.0) (shut (writer_of c.self.inside.seat.me.0)) c.self.inside.rows refl refl c.self.invariant.1))
+invariant_of-self g c = (
+  search rules,
+  subst (λ (w : View (Name g.row.T.Denot g.row.P.Denot) (KeyView g.row.T.Denot) g.row.A.Denot). Rattle.am_cast.specs.inside.Waiting.RowsFit (writer_of w) c.self.inside.rows) (sym c.close_log.ensures.writer)
+      (fits_tail (writer_of c.self.inside.seat.me.0) (shut (writer_of c.self.inside.seat.me.0)) c.self.inside.rows refl refl c.self.invariant.1),
+)

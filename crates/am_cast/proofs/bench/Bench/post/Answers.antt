@@ -22,10 +22,11 @@ store-requires-clause-writer g c = let r = c.requires.writer in let f = c.fill-r
     (ap (λ (t : Tail (Name g.row.T.Denot g.row.P.Denot)). t.closed) f.0 ∙ r.0, omega arith, all_laid key_of c.args.self.now.desk c.fill-row.new.self.desk (name_of c.tag_batch-tag.result) r.2 f, filled_ready key_of c.args.self.now.desk c.fill-row.new.self.desk (name_of c.tag_batch-tag.result) r.2 f)
 
 pub store-requires-clause-row : goal.store-requires-clause-row
-store-requires-clause-row g c = let f = c.fill-row.ensures.writer in let r = c.fill-row.ensures.row in let log = ap (λ (t : Tail (Name g.row.T.Denot g.row.P.Denot)). length t.log) f.0 in let at = ap (λ (r : RowView g.row.T.Denot). r.place) c.requires.row.0 in
-    (r.0 ∙ at ∙ sym log,
-     gathered_same (name_of c.tag_batch-tag.result) (λ l. is_live (account_of c.args.self.now.desk l)) (λ l. is_live (account_of c.fill-row.new.self.desk l)) 8 c.fill-row.result.keys (λ l h. filled_live c.args.self.now.desk c.fill-row.new.self.desk (name_of c.tag_batch-tag.result) l h f) r.1,
-     subst (λ (z : List (BucketView g.row.T.Denot) × ℕ). 1 ≤ (bucket_of z.0 z.1).room) (λ i. (sym c.fill-row.ensures.rows i, sym r.0 i)) c.requires.row.1)
+store-requires-clause-row g c = let f = c.fill-row.ensures.writer in let r = c.fill-row.ensures.row in let log = ap (λ (t : Tail (Name g.row.T.Denot g.row.P.Denot)). length t.log) f.0 in let at = ap (λ (r : RowView g.row.T.Denot). r.place) c.requires.row.0 in (
+  r.0 ∙ at ∙ sym log,
+  gathered_same (name_of c.tag_batch-tag.result) (λ l. is_live (account_of c.args.self.now.desk l)) (λ l. is_live (account_of c.fill-row.new.self.desk l)) 8 c.fill-row.result.keys (λ l h. filled_live c.args.self.now.desk c.fill-row.new.self.desk (name_of c.tag_batch-tag.result) l h f) r.1,
+  subst (λ (z : List (BucketView g.row.T.Denot) × ℕ). 1 ≤ (bucket_of z.0 z.1).room) (λ i. (sym c.fill-row.ensures.rows i, sym r.0 i)) c.requires.row.1,
+)
 
 pub returns-clause-calm : goal.returns-clause-calm
 returns-clause-calm g c = let r = c.requires.writer in subst (λ (q : WriterView (Name g.row.T.Denot g.row.P.Denot) (KeyView g.row.T.Denot) g.row.A.Denot). Calm q) (sym c.store.ensures.writer)

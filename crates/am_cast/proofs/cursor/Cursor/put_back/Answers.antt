@@ -16,4 +16,4 @@ returns-in-Some-clause-taken g c = let h = hand_of c.self.inside.seat.me (lane_o
     let lane : lane_of c.pass_place-self-inside.new.seat.me.0 ≡ record (lane_of c.self.inside.seat.me.0) { passed = (lane_of c.self.inside.seat.me.0).passed + 1; held = false; cut = c.pass_place-self-inside.result } = ap (λ (w : View (Name g.row.T.Denot g.row.P.Denot) (KeyView g.row.T.Denot) g.row.A.Denot). lane_of w) c.pass_place-self-inside.ensures.lane in
     let all = subst (λ (v : CursorView g.row.T.Denot g.row.P.Denot g.row.A.Denot). v.lane.held ≡ true → v.shown ≡ length (items_at v.lane.front v.lane.passed)) (sym c.self.view_is) c.requires h.0 in
     taken_pass (record { lane = (lane_of c.self.inside.seat.me.0); shown = c.self.inside.shown }) (record { lane = lane_of c.pass_place-self-inside.new.seat.me.0; shown = 0 }) c.in-Some.key (lane_of c.self.inside.seat.me.0).number h.2 (omega arith) all
-      (ap (λ (v : LaneView (Name g.row.T.Denot g.row.P.Denot) g.row.A.Denot). v.front) lane) (ap (λ (v : LaneView (Name g.row.T.Denot g.row.P.Denot) g.row.A.Denot). v.start) lane) (ap (λ (v : LaneView (Name g.row.T.Denot g.row.P.Denot) g.row.A.Denot). v.passed) lane) refl ∙ ap (λ (v : CursorView g.row.T.Denot g.row.P.Denot g.row.A.Denot). taken v) c.self.view_is
+    (ap (λ (v : LaneView (Name g.row.T.Denot g.row.P.Denot) g.row.A.Denot). v.front) lane) (ap (λ (v : LaneView (Name g.row.T.Denot g.row.P.Denot) g.row.A.Denot). v.start) lane) (ap (λ (v : LaneView (Name g.row.T.Denot g.row.P.Denot) g.row.A.Denot). v.passed) lane) refl ∙ ap (λ (v : CursorView g.row.T.Denot g.row.P.Denot g.row.A.Denot). taken v) c.self.view_is
