@@ -9,7 +9,6 @@ pub mod Kept
 pub mod KindLaws
 pub mod Lanes
 pub mod Notes
-pub mod Named
 pub mod Seats
 pub mod Shown
 pub mod Slots

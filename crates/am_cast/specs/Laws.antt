@@ -105,7 +105,7 @@ module _ (B K A : Type 0) (key : B → ℕ → K) where
   abbrev pub PublishesTheBatch : Type 0
   PublishesTheBatch = (x : B) (slots id : ℕ) (me : SeatState B K A) (q : WriterView B K A) (new : ℕ)
       → me.0.writer ≡ Some q → q.tail.closed ≡ false → length q.tail.log < most
-      → ((l : ℕ) (b : Account K A) → get_elem? q.accounts l ≡ some b → (b.out ≡ 0) × (b.stand ≡ live → b.laid ≡ Some (key x l))) → new ≡ tail_word (length q.tail.log + 1) false → AllowsAs key slots id me 0 (λ _. new) (λ _. does.Publish x ∷ []) (λ _. Publishes x (step slots 0 new 0 none) me new)
+      → ((l : ℕ) (b : Account K A) → get_elem? q.accounts l ≡ some b → (b.out ≡ 0) × (b.stand ≡ live → b.laid ≡ Some (key x l))) → new ≡ tail_word (length q.tail.log + 1) false → AllowsAs key slots id me 0 (λ _. new) (λ _. does.Publish x ∷ []) (λ _. Publishes (Some x) (step slots 0 new 0 none) me new)
 
   -- the writer closes the log: Close
   abbrev pub ClosesTheLog : Type 0
