@@ -20,7 +20,7 @@ use Rattle.am_cast.specs.Steps.{SeatState}
 use Rattle.atomic_table.specs.Seated.{TableId}
 use Rattle.am_cast.specs.declared.views.View.{View}
 use Rattle.am_cast.specs.Cursors.{CursorView, CursorOk, HasHand, items_at, taken, HasCut, HasEnded}
-use Rattle.am_cast.specs.Lent.{IsItem, IsPending, IsClosed, IsCut, IsInHand, Moves, MovesPast, Takes}
+use Rattle.am_cast.specs.Lent.{AreAllSeen, NeedsLook, Found, IsItem, IsPending, IsClosed, IsCut, IsInHand, Moves, MovesPast, Takes}
 use Rattle.am_cast.proofs.Slots.{at_length}
 
 module _ {X : Type 0} where
@@ -123,24 +123,55 @@ module _ {T P A : Type 0} where
     was_uncut = λ h. false≢true (sym h.1 ∙ held);
   }
 
-  -- what a take answers, after a look
-  pub takes_look : (c m d : CursorView T P A) (r : Moved) → taken m ≡ taken c → (HasEnded c → ⊥) → (HasCut c → ⊥) → Takes m d r → Moves c d r
-  takes_look c m d One same unended uncut t = record { held = t.held; taken = λ x at. t.taken x at ∙ ap (λ (l : List T). l ++ x ∷ []) same; was_open = unended; was_uncut = uncut }
-  takes_look c m d Pending same unended uncut t = absurd t
-  takes_look c m d Closed same unended uncut t = absurd t
-  takes_look c m d Cut same unended uncut t = record { taken = t.taken ∙ same; cut = t.cut; was_open = unended }
+  -- what a look answers, after the places that were passed
+  pub found_moves : (c m d : CursorView T P A) (r : Moved) → NeedsLook c → c.lane.held ≡ false → c.shown ≡ 0 → m.lane ≡ seeing m.lane.front m.lane.told c.lane → m.shown ≡ c.shown → IsPrefix c.lane.front m.lane.front → Found m d r → Moves c d r
+  found_moves c m d r needs idle none_shown lane shown p f = go r f
+    where
+      same : taken m ≡ taken c
+      same = let at = needs.0 in taken_look c m lane (shown ∙ none_shown) none_shown p (omega arith)
+      unended : HasEnded c → ⊥
+      unended h = false≢true (sym needs.1 ∙ h.0)
+      uncut : HasCut c → ⊥
+      uncut h = false≢true (sym needs.2 ∙ h.0)
+      go : (r : Moved) → Found m d r → Moves c d r
+      go One t = record { held = t.held; taken = λ x at. t.taken x at ∙ ap (λ (l : List T). l ++ x ∷ []) same; was_open = unended; was_uncut = uncut }
+      go Pending t = record {
+        taken = ap (λ (c : CursorView T P A). taken c) t.0 ∙ same;
+        looks = ap (λ (c : CursorView T P A). c.lane.looks) t.0 ∙ ap (λ (v : LaneView (Name T P) A). v.looks) lane;
+        told = ap (λ (c : CursorView T P A). c.lane.told) t.0 ∙ t.1;
+        all = ap (λ (c : CursorView T P A). c.lane.passed) t.0 ∙ t.2 ∙ ap (λ (c : CursorView T P A). length c.lane.front) (sym t.0);
+        held = ap (λ (c : CursorView T P A). c.lane.held) t.0 ∙ ap (λ (v : LaneView (Name T P) A). v.held) lane ∙ idle;
+        cut = ap (λ (c : CursorView T P A). c.lane.cut) t.0 ∙ ap (λ (v : LaneView (Name T P) A). v.cut) lane ∙ needs.2;
+        was_open = unended;
+        was_uncut = uncut;
+      }
+      go Closed t = record { taken = ap (λ (c : CursorView T P A). taken c) t.0 ∙ same; ended = subst (λ (c : CursorView T P A). HasEnded c) (sym t.0) t.1; was_uncut = uncut }
+      go Cut t = record { taken = t.taken ∙ same; cut = t.cut; was_open = unended }
 
-  pub takes_move : (c d : CursorView T P A) (r : Moved) → Takes c d r → Moves c d r
-  takes_move c d One t = t
-  takes_move c d Pending t = absurd t
-  takes_move c d Closed t = absurd t
-  takes_move c d Cut t = t
+  -- the same, of a pass that the cursor was told of
+  pub found_past : (noted : List (Name T P)) (m d : CursorView T P A) (r : Moved) → IsPrefix noted m.lane.front → Found m d r → MovesPast noted d r
+  found_past noted m d One p t = tt
+  found_past noted m d Pending p t = subst (λ (c : CursorView T P A). IsPrefix noted c.lane.front) (sym t.0) p
+  found_past noted m d Closed p t = tt
+  found_past noted m d Cut p t = tt
 
-  pub takes_past : (noted : List (Name T P)) (c d : CursorView T P A) (r : Moved) → Takes c d r → MovesPast noted d r
-  takes_past noted c d One t = tt
-  takes_past noted c d Pending t = absurd t
-  takes_past noted c d Closed t = absurd t
-  takes_past noted c d Cut t = tt
+  pub seen_past : (noted : List (Name T P)) (d : CursorView T P A) (r : Moved) → AreAllSeen r → MovesPast noted d r
+  seen_past noted d One s = tt
+  seen_past noted d Pending s = absurd s
+  seen_past noted d Closed s = tt
+  seen_past noted d Cut s = tt
+
+  pub takes_found : (c d : CursorView T P A) (r : Moved) → Takes c d r → Found c d r
+  takes_found c d One t = t
+  takes_found c d Pending t = absurd t
+  takes_found c d Closed t = absurd t
+  takes_found c d Cut t = t
+
+  pub takes_seen : (c d : CursorView T P A) (r : Moved) → Takes c d r → Moves c d r × AreAllSeen r
+  takes_seen c d One t = (t, tt)
+  takes_seen c d Pending t = absurd t
+  takes_seen c d Closed t = absurd t
+  takes_seen c d Cut t = (t, tt)
 
   -- the same, after a place was passed
   pub moves_back : (c m d : CursorView T P A) (r : Moved) → taken m ≡ taken c → m.lane.looks ≡ c.lane.looks → (HasEnded c → HasEnded m) → (HasCut c → HasCut m) → Moves m d r → Moves c d r

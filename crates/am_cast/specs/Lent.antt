@@ -8,6 +8,11 @@ use Rattle.am_cast.specs.declared.lends.Moved.{Moved}
 use Rattle.am_cast.specs.declared.lends.Moved.TheVariants as moved
 use Rattle.am_cast.specs.Cursors.{CursorView, taken, items_at, HasCut, HasEnded, GoesOn}
 
+-- no answer that waits for a look
+abbrev pub AreAllSeen : Moved → Type 0
+AreAllSeen moved.Pending = ⊥
+AreAllSeen other = Unit {0}
+
 module _ {T P A : Type 0} where
   -- nothing is left of what was seen, after one look more, which showed the log open
   pub record IsPending (c d : CursorView T P A) : Type 0 where
@@ -55,6 +60,17 @@ module _ {T P A : Type 0} where
   Takes c d moved.One = IsItem c d
   Takes c d moved.Cut = IsCut c d
   Takes c d other = ⊥
+
+  -- nothing is left of what was seen, and the answer waits for a look
+  abbrev pub NeedsLook : CursorView T P A → Type 0
+  NeedsLook c = (c.lane.passed ≡ length c.lane.front) × (c.lane.told ≡ false) × (c.lane.cut ≡ false)
+
+  -- what an answer says after a look
+  abbrev pub Found : CursorView T P A → CursorView T P A → Moved → Type 0
+  Found c d moved.One = IsItem c d
+  Found c d moved.Pending = (d ≡ c) × (c.lane.told ≡ false) × (c.lane.passed ≡ length c.lane.front)
+  Found c d moved.Closed = (d ≡ c) × HasEnded c
+  Found c d moved.Cut = IsCut c d
 
   abbrev pub Lends : CursorView T P A → CursorView T P A → Step T → Type 0
   Lends c d (step.Item x) = (taken d ≡ taken c ++ x.now ∷ []) × (HasEnded c → ⊥) × (HasCut c → ⊥)

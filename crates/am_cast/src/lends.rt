@@ -1,12 +1,12 @@
 //! `next`, which lends the item that it shows. It stands in a file of its own, since its clause names the row of `Cursor`.
-ghost use Rattle.std.specs.Prelude.{◌≡◌, ◌+◌, ◌<◌, ◌≤◌, ℕ, ⊤, [], true, false, length};
+ghost use Rattle.std.specs.Prelude.{◌≡◌, ◌+◌, ◌<◌, ◌≤◌, ℕ, ⊤, [], true, false, length, IfSome, IfNone};
 ghost use Rattle.std.specs.Borrow.{sem, follows_so};
 ghost use mathlib.Core.Option.{none, some};
 ghost use mathlib.Core.List.{IsPrefix};
 ghost use mir.Syntax.{named};
 ghost use Rattle.am_cast.specs.contracts.cursor.Cursor.{the_row};
 ghost use Rattle.am_cast.specs.Cursors.{taken, GoesOn};
-ghost use Rattle.am_cast.specs.Lent.{Moves, Takes, MovesPast, Lends, LendsPast, IsInHand};
+ghost use Rattle.am_cast.specs.Lent.{Moves, Takes, Found, NeedsLook, AreAllSeen, MovesPast, Lends, LendsPast, IsInHand};
 
 use crate::cursor::Cursor;
 use crate::feed::Feed;
@@ -57,22 +57,31 @@ impl<'a, T, P, A, N: Feed> Cursor<'a, T, P, A, N> {
         if self.take() { Moved::One } else { Moved::Cut }
     }
 
-    // What comes after the places that were passed: at most one Look and one Take.
-    fn reach(&mut self) -> Moved
+    // What follows from the looks so far, with at most one Take, or that a look is needed.
+    fn reach_seen(&mut self) -> Option<Moved>
         requires { (self.old.lane.held ≡ false) × (self.old.shown ≡ 0) × (self.old.lane.passed ≤ length self.old.lane.front) }
         ensures on { GoesOn self.old self.new }
-        ensures moves { Moves self.old self.new result }
+        ensures moves { IfSome result (λ moved. Moves self.old self.new moved × AreAllSeen moved) }
+        ensures none { IfNone result ((self.new ≡ self.old) × NeedsLook self.old) }
     {
         if self.is_cut() {
-            return Moved::Cut;
+            return Some(Moved::Cut);
         }
         if self.has_more() {
-            return self.take_one();
+            return Some(self.take_one());
         }
         if self.is_told() {
-            return Moved::Closed;
+            return Some(Moved::Closed);
         }
-        self.look();
+        None
+    }
+
+    // What follows from a look, with at most one Take.
+    fn reach_found(&mut self) -> Moved
+        requires { (self.old.lane.held ≡ false) × (self.old.shown ≡ 0) × (self.old.lane.cut ≡ false) }
+        ensures on { GoesOn self.old self.new }
+        ensures found { Found self.old self.new result }
+    {
         if self.has_more() {
             return self.take_one();
         }
@@ -81,6 +90,19 @@ impl<'a, T, P, A, N: Feed> Cursor<'a, T, P, A, N> {
         } else {
             Moved::Pending
         }
+    }
+
+    // What comes after the places that were passed: at most one Look and one Take.
+    fn reach(&mut self) -> Moved
+        requires { (self.old.lane.held ≡ false) × (self.old.shown ≡ 0) × (self.old.lane.passed ≤ length self.old.lane.front) }
+        ensures on { GoesOn self.old self.new }
+        ensures moves { Moves self.old self.new result }
+    {
+        if let Some(moved) = self.reach_seen() {
+            return moved;
+        }
+        self.look();
+        self.reach_found()
     }
 
     // One item more is in hand, or the answer says why not.
@@ -117,24 +139,11 @@ impl<'a, T, P, A, N: Feed> Cursor<'a, T, P, A, N> {
         ensures past { MovesPast pass.old.noted self.new result }
         ensures pass { pass.new ≡ pass.old }
     {
-        if self.is_cut() {
-            return Moved::Cut;
-        }
-        if self.has_more() {
-            return self.take_one();
-        }
-        if self.is_told() {
-            return Moved::Closed;
+        if let Some(moved) = self.reach_seen() {
+            return moved;
         }
         self.look_past(pass);
-        if self.has_more() {
-            return self.take_one();
-        }
-        if self.is_told() {
-            Moved::Closed
-        } else {
-            Moved::Pending
-        }
+        self.reach_found()
     }
 
     // As `advance`, but a look comes after what the pass knows.

@@ -8,7 +8,7 @@ use Rattle.am_cast.specs.Rule.{bit}
 use Rattle.am_cast.specs.Seats.{lane_of}
 use Rattle.am_cast.specs.Cursors.{CursorView, items_at, taken}
 use Rattle.am_cast.specs.Lent.{IsInHand}
-use Rattle.am_cast.proofs.Cursors.{hand_of, key_items, some_items, taken_pass, taken_look, taken_first, shows_next, takes_look, takes_move, takes_past, moves_back}
+use Rattle.am_cast.proofs.Cursors.{hand_of, key_items, some_items, taken_pass, taken_look, taken_first, shows_next, moves_back}
 use Rattle.am_cast.proofs.cursor.Cursor.in_hand.Goals as goal
 
 pub returns : goal.returns
