@@ -1,5 +1,5 @@
 //! The parts of a new log, which no type stands for yet, and the log's beginning and end.
-ghost use Rattle.std.specs.Prelude.{◌≡◌, ◌*◌, ◌<◌, ◌≤◌, IfOk, [], ℕ, slice_index, length};
+ghost use Rattle.std.specs.Prelude.{false, ◌≡◌, ◌*◌, ◌<◌, ◌≤◌, IfOk, [], ℕ, slice_index, length};
 ghost use Rattle.std.specs.List.{All};
 ghost use Rattle.am_cast.specs.Rule.{gone, lane_word, idle, blank};
 ghost use Rattle.am_cast.specs.Changes.{copied};
@@ -96,7 +96,7 @@ pub fn begin<T: Drop, P, A, N: Feed>(
     posters: usize,
 ) -> Result<Begun<T, P, A, N>, AllocError>
     requires { parts.board.shared.table_id ≡ N.table }
-    ensures empty { IfOk result (λ begun. (begun.writer.tail.log ≡ []) × (begun.writer.tail.places ≡ parts.places)) }
+    ensures empty { IfOk result (λ begun. begun.writer.tail ≡ record { places = parts.places; log = []; closed = false }) }
     ensures idle { IfOk result (λ begun. (l : ℕ) → l < 8 → (account_of begun.writer l).stand ≡ idle) }
     ensures passes { IfOk result (λ begun. (length begun.passes.items ≡ posters) × All (λ pass. pass ≡ record { noted = []; own = [] }) begun.passes.items) }
 {

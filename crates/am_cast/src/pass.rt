@@ -34,7 +34,7 @@ impl<T, P, A, N: Feed> Pass<T, P, A, N> {
     // It notes how long the log is.
     pub(crate) fn note(&mut self, cast: &Cast<T, P, A, N>)
         ensures own { self.new.own ≡ self.old.own }
-        ensures noted { IsPrefix self.old.noted self.new.noted × Stand self.old.own self.new.noted }
+        ensures noted { IsPrefix self.old.noted self.new.noted × Stand self.new.own self.new.noted }
     {
         board::note_log(&cast.board.shared, &mut self.seat);
     }

@@ -4,7 +4,7 @@ ghost use mathlib.Core.List.{IsPrefix};
 ghost use Rattle.std.specs.Prelude.{drop};
 ghost use Rattle.am_cast.specs.declared.name.Name.{Name};
 ghost use Rattle.am_cast.specs.Rule.{idle, live, cut, most, Sound};
-ghost use Rattle.am_cast.specs.Changes.{longer_tail, shut_tail, own_at, opened, new_lane, left};
+ghost use Rattle.am_cast.specs.Changes.{Stand, longer_tail, shut_tail, own_at, opened, new_lane, left};
 ghost use Rattle.am_cast.specs.Seats.{account_of};
 ghost use Rattle.am_cast.specs.Keys.{items_of, all_items};
 ghost use Rattle.am_cast.specs.Cursors.{as_cursor, taken, HasEnded};
@@ -96,6 +96,7 @@ impl<T: Drop, P, A, N: Feed> Writer<T, P, A, N> {
         requires { 0 < length batch.items }
         ensures ok { IfOk result (λ place. (place ≡ length self.old.tail.log) × IsOpen self.old × ((x : Name T P) × (x.post ≡ post.value) × (items_of x ≡ batch.items)
             × (self.new.tail ≡ longer_tail x self.old.tail) × (pass.new.own ≡ pass.old.own ++ own_at place x ∷ []))) }
+        ensures known { OnOk result (Stand pass.new.own pass.new.noted × IsPrefix pass.old.noted pass.new.noted) }
         ensures lanes { (l : ℕ) → l < 8 → StaysAs (account_of self.old l) (account_of self.new l) }
         ensures loads { IsOpen self.old → (l : ℕ) → l < 8 → (account_of self.old l).stand ≡ live → (account_of self.old l).loads < (account_of self.new l).loads }
 
@@ -146,6 +147,7 @@ impl<T: Drop, P, A, N: Feed> Writer<T, P, A, N> {
         ensures ok { IfOk result (λ r. (r.place ≡ length self.old.tail.log) × IsOpen self.old × ((x : Name T P) × (x.post ≡ post.value) × (items_of x ≡ batch.items)
             × (self.new.tail ≡ longer_tail x self.old.tail) × (pass.new.own ≡ pass.old.own ++ own_at r.place x ∷ []))) }
         ensures cut { IfOk result (λ r. (l : ℕ) → l < 8 → IsCutAs (account_of self.old l) (account_of self.new l) (slice_index_or r.cut l false)) }
+        ensures known { OnOk result (Stand pass.new.own pass.new.noted × IsPrefix pass.old.noted pass.new.noted) }
         ensures lanes { (l : ℕ) → l < 8 → SameAdmission (account_of self.old l) (account_of self.new l) }
         ensures loads { IsOpen self.old → (l : ℕ) → l < 8 → (account_of self.old l).stand ≡ live → (account_of self.old l).loads < (account_of self.new l).loads }
 
