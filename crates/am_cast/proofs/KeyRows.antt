@@ -50,6 +50,15 @@ module _ {X : Type 0} where
       none_is : {Y : Type 0} {y : Y} → Some y ≡ None → ⊥
       none_is e = cc
 
+  -- a row that stands there is found
+  pub row_stands : (place : ℕ) (rows : List (RowView X)) (k : ℕ) → IsRowOf place rows k → find_row place rows ≢ None
+  row_stands place rows k is none_there = go rows k is.0 is.1.0 is.1.1 is.1.2 (no_row_of place rows none_there)
+    where
+      go : (rows : List (RowView X)) (k : ℕ) → k < length rows → (r : RowView X) → r ≡ get_or rows k r → r.place ≡ place → HasNoRow place rows → ⊥
+      go [] k h r at e none_of = omega arith
+      go (x ∷ xs) zero h r at e none_of = none_of.0 (ap (λ (r : RowView X). r.place) (sym at) ∙ e)
+      go (x ∷ xs) (suc k) h r at e none_of = go xs k (omega arith) r at e none_of.1
+
   pub set_here : (place : ℕ) (rows : List (RowView X)) (k : ℕ) (r new : RowView X) → k < length rows → AreApart rows → r ≡ get_or rows k r → r.place ≡ place → new.place ≡ place → find_row place (set rows k new) ≡ Some new.keys
   set_here place [] k r new h a is e f = absurd (omega arith)
   set_here place (x ∷ xs) zero r new h a is e f = find_head place new xs f

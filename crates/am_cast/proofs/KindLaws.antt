@@ -1,5 +1,5 @@
 -- The laws of the kinds of step.
-use Rattle.std.proofs.Common.{ℕ, ◌+◌, ◌%◌, ◌^◌, [], ◌∷◌, ◌==◌}
+use Rattle.std.proofs.Common.{Some, ℕ, ◌+◌, ◌%◌, ◌^◌, [], ◌∷◌, ◌==◌}
 use mathlib.Core.Option.{none}
 use prog.Atomic.{either}
 use Rattle.atomic_table.specs.Table.{step}
@@ -61,7 +61,7 @@ module _ (B K A : Type 0) (key : B → ℕ → K) where
   retires_law = λ slots id me v q b is has gone_from bare unlaid all_clear. shown_as key slots id me (lane_word v.number) (λ n. n) (λ _. retire_events v.number b.stand) (Retires (step slots (lane_word v.number) 0 0 none) me) (retires_as key slots id me v q b is has gone_from bare unlaid all_clear)
 
   pub publishes_law : PublishesTheBatch B K A key
-  publishes_law = λ x slots id me q new is is_open few ready new_is. shown_as key slots id me 0 (λ _. new) (λ _. does.Publish x ∷ []) (λ _. Publishes x (step slots 0 new 0 none) me new) (publishes_as key x slots id me q new is is_open few ready new_is)
+  publishes_law = λ x slots id me q new is is_open few ready new_is. shown_as key slots id me 0 (λ _. new) (λ _. does.Publish x ∷ []) (λ _. Publishes (Some x) (step slots 0 new 0 none) me new) (publishes_as key x slots id me q new is is_open few ready new_is)
 
   pub closes_law : ClosesTheLog B K A key
   closes_law = λ slots id me q new is is_open new_is. shown_as key slots id me 0 (λ _. new) (λ _. does.Close ∷ []) (λ _. Closes (step slots 0 new 0 none) me new) (closes_as key slots id me q new is is_open new_is)

@@ -3,6 +3,8 @@ pub mod Accounts
 pub mod Begins
 pub mod Cursors
 pub mod Events
+pub mod Ends
+pub mod Filling
 pub mod Kept
 pub mod KindLaws
 pub mod Lanes
@@ -13,6 +15,8 @@ pub mod Slots
 pub mod Splits
 pub mod Tails
 pub mod Ties
+pub mod Waiting
 pub mod WriterSteps
 pub mod Writers
 pub mod steps
+pub mod FreedRows

@@ -16,7 +16,7 @@ use Rattle.am_cast.specs.declared.views.LaneView.{LaneView}
 use Rattle.am_cast.specs.declared.views.View.{View}
 use Rattle.am_cast.specs.Rule.{blank, Ruled}
 use Rattle.am_cast.specs.Changes.{copied, without_lane, only_lane, without_own, only_own, both_of}
-use Rattle.am_cast.specs.Core.{poster_of, poster_behind, view_or_blank, core_behind, state_of, AllowsAs, StaysAs}
+use Rattle.am_cast.specs.Core.{poster_of, poster_behind, view_or_blank, core_behind, state_of, AllowsAs, StateStays}
 use Rattle.am_cast.specs.Steps.{SeatState, Weighs}
 use Rattle.am_cast.proofs.Kept.{St, stays}
 use Rattle.am_cast.proofs.Slots.{at_length}
@@ -41,19 +41,19 @@ module _ {B K A : Type 0} where
       (λ ne. ap (λ (o : maybe.Option (View B K A)). poster_behind (view_or_blank o)) (set_else views id j left ne))
 
 module _ {B K A : Type 0} (key : B → ℕ → K) where
-  pub tells_as : (s : St B K A) (r : Ruled key s) (id : ℕ) (v : View B K A) → get_elem? s.views id ≡ some v → StaysAs s r (set s.views id v ++ copied v ∷ []) (λ _. Unit {0})
+  pub tells_as : (s : St B K A) (r : Ruled key s) (id : ℕ) (v : View B K A) → get_elem? s.views id ≡ some v → StateStays s r (set s.views id v ++ copied v ∷ []) (λ _. Unit {0})
   unfolding tells splits_to
   tells_as s r id v at = (tells key id v s r at, λ posters seat_of fits. same_posters posters r.tail r.account r.lane (λ k. poster_at s.views (seat_of k)) (λ k. poster_at (set s.views id v ++ copied v ∷ []) (seat_of k)) (λ k. cut_in_two s.views id v v (copied v) (seat_of k) at (λ _. refl) refl))
 
-  pub deals_as : (s : St B K A) (r : Ruled key s) (id : ℕ) (w : View B K A) (v : LaneView B A) → w.lane ≡ Some v → get_elem? s.views id ≡ some w → StaysAs s r (set s.views id (without_lane w) ++ only_lane w ∷ []) (λ _. Unit {0})
+  pub deals_as : (s : St B K A) (r : Ruled key s) (id : ℕ) (w : View B K A) (v : LaneView B A) → w.lane ≡ Some v → get_elem? s.views id ≡ some w → StateStays s r (set s.views id (without_lane w) ++ only_lane w ∷ []) (λ _. Unit {0})
   unfolding deals splits_to
   deals_as s r id w v is at = (deals key id w v is s r at, λ posters seat_of fits. same_posters posters r.tail r.account r.lane (λ k. poster_at s.views (seat_of k)) (λ k. poster_at (set s.views id (without_lane w) ++ only_lane w ∷ []) (seat_of k)) (λ k. cut_in_two s.views id w (without_lane w) (only_lane w) (seat_of k) at (λ _. refl) refl))
 
-  pub hands_as : (s : St B K A) (r : Ruled key s) (id : ℕ) (w : View B K A) → get_elem? s.views id ≡ some w → StaysAs s r (set s.views id (without_own w) ++ only_own w ∷ []) (λ seat. seat ≢ id)
+  pub hands_as : (s : St B K A) (r : Ruled key s) (id : ℕ) (w : View B K A) → get_elem? s.views id ≡ some w → StateStays s r (set s.views id (without_own w) ++ only_own w ∷ []) (λ seat. seat ≢ id)
   unfolding hands splits_to
   hands_as s r id w at = (hands key id w s r at, λ posters seat_of fits. same_posters posters r.tail r.account r.lane (λ k. poster_at s.views (seat_of k)) (λ k. poster_at (set s.views id (without_own w) ++ only_own w ∷ []) (seat_of k)) (λ k. cut_in_two s.views id w (without_own w) (only_own w) (seat_of k) at (λ e. absurd (fits k e)) refl))
 
-  pub hears_as : (s : St B K A) (r : Ruled key s) (id other : ℕ) (v w : View B K A) → get_elem? s.views id ≡ some v → other ≢ id → get_elem? s.views other ≡ some w → StaysAs s r (set (set s.views id (both_of v w)) other blank) (λ seat. seat ≢ other)
+  pub hears_as : (s : St B K A) (r : Ruled key s) (id other : ℕ) (v w : View B K A) → get_elem? s.views id ≡ some v → other ≢ id → get_elem? s.views other ≡ some w → StateStays s r (set (set s.views id (both_of v w)) other blank) (λ seat. seat ≢ other)
   unfolding hears
   hears_as s r id other v w at apart there =
       let b : View B K A = both_of v w in let mine = r.each_seat id v at in

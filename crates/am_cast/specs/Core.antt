@@ -137,7 +137,7 @@ AllowsNote {B = B} {K = K} {A = A} key slots id me tells = (s : State (Option K)
     × tells (slice_index s.words 0) (w, carried_after me.1 a)
 
 -- a table with other views, where the rule holds still and the core's state stays, for posters whose seats are such
-abbrev pub StaysAs : {B K A : Type 0} {key : B → ℕ → K} (s : State (Option K) (View B K A)) → Ruled key s
+abbrev pub StateStays : {B K A : Type 0} {key : B → ℕ → K} (s : State (Option K) (View B K A)) → Ruled key s
     → List (View B K A) → (ℕ → Type 0) → Type 0
-StaysAs {key = key} s r views IsPosters = (q : Ruled key record { words = s.words; homes = s.homes; views = views })
+StateStays {key = key} s r views IsPosters = (q : Ruled key record { words = s.words; homes = s.homes; views = views })
     × ((posters : ℕ) (seat_of : ℕ → ℕ) → ((k : ℕ) → IsPosters (seat_of k)) → LeadsTo (state_of posters seat_of r) [] (state_of posters seat_of q))

@@ -18,7 +18,7 @@ use Rattle.am_cast.specs.Steps.{SeatState, KnowsOf, Opens, Looks, Takes, Passes,
 use Rattle.am_cast.specs.Changes.{copied, without_lane, only_lane, without_own, only_own, both_of}
 use Rattle.am_cast.specs.Freed.{IsGathered, IsOut, IsFreedFor}
 use Rattle.am_cast.specs.Seats.{account_of}
-use Rattle.am_cast.specs.Core.{state_of, found_events, recover_events, cut_events, retire_events, AllowsAs, AllowsNote, StaysAs}
+use Rattle.am_cast.specs.Core.{state_of, found_events, recover_events, cut_events, retire_events, AllowsAs, AllowsNote, StateStays}
 
 module _ (B K A : Type 0) (key : B → ℕ → K) where
   -- a lane that was given out begins: Open
@@ -105,7 +105,7 @@ module _ (B K A : Type 0) (key : B → ℕ → K) where
   abbrev pub PublishesTheBatch : Type 0
   PublishesTheBatch = (x : B) (slots id : ℕ) (me : SeatState B K A) (q : WriterView B K A) (new : ℕ)
       → me.0.writer ≡ Some q → q.tail.closed ≡ false → length q.tail.log < most
-      → ((l : ℕ) (b : Account K A) → get_elem? q.accounts l ≡ some b → (b.out ≡ 0) × (b.stand ≡ live → b.laid ≡ Some (key x l))) → new ≡ tail_word (length q.tail.log + 1) false → AllowsAs key slots id me 0 (λ _. new) (λ _. does.Publish x ∷ []) (λ _. Publishes x (step slots 0 new 0 none) me new)
+      → ((l : ℕ) (b : Account K A) → get_elem? q.accounts l ≡ some b → (b.out ≡ 0) × (b.stand ≡ live → b.laid ≡ Some (key x l))) → new ≡ tail_word (length q.tail.log + 1) false → AllowsAs key slots id me 0 (λ _. new) (λ _. does.Publish x ∷ []) (λ _. Publishes (Some x) (step slots 0 new 0 none) me new)
 
   -- the writer closes the log: Close
   abbrev pub ClosesTheLog : Type 0
@@ -157,25 +157,25 @@ module _ (B K A : Type 0) (key : B → ℕ → K) where
   -- a new seat has heard what another has seen: the state stays
   abbrev pub TellsASeat : Type 0
   TellsASeat = (s : State (Option K) (View B K A)) (r : Ruled key s) (id : ℕ) (v : View B K A)
-      → get_elem? s.views id ≡ some v → StaysAs s r (slice_set s.views id v ++ copied v ∷ []) (λ _. Unit {0})
+      → get_elem? s.views id ≡ some v → StateStays s r (slice_set s.views id v ++ copied v ∷ []) (λ _. Unit {0})
 
   -- the lane in a view gets a seat of its own: the state stays
   abbrev pub DealsALane : Type 0
   DealsALane = (s : State (Option K) (View B K A)) (r : Ruled key s) (id : ℕ) (w : View B K A) (v : LaneView B A)
       → w.lane ≡ Some v → get_elem? s.views id ≡ some w
-      → StaysAs s r (slice_set s.views id (without_lane w) ++ only_lane w ∷ []) (λ _. Unit {0})
+      → StateStays s r (slice_set s.views id (without_lane w) ++ only_lane w ∷ []) (λ _. Unit {0})
 
   -- the own places of a seat that is no poster's get a seat of their own: the state stays
   abbrev pub HandsOwnPlaces : Type 0
   HandsOwnPlaces = (s : State (Option K) (View B K A)) (r : Ruled key s) (id : ℕ) (w : View B K A)
       → get_elem? s.views id ≡ some w
-      → StaysAs s r (slice_set s.views id (without_own w) ++ only_own w ∷ []) (λ seat. seat ≢ id)
+      → StateStays s r (slice_set s.views id (without_own w) ++ only_own w ∷ []) (λ seat. seat ≢ id)
 
   -- a seat takes in all that another has, which is no poster's and is spent: the state stays
   abbrev pub TakesInASeat : Type 0
   TakesInASeat = (s : State (Option K) (View B K A)) (r : Ruled key s) (id other : ℕ) (v w : View B K A)
       → get_elem? s.views id ≡ some v → other ≢ id → get_elem? s.views other ≡ some w
-      → StaysAs s r (slice_set (slice_set s.views id (both_of v w)) other blank) (λ seat. seat ≢ other)
+      → StateStays s r (slice_set (slice_set s.views id (both_of v w)) other blank) (λ seat. seat ≢ other)
 
   -- a table as it is made, with empty slots, meets the rule, and shows the core's first state with eight lanes
   abbrev pub BeginsAtTheFirstState : Type 0

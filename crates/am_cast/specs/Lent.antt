@@ -1,33 +1,88 @@
 -- The answers of a `next` that lends.
-use Rattle.std.specs.Prelude.{◌≡◌, ◌+◌, ◌≤◌, List, [], ◌∷◌, ◌++◌, true, false, length}
+use Rattle.std.specs.Prelude.{◌≡◌, ◌+◌, ◌-◌, ◌≤◌, List, [], ◌∷◌, ◌++◌, Some, true, false, length, slice_get}
 use mathlib.Core.List.{IsPrefix}
-use Rattle.am_cast.specs.declared.views.LaneView.{LaneView}
-use Rattle.am_cast.specs.declared.kinds.Name.{Name}
-use Rattle.am_cast.specs.declared.kinds.Note.{Note}
+use Rattle.am_cast.specs.declared.name.Name.{Name}
 use Rattle.am_cast.specs.declared.lends.Step.{Step}
 use Rattle.am_cast.specs.declared.lends.Step.TheVariants as step
 use Rattle.am_cast.specs.declared.lends.Moved.{Moved}
 use Rattle.am_cast.specs.declared.lends.Moved.TheVariants as moved
-use Rattle.am_cast.specs.Rule.{bit}
-use Rattle.am_cast.specs.Cursors.{taken, AllSeen}
+use Rattle.am_cast.specs.Cursors.{CursorView, taken, items_at, HasCut, HasEnded, GoesOn}
 
--- a key more is in hand, of the place after those that were shown
-abbrev pub Moves : LaneView Name Note → LaneView Name Note → Moved → Type 0
-Moves t u moved.One = (u.held ≡ true) × (u.passed ≡ t.passed + bit t.held) × (u.start ≡ t.start) × (u.start ≤ u.passed) × IsPrefix t.front u.front × (u.passed ≤ length t.front) × (u.looks ≤ t.looks + 1)
-Moves t u moved.Pending = AllSeen t u false
-Moves t u moved.Closed = AllSeen t u true
-Moves t u moved.Cut = (taken u ≡ taken t) × (u.cut ≡ true) × (u.held ≡ false) × IsPrefix t.front u.front
+-- no answer that waits for a look
+abbrev pub AreAllSeen : Moved → Type 0
+AreAllSeen moved.Pending = ⊥
+AreAllSeen other = Unit {0}
 
-abbrev pub Lends : LaneView Name Note → LaneView Name Note → Step → Type 0
-Lends t u (step.Item x) = (taken u ≡ taken t ++ x.now ∷ []) × IsPrefix t.front u.front
-Lends t u step.Pending = AllSeen t u false
-Lends t u step.Closed = AllSeen t u true
-Lends t u step.Cut = (taken u ≡ taken t) × (u.cut ≡ true) × (u.held ≡ false) × IsPrefix t.front u.front
+module _ {T P A : Type 0} where
+  -- nothing is left of what was seen, after one look more, which showed the log open
+  pub record IsPending (c d : CursorView T P A) : Type 0 where
+    pub taken : taken d ≡ taken c
+    pub looks : d.lane.looks ≡ c.lane.looks + 1
+    pub told : d.lane.told ≡ false
+    pub all : d.lane.passed ≡ length d.lane.front
+    pub held : d.lane.held ≡ false
+    pub cut : d.lane.cut ≡ false
+    pub was_open : HasEnded c → ⊥
+    pub was_uncut : HasCut c → ⊥
 
-abbrev pub MovedPending : Moved
-MovedPending = moved.Pending
+  -- the log is closed, and all of it was shown
+  pub record IsClosed (c d : CursorView T P A) : Type 0 where
+    pub taken : taken d ≡ taken c
+    pub ended : HasEnded d
+    pub was_uncut : HasCut c → ⊥
 
--- all that the pass knew was seen
-abbrev pub LendsPast : List Name → LaneView Name Note → Step → Type 0
-LendsPast noted u step.Pending = IsPrefix noted u.front
-LendsPast noted u other = Unit {0}
+  -- the lane was cut, and what was in hand was shown
+  pub record IsCut (c d : CursorView T P A) : Type 0 where
+    pub taken : taken d ≡ taken c
+    pub cut : HasCut d
+    pub was_open : HasEnded c → ⊥
+
+  -- the item that was shown last, of the place in hand
+  abbrev pub IsInHand : CursorView T P A → T → Type 0
+  IsInHand c x = slice_get (items_at c.lane.front c.lane.passed) (c.shown - 1) ≡ Some x
+
+  -- one item more was shown
+  pub record IsItem (c d : CursorView T P A) : Type 0 where
+    pub held : d.lane.held ≡ true
+    pub taken : (x : T) → IsInHand d x → taken d ≡ taken c ++ x ∷ []
+    pub was_open : HasEnded c → ⊥
+    pub was_uncut : HasCut c → ⊥
+
+  -- what an answer says of the cursor
+  abbrev pub Moves : CursorView T P A → CursorView T P A → Moved → Type 0
+  Moves c d moved.One = IsItem c d
+  Moves c d moved.Pending = IsPending c d
+  Moves c d moved.Closed = IsClosed c d
+  Moves c d moved.Cut = IsCut c d
+
+  -- the same, of a call that tries to take a key
+  abbrev pub Takes : CursorView T P A → CursorView T P A → Moved → Type 0
+  Takes c d moved.One = IsItem c d
+  Takes c d moved.Cut = IsCut c d
+  Takes c d other = ⊥
+
+  -- nothing is left of what was seen, and the answer waits for a look
+  abbrev pub NeedsLook : CursorView T P A → Type 0
+  NeedsLook c = (c.lane.passed ≡ length c.lane.front) × (c.lane.told ≡ false) × (c.lane.cut ≡ false)
+
+  -- what an answer says after a look
+  abbrev pub Found : CursorView T P A → CursorView T P A → Moved → Type 0
+  Found c d moved.One = IsItem c d
+  Found c d moved.Pending = (d ≡ c) × (c.lane.told ≡ false) × (c.lane.passed ≡ length c.lane.front)
+  Found c d moved.Closed = (d ≡ c) × HasEnded c
+  Found c d moved.Cut = IsCut c d
+
+  abbrev pub Lends : CursorView T P A → CursorView T P A → Step T → Type 0
+  Lends c d (step.Item x) = (taken d ≡ taken c ++ x.now ∷ []) × (HasEnded c → ⊥) × (HasCut c → ⊥)
+  Lends c d step.Pending = IsPending c d
+  Lends c d step.Closed = IsClosed c d
+  Lends c d step.Cut = IsCut c d
+
+  -- where nothing is left, all that the pass knew was seen
+  abbrev pub LendsPast : List (Name T P) → CursorView T P A → Step T → Type 0
+  LendsPast noted d step.Pending = IsPrefix noted d.lane.front
+  LendsPast noted d other = Unit {0}
+
+  abbrev pub MovesPast : List (Name T P) → CursorView T P A → Moved → Type 0
+  MovesPast noted d moved.Pending = IsPrefix noted d.lane.front
+  MovesPast noted d other = Unit {0}

@@ -11,6 +11,9 @@ pub mod Posters
 pub mod Refusals
 pub mod Names
 pub mod Core
+pub mod Benches
+pub mod FaultTexts
+pub mod Tags
 pub mod inside
 pub mod Laws
 pub mod Freed

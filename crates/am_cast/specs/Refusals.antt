@@ -1,23 +1,37 @@
 -- What a refusal says of the log.
-use Rattle.std.specs.Prelude.{◌≡◌, ◌<◌, ◌≤◌, length, true}
+use Rattle.std.specs.Prelude.{◌≡◌, ◌≢◌, ℕ, ◌<◌, ◌≤◌, length, true, false}
+use Rattle.am_segment.specs.Segments.{KeyView}
 use Rattle.am_cast.specs.declared.views.WriterView.{WriterView}
-use Rattle.am_cast.specs.declared.kinds.Name.{Name}
-use Rattle.am_cast.specs.declared.kinds.Key.{Key}
-use Rattle.am_cast.specs.declared.kinds.Note.{Note}
-use Rattle.am_cast.specs.declared.writer.Refused.{Refused}
-use Rattle.am_cast.specs.declared.writer.Refused.TheVariants.{Closed, Full, LogEnd}
-use Rattle.am_cast.specs.Rule.{most}
+use Rattle.am_cast.specs.declared.faults.PublishFault.{PublishFault}
+use Rattle.am_cast.specs.declared.faults.PublishFault.TheVariants.{NoMemory, Closed, Full, LogEnd}
+use Rattle.am_cast.specs.declared.faults.AdmitFault.{AdmitFault}
+use Rattle.am_cast.specs.declared.faults.AdmitFault.TheVariants as admit
+use Rattle.am_cast.specs.Rule.{idle, most}
 use Rattle.am_cast.specs.Seats.{account_of}
 use Rattle.am_cast.specs.Writers.{HasRoom, IsBehind}
 
--- the lowest lane that is as far behind as may be
-abbrev pub IsFullAt : WriterView Name Key Note → Refused → Type 0
-IsFullAt q Closed = q.tail.closed ≡ true
-IsFullAt q LogEnd = most ≤ length q.tail.log
-IsFullAt q (Full lane passed) = (lane < 8) × (passed ≡ (account_of q lane).known) × IsBehind q lane × HasRoom q lane
+module _ {B K A : Type 0} where
+  -- the log may grow
+  abbrev pub IsOpen : WriterView B K A → Type 0
+  IsOpen q = (q.tail.closed ≡ false) × (length q.tail.log < most)
 
--- under the policy Cut no lane is full
-abbrev pub IsNoRoom : WriterView Name Key Note → Refused → Type 0
-IsNoRoom q Closed = q.tail.closed ≡ true
-IsNoRoom q LogEnd = most ≤ length q.tail.log
-IsNoRoom q (Full lane passed) = ⊥
+  -- why nothing was published: the first cause in this order. `q` is what the writer knew before,
+  -- and `q'` what it found
+  abbrev pub IsRefusal : WriterView B K A → WriterView B K A → PublishFault → Type 0
+  IsRefusal q q' Closed = q.tail.closed ≡ true
+  IsRefusal q q' LogEnd = (q.tail.closed ≡ false) × (most ≤ length q.tail.log)
+  -- the lowest lane that is as many places behind as there are
+  IsRefusal q q' (Full lane passed) = IsOpen q × (lane < 8) × (passed ≡ (account_of q' lane).known) × IsBehind q' lane × HasRoom q' lane
+  IsRefusal q q' NoMemory = IsOpen q × HasRoom q' 8
+
+  -- where slow lanes are cut no lane is full
+  abbrev pub IsCutRefusal : WriterView B K A → PublishFault → Type 0
+  IsCutRefusal q Closed = q.tail.closed ≡ true
+  IsCutRefusal q LogEnd = (q.tail.closed ≡ false) × (most ≤ length q.tail.log)
+  IsCutRefusal q (Full lane passed) = ⊥
+  IsCutRefusal q NoMemory = IsOpen q
+
+  -- why no lane was given out: the first cause in this order
+  abbrev pub IsAdmitRefusal : WriterView B K A → AdmitFault → Type 0
+  IsAdmitRefusal q admit.Closed = q.tail.closed ≡ true
+  IsAdmitRefusal q admit.NoLane = (q.tail.closed ≡ false) × ((m : ℕ) → m < 8 → (account_of q m).stand ≢ idle)

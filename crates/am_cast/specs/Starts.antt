@@ -1,15 +1,17 @@
 -- The seats of a new log.
-use Rattle.std.specs.Prelude.{◌≡◌, ℕ, ◌<◌, ◌≤◌, []}
+use Rattle.std.specs.Prelude.{◌≡◌, ℕ, ◌<◌, ◌≤◌, [], List, None}
 use Rattle.atomic_table.specs.Seated.{TableId}
-use Rattle.am_cast.specs.declared.kinds.Name.{Name}
-use Rattle.am_cast.specs.declared.kinds.Key.{Key}
-use Rattle.am_cast.specs.declared.kinds.Note.{Note}
+use Rattle.am_segment.specs.Segments.{KeyView}
+use Rattle.am_cast.specs.declared.name.Name.{Name}
 use Rattle.am_cast.specs.Rule.{first_view}
 use Rattle.am_cast.specs.Steps.{SeatState}
+use Rattle.am_cast.specs.inside.KeyRows.{BucketView, row_at}
 
-pub record PartsOk (table seat_table : TableId) (m : SeatState Name Key Note) (places : ℕ) : Type 0 where
+-- a table and a seat that nobody has used, and rows without a key
+pub record PartsOk {T P A : Type 0} (table seat_table : TableId) (m : SeatState (Name T P) (KeyView T) A) (rows : List (BucketView T)) (places : ℕ) : Type 0 where
   pub sized : table.words ≡ 144
   pub some_places : (0 < places) × (places ≤ 256)
   pub same : seat_table ≡ table
   pub first : m.0 ≡ first_view places
   pub bare : m.1 ≡ []
+  pub no_keys : (p : ℕ) → row_at rows p ≡ None

@@ -114,9 +114,13 @@ module _ {B K A : Type 0} where
   Clears st m n m' = (m'.1 ≡ rest m.1)
       × ((l : ℕ) (q : WriterView B K A) (b : Account K A) → st.word ≡ writer_word l → KnowsOf m.0 l q b → SetsAccount l q (clearing b) m.0 m'.0)
 
-  abbrev pub Publishes : B → StepAt K → SeatState B K A → ℕ → SeatState B K A → Type 0
-  Publishes x st m n m' = (m'.1 ≡ m.1) × ((q : WriterView B K A) → m.0.writer ≡ Some q → m'.0 ≡ record m.0 { writer = Some (longer x q); own = m.0.own ++ own_at (length q.tail.log) x ∷ [] })
+  -- the log has one batch more, the one named, and it is the seat's own
+  abbrev pub Publishes : Option B → StepAt K → SeatState B K A → ℕ → SeatState B K A → Type 0
+  Publishes name st m n m' = (m'.1 ≡ m.1)
+      × ((x : B) → name ≡ Some x → (q : WriterView B K A) → m.0.writer ≡ Some q
+      → m'.0 ≡ record m.0 { writer = Some (longer x q); own = m.0.own ++ own_at (length q.tail.log) x ∷ [] })
 
+  -- the log is closed
   abbrev pub Closes : StepAt K → SeatState B K A → ℕ → SeatState B K A → Type 0
   Closes st m n m' = (m'.1 ≡ m.1) × ((q : WriterView B K A) → m.0.writer ≡ Some q → m'.0 ≡ with_writer (shut q) m.0)
 

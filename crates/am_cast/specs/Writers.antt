@@ -1,94 +1,102 @@
 -- The writer's numbers, and what it knows between two calls.
-use Rattle.std.specs.Prelude.{◌≡◌, ◌≢◌, ℕ, zero, suc, ◌+◌, ◌<◌, ◌≤◌, List, [], ◌∷◌, length, slice_index, Some, None, Bool, true, false}
+use Rattle.std.specs.Prelude.{◌≡◌, ◌≢◌, ℕ, zero, suc, ◌+◌, ◌*◌, ◌/◌, ◌<◌, ◌≤◌, List, [], ◌∷◌, length, slice_index, slice_index_or, Some, None, Bool, true, false, ◌↔◌}
 use Rattle.atomic_table.specs.Seated.{TableId}
 use Rattle.am_cast.specs.declared.views.Account.{Account}
 use Rattle.am_cast.specs.declared.views.WriterView.{WriterView}
 use Rattle.am_cast.specs.declared.views.View.{View}
-use Rattle.am_cast.specs.declared.kinds.Name.{Name}
-use Rattle.am_cast.specs.declared.kinds.Key.{Key}
-use Rattle.am_cast.specs.declared.kinds.Note.{Note}
-use Rattle.am_cast.specs.Rule.{live, cut, most, bit, blank}
-use Rattle.am_cast.specs.Changes.{with_account, laying, own_at}
+use Rattle.am_cast.specs.Rule.{live, cut, vacated, most, bit, blank}
+use Rattle.am_cast.specs.Changes.{laying, own_at}
 use Rattle.am_cast.specs.Steps.{SeatState}
-use Rattle.am_cast.specs.Keys.{key_of}
 use Rattle.am_cast.specs.Seats.{writer_of, account_of, IsWriter}
 
 -- the numbers that the writer keeps of one lane
-pub record Moored (b : Account Key Note) (stand known away : ℕ) : Type 0 where
+pub record Moored {K A : Type 0} (b : Account K A) (stand known half away : ℕ) : Type 0 where
   pub stand_is : b.stand ≡ stand
   pub known_is : b.known ≡ known
+  pub half_is : b.half ≡ half
   pub away_is : bit b.away ≡ away
   pub bound : known ≤ most
+  pub half_bound : half ≤ 2 * most + 1
 
--- a account between two calls of the writer
-pub record IsCalm (n places : ℕ) (b : Account Key Note) : Type 0 where
+-- an account between two calls of the writer
+pub record IsCalm {K A : Type 0} (n places : ℕ) (b : Account K A) : Type 0 where
   pub out : b.out ≡ 0
   pub laid : b.laid ≡ None
+  pub low : b.start ≤ b.known
   pub known : b.known ≤ n
   pub stops : b.stop ≤ n
-  pub live_is : b.stand ≡ live → (b.cleared ≡ b.known) × (b.stop ≡ n) × (n ≤ b.known + places)
+  pub live_is : b.stand ≡ live → (b.cleared ≡ b.known) × (b.stop ≡ n) × (n ≤ b.known + places) × (b.half / 2 ≡ b.known) × (b.away ≡ false)
   pub rest_is : b.stand ≢ live → b.cleared ≡ b.stop
-  pub away_is : b.away ≡ true → (b.stand ≡ cut) × (b.known < n)
+  pub away_is : b.away ≡ true → (b.stand ≡ cut) × (b.known < n) × (b.known < b.cleared)
 
-abbrev pub Calm : WriterView Name Key Note → Type 0
-Calm q = (length q.accounts ≡ 8) × ((l : ℕ) → l < 8 → IsCalm (length q.tail.log) q.tail.places (account_of q l))
+-- the same admission of a lane, which was loaded as often or more
+abbrev pub SameAdmission : {K A : Type 0} → Account K A → Account K A → Type 0
+SameAdmission b c = (c.turn ≡ b.turn) × (c.note ≡ b.note) × (c.start ≡ b.start) × (b.loads ≤ c.loads)
 
--- how the writer's numbers stand to its seat
-pub record BenchOk (table : TableId) (seat_table : TableId) (m : SeatState Name Key Note) (places count : ℕ) (closed : Bool) (stand known away : List ℕ) : Type 0 where
-  pub same : seat_table ≡ table
-  pub writer : IsWriter m (writer_of m.0)
-  pub alone : m.0.lane ≡ None
-  pub no_own : m.0.own ≡ []
-  pub all : length (writer_of m.0).accounts ≡ 8
-  pub places_is : (writer_of m.0).tail.places ≡ places
-  pub some_places : (0 < places) × (places ≤ 256)
-  pub count_is : length (writer_of m.0).tail.log ≡ count
-  pub bound : count ≤ most
-  pub closed_is : (writer_of m.0).tail.closed ≡ closed
-  pub each : (l : ℕ) → l < 8 → Moored (account_of (writer_of m.0) l) (slice_index stand l) (slice_index known l) (slice_index away l)
+-- a lane stands as it stood, but that a live one may be found vacated
+abbrev pub StandsOn : {K A : Type 0} → Account K A → Account K A → Type 0
+StandsOn b c = (c.stand ≢ b.stand → (b.stand ≡ live) × (c.stand ≡ vacated))
 
--- one account is now b', and nothing else has changed
-abbrev pub OnlyAccount : WriterView Name Key Note → WriterView Name Key Note → ℕ → Account Key Note → Type 0
-OnlyAccount q q' l b' = (q'.tail ≡ q.tail) × (length q'.accounts ≡ length q.accounts) × (account_of q' l ≡ b') × ((m : ℕ) → m ≢ l → account_of q' m ≡ account_of q m)
+abbrev pub StaysAs : {K A : Type 0} → Account K A → Account K A → Type 0
+StaysAs b c = SameAdmission b c × StandsOn b c
 
--- one account has changed
-abbrev pub OneAccount : WriterView Name Key Note → WriterView Name Key Note → ℕ → Account Key Note → Type 0
-OneAccount q q' l b' = q' ≡ with_account l b' q
+-- whether the lane was cut between two moments
+abbrev pub IsCutAs : {K A : Type 0} → Account K A → Account K A → Bool → Type 0
+IsCutAs b c true = (b.stand ≡ live) × (c.stand ≡ cut)
+IsCutAs b c false = StandsOn b c
 
--- the lane's slot of the next place is filled, where the lane is live
-abbrev pub filled_as : ℕ → Name → ℕ → Account Key Note → Account Key Note
-filled_as (suc zero) x l b = laying (key_of x l) b
-filled_as _ x l b = b
+module _ {B K A : Type 0} where
+  abbrev pub Calm : WriterView B K A → Type 0
+  Calm q = (length q.accounts ≡ 8) × ((l : ℕ) → l < 8 → IsCalm (length q.tail.log) q.tail.places (account_of q l))
 
--- of the writer q the lanes below k are filled
-abbrev pub FilledTo : WriterView Name Key Note → Name → ℕ → WriterView Name Key Note → Type 0
-FilledTo q x k q' = (q'.tail ≡ q.tail) × (length q'.accounts ≡ 8)
-    × ((l : ℕ) → l < 8 → (l < k → account_of q' l ≡ filled_as (account_of q l).stand x l (account_of q l)) × (k ≤ l → account_of q' l ≡ account_of q l))
+  -- how the writer's numbers stand to its seat
+  pub record BenchOk (table seat_table : TableId) (m : SeatState B K A) (places count : ℕ) (closed : Bool) (stand known half away : List ℕ) : Type 0 where
+    pub same : seat_table ≡ table
+    pub writer : IsWriter m (writer_of m.0)
+    pub alone : m.0.lane ≡ None
+    pub no_own : m.0.own ≡ []
+    pub all : length (writer_of m.0).accounts ≡ 8
+    pub places_is : (writer_of m.0).tail.places ≡ places
+    pub some_places : (0 < places) × (places ≤ 256)
+    pub count_is : length (writer_of m.0).tail.log ≡ count
+    pub bound : count ≤ most
+    pub closed_is : (writer_of m.0).tail.closed ≡ closed
+    pub each : (l : ℕ) → l < 8 → Moored (account_of (writer_of m.0) l) (slice_index stand l) (slice_index known l) (slice_index half l) (slice_index away l)
 
--- the live lanes below k have room for one place more
-abbrev pub HasRoom : WriterView Name Key Note → ℕ → Type 0
-HasRoom q k = (l : ℕ) → l < k → (account_of q l).stand ≡ live → length q.tail.log < (account_of q l).known + q.tail.places
+  -- the live lanes below k have room for one place more
+  abbrev pub HasRoom : WriterView B K A → ℕ → Type 0
+  HasRoom q k = (l : ℕ) → l < k → (account_of q l).stand ≡ live → length q.tail.log < (account_of q l).known + q.tail.places
 
-abbrev pub IsBehind : WriterView Name Key Note → ℕ → Type 0
-IsBehind q l = ((account_of q l).stand ≡ live) × (length q.tail.log ≡ (account_of q l).known + q.tail.places)
+  abbrev pub IsBehind : WriterView B K A → ℕ → Type 0
+  IsBehind q l = ((account_of q l).stand ≡ live) × (length q.tail.log ≡ (account_of q l).known + q.tail.places)
 
--- only what is known of the lanes below k has changed, and each live one was looked at
-abbrev pub Harvested : WriterView Name Key Note → WriterView Name Key Note → ℕ → Type 0
-Harvested q q' k = (q'.tail ≡ q.tail) × ((l : ℕ) → (account_of q' l).stand ≡ live → (account_of q l).stand ≡ live) × ((l : ℕ) → l < k → (account_of q l).stand ≡ live → (account_of q l).loads < (account_of q' l).loads) × ((l : ℕ) → (account_of q l).loads ≤ (account_of q' l).loads)
-    × ((l : ℕ) → k ≤ l → account_of q' l ≡ account_of q l)
+  -- of the lanes below k only what is known has changed, and each live one was looked at
+  pub record Harvested (q q' : WriterView B K A) (k : ℕ) : Type 0 where
+    pub tail : q'.tail ≡ q.tail
+    pub each : (l : ℕ) → l < 8 → StaysAs (account_of q l) (account_of q' l)
+    pub below : (l : ℕ) → l < k → (account_of q l).stand ≡ live → (account_of q l).loads < (account_of q' l).loads
+    pub above : (l : ℕ) → k ≤ l → account_of q' l ≡ account_of q l
 
--- every live lane has its key of the next place
-abbrev pub AllLaid : WriterView Name Key Note → Name → Type 0
-AllLaid q x = (l : ℕ) → l < length q.accounts → ((account_of q l).out ≡ 0) × ((account_of q l).stand ≡ live → (account_of q l).laid ≡ Some (key_of x l))
+  -- the places of the slots are those that the next place needs
+  abbrev pub AreReady : WriterView B K A → Type 0
+  AreReady q = (length q.accounts ≡ 8) × ((l : ℕ) → l < 8 → ((account_of q l).stand ≡ live → ((account_of q l).cleared ≤ (account_of q l).stop) × ((account_of q l).stop ≡ length q.tail.log))
+      × ((account_of q l).stop ≤ length q.tail.log) × ((account_of q l).away ≡ true → ((account_of q l).stand ≡ cut) × ((account_of q l).known < length q.tail.log)))
 
--- a view that owns one place
-abbrev pub owner_of : ℕ → Name → View Name Key Note
-owner_of place x = record blank { own = own_at place x ∷ [] }
+  -- a view that owns one place
+  abbrev pub owner_of : ℕ → B → View B K A
+  owner_of place x = record blank { own = own_at place x ∷ [] }
 
--- nothing of the log has changed
-abbrev pub SameTail : WriterView Name Key Note → WriterView Name Key Note → Type 0
-SameTail q q' = (q'.tail ≡ q.tail) × ((l : ℕ) → (account_of q' l).stand ≡ (account_of q l).stand)
+  module _ (key : B → ℕ → K) where
+    -- the lane's slot of the next place is filled, where the lane is live
+    abbrev pub filled_as : ℕ → B → ℕ → Account K A → Account K A
+    filled_as (suc zero) x l b = laying (key x l) b
+    filled_as _ x l b = b
 
--- the lane of the account b came home, and its keys up to the place `to` were taken out
-abbrev pub HomeAs : Account Key Note → ℕ → Account Key Note → Type 0
-HomeAs b to b' = (b'.stand ≡ 0) × (b'.away ≡ false) × (b'.out ≡ b.out) × (b'.laid ≡ b.laid) × (b'.known ≡ b.known) × (b'.stop ≡ to) × (b'.cleared ≡ to)
+    -- of the writer q the lanes below k are filled
+    abbrev pub FilledTo : WriterView B K A → B → ℕ → WriterView B K A → Type 0
+    FilledTo q x k q' = (q'.tail ≡ q.tail) × (length q'.accounts ≡ 8)
+        × ((l : ℕ) → l < 8 → (l < k → account_of q' l ≡ filled_as (account_of q l).stand x l (account_of q l)) × (k ≤ l → account_of q' l ≡ account_of q l))
+
+    -- every live lane has its key of the next place
+    abbrev pub AllLaid : WriterView B K A → B → Type 0
+    AllLaid q x = (l : ℕ) → l < length q.accounts → ((account_of q l).out ≡ 0) × ((account_of q l).stand ≡ live → (account_of q l).laid ≡ Some (key x l))

@@ -1,1 +1,2 @@
 pub mod KeyRows
+pub mod Waiting

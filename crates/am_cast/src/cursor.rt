@@ -3,91 +3,119 @@ ghost use Rattle.std.specs.Prelude.{◌≡◌, ◌+◌, ◌<◌, ◌≤◌, true
 ghost use mathlib.Core.List.{IsPrefix};
 ghost use Rattle.am_cast.specs.Rule.{bit};
 ghost use Rattle.am_cast.specs.Changes.{holding, cut_off, seeing, left};
+ghost use Rattle.am_cast.specs.Cursors.{taken, items_at};
 
 use crate::board;
 use crate::feed::Feed;
-use crate::kinds::{Board, Key, LogSeat};
+use crate::name::{Board, LogSeat};
 use crate::pass::Pass;
+use am_segment::SegKey;
 use std::marker::{Model, PhantomData};
 
 /// The table of one log.
-#[derive(Drop)]
-pub struct Cast<N: Feed> {
-    pub(crate) board: Board,
+pub struct Cast<T, P, A, N: Feed> {
+    pub(crate) board: Board<T, P, A>,
     pub(crate) of: PhantomData<N>,
     ghost is: { board.shared.table_id ≡ N.table },
     ghost sized: { board.shared.table_id.words ≡ 144 },
 }
 
-/// Contracts see it as what its lane knows. (It is `Drop` here for the test alone.)
-#[derive(Drop)]
-pub struct Cursor<'a, N: Feed> {
-    pub(crate) cast: &'a Cast<N>,
-    pub(crate) seat: LogSeat,
+/// A subscription's place in the log. It must be spent by `Writer::retire`. Contracts see it as
+/// what its lane knows, and how many items of the place in its hand it has shown.
+pub struct Cursor<'a, T, P, A, N: Feed> {
+    pub(crate) cast: &'a Cast<T, P, A, N>,
+    pub(crate) seat: LogSeat<T, P, A>,
     pub(crate) number: usize,
     pub(crate) places: u64,
     pub(crate) passed: u64,
     pub(crate) seen: u64,
+    pub(crate) shown: usize,
     pub(crate) closed: bool,
     pub(crate) cut: bool,
-    pub(crate) hand: Option<Key>,
+    pub(crate) hand: Option<SegKey<T>>,
 }
 
-impl<'a, N: Feed> Model for Cursor<'a, N> {
-    ghost use Rattle.am_cast.specs.declared.views.LaneView.{LaneView};
-    ghost use Rattle.am_cast.specs.declared.kinds.Name.{Name};
-    ghost use Rattle.am_cast.specs.declared.kinds.Note.{Note};
+impl<'a, T, P, A, N: Feed> Model for Cursor<'a, T, P, A, N> {
     ghost use Rattle.am_cast.specs.Seats.{lane_of};
-    ghost use Rattle.am_cast.specs.Cursors.{CursorOk};
+    ghost use Rattle.am_cast.specs.Cursors.{CursorView, CursorOk};
 
-    ghost Value = { LaneView Name Note };
+    ghost Value = { CursorView T P A };
 
-    ghost view = { λ c. lane_of c.seat.me.0 };
+    ghost view = { λ c. record { lane = lane_of c.seat.me.0; shown = c.shown } };
 
-    ghost invariant = { λ c. CursorOk N.table c.seat.table_id c.seat.me c.number c.places c.passed c.seen c.closed c.cut c.hand };
+    ghost invariant = { λ c. CursorOk N.table c.seat.table_id c.seat.me c.number c.places c.passed c.seen c.shown c.closed c.cut c.hand };
 }
 
-impl<'a, N: Feed> Cursor<'a, N> {
+impl<'a, T, P, A, N: Feed> Cursor<'a, T, P, A, N> {
+    /// The lane that it reads on.
+    pub fn lane(&self) -> usize
+        ensures { (result ≡ self.now.lane.number) × (result < 8) }
+    {
+        self.number
+    }
+
+    // One item more is shown, where the place in hand has one. Answers whether it has.
+    pub(crate) fn show(&mut self) -> bool
+        ensures yes { result ≡ true → (self.old.lane.held ≡ true) × (self.old.shown < length (items_at self.old.lane.front self.old.lane.passed)) × (self.new ≡ record self.old { shown = self.old.shown + 1 }) }
+        ensures no { result ≡ false → (self.new ≡ self.old) × (self.old.lane.held ≡ true → self.old.shown ≡ length (items_at self.old.lane.front self.old.lane.passed)) }
+    {
+        let Some(key) = &self.hand else {
+            return false;
+        };
+        if self.shown >= key.len() {
+            return false;
+        }
+        self.shown += 1;
+        true
+    }
+
     // The key in hand goes home, and its place is passed.
     pub(crate) fn put_back(&mut self)
-        ensures lane { let v = self.old in let w = self.new in w ≡ record v { passed = v.passed + bit v.held; held = false; cut = w.cut } }
-        ensures cut { self.old.cut ≡ true → self.new.cut ≡ true }
-        ensures bounds { (self.new.start ≤ self.new.passed) × (self.new.passed ≤ length self.new.front) }
+        requires { self.old.lane.held ≡ true → self.old.shown ≡ length (items_at self.old.lane.front self.old.lane.passed) }
+        ensures lane { let v = self.old.lane in let w = self.new.lane in w ≡ record v { passed = v.passed + bit v.held; held = false; cut = w.cut } }
+        ensures shown { self.new.shown ≡ 0 }
+        ensures cut { self.old.lane.cut ≡ true → self.new.lane.cut ≡ true }
+        ensures same { self.old.lane.held ≡ false → self.new.lane.cut ≡ self.old.lane.cut }
+        ensures bounds { (self.new.lane.start ≤ self.new.lane.passed) × (self.new.lane.passed ≤ length self.new.lane.front) }
+        ensures taken { taken self.new ≡ taken self.old }
     {
         if let Some(key) = self.hand.take() {
             let at = 8 * (self.passed % self.places) as usize + self.number;
-            self.cut = board::pass_place(
-                &self.cast.board.shared,
-                &mut self.seat,
-                at,
-                key,
-                self.number,
-            );
+            let top = &self.cast.board.shared;
+            self.cut = board::pass_place(top, &mut self.seat, at, key, self.number);
             self.passed += 1;
+            self.shown = 0;
         }
     }
 
     pub(crate) fn look(&mut self)
-        requires { self.old.held ≡ false }
-        ensures lane { let w = self.new in w ≡ seeing w.front w.told self.old }
-        ensures front { IsPrefix self.old.front self.new.front }
+        requires { self.old.lane.held ≡ false }
+        ensures lane { let w = self.new.lane in w ≡ seeing w.front w.told self.old.lane }
+        ensures shown { self.new.shown ≡ self.old.shown }
+        ensures front { IsPrefix self.old.lane.front self.new.lane.front }
     {
         let (seen, closed) = board::look_at_log(&self.cast.board.shared, &mut self.seat);
         self.seen = seen;
         self.closed = closed;
     }
 
-    // The next key comes into the hand, or the lane was cut.
+    // The next key comes into the hand, and its first item is shown, or the lane was cut.
     pub(crate) fn take(&mut self) -> bool
-        requires { (self.old.held ≡ false) × (self.old.cut ≡ false) × (self.old.passed < length self.old.front) }
-        ensures taken { result ≡ true → self.new ≡ holding self.old }
-        ensures cut { result ≡ false → self.new ≡ cut_off self.old }
+        requires { (self.old.lane.held ≡ false) × (self.old.lane.cut ≡ false) × (self.old.lane.passed < length self.old.lane.front) }
+        ensures taken { result ≡ true → self.new ≡ record { lane = holding self.old.lane; shown = 1 } }
+        ensures cut { result ≡ false → self.new ≡ record { lane = cut_off self.old.lane; shown = 0 } }
     {
         let at = 8 * (self.passed % self.places) as usize + self.number;
         let top = &self.cast.board.shared;
-        self.hand = board::take_key(top, &mut self.seat, at, self.number, self.passed);
-        match &self.hand {
-            Some(_) => true,
+        match board::take_key(top, &mut self.seat, at, self.number, self.passed) {
+            Some(key) => {
+                match self.hand.replace(key) {
+                    None => {}
+                    Some(_) => unreachable!(),
+                }
+                self.shown = 1;
+                true
+            }
             None => {
                 self.cut = true;
                 false
@@ -96,29 +124,29 @@ impl<'a, N: Feed> Cursor<'a, N> {
     }
 
     pub(crate) fn has_more(&self) -> bool
-        requires { self.now.held ≡ false }
-        ensures more { result ≡ true → self.now.passed < length self.now.front }
-        ensures all { result ≡ false → self.now.passed ≡ length self.now.front }
+        requires { self.now.lane.held ≡ false }
+        ensures more { result ≡ true → self.now.lane.passed < length self.now.lane.front }
+        ensures all { result ≡ false → self.now.lane.passed ≡ length self.now.lane.front }
     {
         self.passed < self.seen
     }
 
     pub(crate) fn is_told(&self) -> bool
-        ensures { result ≡ self.now.told }
+        ensures { result ≡ self.now.lane.told }
     {
         self.closed
     }
 
     pub(crate) fn is_cut(&self) -> bool
-        ensures { result ≡ self.now.cut }
+        ensures { result ≡ self.now.lane.cut }
     {
         self.cut
     }
 
     /// The lane is left. The key in hand goes home.
-    pub(crate) fn depart(self) -> (usize, LogSeat)
-        ensures same { (result.1.table_id ≡ N.table) × (result.1.me.1 ≡ []) × (self.entry.number ≡ result.0) × (result.0 < 8) }
-        ensures seat { (result.1.me.0.writer ≡ None) × (result.1.me.0.own ≡ []) × (result.1.me.0.lane ≡ Some (left self.entry)) }
+    pub(crate) fn depart(self) -> (usize, LogSeat<T, P, A>)
+        ensures same { (result.1.table_id ≡ N.table) × (result.1.me.1 ≡ []) × (self.entry.lane.number ≡ result.0) × (result.0 < 8) }
+        ensures seat { (result.1.me.0.writer ≡ None) × (result.1.me.0.own ≡ []) × (result.1.me.0.lane ≡ Some (left self.entry.lane)) }
     {
         let Cursor {
             cast,
@@ -127,6 +155,7 @@ impl<'a, N: Feed> Cursor<'a, N> {
             places,
             passed,
             seen: _,
+            shown: _,
             closed: _,
             cut: _,
             hand,
@@ -146,10 +175,11 @@ impl<'a, N: Feed> Cursor<'a, N> {
     }
 
     // A look, after which all that the pass knows is seen.
-    pub(crate) fn look_past(&mut self, pass: &mut Pass<N>)
-        requires { self.old.held ≡ false }
-        ensures lane { let w = self.new in w ≡ seeing w.front w.told self.old }
-        ensures front { IsPrefix self.old.front self.new.front × IsPrefix pass.old.noted self.new.front }
+    pub(crate) fn look_past(&mut self, pass: &mut Pass<T, P, A, N>)
+        requires { self.old.lane.held ≡ false }
+        ensures lane { let w = self.new.lane in w ≡ seeing w.front w.told self.old.lane }
+        ensures shown { self.new.shown ≡ self.old.shown }
+        ensures front { IsPrefix self.old.lane.front self.new.lane.front × IsPrefix pass.old.noted self.new.lane.front }
         ensures pass { pass.new ≡ pass.old }
     {
         let top = &self.cast.board.shared;

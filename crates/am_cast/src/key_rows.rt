@@ -1,6 +1,6 @@
 //! The writer's keys: those that came home wait in rows, one for each place, until the eighth is
 //! there and ends the segment.
-ghost use Rattle.std.specs.Prelude.{◌≡◌, ◌≢◌, ℕ, ◌<◌, ◌≤◌, List, ◌∷◌, ◌++◌, length, Some, None, IfOk, OnOk};
+ghost use Rattle.std.specs.Prelude.{true, false, ◌≡◌, ◌≢◌, ℕ, ◌<◌, ◌≤◌, List, ◌∷◌, ◌++◌, length, Some, None, IfOk, OnOk};
 ghost use Rattle.am_segment.specs.Segments.{KeyView};
 ghost use Rattle.am_cast.specs.inside.KeyRows.{bucket_of, row_at, MayTake, row_with};
 
@@ -45,6 +45,15 @@ impl<T> KeyRows<T> {
             buckets.push_reserved(Bucket::new(alloc));
         }
         Ok(KeyRows { buckets })
+    }
+
+    /// Whether keys of the place wait for others.
+    pub(crate) fn has(&self, place: u64) -> bool
+        ensures none { result ≡ false → row_at self.now place ≡ None }
+        ensures some { result ≡ true → row_at self.now place ≢ None }
+    {
+        let at = (place % self.buckets.len() as u64) as usize;
+        self.buckets[at].has(place)
     }
 
     /// Makes room for the place's row.

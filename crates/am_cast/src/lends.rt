@@ -1,14 +1,12 @@
 //! `next`, which lends the item that it shows. It stands in a file of its own, since its clause names the row of `Cursor`.
-ghost use Rattle.std.specs.Prelude.{◌≡◌, ◌+◌, ◌<◌, ◌≤◌, ℕ, ⊤, [], true, length};
+ghost use Rattle.std.specs.Prelude.{◌≡◌, ◌+◌, ◌<◌, ◌≤◌, ℕ, ⊤, [], true, false, length, IfSome, IfNone};
 ghost use Rattle.std.specs.Borrow.{sem, follows_so};
 ghost use mathlib.Core.Option.{none, some};
-ghost use lib.ListN.{get_elem?};
+ghost use mathlib.Core.List.{IsPrefix};
 ghost use mir.Syntax.{named};
 ghost use Rattle.am_cast.specs.contracts.cursor.Cursor.{the_row};
-ghost use Rattle.am_cast.specs.declared.kinds.Name.{Name};
-ghost use Rattle.am_cast.specs.Cursors.{taken};
-ghost use Rattle.am_cast.specs.Lent.{Moves, Lends, LendsPast, MovedPending};
-ghost use mathlib.Core.List.{IsPrefix};
+ghost use Rattle.am_cast.specs.Cursors.{taken, GoesOn};
+ghost use Rattle.am_cast.specs.Lent.{Moves, Takes, Found, NeedsLook, AreAllSeen, MovesPast, Lends, LendsPast, IsInHand};
 
 use crate::cursor::Cursor;
 use crate::feed::Feed;
@@ -16,47 +14,76 @@ use crate::pass::Pass;
 
 /// An answer of `next`.
 #[derive(Drop)]
-pub enum Step<'s> {
-    Item(&'s u64),
+pub enum Step<'s, T> {
+    /// The next item. It is lent until the next call.
+    Item(&'s T),
+    /// Nothing is there that wasn't shown, and more may come.
     Pending,
+    /// All was shown, and no more will come.
     Closed,
+    /// The lane was too slow for the log, and was cut.
     Cut,
 }
 
 #[derive(Clone, Copy, Drop)]
-pub enum Moved {
+pub(crate) enum Moved {
     One,
     Pending,
     Closed,
     Cut,
 }
 
-impl<'a, N: Feed> Cursor<'a, N> {
-    // The item in hand.
-    fn in_hand(&self) -> &u64
-        requires { self.now.held ≡ true }
-        ensures { (x : Name) × (get_elem? self.now.front self.now.passed ≡ some x) × (x.item ≡ result.now) }
+impl<'a, T, P, A, N: Feed> Cursor<'a, T, P, A, N> {
+    // The item that was shown last.
+    fn in_hand(&self) -> &T
+        requires { self.now.lane.held ≡ true }
+        ensures { IsInHand self.now result.now }
     {
-        match &self.hand {
-            Some(key) => &key.item,
-            None => unreachable!(),
-        }
+        let Some(key) = &self.hand else {
+            unreachable!()
+        };
+        let Some(item) = key.get(self.shown - 1) else {
+            unreachable!()
+        };
+        item
     }
 
-    // The next key comes into the hand: at most one Pass, one Look and one Take.
-    fn advance(&mut self) -> Moved
-        ensures { Moves self.old self.new result }
+    // The key of the next place, or that the lane was cut.
+    fn take_one(&mut self) -> Moved
+        requires { (self.old.lane.held ≡ false) × (self.old.shown ≡ 0) × (self.old.lane.cut ≡ false) × (self.old.lane.passed < length self.old.lane.front) }
+        ensures on { GoesOn self.old self.new }
+        ensures takes { Takes self.old self.new result }
     {
-        self.put_back();
+        if self.take() { Moved::One } else { Moved::Cut }
+    }
+
+    // What follows from the looks so far, with at most one Take, or that a look is needed.
+    fn reach_seen(&mut self) -> Option<Moved>
+        requires { (self.old.lane.held ≡ false) × (self.old.shown ≡ 0) × (self.old.lane.passed ≤ length self.old.lane.front) }
+        ensures on { GoesOn self.old self.new }
+        ensures moves { IfSome result (λ moved. Moves self.old self.new moved × AreAllSeen moved) }
+        ensures none { IfNone result ((self.new ≡ self.old) × NeedsLook self.old) }
+    {
         if self.is_cut() {
-            return Moved::Cut;
+            return Some(Moved::Cut);
         }
         if self.has_more() {
-            return if self.take() { Moved::One } else { Moved::Cut };
+            return Some(self.take_one());
         }
-        self.look();
+        if self.is_told() {
+            return Some(Moved::Closed);
+        }
+        None
+    }
+
+    // What follows from a look, with at most one Take.
+    fn reach_found(&mut self) -> Moved
+        requires { (self.old.lane.held ≡ false) × (self.old.shown ≡ 0) × (self.old.lane.cut ≡ false) }
+        ensures on { GoesOn self.old self.new }
+        ensures found { Found self.old self.new result }
+    {
         if self.has_more() {
-            return if self.take() { Moved::One } else { Moved::Cut };
+            return self.take_one();
         }
         if self.is_told() {
             Moved::Closed
@@ -65,9 +92,34 @@ impl<'a, N: Feed> Cursor<'a, N> {
         }
     }
 
+    // What comes after the places that were passed: at most one Look and one Take.
+    fn reach(&mut self) -> Moved
+        requires { (self.old.lane.held ≡ false) × (self.old.shown ≡ 0) × (self.old.lane.passed ≤ length self.old.lane.front) }
+        ensures on { GoesOn self.old self.new }
+        ensures moves { Moves self.old self.new result }
+    {
+        if let Some(moved) = self.reach_seen() {
+            return moved;
+        }
+        self.look();
+        self.reach_found()
+    }
+
+    // One item more is in hand, or the answer says why not.
+    fn advance(&mut self) -> Moved
+        ensures on { GoesOn self.old self.new }
+        ensures moves { Moves self.old self.new result }
+    {
+        if self.show() {
+            return Moved::One;
+        }
+        self.put_back();
+        self.reach()
+    }
+
     /// The next item, lent until the next call.
-    pub fn next(&mut self) -> Step<'_>
-        ensures* lender { sem 𝓛 (follows_so (the_row (record { mir = named 1; lft = [] }) N.row N.Feed) (the_row (record { mir = named 1; lft = [] }) N.row N.Feed) self.entry.ghost_name none (λ _ _. ⊤) (λ v. Lends self.old v result)) }
+    pub fn next(&mut self) -> Step<'_, T>
+        ensures* lender { sem 𝓛 (follows_so (the_row (record { mir = named 1; lft = [] }) T.row P.row A.row N.row N.Feed) (the_row (record { mir = named 1; lft = [] }) T.row P.row A.row N.row N.Feed) self.entry.ghost_name none (λ _ _. ⊤) (λ v. GoesOn self.old v × Lends self.old v result)) }
     {
         match self.advance() {
             Moved::One => Step::Item(self.in_hand()),
@@ -78,33 +130,39 @@ impl<'a, N: Feed> Cursor<'a, N> {
     }
 }
 
-impl<'a, N: Feed> Cursor<'a, N> {
-    // As `advance`, but a look comes after what the pass knows.
-    fn advance_past(&mut self, pass: &mut Pass<N>) -> Moved
-        ensures moves { Moves self.old self.new result × (result ≡ MovedPending → IsPrefix pass.old.noted self.new.front) }
+impl<'a, T, P, A, N: Feed> Cursor<'a, T, P, A, N> {
+    // As `reach`, but a look comes after what the pass knows.
+    fn reach_past(&mut self, pass: &mut Pass<T, P, A, N>) -> Moved
+        requires { (self.old.lane.held ≡ false) × (self.old.shown ≡ 0) × (self.old.lane.passed ≤ length self.old.lane.front) }
+        ensures on { GoesOn self.old self.new }
+        ensures moves { Moves self.old self.new result }
+        ensures past { MovesPast pass.old.noted self.new result }
         ensures pass { pass.new ≡ pass.old }
     {
-        self.put_back();
-        if self.is_cut() {
-            return Moved::Cut;
-        }
-        if self.has_more() {
-            return if self.take() { Moved::One } else { Moved::Cut };
+        if let Some(moved) = self.reach_seen() {
+            return moved;
         }
         self.look_past(pass);
-        if self.has_more() {
-            return if self.take() { Moved::One } else { Moved::Cut };
+        self.reach_found()
+    }
+
+    // As `advance`, but a look comes after what the pass knows.
+    fn advance_past(&mut self, pass: &mut Pass<T, P, A, N>) -> Moved
+        ensures on { GoesOn self.old self.new }
+        ensures moves { Moves self.old self.new result }
+        ensures past { MovesPast pass.old.noted self.new result }
+        ensures pass { pass.new ≡ pass.old }
+    {
+        if self.show() {
+            return Moved::One;
         }
-        if self.is_told() {
-            Moved::Closed
-        } else {
-            Moved::Pending
-        }
+        self.put_back();
+        self.reach_past(pass)
     }
 
     /// The next item. It isn't `Pending` while a place that the pass knows isn't passed.
-    pub fn next_past(&mut self, pass: &mut Pass<N>) -> Step<'_>
-        ensures* lender { sem 𝓛 (follows_so (the_row (record { mir = named 1; lft = [] }) N.row N.Feed) (the_row (record { mir = named 1; lft = [] }) N.row N.Feed) self.entry.ghost_name none (λ _ _. ⊤) (λ v. Lends self.old v result × LendsPast pass.old.noted v result)) }
+    pub fn next_past(&mut self, pass: &mut Pass<T, P, A, N>) -> Step<'_, T>
+        ensures* lender { sem 𝓛 (follows_so (the_row (record { mir = named 1; lft = [] }) T.row P.row A.row N.row N.Feed) (the_row (record { mir = named 1; lft = [] }) T.row P.row A.row N.row N.Feed) self.entry.ghost_name none (λ _ _. ⊤) (λ v. GoesOn self.old v × Lends self.old v result × LendsPast pass.old.noted v result)) }
         ensures pass { pass.new ≡ pass.old }
     {
         match self.advance_past(pass) {
@@ -114,18 +172,4 @@ impl<'a, N: Feed> Cursor<'a, N> {
             Moved::Cut => Step::Cut,
         }
     }
-}
-
-/// Counts items.
-pub fn two<N: Feed>(c: &mut Cursor<'_, N>) -> usize
-    ensures { length (taken c.new) ≡ length (taken c.old) + result }
-{
-    let mut n = 0;
-    if let Step::Item(_) = c.next() {
-        n += 1;
-    }
-    if let Step::Item(_) = c.next() {
-        n += 1;
-    }
-    n
 }

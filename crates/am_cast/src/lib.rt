@@ -1,17 +1,30 @@
 //! A bounded broadcast log.
 #![tactic(auto)]
 
-pub mod bench;
+mod bench;
 mod board;
-pub mod cursor;
-pub mod day;
-pub mod feed;
+mod cursor;
+mod faults;
+mod feed;
 mod key_rows;
-pub mod kinds;
 pub mod laws;
-pub mod lends;
-pub mod parts;
-pub mod pass;
+mod lends;
+mod name;
+mod parts;
+mod pass;
 pub mod rule;
+mod tag;
 pub mod views;
-pub mod writer;
+mod writer;
+
+pub use cursor::{Cast, Cursor};
+pub use faults::{AdmitFault, AlreadyClosed, PublishFault, Refused};
+pub use feed::Feed;
+pub use lends::Step;
+pub use name::{Name, SegmentKeys};
+pub use parts::{Begun, Parts, begin, end};
+pub use pass::Pass;
+pub use writer::{MOST_PLACES, Published, Writer};
+
+#[cfg(test)]
+mod tests;

@@ -1,6 +1,8 @@
-//! The parts of a new log, which no type stands for yet.
-ghost use Rattle.std.specs.Prelude.{◌≡◌, ◌*◌, ◌<◌, ◌≤◌, IfOk, [], ℕ, slice_index, length};
-ghost use Rattle.am_cast.specs.Rule.{gone, lane_word, idle};
+//! The parts of a new log, which no type stands for yet, and the log's beginning and end.
+ghost use Rattle.std.specs.Prelude.{false, ◌≡◌, ◌*◌, ◌<◌, ◌≤◌, IfOk, [], ℕ, slice_index, length};
+ghost use Rattle.std.specs.List.{All};
+ghost use Rattle.am_cast.specs.Rule.{gone, lane_word, idle, blank};
+ghost use Rattle.am_cast.specs.Changes.{copied};
 ghost use Rattle.am_cast.specs.Starts.{PartsOk};
 ghost use Rattle.am_cast.specs.Seats.{account_of};
 
@@ -8,17 +10,21 @@ use crate::bench::Bench;
 use crate::board;
 use crate::cursor::Cast;
 use crate::feed::Feed;
-use crate::kinds::{Board, LogSeat};
+use crate::key_rows::KeyRows;
+use crate::name::{Board, LogSeat};
 use crate::pass::Pass;
 use crate::writer::Writer;
 use std::alloc::{AllocError, Global};
 use std::marker::PhantomData;
 
-pub struct Parts {
-    pub board: Board,
-    pub(crate) seat: LogSeat,
-    pub(crate) places: u64,
-    ghost ok: { PartsOk board.shared.table_id seat.table_id seat.me places },
+/// A table of its own, and the memory of a writer. It must be spent by `begin`.
+pub struct Parts<T, P, A> {
+    pub board: Board<T, P, A>,
+    seat: LogSeat<T, P, A>,
+    rows: KeyRows<T>,
+    alloc: Global,
+    pub places: u64,
+    ghost ok: { PartsOk board.shared.table_id seat.table_id seat.me rows places },
 }
 
 // The words of a log whose lanes are all idle.
@@ -33,63 +39,132 @@ fn first_words() -> [u64; 144]
     words
 }
 
-impl Parts {
-    /// A table of its own.
-    pub fn make(alloc: Global, places: u64) -> Result<Parts, AllocError>
+impl<T, P, A> Parts<T, P, A> {
+    /// The parts of a log with so many places.
+    pub fn make(alloc: Global, places: u64) -> Result<Parts<T, P, A>, AllocError>
         requires { (0 < places) × (places ≤ 256) }
         ensures { IfOk result (λ p. p.places ≡ places) }
     {
         let words = first_words();
+        let rows = KeyRows::new(alloc, places as usize)?;
         let Ok((board, seat)) = Board::vacant(alloc, &words, 8 * places as usize, &places) else {
+            rows.end();
             return Err(AllocError);
         };
         Ok(Parts {
             board,
             seat,
+            rows,
+            alloc,
             places,
         })
     }
 }
 
 /// The ends of a log.
-pub struct Begun<N: Feed> {
-    pub cast: Cast<N>,
-    pub writer: Writer<N>,
-    pub pass: Pass<N>,
+pub struct Begun<T, P, A, N: Feed> {
+    pub cast: Cast<T, P, A, N>,
+    pub writer: Writer<T, P, A, N>,
+    pub passes: Vec<Pass<T, P, A, N>>,
 }
 
-/// A log over these parts, with one pass.
-pub fn begin<N: Feed>(parts: Parts) -> Begun<N>
+// So many passes, which know nothing yet.
+fn deal_passes<T, P, A, N: Feed>(
+    alloc: Global,
+    board: &Board<T, P, A>,
+    seat: &mut LogSeat<T, P, A>,
+    posters: usize,
+) -> Result<Vec<Pass<T, P, A, N>>, AllocError>
+    requires table { (board.now.shared.table_id ≡ N.table) × (seat.old.table_id ≡ N.table) × (N.table.words ≡ 144) }
+    requires fresh { (seat.old.me.1 ≡ []) × (copied seat.old.me.0 ≡ blank) }
+    ensures seat { (seat.new.table_id ≡ seat.old.table_id) × (seat.new.me ≡ seat.old.me) }
+    ensures passes { IfOk result (λ made. (length made.items ≡ posters) × All (λ pass. pass ≡ record { noted = []; own = [] }) made.items) }
+{
+    let mut passes = Vec::with_capacity(alloc, posters)?;
+    for _poster in 0..posters {
+        passes.push_reserved(Pass {
+            seat: board::new_seat(&board.shared, seat),
+            of: PhantomData,
+        });
+    }
+    Ok(passes)
+}
+
+/// A log over these parts, with so many passes.
+pub fn begin<T: Drop, P, A, N: Feed>(
+    parts: Parts<T, P, A>,
+    posters: usize,
+) -> Result<Begun<T, P, A, N>, AllocError>
     requires { parts.board.shared.table_id ≡ N.table }
-    ensures empty { (result.writer.tail.log ≡ []) × (result.pass.own ≡ []) }
-    ensures idle { (l : ℕ) → l < 8 → (account_of result.writer l).stand ≡ idle }
+    ensures empty { IfOk result (λ begun. begun.writer.tail ≡ record { places = parts.places; log = []; closed = false }) }
+    ensures idle { IfOk result (λ begun. (l : ℕ) → l < 8 → (account_of begun.writer l).stand ≡ idle) }
+    ensures passes { IfOk result (λ begun. (length begun.passes.items ≡ posters) × All (λ pass. pass ≡ record { noted = []; own = [] }) begun.passes.items) }
 {
     let Parts {
         board,
         mut seat,
+        rows,
+        alloc,
         places,
     } = parts;
-    let other = board::new_seat(&board.shared, &mut seat);
+    let passes = deal_passes(alloc, &board, &mut seat, posters);
     let cast = Cast {
         board,
         of: PhantomData,
     };
     let bench = Bench {
         seat,
+        rows,
+        alloc,
         places,
         count: 0,
         closed: false,
         stand: [0; 8],
         known: [0; 8],
+        half: [0; 8],
         away: [0; 8],
         of: PhantomData,
     };
-    Begun {
-        cast,
-        writer: Writer { bench },
-        pass: Pass {
-            seat: other,
-            of: PhantomData,
-        },
+    let writer = Writer { bench };
+    match passes {
+        Ok(passes) => Ok(Begun {
+            cast,
+            writer,
+            passes,
+        }),
+        Err(_) => {
+            end(cast, writer);
+            Err(AllocError)
+        }
     }
+}
+
+/// The end of a log whose lanes are all idle: its memory is freed.
+pub fn end<T: Drop, P, A, N: Feed>(cast: Cast<T, P, A, N>, writer: Writer<T, P, A, N>)
+    requires { (l : ℕ) → l < 8 → (account_of writer l).stand ≡ idle }
+{
+    let Cast { board, of: _ } = cast;
+    let Writer { bench } = writer;
+    let Bench {
+        seat,
+        rows,
+        alloc: _,
+        places: _,
+        count: _,
+        closed: _,
+        stand: _,
+        known: _,
+        half: _,
+        away: _,
+        of: _,
+    } = bench;
+    rows.end();
+    let mut closed = board.close_with(seat);
+    for index in 0..closed.slot_count() {
+        match closed.take(index) {
+            None => {}
+            Some(_) => unreachable!(),
+        }
+    }
+    closed.free();
 }

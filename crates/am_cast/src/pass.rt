@@ -4,46 +4,46 @@ ghost use mathlib.Core.Option.{some};
 ghost use mathlib.Core.List.{IsPrefix};
 ghost use lib.ListN.{get_elem?};
 ghost use Rattle.am_cast.specs.declared.views.Own.{Own};
-ghost use Rattle.am_cast.specs.declared.kinds.Name.{Name};
+ghost use Rattle.am_cast.specs.declared.name.Name.{Name};
 ghost use Rattle.am_cast.specs.Changes.{Stand};
 
 use crate::board;
 use crate::cursor::{Cast, Cursor};
 use crate::feed::Feed;
-use crate::kinds::LogSeat;
+use crate::name::LogSeat;
 use std::marker::{Model, PhantomData};
 
 /// Contracts see it as what it owns and has noted of the log.
 #[derive(Drop)]
-pub struct Pass<N: Feed> {
-    pub(crate) seat: LogSeat,
+pub struct Pass<T, P, A, N: Feed> {
+    pub(crate) seat: LogSeat<T, P, A>,
     pub(crate) of: PhantomData<N>,
 }
 
-impl<N: Feed> Model for Pass<N> {
-    ghost use Rattle.am_cast.specs.Posters.{Poster, poster_of, PassOk};
+impl<T, P, A, N: Feed> Model for Pass<T, P, A, N> {
+    ghost use Rattle.am_cast.specs.Posters.{PassView, pass_view, PassOk};
 
-    ghost Value = { Poster };
+    ghost Value = { PassView T P };
 
-    ghost view = { λ p. poster_of p.seat.me.0 };
+    ghost view = { λ p. pass_view p.seat.me.0 };
 
     ghost invariant = { λ p. PassOk N.table p.seat.table_id p.seat.me };
 }
 
-impl<N: Feed> Pass<N> {
+impl<T, P, A, N: Feed> Pass<T, P, A, N> {
     // It notes how long the log is.
-    pub(crate) fn note(&mut self, cast: &Cast<N>)
+    pub(crate) fn note(&mut self, cast: &Cast<T, P, A, N>)
         ensures own { self.new.own ≡ self.old.own }
-        ensures noted { IsPrefix self.old.noted self.new.noted × Stand self.old.own self.new.noted }
+        ensures noted { IsPrefix self.old.noted self.new.noted × Stand self.new.own self.new.noted }
     {
         board::note_log(&cast.board.shared, &mut self.seat);
     }
 
     /// Each own post that the cursor has seen stands at its place there, and the pass knows at least as much as the cursor.
-    pub fn meet(&mut self, cast: &Cast<N>, cursor: &mut Cursor<'_, N>)
+    pub fn meet(&mut self, cast: &Cast<T, P, A, N>, cursor: &mut Cursor<'_, T, P, A, N>)
         ensures same { (self.new.own ≡ self.old.own) × (cursor.new ≡ cursor.old) }
-        ensures own { (k : ℕ) (o : Own Name) → get_elem? self.old.own k ≡ some o → o.place < length cursor.old.front → get_elem? cursor.old.front o.place ≡ some o.name }
-        ensures noted { IsPrefix self.old.noted self.new.noted × IsPrefix cursor.old.front self.new.noted × Stand self.old.own self.new.noted }
+        ensures own { (k : ℕ) (o : Own (Name T P)) → get_elem? self.old.own k ≡ some o → o.place < length cursor.old.lane.front → get_elem? cursor.old.lane.front o.place ≡ some o.name }
+        ensures noted { IsPrefix self.old.noted self.new.noted × IsPrefix cursor.old.lane.front self.new.noted × Stand self.old.own self.new.noted }
     {
         let top = &cast.board.shared;
         board::tell_seat(top, &mut cursor.seat, &mut self.seat);

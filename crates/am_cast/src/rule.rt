@@ -6,7 +6,7 @@ ghost use Rattle.std.specs.Prelude.{ℕ, Option};
 use crate::views::View;
 use atomic_table::{Seat, Shared, Table, TableRule};
 use std::alloc::Global;
-use std::marker::PhantomData;
+use std::marker::{Brand, PhantomData};
 
 /// What the keys of a batch are: for each lane one.
 pub trait Keyed<B, K> {
@@ -40,7 +40,19 @@ pub trait Noted<A> {
     ghost note: { Option A };
 }
 
+impl<A> Noted<A> for Brand {
+    ghost use Rattle.std.specs.Prelude.{None};
+
+    ghost note = { None };
+}
+
 /// The name of a new batch. A caller picks it.
 pub trait Named<B> {
-    ghost name: { B };
+    ghost name: { Option B };
+}
+
+impl<B> Named<B> for Brand {
+    ghost use Rattle.std.specs.Prelude.{None};
+
+    ghost name = { None };
 }

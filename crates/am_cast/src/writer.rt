@@ -1,51 +1,67 @@
 //! The writer of a log. It stands under the lock.
-ghost use Rattle.std.specs.Prelude.{◌≡◌, ◌≢◌, ◌+◌, ◌<◌, ◌≤◌, ◌∷◌, ◌++◌, [], true, false, ℕ, length, IfOk, IfErr, OnErr, Some, None, IfSome};
-ghost use Rattle.am_cast.specs.Rule.{idle, live, most, Sound};
-ghost use Rattle.am_cast.specs.Changes.{longer_tail, shut_tail, own_at, opened, new_lane, left};
+ghost use Rattle.std.specs.Prelude.{◌↔◌, IsTrue, ◌≡◌, ◌≢◌, ◌+◌, ◌<◌, ◌≤◌, ◌∷◌, ◌++◌, [], true, false, ℕ, length, IfOk, IfErr, OnOk, OnErr, IsOk, ◌↔◌, Some, None, IfSome, IfNone, slice_index_or};
+ghost use mathlib.Core.List.{IsPrefix};
+ghost use Rattle.std.specs.Prelude.{drop};
+ghost use Rattle.am_cast.specs.declared.name.Name.{Name};
+ghost use Rattle.am_cast.specs.Rule.{idle, live, cut, most, Sound};
+ghost use Rattle.am_cast.specs.Changes.{Stand, longer_tail, shut_tail, own_at, opened, new_lane, left};
 ghost use Rattle.am_cast.specs.Seats.{account_of};
-ghost use Rattle.am_cast.specs.Writers.{Calm, Harvested, SameTail, HasRoom, IsBehind};
-ghost use Rattle.am_cast.specs.Refusals.{IsFullAt, IsNoRoom};
+ghost use Rattle.am_cast.specs.Keys.{items_of, all_items};
+ghost use Rattle.am_cast.specs.Cursors.{as_cursor, taken, HasEnded};
+ghost use Rattle.am_cast.specs.Freed.{IsFreedFor};
+ghost use Rattle.am_cast.specs.Writers.{Calm, Harvested, HasRoom, IsBehind, StaysAs, SameAdmission, IsCutAs};
+ghost use Rattle.am_cast.specs.Refusals.{IsRefusal, IsCutRefusal, IsAdmitRefusal, IsOpen};
 
 use crate::bench::Bench;
 use crate::cursor::{Cast, Cursor};
+use crate::faults::{AdmitFault, AlreadyClosed, PublishFault, Refused};
 use crate::feed::Feed;
-use crate::kinds::{Name, Note};
 use crate::pass::Pass;
+use am_segment::SegmentBuilder;
 use std::marker::Model;
+use std::snapshot::Snapshot;
 
-/// Why nothing was published.
-#[derive(Clone, Copy, PartialEq, Eq, Debug, Drop)]
-pub enum Refused {
-    Closed,
-    LogEnd,
-    Full { lane: usize, passed: u64 },
-}
+/// The most places of a log.
+pub const MOST_PLACES: u64 = 2_251_799_813_685_248;
 
 /// Contracts see it as what it knows of its log.
-#[derive(Drop)]
-pub struct Writer<N: Feed> {
-    pub(crate) bench: Bench<N>,
+pub struct Writer<T, P, A, N: Feed> {
+    pub(crate) bench: Bench<T, P, A, N>,
 }
 
-impl<N: Feed> Model for Writer<N> {
+impl<T, P, A, N: Feed> Model for Writer<T, P, A, N> {
+    ghost use Rattle.am_segment.specs.Segments.{KeyView};
     ghost use Rattle.am_cast.specs.declared.views.WriterView.{WriterView};
-    ghost use Rattle.am_cast.specs.declared.kinds.Name.{Name};
-    ghost use Rattle.am_cast.specs.declared.kinds.Key.{Key};
-    ghost use Rattle.am_cast.specs.declared.kinds.Note.{Note};
+    ghost use Rattle.am_cast.specs.declared.name.Name.{Name};
     ghost use Rattle.am_cast.specs.Writers.{Calm};
 
-    ghost Value = { WriterView Name Key Note };
+    ghost Value = { WriterView (Name T P) (KeyView T) A };
 
-    ghost view = { λ w. w.bench };
+    ghost view = { λ w. w.bench.desk };
 
-    ghost invariant = { λ w. Calm w.bench };
+    ghost invariant = { λ w. Calm w.bench.desk };
 }
 
-impl<N: Feed> Writer<N> {
+/// A place that was published, and which lanes were cut for it.
+#[derive(Clone, Copy, Debug, PartialEq, Eq, Drop)]
+pub struct Published {
+    pub place: u64,
+    pub cut: [bool; 8],
+}
+
+impl<T: Drop, P, A, N: Feed> Writer<T, P, A, N> {
     pub fn len(&self) -> u64
         ensures { (result ≡ length self.now.tail.log) × (result ≤ most) }
     {
         self.bench.len()
+    }
+
+    /// Whether the place is there and the writer keeps no key of it: all its keys came home, and its
+    /// segment has ended.
+    pub fn freed(&self, place: u64) -> bool
+        ensures { IsTrue result ↔ IsFreedFor self.now place }
+    {
+        self.bench.freed(place)
     }
 
     pub fn is_closed(&self) -> bool
@@ -54,69 +70,163 @@ impl<N: Feed> Writer<N> {
         self.bench.is_closed()
     }
 
-    /// Loads each live lane's word, and takes out the keys that all the lanes have passed.
-    pub fn harvest(&mut self, cast: &Cast<N>)
-        ensures { Harvested self.old self.new 8 }
+    /// Loads each live lane's word, and ends the segments that all lanes have passed. Answers the
+    /// lane that a publish would name as full.
+    pub fn harvest(&mut self, cast: &Cast<T, P, A, N>) -> Option<(usize, u64)>
+        ensures harvested { Harvested self.old self.new 8 }
+
+        ensures full { IfSome result (λ r. (r.0 < 8) × (r.1 ≡ (account_of self.new r.0).known) × IsBehind self.new r.0 × HasRoom self.new r.0) }
+        ensures room { IfNone result (HasRoom self.new 8) }
     {
         self.bench.harvest(cast);
+        match self.bench.full_lane() {
+            Some(lane) => Some((lane, self.bench.known_of(lane))),
+            None => None,
+        }
     }
 
     /// A new place, with the batch. Its number is the length before, and the pass owns it.
     pub fn publish(
         &mut self,
-        cast: &Cast<N>,
-        name: &Name,
-        pass: &mut Pass<N>,
-    ) -> Result<u64, Refused>
-        ensures ok { IfOk result (λ place. (place ≡ length self.old.tail.log) × (self.new.tail ≡ longer_tail name.now self.old.tail) × (pass.new.own ≡ pass.old.own ++ own_at place name.now ∷ [])) }
+        cast: &Cast<T, P, A, N>,
+        batch: SegmentBuilder<T>,
+        post: Snapshot<P>,
+        pass: &mut Pass<T, P, A, N>,
+    ) -> Result<u64, Refused<T>>
+        requires { 0 < length batch.items }
+        ensures ok { IfOk result (λ place. (place ≡ length self.old.tail.log) × IsOpen self.old × ((x : Name T P) × (x.post ≡ post.value) × (items_of x ≡ batch.items)
+            × (self.new.tail ≡ longer_tail x self.old.tail) × (pass.new.own ≡ pass.old.own ++ own_at place x ∷ []))) }
+        ensures known { OnOk result (Stand pass.new.own pass.new.noted × IsPrefix pass.old.noted pass.new.noted) }
+        ensures lanes { (l : ℕ) → l < 8 → StaysAs (account_of self.old l) (account_of self.new l) }
+        ensures loads { IsOpen self.old → (l : ℕ) → l < 8 → (account_of self.old l).stand ≡ live → (account_of self.old l).loads < (account_of self.new l).loads }
+
         ensures err { OnErr result ((self.new.tail ≡ self.old.tail) × (pass.new ≡ pass.old)) }
-        ensures full { IfErr result (λ e. IsFullAt self.new e) }
-        ensures loads { self.old.tail.closed ≡ false → length self.old.tail.log < most → (l : ℕ) → l < 8 → (account_of self.old l).stand ≡ live → (account_of self.old l).loads < (account_of self.new l).loads }
+        ensures refused { IfErr result (λ e. (e.batch ≡ batch) × IsRefusal self.old self.new e.fault) }
     {
         if self.bench.is_closed() {
-            return Err(Refused::Closed);
+            return Err(Refused {
+                fault: PublishFault::Closed,
+                batch,
+            });
         }
-        if self.bench.len() >= 2_251_799_813_685_248 {
-            return Err(Refused::LogEnd);
+        if self.bench.len() >= MOST_PLACES {
+            return Err(Refused {
+                fault: PublishFault::LogEnd,
+                batch,
+            });
         }
         self.bench.harvest(cast);
         if let Some(lane) = self.bench.full_lane() {
             let passed = self.bench.known_of(lane);
-            return Err(Refused::Full { lane, passed });
+            return Err(Refused {
+                fault: PublishFault::Full { lane, passed },
+                batch,
+            });
         }
+        let Ok(row) = self.bench.reserve() else {
+            return Err(Refused {
+                fault: PublishFault::NoMemory,
+                batch,
+            });
+        };
         let place = self.bench.len();
-        self.bench.post(cast, name, &mut pass.seat);
+        self.bench.post(cast, batch, post, row, &mut pass.seat);
         pass.note(cast);
         Ok(place)
     }
 
-    pub fn close(&mut self, cast: &Cast<N>)
-        ensures { self.new.tail ≡ shut_tail self.old.tail }
-    {
-        if !self.bench.is_closed() {
-            self.bench.close(cast);
-        }
-    }
+    /// As `publish`, but a lane that is as far behind as may be is cut. Answers which lanes were.
+    pub fn publish_cutting(
+        &mut self,
+        cast: &Cast<T, P, A, N>,
+        batch: SegmentBuilder<T>,
+        post: Snapshot<P>,
+        pass: &mut Pass<T, P, A, N>,
+    ) -> Result<Published, Refused<T>>
+        requires { 0 < length batch.items }
+        ensures ok { IfOk result (λ r. (r.place ≡ length self.old.tail.log) × IsOpen self.old × ((x : Name T P) × (x.post ≡ post.value) × (items_of x ≡ batch.items)
+            × (self.new.tail ≡ longer_tail x self.old.tail) × (pass.new.own ≡ pass.old.own ++ own_at r.place x ∷ []))) }
+        ensures cut { IfOk result (λ r. (l : ℕ) → l < 8 → IsCutAs (account_of self.old l) (account_of self.new l) (slice_index_or r.cut l false)) }
+        ensures known { OnOk result (Stand pass.new.own pass.new.noted × IsPrefix pass.old.noted pass.new.noted) }
+        ensures lanes { (l : ℕ) → l < 8 → SameAdmission (account_of self.old l) (account_of self.new l) }
+        ensures loads { IsOpen self.old → (l : ℕ) → l < 8 → (account_of self.old l).stand ≡ live → (account_of self.old l).loads < (account_of self.new l).loads }
 
-    /// The lowest idle lane, starting at the log's length.
-    pub fn admit<'a>(&mut self, cast: &'a Cast<N>, note: Note) -> Option<Cursor<'a, N>>
-        ensures tail { self.new.tail ≡ self.old.tail }
-        ensures some { IfSome result (λ v. ((account_of self.old v.number).stand ≡ idle) × (v ≡ opened (new_lane (Some note) v.number self.old.tail (account_of self.old v.number)))) }
+        ensures err { OnErr result ((self.new.tail ≡ self.old.tail) × (pass.new ≡ pass.old) × ((l : ℕ) → l < 8 → StaysAs (account_of self.old l) (account_of self.new l))) }
+        ensures refused { IfErr result (λ e. (e.batch ≡ batch) × IsCutRefusal self.old e.fault) }
     {
         if self.bench.is_closed() {
-            return None;
+            return Err(Refused {
+                fault: PublishFault::Closed,
+                batch,
+            });
+        }
+        if self.bench.len() >= MOST_PLACES {
+            return Err(Refused {
+                fault: PublishFault::LogEnd,
+                batch,
+            });
+        }
+        self.bench.harvest(cast);
+        let Ok(row) = self.bench.reserve() else {
+            return Err(Refused {
+                fault: PublishFault::NoMemory,
+                batch,
+            });
+        };
+        let cut = self.bench.make_all_room(cast);
+        let place = self.bench.len();
+        self.bench.post(cast, batch, post, row, &mut pass.seat);
+        pass.note(cast);
+        Ok(Published { place, cut })
+    }
+
+    /// No place comes after it, and no lane.
+    pub fn close(&mut self, cast: &Cast<T, P, A, N>) -> Result<(), AlreadyClosed>
+        ensures ok { OnOk result (self.new ≡ record self.old { tail = shut_tail self.old.tail }) }
+
+        ensures open { IsOk result ↔ (self.old.tail.closed ≡ false) }
+        ensures err { OnErr result (self.new ≡ self.old) }
+    {
+        if self.bench.is_closed() {
+            return Err(AlreadyClosed);
+        }
+        self.bench.close(cast);
+        Ok(())
+    }
+
+    /// The lowest idle lane, starting at the log's length. It takes no memory.
+    pub fn admit<'a>(
+        &mut self,
+        cast: &'a Cast<T, P, A, N>,
+        note: Snapshot<A>,
+    ) -> Result<Cursor<'a, T, P, A, N>, AdmitFault>
+        ensures tail { self.new.tail ≡ self.old.tail }
+        ensures ok { IfOk result (λ c. (c.lane.number < 8) × ((account_of self.old c.lane.number).stand ≡ idle) × ((m : ℕ) → m < c.lane.number → (account_of self.old m).stand ≢ idle)
+            × (c ≡ as_cursor (opened (new_lane (Some note.value) c.lane.number self.old.tail (account_of self.old c.lane.number))))) }
+        ensures lane { IfOk result (λ c. let b = account_of self.new c.lane.number in (b.stand ≡ live) × (b.turn ≡ c.lane.turn) × (b.note ≡ Some note.value) × (b.start ≡ length self.old.tail.log)) }
+        ensures others { IfOk result (λ c. (m : ℕ) → m ≢ c.lane.number → account_of self.new m ≡ account_of self.old m) }
+
+        ensures open { IfOk result (λ c. self.old.tail.closed ≡ false) }
+        ensures err { OnErr result (self.new ≡ self.old) }
+        ensures refused { IfErr result (λ e. IsAdmitRefusal self.old e) }
+    {
+        if self.bench.is_closed() {
+            return Err(AdmitFault::Closed);
         }
         match self.bench.idle_lane() {
-            Some(lane) => Some(self.bench.admit(cast, lane, &Some(note))),
-            None => None,
+            Some(lane) => Ok(self.bench.admit(cast, lane, &note)),
+            None => Err(AdmitFault::NoLane),
         }
     }
 
     /// The cursor leaves, whatever it hasn't passed, and its lane is idle.
-    pub fn retire(&mut self, cast: &Cast<N>, cursor: Cursor<'_, N>)
+    pub fn retire(&mut self, cast: &Cast<T, P, A, N>, cursor: Cursor<'_, T, P, A, N>)
         ensures tail { self.new.tail ≡ self.old.tail }
-        ensures lane { (account_of self.new cursor.entry.number).stand ≡ idle }
-        ensures sound { Sound self.old.tail (account_of self.old cursor.entry.number) (left cursor.entry) cursor.entry.number }
+        ensures lane { (cursor.entry.lane.number < 8) × ((account_of self.new cursor.entry.lane.number).stand ≡ idle) }
+        ensures others { (m : ℕ) → m ≢ cursor.entry.lane.number → account_of self.new m ≡ account_of self.old m }
+        ensures sound { Sound self.old.tail (account_of self.old cursor.entry.lane.number) (left cursor.entry.lane) cursor.entry.lane.number }
+        ensures taken { IsPrefix (taken cursor.entry) (all_items (drop cursor.entry.lane.start self.old.tail.log)) }
+        ensures ended { HasEnded cursor.entry → taken cursor.entry ≡ all_items (drop cursor.entry.lane.start self.old.tail.log) }
     {
         let (lane, seat) = cursor.depart();
         if self.bench.is_live(lane) {
@@ -124,29 +234,5 @@ impl<N: Feed> Writer<N> {
             return;
         }
         self.bench.bring_cut(cast, lane, seat);
-    }
-
-    /// As `publish`, but a lane that is as far behind as may be is cut. Answers which lanes were.
-    pub fn publish_cutting(
-        &mut self,
-        cast: &Cast<N>,
-        name: &Name,
-        pass: &mut Pass<N>,
-    ) -> Result<(u64, u8), Refused>
-        ensures ok { IfOk result (λ r. (r.0 ≡ length self.old.tail.log) × (self.new.tail ≡ longer_tail name.now self.old.tail) × (pass.new.own ≡ pass.old.own ++ own_at r.0 name.now ∷ [])) }
-        ensures err { OnErr result ((self.new.tail ≡ self.old.tail) × (pass.new ≡ pass.old)) }
-        ensures never_full { IfErr result (λ e. IsNoRoom self.old e) }
-    {
-        if self.bench.is_closed() {
-            return Err(Refused::Closed);
-        }
-        if self.bench.len() >= 2_251_799_813_685_248 {
-            return Err(Refused::LogEnd);
-        }
-        let cut = self.bench.make_all_room(cast);
-        let place = self.bench.len();
-        self.bench.post(cast, name, &mut pass.seat);
-        pass.note(cast);
-        Ok((place, cut))
     }
 }

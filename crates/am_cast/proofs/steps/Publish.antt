@@ -1,5 +1,5 @@
 -- The writer makes a place.
-use Rattle.std.proofs.Common.{take, ◌≤◌, zero, ◌≡◌, ◌≢◌, ℕ, suc, ◌+◌, ◌<◌, List, [], ◌∷◌, ◌++◌, length, get_or, set, sym, refl, ap, ◌∙◌, subst, ⊎_elim, arith, Some, None, true, false, true≢false, length-set, length-append, get_or-set_other, get_or-set_same}
+use Rattle.std.proofs.Common.{Option, take, ◌≤◌, zero, ◌≡◌, ◌≢◌, ℕ, suc, ◌+◌, ◌<◌, List, [], ◌∷◌, ◌++◌, length, get_or, set, sym, refl, ap, ◌∙◌, subst, ⊎_elim, arith, Some, None, true, false, true≢false, length-set, length-append, get_or-set_other, get_or-set_same}
 use mathlib.Core.Logic.{dite}
 use mathlib.Core.Option.{none, some}
 use mathlib.Core.List.{IsPrefix}
@@ -92,7 +92,7 @@ module _ {B K A : Type 0} (key : B → ℕ → K) where
 
   pub publishes_as : (x : B) (slots id : ℕ) (me : SeatState B K A) (q : WriterView B K A) (new : ℕ) → me.0.writer ≡ Some q → q.tail.closed ≡ false → length q.tail.log < most
       → ((l : ℕ) (b : Account K A) → get_elem? q.accounts l ≡ some b → (b.out ≡ 0) × (b.stand ≡ live → b.laid ≡ Some (key x l))) → new ≡ tail_word (length q.tail.log + 1) false
-      → AllowsEvent key slots id me 0 (λ _. new) (λ _. does.Publish x ∷ []) (λ _. Publishes x (step slots 0 new 0 none) me new)
+      → AllowsEvent key slots id me 0 (λ _. new) (λ _. does.Publish x ∷ []) (λ _. Publishes (Some x) (step slots 0 new 0 none) me new)
   publishes_as x slots id me q new is is_open₀ few₀ ready new_is₀ s r deep at fits =
       let mine = r.each_seat id me.0 at in let k = subst (HasWriter r.tail r.seat r.account r.lane r.lane_seat id) is mine.writer in let t : Tail B = r.tail in let n : ℕ = length t.log in
       let is_open : t.closed ≡ false = ap (λ (t : Tail B). t.closed) (sym k.0) ∙ is_open₀ in
@@ -145,12 +145,19 @@ module _ {B K A : Type 0} (key : B → ℕ → K) where
         } in (kept, publish (behind r) (behind kept) x is_open (λ l a alive. ((r.each_lane l a).sound.counts.lays (key x l) ((ready l (r.account l) (k.2 l a)).1 alive)).1) refl (λ _. refl) (λ _. refl), counted_still me.0.counted me.0.own (own_at n x) (length me.0.noted) mine.counts)),
         (
           refl,
-          λ u e. let one : q ≡ u = same_some q u me.0.writer is e in
-              (λ i. record me.0 { writer = Some (longer x (one i)); own = me.0.own ++ own_at (length (sym k.0 i).log) x ∷ [] }) ∙ (λ i. record me.0 { writer = Some (longer x u); own = me.0.own ++ own_at (length (one i).tail.log) x ∷ [] }),
+          λ z f u e. let one : q ≡ u = same_some q u me.0.writer is e in let name : x ≡ z = same_some x z (Some x) refl f in
+              (λ i. record me.0 { writer = Some (longer x (one i)); own = me.0.own ++ own_at (length (sym k.0 i).log) x ∷ [] }) ∙ (λ i. record me.0 { writer = Some (longer x u); own = me.0.own ++ own_at (length (one i).tail.log) x ∷ [] })
+              ∙ (λ i. record me.0 { writer = Some (longer (name i) u); own = me.0.own ++ own_at (length u.tail.log) (name i) ∷ [] }),
         ),
       )
 
   pub publishes : (x : B) (slots id : ℕ) (me : SeatState B K A) (q : WriterView B K A) (new : ℕ) → me.0.writer ≡ Some q → q.tail.closed ≡ false → length q.tail.log < most
       → ((l : ℕ) (b : Account K A) → get_elem? q.accounts l ≡ some b → (b.out ≡ 0) × (b.stand ≡ live → b.laid ≡ Some (key x l))) → new ≡ tail_word (length q.tail.log + 1) false
-      → Allows (Ruled key) slots id me 0 (λ _. new) (λ _. Publishes x (step slots 0 new 0 none) me new)
+      → Allows (Ruled key) slots id me 0 (λ _. new) (λ _. Publishes (Some x) (step slots 0 new 0 none) me new)
   publishes x slots id me q new is is_open₀ few₀ ready new_is₀ s r deep at fits = let y = publishes_as x slots id me q new is is_open₀ few₀ ready new_is₀ s r deep at fits in (y.0, y.1, y.2, y.3.0, y.4)
+
+  -- the same of a name that a caller picked
+  pub publishes_named : (name : Option B) (x : B) (slots id : ℕ) (me : SeatState B K A) (q : WriterView B K A) (new : ℕ) → name ≡ Some x → me.0.writer ≡ Some q → q.tail.closed ≡ false → length q.tail.log < most
+      → ((l : ℕ) (b : Account K A) → get_elem? q.accounts l ≡ some b → (b.out ≡ 0) × (b.stand ≡ live → b.laid ≡ Some (key x l))) → new ≡ tail_word (length q.tail.log + 1) false
+      → Allows (Ruled key) slots id me 0 (λ _. new) (λ _. Publishes name (step slots 0 new 0 none) me new)
+  publishes_named name x slots id me q new e is is_open few ready new_is = subst (λ (n : Option B). Allows (Ruled key) slots id me 0 (λ _. new) (λ _. Publishes n (step slots 0 new 0 none) me new)) (sym e) (publishes x slots id me q new is is_open few ready new_is)

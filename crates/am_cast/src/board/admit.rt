@@ -1,7 +1,8 @@
 //! A lane is given out.
-ghost use Rattle.std.specs.Prelude.{None, Option, Some, [], false, length, ◌*◌, ◌+◌, ◌/◌, ◌<◌, ◌≡◌, ◌≤◌};
-ghost use Rattle.am_cast.specs.Rule.{cut, idle, most};
-ghost use Rattle.am_cast.specs.Changes.{admitted, left, new_lane, only_lane, with_account, with_writer, without_lane};
+ghost use Rattle.std.specs.Prelude.{None, Some, [], false, length, ◌<◌, ◌≡◌, ◌≤◌};
+ghost use Rattle.am_cast.specs.Rule.{idle, most};
+ghost use Rattle.am_cast.specs.Changes.{admitted, left, new_lane, only_lane, with_account, with_writer};
+ghost use Rattle.am_cast.specs.Changes.{without_lane};
 ghost use Rattle.am_cast.specs.Steps.{Admits};
 ghost use Rattle.am_cast.specs.Seats.{IsSized, IsWriter, account_of, writer_of};
 
@@ -33,15 +34,21 @@ pub(crate) fn admit_lane<B, K, A, R: Keyed<B, K>, X: Noted<A>>(
     seat: &mut LogSeat<B, K, A>,
     lane: usize,
     count: u64,
-    tag: &Snapshot<Option<A>>,
+    tag: &Snapshot<A>,
 ) -> LogSeat<B, K, A>
-    requires tag { tag.now.value ≡ X.note }
+    requires tag { X.note ≡ Some tag.now.value }
     requires table { (seat.old.table_id ≡ top.now.table_id) × IsSized top.now.table_id × (lane < 8) × (count ≤ most) }
-    requires writer { let q = writer_of seat.old.me.0 in IsWriter seat.old.me q × (length q.accounts ≡ 8) × (q.tail.closed ≡ false) × (count ≡ length q.tail.log) × (seat.old.me.0.lane ≡ None) }
-    requires account { let b = account_of (writer_of seat.old.me.0) lane in (b.stand ≡ idle) × (b.cleared ≡ b.stop) × (b.out ≡ 0) × (b.laid ≡ None) }
+    requires writer { let q = writer_of seat.old.me.0 in
+        IsWriter seat.old.me q × (length q.accounts ≡ 8) × (q.tail.closed ≡ false)
+        × (count ≡ length q.tail.log) × (seat.old.me.0.lane ≡ None) }
+    requires account { let b = account_of (writer_of seat.old.me.0) lane in
+        (b.stand ≡ idle) × (b.cleared ≡ b.stop) × (b.out ≡ 0) × (b.laid ≡ None) }
     ensures same { (seat.new.table_id ≡ seat.old.table_id) × (seat.new.me.1 ≡ []) }
-    ensures writer { let q = writer_of seat.old.me.0 in seat.new.me.0 ≡ with_writer (with_account lane (admitted X.note (length q.tail.log) (account_of q lane)) q) seat.old.me.0 }
-    ensures lane { let q = writer_of seat.old.me.0 in (result.table_id ≡ seat.old.table_id) × (result.me.1 ≡ []) × (result.me.0 ≡ record { writer = None; lane = Some (new_lane X.note lane q.tail (account_of q lane)); noted = []; heard = []; whole = false; own = []; counted = 0 }) }
+    ensures writer { let q = writer_of seat.old.me.0 in
+        seat.new.me.0 ≡ with_writer (with_account lane (admitted X.note (length q.tail.log) (account_of q lane)) q) seat.old.me.0 }
+    ensures lane { let q = writer_of seat.old.me.0 in
+        (result.table_id ≡ seat.old.table_id) × (result.me.1 ≡ [])
+        × (result.me.0 ≡ record { writer = None; lane = Some (new_lane X.note lane q.tail (account_of q lane)); noted = []; heard = []; whole = false; own = []; counted = 0 }) }
 {
     let _ = tag;
     top.store::<Admit<X>>(seat, 16 * lane + 16, 4 * count);

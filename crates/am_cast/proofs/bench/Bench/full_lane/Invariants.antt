@@ -2,4 +2,4 @@ use Rattle.am_cast.specs.Writers.{HasRoom}
 use Rattle.am_cast.proofs.bench.Bench.full_lane.Given as goal
 
 abbrev pub invariant-loop-lane : goal.invariant-loop-lane
-invariant-loop-lane g l = HasRoom l.self l.lane
+invariant-loop-lane g l = HasRoom l.self.desk l.lane

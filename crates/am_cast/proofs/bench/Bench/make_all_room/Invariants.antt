@@ -1,6 +1,17 @@
-use Rattle.std.proofs.Common.{◌≡◌}
-use Rattle.am_cast.specs.Writers.{Calm, HasRoom}
+use Rattle.std.proofs.Common.{◌≡◌, ℕ, ◌<◌, ◌≤◌, length, false, get_or}
+use Rattle.am_cast.specs.Seats.{account_of}
+use Rattle.am_cast.specs.Benches.{KeepsRoom}
+use Rattle.am_cast.specs.Writers.{Calm, HasRoom, SameAdmission, IsCutAs}
 use Rattle.am_cast.proofs.bench.Bench.make_all_room.Given as goal
 
 abbrev pub invariant-loop-lane : goal.invariant-loop-lane
-invariant-loop-lane g l = Calm l.self × (l.self.tail ≡ l.initial.self.tail) × HasRoom l.self l.lane
+invariant-loop-lane g l = record {
+  calm : Calm l.self.desk;
+  tail : l.self.desk.tail ≡ l.initial.self.desk.tail;
+  room : HasRoom l.self.desk l.lane;
+  rows : KeepsRoom l.initial.self.rows l.self.rows;
+  same : (m : ℕ) → m < 8 → SameAdmission (account_of l.initial.self.desk m) (account_of l.self.desk m);
+  long : length l.lanes ≡ 8;
+  cut : (m : ℕ) → m < l.lane → IsCutAs (account_of l.initial.self.desk m) (account_of l.self.desk m) (get_or l.lanes m false);
+  rest : (m : ℕ) → l.lane ≤ m → account_of l.self.desk m ≡ account_of l.initial.self.desk m;
+}

@@ -1,0 +1,65 @@
+-- The rows of keys that wait, and the places that are freed.
+use Rattle.std.proofs.Common.{◌≡◌, ◌≢◌, ℕ, zero, suc, ◌+◌, ◌<◌, inl, inr, length, sym, ap, ◌∙◌, subst, arith, Option, Some, None, Bool, true, false, refl, List, not}
+use Rattle.std.proofs.lemmas.Bool.{false≢true}
+use Rattle.am_segment.specs.Segments.{KeyView}
+use Rattle.am_cast.specs.declared.name.Name.{Name}
+use Rattle.am_cast.specs.declared.views.Account.{Account}
+use Rattle.am_cast.specs.declared.views.WriterView.{WriterView}
+use Rattle.am_cast.specs.Rule.{bit, live}
+use Rattle.am_cast.specs.Seats.{account_of}
+use Rattle.am_cast.specs.Writers.{IsCalm, Calm}
+use Rattle.am_cast.specs.Freed.{IsOut, IsGathered, IsFreedFor}
+use Rattle.am_cast.specs.Keys.{key_of}
+use Rattle.am_cast.specs.inside.KeyRows.{BucketView, row_at}
+use Rattle.am_cast.specs.inside.Waiting.{is_out, outs, FitsAt, RowsFit}
+use Rattle.am_cast.proofs.Shown.{freed_is_home, home_is_freed}
+use Rattle.am_cast.proofs.Waiting.{is_out_tells, is_out_when, slotted, handed}
+use Rattle.am_cast.proofs.Waiting as waiting
+
+-- where some are out, one is
+one_out : (out : ℕ → Bool) (n : ℕ) → 0 < outs out n → (l : ℕ) × (l < n) × (out l ≡ true)
+one_out out zero h = absurd (omega arith)
+one_out out (suc n) h = here (out n) (λ e. (n, omega arith, e)) (λ e. let t = one_out out n (let z : bit (out n) ≡ 0 = ap bit e in omega arith) in let small = t.1 in (t.0, omega arith, t.2))
+  where
+    here : {X : Type 0} (b : Bool) → (b ≡ true → X) → (b ≡ false → X) → X
+    here true f g = f refl
+    here false f g = g refl
+
+module _ {K A : Type 0} where
+  gathered : (n places : ℕ) (b : Account K A) → IsCalm n places b → IsGathered b
+  gathered n places b c = record { low = c.low; live_is = λ e. (c.live_is e).0; rest_is = c.rest_is; away_is = λ e. (c.away_is e).0 }
+
+  out_is : (b : Account K A) (i : ℕ) → IsOut b i → is_out b i ≡ true
+  out_is b i (inl t) = is_out_when b i (slotted t.0 t.1)
+  out_is b i (inr t) = is_out_when b i (handed t.0 t.1)
+
+  is_out_of : (b : Account K A) (i : ℕ) → is_out b i ≡ true → IsOut b i
+  is_out_of b i e = go (is_out_tells b i e)
+    where
+      go : waiting.IsOut b i → IsOut b i
+      go (slotted h k) = inl (h, k)
+      go (handed h k) = inr (h, k)
+
+module _ {T P A : Type 0} where
+  -- a place of the log with no row is freed
+  pub no_row_is_freed : (q : WriterView (Name T P) (KeyView T) A) (rows : List (BucketView T)) (i : ℕ) → Calm q → RowsFit q rows → i < length q.tail.log → row_at rows i ≡ None → IsFreedFor q i
+  no_row_is_freed q rows i calm fit inside none_there = let home = subst (FitsAt q i) none_there (fit i) in
+      home_is_freed key_of q i inside (λ l small. let c = calm.1 l small in (gathered (length q.tail.log) q.tail.places (account_of q l) c, (λ e. (c.live_is e).1), λ out. false≢true (sym (home l small) ∙ out_is (account_of q l) i out)))
+
+  -- and one with a row is not
+  pub row_is_kept : (q : WriterView (Name T P) (KeyView T) A) (rows : List (BucketView T)) (i : ℕ) → Calm q → RowsFit q rows → row_at rows i ≢ None → IsFreedFor q i → ⊥
+  row_is_kept q rows i calm fit there freed = go (row_at rows i) (fit i) there
+    where
+      go : (o : Option (List (KeyView T))) → FitsAt q i o → o ≢ None → ⊥
+      go None f ne = ne refl
+      go (Some keys) f ne =
+          let many = f.2.many in let few = f.3 in let t = one_out (λ l. is_out (account_of q l) i) 8 (omega arith) in
+          freed_is_home key_of q i t.0 t.1 (gathered (length q.tail.log) q.tail.places (account_of q t.0) (calm.1 t.0 t.1)) freed (is_out_of (account_of q t.0) i t.2)
+
+  pub freed_tells : (q q' : WriterView (Name T P) (KeyView T) A) (rows : List (BucketView T)) (i : ℕ) (found : Bool) → q ≡ q' → Calm q' → RowsFit q rows → i < length q.tail.log → (found ≡ false → row_at rows i ≡ None) → (found ≡ true → row_at rows i ≢ None)
+      → (not found ≡ true → IsFreedFor q' i) × (IsFreedFor q' i → not found ≡ true)
+  freed_tells q q' rows i found same calm fit inside none_there some_there = subst (λ (z : WriterView (Name T P) (KeyView T) A). Calm z → (not found ≡ true → IsFreedFor z i) × (IsFreedFor z i → not found ≡ true)) same (λ calm. by found none_there some_there calm) calm
+    where
+      by : (found : Bool) → (found ≡ false → row_at rows i ≡ None) → (found ≡ true → row_at rows i ≢ None) → Calm q → (not found ≡ true → IsFreedFor q i) × (IsFreedFor q i → not found ≡ true)
+      by true f g calm = (λ e. absurd (false≢true e), λ freed. absurd (row_is_kept q rows i calm fit (g refl) freed))
+      by false f g calm = (λ e. no_row_is_freed q rows i calm fit inside (f refl), λ freed. refl)
