@@ -432,6 +432,19 @@ impl<T: Drop, P, A, N: Feed> Bench<T, P, A, N> {
         None
     }
 
+    /// Whether every lane is idle.
+    pub(crate) fn is_idle(&self) -> bool
+        ensures yes { result ≡ true → (l : ℕ) → l < 8 → (account_of self.now.desk l).stand ≡ idle }
+        ensures no { result ≡ false → (l : ℕ) × (l < 8) × ((account_of self.now.desk l).stand ≢ idle) }
+    {
+        for lane in 0..8 {
+            if self.stand[lane] != 0 {
+                return false;
+            }
+        }
+        true
+    }
+
     /// One place more, which is the other seat's own.
     pub(crate) fn post(
         &mut self,

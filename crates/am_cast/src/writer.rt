@@ -70,6 +70,14 @@ impl<T: Drop, P, A, N: Feed> Writer<T, P, A, N> {
         self.bench.is_closed()
     }
 
+    /// Whether no lane is given out. Then the log may be ended.
+    pub fn is_idle(&self) -> bool
+        ensures yes { result ≡ true → (l : ℕ) → l < 8 → (account_of self.now l).stand ≡ idle }
+        ensures no { result ≡ false → (l : ℕ) × (l < 8) × ((account_of self.now l).stand ≢ idle) }
+    {
+        self.bench.is_idle()
+    }
+
     /// Loads each live lane's word, and ends the segments that all lanes have passed. Answers the
     /// lane that a publish would name as full.
     pub fn harvest(&mut self, cast: &Cast<T, P, A, N>) -> Option<(usize, u64)>
