@@ -3,10 +3,8 @@ use Rattle.std.proofs.Common.{◌≡◌, ℕ, zero, suc, ◌*◌, ◌<◌, List,
 use mathlib.Core.Option.{some}
 use lib.ListN.{get_elem?}
 use Rattle.atomic_table.specs.Table.{opening}
-use Rattle.am_steps.specs.declared.lane.Lane.{Lane}
 use Rattle.am_steps.specs.declared.lane.Lane.TheVariants.{Idle}
-use Rattle.am_steps.specs.declared.poster.Poster.{Poster}
-use Rattle.am_steps.specs.States.{Core, first_state, unaware_poster}
+use Rattle.am_steps.specs.States.{first_state, unaware_poster}
 use Rattle.am_cast.specs.declared.views.View.{View}
 use Rattle.am_cast.specs.Rule.{gone, lane_word, first_view, Ruled}
 use Rattle.am_cast.specs.Core.{poster_behind, view_or_blank, state_of}

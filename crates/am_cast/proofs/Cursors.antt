@@ -129,10 +129,13 @@ module _ {T P A : Type 0} where
     where
       same : taken m ≡ taken c
       same = let at = needs.0 in taken_look c m lane (shown ∙ none_shown) none_shown p (omega arith)
+
       unended : HasEnded c → ⊥
       unended h = false≢true (sym needs.1 ∙ h.0)
+
       uncut : HasCut c → ⊥
       uncut h = false≢true (sym needs.2 ∙ h.0)
+
       go : (r : Moved) → Found m d r → Moves c d r
       go One t = record { held = t.held; taken = λ x at. t.taken x at ∙ ap (λ (l : List T). l ++ x ∷ []) same; was_open = unended; was_uncut = uncut }
       go Pending t = record {

@@ -1,15 +1,14 @@
 -- A seat's Note is a Note of its poster for each place that became its own since the last, or one for none.
-use Rattle.std.proofs.Common.{◌≡◌, ◌≢◌, ℕ, zero, suc, ◌+◌, ◌<◌, ◌≤◌, List, [], ◌∷◌, ◌++◌, length, map, take, drop, set, get_or, sym, refl, ap, ◌∙◌, subst, arith, Option, Some, None, slice_get, append_assoc}
+use Rattle.std.proofs.Common.{◌≡◌, ◌≢◌, ℕ, zero, suc, ◌<◌, List, [], ◌∷◌, ◌++◌, length, map, take, drop, set, get_or, sym, refl, ap, ◌∙◌, subst, arith, Some, None, append_assoc}
 use Rattle.std.specs.List.{Contains}
 use mathlib.Core.Logic.{dite}
 use mathlib.Core.Option as maybe
 use mathlib.Core.Option.{none, some, some-injective}
 use native.Mathlib.Decide.{ℕ_discrete}
 use lib.ListN.{get_elem?}
-use Rattle.atomic_table.specs.Table.{State, step}
+use Rattle.atomic_table.specs.Table.{step}
 use Rattle.atomic_table.proofs.Lists.{set_here, set_else}
 use Rattle.am_steps.specs.declared.poster.Poster.{Poster}
-use Rattle.am_steps.specs.declared.event.Event as event
 use Rattle.am_steps.specs.declared.event.Event.TheVariants as does
 use Rattle.am_steps.specs.States.{Core}
 use Rattle.am_steps.specs.Steps as steps
@@ -21,10 +20,9 @@ use Rattle.am_cast.specs.declared.views.Account.{Account}
 use Rattle.am_cast.specs.declared.views.LaneView.{LaneView}
 use Rattle.am_cast.specs.declared.views.Own.{Own}
 use Rattle.am_cast.specs.declared.views.View.{View}
-use Rattle.am_cast.specs.Rule.{IsApart, Once, Ruled}
-use Rattle.am_cast.specs.Core.{post_of, poster_of, poster_behind, view_or_blank, core_behind, state_of, note_posts, note_events, AllowsNote}
+use Rattle.am_cast.specs.Rule.{IsApart, Once}
+use Rattle.am_cast.specs.Core.{post_of, poster_of, poster_behind, view_or_blank, core_behind, note_posts, note_events, AllowsNote}
 use Rattle.am_cast.specs.Steps.{SeatState, Notes}
-use Rattle.am_cast.proofs.Kept.{St, same_some}
 use Rattle.am_cast.proofs.Slots.{put, put_here, put_else, at_length}
 use Rattle.am_cast.proofs.Ties.{get_at}
 use Rattle.am_cast.proofs.steps.Note.{notes}

@@ -1,24 +1,21 @@
 -- A seat that is cut in two, or takes in another's, leaves the core's state, and so does a look at what it knows.
-use Rattle.std.proofs.Common.{◌≡◌, ◌≢◌, ℕ, zero, suc, ◌+◌, ◌<◌, ◌≤◌, List, [], ◌∷◌, ◌++◌, length, take, set, get_or, sym, refl, ap, ◌∙◌, subst, arith, Option, Some, None}
+use Rattle.std.proofs.Common.{◌≡◌, ◌≢◌, ℕ, zero, suc, List, [], ◌∷◌, ◌++◌, length, set, sym, refl, ap, ◌∙◌, Some}
 use mathlib.Core.Logic.{dite}
 use mathlib.Core.Option as maybe
 use mathlib.Core.Option.{none, some, some-ne-none}
 use native.Mathlib.Decide.{ℕ_discrete}
 use lib.ListN.{get_elem?}
-use lib.Seq.{set-get_or, take-append-le}
-use Rattle.atomic_table.specs.Table.{State, step, keeps}
+use lib.Seq.{take-append-le}
+use Rattle.atomic_table.specs.Table.{step}
 use Rattle.atomic_table.proofs.Lists.{set_here, set_else, set_again}
 use Rattle.am_steps.specs.declared.poster.Poster.{Poster}
-use Rattle.am_steps.specs.Runs.{LeadsTo}
-use Rattle.am_cast.specs.declared.views.Own.{Own}
-use Rattle.am_cast.specs.declared.views.Tail.{Tail}
 use Rattle.am_cast.specs.declared.views.LaneView.{LaneView}
 use Rattle.am_cast.specs.declared.views.View.{View}
 use Rattle.am_cast.specs.Rule.{blank, Ruled}
 use Rattle.am_cast.specs.Changes.{copied, without_lane, only_lane, without_own, only_own, both_of}
-use Rattle.am_cast.specs.Core.{poster_of, poster_behind, view_or_blank, core_behind, state_of, AllowsAs, StateStays}
+use Rattle.am_cast.specs.Core.{poster_of, poster_behind, view_or_blank, AllowsAs, StateStays}
 use Rattle.am_cast.specs.Steps.{SeatState, Weighs}
-use Rattle.am_cast.proofs.Kept.{St, stays}
+use Rattle.am_cast.proofs.Kept.{St}
 use Rattle.am_cast.proofs.Slots.{at_length}
 use Rattle.am_cast.proofs.Seats.{splits_to, tells, deals, hands, hears}
 use Rattle.am_cast.proofs.Notes.{same_posters}

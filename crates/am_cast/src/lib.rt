@@ -1,4 +1,60 @@
-//! A bounded broadcast log.
+//! A bounded broadcast log: one writer sends batches to up to eight readers, and no lock stands
+//! between them.
+//!
+//! # Lagging
+//!
+//! Each subscriber reads at its own pace, and none sees another. The log has so many places; a
+//! subscriber that is as many places behind holds the next batch up. What then happens is the
+//! writer's choice, call by call. `publish` refuses the batch, gives it back, and names the lowest
+//! such lane. `publish_cutting` cuts each such lane: its subscriber still shows the items of the
+//! place that it has in hand, is then told `Cut`, and from then on nothing else. Every other one
+//! goes on as before. A slow subscriber never makes another one miss, repeat or wait for an item,
+//! and its memory is kept until it has passed the place in its hand.
+//!
+//! # Closing
+//!
+//! A closed log takes no batch and no subscriber. Those that are there read on to its end, and only
+//! then are told `Closed`, and from then on always. `Pending` means that the log was open at this
+//! very call and that all that was there was shown.
+//!
+//! # Inside
+//!
+//! ```text
+//! place            6      7      8      9      10      the next batch is place 10
+//! tail word        2 * 10 + closed                     the writer stores it, everyone loads it
+//!
+//! lane 0, live     slots  [ key 8 | key 9 |   -    |   -   ]   key 8 is in its cursor's hand
+//! lane 0's word    4 * 8 + 2 + 0                       8 passed, one in hand, not cut
+//! lane 1, cut      slots  [   -   |   -   |   -    |   -   ]
+//! lane 1's word    4 * 6 + 2 + 1                       6 passed, key 6 in hand, cut
+//! lane 2, idle     the greatest u64
+//!
+//! rows             6: seven keys, key 1 is out         the writer's: a segment's eighth key ends it
+//!                  8: six keys      9: six keys        (two lanes were live when 8 was published)
+//! ```
+//!
+//! A place holds one batch in one segment (`am_segment`), which has eight keys, one for each lane.
+//! `publish` lays a key in the slot of each live lane and keeps the others in the place's row. A
+//! cursor takes its key out of its slot by an exchange on its lane's word, shows the items one by
+//! one, and puts the key back as it passes the place. The writer loads the lanes' words (`harvest`,
+//! and every publish), takes the keys of passed places out, and gathers them in the rows; the eighth
+//! frees the segment. `rule.rt` has what always holds of words, slots and what each side knows, and
+//! `board.rt` the single steps, each of them an event of `am_steps`.
+//!
+//! A caller:
+//!
+//! ```text
+//! let parts = Parts::make(alloc, 256)?;                        // the table, and all its memory
+//! let Begun { cast, mut writer, mut passes } = begin::<Alert, Post, Note, Brand>(parts, 1)?;
+//! let mut cursor = writer.admit(&cast, note)?;                 // from the log's end on
+//! writer.publish(&cast, batch, post, &mut passes[0])?;         // Err gives the batch back
+//! match cursor.next() {                                        // no lock, no memory, no waiting
+//!     Step::Item(alert) => ..,                                 // lent until the next call
+//!     Step::Pending | Step::Closed | Step::Cut => ..,
+//! }
+//! writer.retire(&cast, cursor);                                // a cursor must be given back
+//! end(cast, writer);                                           // all lanes idle: all is freed
+//! ```
 #![tactic(auto)]
 
 mod bench;

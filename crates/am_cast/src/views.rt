@@ -4,7 +4,9 @@ use std::collections::LinkedList;
 
 /// What the tail word shows.
 pub struct Tail<B> {
+    /// How many places a live lane may be behind.
     pub places: u64,
+    /// What is known of each batch, in order.
     pub log: LinkedList<B>,
     pub closed: bool,
 }
@@ -15,7 +17,9 @@ pub struct Account<K, A> {
     pub stand: u64,
     /// How often it was admitted.
     pub turn: u64,
+    /// What its subscription noted down when it was admitted last.
     pub note: Option<A>,
+    /// The log's length then: its first place.
     pub start: u64,
     /// The number of places passed, as found last.
     pub known: u64,
@@ -31,6 +35,7 @@ pub struct Account<K, A> {
     pub out: u64,
     /// The key that lies in the slot of the next place.
     pub laid: Option<K>,
+    /// How often its word was loaded.
     pub loads: u64,
 }
 
@@ -45,19 +50,25 @@ pub struct WriterView<B, K, A> {
 pub struct LaneView<B, A> {
     pub number: u64,
     pub places: u64,
+    /// As in the writer's account of it.
     pub turn: u64,
     pub note: Option<A>,
     pub start: u64,
     /// It was admitted, and hasn't left.
     pub here: bool,
+    /// Its cursor reads.
     pub begun: bool,
     /// The log when it looked last.
     pub front: LinkedList<B>,
+    /// How many places lie before its next one.
     pub passed: u64,
     /// The key of the place `passed` is in its hand.
     pub held: bool,
+    /// Its last look showed the log closed.
     pub told: bool,
+    /// It was told that it was cut.
     pub cut: bool,
+    /// How often it looked.
     pub looks: u64,
 }
 

@@ -1,4 +1,4 @@
-use Rattle.std.proofs.Common.{arith, ◌≡◌, ℕ, ◌++◌, ◌∷◌, [], length, Some, sym, subst, ◌∙◌}
+use Rattle.std.proofs.Common.{arith, ◌≡◌, Some, sym, subst}
 use Rattle.am_cast.specs.declared.views.Account.{Account}
 use Rattle.am_cast.specs.declared.views.WriterView.{WriterView}
 use Rattle.am_cast.specs.Seats.{writer_of}
