@@ -15,7 +15,7 @@ use Rattle.am_cast.specs.declared.views.Tail.{Tail}
 use Rattle.am_cast.specs.declared.views.WriterView.{WriterView}
 use Rattle.am_cast.specs.Rule.{bit, idle, live, cut, first_account}
 use Rattle.am_cast.specs.declared.views.View.{View}
-use Rattle.am_cast.specs.Changes.{with_writer, with_account, loaded, marked, known_to, back, returned, back_if, retired, admitted, severed, laying, clearing, grown, longer}
+use Rattle.am_cast.specs.Changes.{with_writer, with_account, loaded, marked, known_to, back, returned, back_if, retired, given_out, severed, laying, clearing, grown, longer}
 use Rattle.am_cast.specs.Seats.{account_of, writer_of, IsKey}
 use Rattle.am_cast.specs.Writers.{Calm}
 use Rattle.am_cast.specs.Keys.{key_of}

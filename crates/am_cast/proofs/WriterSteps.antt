@@ -13,7 +13,7 @@ use Rattle.am_cast.specs.declared.views.LaneView.{LaneView}
 use Rattle.am_cast.specs.declared.views.View.{View}
 use Rattle.am_steps.specs.declared.event.Event as event
 use Rattle.am_cast.specs.Core.{poster_behind}
-use Rattle.am_cast.specs.Rule.{idle, gone, Homes, slot, lane_word, writer_word, shown, Counts, LaneOk, Ruled}
+use Rattle.am_cast.specs.Rule.{idle, gone, Homes, slot, lane_word, writer_word, shown, Numbers, LaneOk, Ruled}
 use Rattle.am_cast.specs.Changes.{with_writer, with_account, loaded}
 use Rattle.am_cast.proofs.Events.{Behind, behind, AccountTo, Event, work, SameAccount}
 use Rattle.am_cast.specs.Steps.{SeatState, KnowsOf}
@@ -46,7 +46,7 @@ module _ {B K A : Type 0} where
   pub to_account : {c d : Behind B K A} {l : ℕ} {b : Account K A} (f : Account K A → Account K A) → b ≡ c.account l → AccountTo c d l (f b) → AccountTo c d l (f (c.account l))
   to_account f e t = record { tail = t.tail; lanes = t.lanes; others = t.others; account = t.account ∙ ap f e }
 
-  pub counts_loaded : (t : Tail B) (b : Account K A) → Counts t b → Counts t (loaded b)
+  pub counts_loaded : (t : Tail B) (b : Account K A) → Numbers t b → Numbers t (loaded b)
   counts_loaded t b c = record { stands = c.stands; low = c.low; clear = c.clear; room = c.room; stops = c.stops; lives = c.lives; lays = c.lays; aways = c.aways }
 
 module _ {B K A : Type 0} (key : B → ℕ → K) where

@@ -82,8 +82,8 @@ abbrev pub retired : {K A : Type 0} → Account K A → Account K A
 retired b = record (back_if b.away b) { stand = idle; loads = b.loads + 1 }
 
 -- the lane is given out, from the place n on
-abbrev pub admitted : {K A : Type 0} → Option A → ℕ → Account K A → Account K A
-admitted note n b = record { stand = live; turn = suc b.turn; note = note; start = n; known = n; half = 2 * n; cleared = n; stop = n; away = false; out = 0; laid = None; loads = b.loads }
+abbrev pub given_out : {K A : Type 0} → Option A → ℕ → Account K A → Account K A
+given_out note n b = record { stand = live; turn = suc b.turn; note = note; start = n; known = n; half = 2 * n; cleared = n; stop = n; away = false; out = 0; laid = None; loads = b.loads }
 
 -- the lane as its seat has it then
 abbrev pub new_lane : {B K A : Type 0} → Option A → ℕ → Tail B → Account K A → LaneView B A

@@ -94,7 +94,7 @@ pub record Seen {B A : Type 0} (t : Tail B) (v : LaneView B A) (l : ℕ) : Type 
 
 -- the numbers of the writer's account of a lane. Its keys stand in slots from `cleared` to `stop`, a window of at most
 -- `places`
-pub record Counts {B K A : Type 0} (t : Tail B) (b : Account K A) : Type 0 where
+pub record Numbers {B K A : Type 0} (t : Tail B) (b : Account K A) : Type 0 where
   pub stands : b.stand < 4
   pub low : b.start ≤ b.known
   pub clear : b.cleared ≤ b.stop
@@ -111,7 +111,7 @@ pub record Counts {B K A : Type 0} (t : Tail B) (b : Account K A) : Type 0 where
 -- a lane, and what the writer knows of it
 pub record Sound {B K A : Type 0} (t : Tail B) (b : Account K A) (v : LaneView B A) (l : ℕ) : Type 0 where
   pub seen : Seen t v l
-  pub counts : Counts t b
+  pub counts : Numbers t b
   pub turn : v.turn ≡ b.turn
   pub note : v.note ≡ b.note
   pub start : v.start ≡ b.start

@@ -11,7 +11,7 @@ use Rattle.am_cast.specs.declared.views.LaneView.{LaneView}
 use Rattle.am_cast.specs.declared.views.Own.{Own}
 use Rattle.am_cast.specs.declared.views.View.{View}
 use Rattle.am_cast.specs.Rule.{idle, most, gone, tail_word, writer_word, lane_word, slot, Sound, Once}
-use Rattle.am_cast.specs.Changes.{with_writer, with_lane, opened, seeing, holding, cut_off, further, left, laid_down, with_account, loaded, marked, known_to, back, retired, admitted, new_lane, severed, reaching, laying, clearing, longer, shut, own_at, Stand}
+use Rattle.am_cast.specs.Changes.{with_writer, with_lane, opened, seeing, holding, cut_off, further, left, laid_down, with_account, loaded, marked, known_to, back, retired, given_out, new_lane, severed, reaching, laying, clearing, longer, shut, own_at, Stand}
 
 -- a seat: its view, and the slots in its hand, each with its value
 abbrev pub SeatState : Type 0 → Type 0 → Type 0 → Type 0
@@ -82,7 +82,7 @@ module _ {B K A : Type 0} where
   abbrev pub Admits : Option A → StepAt K → SeatState B K A → ℕ → SeatState B K A → Type 0
   Admits note st m n m' = (m'.1 ≡ m.1)
       × ((l : ℕ) (q : WriterView B K A) (b : Account K A) → st.word ≡ lane_word l → KnowsOf m.0 l q b
-      → m'.0 ≡ record m.0 { writer = Some (with_account l (admitted note (length q.tail.log) b) q); lane = Some (new_lane note l q.tail b) })
+      → m'.0 ≡ record m.0 { writer = Some (with_account l (given_out note (length q.tail.log) b) q); lane = Some (new_lane note l q.tail b) })
 
   -- the seat of the lane has come home to the writer's
   abbrev pub Retires : StepAt K → SeatState B K A → ℕ → SeatState B K A → Type 0

@@ -2,11 +2,11 @@
 ghost use Rattle.std.specs.Prelude.{◌↔◌, IsTrue, ◌≡◌, ◌≢◌, ◌+◌, ◌*◌, ◌/◌, ◌%◌, ◌<◌, ◌≤◌, true, false, length, None, Some, [], ℕ, suc, IfSome, IfNone, IfOk, ◌++◌, ◌∷◌, slice_index_or};
 ghost use Rattle.am_cast.specs.declared.name.Name.{Name};
 ghost use Rattle.am_cast.specs.Rule.{idle, live, cut, vacated, gone, most, bit, Sound};
-ghost use Rattle.am_cast.specs.Changes.{with_account, longer_tail, loaded, marked, back, clearing, laying, severed, known_to, longer, both_of, shut, admitted, new_lane, opened, retired, left};
+ghost use Rattle.am_cast.specs.Changes.{with_account, longer_tail, loaded, marked, back, clearing, laying, severed, known_to, longer, both_of, shut, given_out, new_lane, opened, retired, left};
 ghost use Rattle.am_cast.specs.Seats.{account_of, lane_of, IsPast, IsKey};
 ghost use Rattle.am_cast.specs.Cursors.{as_cursor};
 ghost use Rattle.am_cast.specs.Keys.{items_of, key_of};
-ghost use Rattle.am_cast.specs.Tags.{name_of};
+ghost use Rattle.am_cast.specs.Tags.{name_of_tag};
 ghost use Rattle.am_cast.specs.Writers.{IsCalm, Calm, HasRoom, IsBehind, Harvested, FilledTo, AllLaid, AreReady, IsCutAs, SameAdmission, StaysAs, owner_of};
 ghost use Rattle.am_cast.specs.Freed.{IsFreedFor};
 ghost use Rattle.am_cast.specs.Benches.{OneAccount, OnlyAccount, KeepsRoom};
@@ -241,10 +241,10 @@ impl<T: Drop, P, A, N: Feed> Bench<T, P, A, N> {
         row: Row<T>,
     ) -> Row<T>
         requires writer { Calm self.old.desk × HasRoom self.old.desk 8 }
-        requires keys { (first ≡ key_of (name_of tag.now) 0) × (rest ≡ key_of (name_of tag.now) 1) × (row.keys ≡ []) }
-        ensures writer { FilledTo key_of self.old.desk (name_of tag.now) 8 self.new.desk }
+        requires keys { (first ≡ key_of (name_of_tag tag.now) 0) × (rest ≡ key_of (name_of_tag tag.now) 1) × (row.keys ≡ []) }
+        ensures writer { FilledTo key_of self.old.desk (name_of_tag tag.now) 8 self.new.desk }
         ensures rows { self.new.rows ≡ self.old.rows }
-        ensures row { (result.place ≡ row.place) × Gathered (name_of tag.now) (λ l. is_live (account_of self.old.desk l)) 8 result.keys }
+        ensures row { (result.place ≡ row.place) × Gathered (name_of_tag tag.now) (λ l. is_live (account_of self.old.desk l)) 8 result.keys }
     {
         let mut row = row;
         self.put_key(cast, 0, first, &mut row);
@@ -267,12 +267,12 @@ impl<T: Drop, P, A, N: Feed> Bench<T, P, A, N> {
         row: Row<T>,
         to: &mut LogSeat<T, P, A>,
     )
-        requires writer { (self.old.desk.tail.closed ≡ false) × (length self.old.desk.tail.log < most) × AllLaid key_of self.old.desk (name_of tag.now) × AreReady self.old.desk }
-        requires row { (row.place ≡ length self.old.desk.tail.log) × Gathered (name_of tag.now) (λ l. is_live (account_of self.old.desk l)) 8 row.keys
+        requires writer { (self.old.desk.tail.closed ≡ false) × (length self.old.desk.tail.log < most) × AllLaid key_of self.old.desk (name_of_tag tag.now) × AreReady self.old.desk }
+        requires row { (row.place ≡ length self.old.desk.tail.log) × Gathered (name_of_tag tag.now) (λ l. is_live (account_of self.old.desk l)) 8 row.keys
             × (1 ≤ (bucket_of self.old.rows row.place).room) }
         requires to { to.old.table_id ≡ N.table }
-        ensures writer { self.new.desk ≡ longer (name_of tag.now) self.old.desk }
-        ensures to { (to.new.table_id ≡ to.old.table_id) × (to.new.me.1 ≡ to.old.me.1) × (to.new.me.0 ≡ both_of to.old.me.0 (owner_of (length self.old.desk.tail.log) (name_of tag.now))) }
+        ensures writer { self.new.desk ≡ longer (name_of_tag tag.now) self.old.desk }
+        ensures to { (to.new.table_id ≡ to.old.table_id) × (to.new.me.1 ≡ to.old.me.1) × (to.new.me.0 ≡ both_of to.old.me.0 (owner_of (length self.old.desk.tail.log) (name_of_tag tag.now))) }
     {
         let top = &cast.board.shared;
         board::publish_batch::<Name<T, P>, SegKey<T>, A, SegmentKeys<T, P>, Brand, Tag<T, P>>(
@@ -315,7 +315,7 @@ impl<T: Drop, P, A, N: Feed> Bench<T, P, A, N> {
         note: &Snapshot<A>,
     ) -> Cursor<'a, T, P, A, N>
         requires { (lane < 8) × Calm self.old.desk × ((account_of self.old.desk lane).stand ≡ idle) × (self.old.desk.tail.closed ≡ false) }
-        ensures writer { OneAccount self.old self.new lane (admitted (Some note.now.value) (length self.old.desk.tail.log) (account_of self.old.desk lane)) }
+        ensures writer { OneAccount self.old self.new lane (given_out (Some note.now.value) (length self.old.desk.tail.log) (account_of self.old.desk lane)) }
         ensures cursor { result ≡ as_cursor (opened (new_lane (Some note.now.value) lane self.old.desk.tail (account_of self.old.desk lane))) }
     {
         let top = &cast.board.shared;

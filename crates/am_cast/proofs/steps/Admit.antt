@@ -9,7 +9,7 @@ use Rattle.am_cast.specs.declared.views.WriterView.{WriterView}
 use Rattle.am_cast.specs.declared.views.LaneView.{LaneView}
 use Rattle.am_cast.specs.declared.views.View.{View}
 use Rattle.am_cast.specs.Rule.{idle, live, lane_word, Ruled}
-use Rattle.am_cast.specs.Changes.{with_account, admitted, new_lane}
+use Rattle.am_cast.specs.Changes.{with_account, given_out, new_lane}
 use Rattle.am_steps.specs.declared.event.Event.TheVariants as does
 use Rattle.am_cast.proofs.Events.{behind, admit, AllowsEvent}
 use Rattle.am_cast.specs.Steps.{SeatState, KnowsOf, Admits}
@@ -24,7 +24,7 @@ module _ {B K A : Type 0} (key : B → ℕ → K) where
       let o = writer_ok key s r id me.0 l q b at has in let ok = o.ok in let sd = ok.sound in let c = sd.counts in let t : Tail B = r.tail in let p : ℕ = t.places in
       let n : ℕ = length t.log in let at_word : ℕ = lane_word l in let small = o.small in let wide = r.wide in let stops = c.stops in
       let new_is : new ≡ 4 * n = new_is₀ ∙ ap (λ (t : Tail B). 4 * length t.log) o.tail in
-      let b' : Account K A = admitted note n b in let v' : LaneView B A = new_lane note l t b in
+      let b' : Account K A = given_out note n b in let v' : LaneView B A = new_lane note l t b in
       let stand_is : (r.account l).stand ≡ idle = ap (λ (c : Account K A). c.stand) o.account ∙ resting in
       let mine : r.lane_seat l ≡ id = r.spare l small stand_is ∙ sym o.mine in
       let words : List ℕ = set s.words at_word new in
@@ -56,11 +56,11 @@ module _ {B K A : Type 0} (key : B → ℕ → K) where
                   ap (get_elem? s.homes) j.3 ∙ ok.empty j.0 j.1 (omega arith) (λ z. omega arith) (λ z. absurd (let a = (c.aways z).0 in omega arith)) (λ _. unlaid);
               laid = λ k e. absurd (none_some k e);
               away = λ e. absurd (true≢false (sym e));
-            } in (kept.0, admit (behind r) (behind kept.0) l note small (ap (λ (t : Tail B). t.closed) (sym o.tail) ∙ open₀) stand_is record { tail = kept.1.tail; lanes = kept.1.lanes; accounts = kept.1.accounts; lane = kept.1.lane ∙ ap (λ (c : Account K A). new_lane note l t c) (sym o.account); account = kept.1.account ∙ ap (λ (c : Account K A). admitted note n c) (sym o.account) }, refl)),
+            } in (kept.0, admit (behind r) (behind kept.0) l note small (ap (λ (t : Tail B). t.closed) (sym o.tail) ∙ open₀) stand_is record { tail = kept.1.tail; lanes = kept.1.lanes; accounts = kept.1.accounts; lane = kept.1.lane ∙ ap (λ (c : Account K A). new_lane note l t c) (sym o.account); account = kept.1.account ∙ ap (λ (c : Account K A). given_out note n c) (sym o.account) }, refl)),
         (
           refl,
-          λ l' q' b₁ e has'. retell (λ m d c. w' ≡ record me.0 { writer = Some (with_account m (admitted note (length d.tail.log) c) d); lane = Some (new_lane note m d.tail c) }) me.0 l l' q q' b b₁ has has' (omega arith)
-              (ap (λ (t : Tail B). let z : View B K A = record me.0 { writer = Some (with_account l (admitted note (length t.log) b) q); lane = Some (new_lane note l t b) } in z) (sym o.tail)),
+          λ l' q' b₁ e has'. retell (λ m d c. w' ≡ record me.0 { writer = Some (with_account m (given_out note (length d.tail.log) c) d); lane = Some (new_lane note m d.tail c) }) me.0 l l' q q' b b₁ has has' (omega arith)
+              (ap (λ (t : Tail B). let z : View B K A = record me.0 { writer = Some (with_account l (given_out note (length t.log) b) q); lane = Some (new_lane note l t b) } in z) (sym o.tail)),
         ),
       )
 

@@ -1,7 +1,7 @@
 //! A lane is given out.
 ghost use Rattle.std.specs.Prelude.{None, Some, [], false, length, ◌<◌, ◌≡◌, ◌≤◌};
 ghost use Rattle.am_cast.specs.Rule.{idle, most};
-ghost use Rattle.am_cast.specs.Changes.{admitted, left, new_lane, only_lane, with_account, with_writer};
+ghost use Rattle.am_cast.specs.Changes.{given_out, left, new_lane, only_lane, with_account, with_writer};
 ghost use Rattle.am_cast.specs.Changes.{without_lane};
 ghost use Rattle.am_cast.specs.Steps.{Admits};
 ghost use Rattle.am_cast.specs.Seats.{IsSized, IsWriter, account_of, writer_of};
@@ -45,7 +45,7 @@ pub(crate) fn admit_lane<B, K, A, R: Keyed<B, K>, X: Noted<A>>(
         (b.stand ≡ idle) × (b.cleared ≡ b.stop) × (b.out ≡ 0) × (b.laid ≡ None) }
     ensures same { (seat.new.table_id ≡ seat.old.table_id) × (seat.new.me.1 ≡ []) }
     ensures writer { let q = writer_of seat.old.me.0 in
-        seat.new.me.0 ≡ with_writer (with_account lane (admitted X.note (length q.tail.log) (account_of q lane)) q) seat.old.me.0 }
+        seat.new.me.0 ≡ with_writer (with_account lane (given_out X.note (length q.tail.log) (account_of q lane)) q) seat.old.me.0 }
     ensures lane { let q = writer_of seat.old.me.0 in
         (result.table_id ≡ seat.old.table_id) × (result.me.1 ≡ [])
         × (result.me.0 ≡ record { writer = None; lane = Some (new_lane X.note lane q.tail (account_of q lane)); noted = []; heard = []; whole = false; own = []; counted = 0 }) }

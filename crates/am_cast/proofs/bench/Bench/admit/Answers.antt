@@ -5,7 +5,7 @@ use Rattle.am_cast.specs.declared.views.View.{View}
 use Rattle.am_cast.specs.declared.views.WriterView.{WriterView}
 use Rattle.am_cast.specs.Benches.{BenchView}
 use Rattle.am_cast.specs.Rule.{idle, live, cut}
-use Rattle.am_cast.specs.Changes.{marked, known_to, back, loaded, severed, laying, clearing, admitted, retired, shut, with_account}
+use Rattle.am_cast.specs.Changes.{marked, known_to, back, loaded, severed, laying, clearing, given_out, retired, shut, with_account}
 use Rattle.am_cast.specs.Seats.{account_of, writer_of}
 use Rattle.am_cast.specs.Writers.{IsCalm, IsBehind, Calm}
 use Rattle.am_cast.proofs.Waiting.{fits_set, fits_one, fits_tail, out_known, out_back, out_severed, out_clear, out_retired, may_bring, brought}
@@ -16,5 +16,5 @@ invariant_of-self g c = (
   search rules,
   let all = c.self.invariant.0.all in let small = c.requires.0 in let r = subst (λ (q : WriterView (Name g.row.T.Denot g.row.P.Denot) (KeyView g.row.T.Denot) g.row.A.Denot). Calm q × ((account_of q c.args.lane).stand ≡ idle)) (sym (ap (λ (v : BenchView g.row.T.Denot g.row.P.Denot g.row.A.Denot). v.desk) c.self.view_is)) (c.requires.1, c.requires.2) in
       let calm = r.0.1 c.args.lane small in let stand = r.1 in
-      fits_set c.self.inside.seat.me.0 c.admit_lane-seat.new.seat.me.0 c.self.inside.rows c.args.lane (admitted (Some c.args.note.now.value) (length (writer_of c.self.inside.seat.me.0).tail.log) (account_of (writer_of c.self.inside.seat.me.0) c.args.lane)) (c.admit_lane-seat.ensures.writer) (omega arith) (λ i. out_clear (admitted (Some c.args.note.now.value) (length (writer_of c.self.inside.seat.me.0).tail.log) (account_of (writer_of c.self.inside.seat.me.0) c.args.lane)) i refl refl ∙ sym (out_clear (account_of (writer_of c.self.inside.seat.me.0) c.args.lane) i (calm.rest_is (λ e. omega arith)) (Rattle.am_cast.proofs.Waiting.not_true (account_of (writer_of c.self.inside.seat.me.0) c.args.lane).away (λ e. let c₂ = (calm.away_is e).0 in omega arith)))) c.self.invariant.1,
+      fits_set c.self.inside.seat.me.0 c.admit_lane-seat.new.seat.me.0 c.self.inside.rows c.args.lane (given_out (Some c.args.note.now.value) (length (writer_of c.self.inside.seat.me.0).tail.log) (account_of (writer_of c.self.inside.seat.me.0) c.args.lane)) (c.admit_lane-seat.ensures.writer) (omega arith) (λ i. out_clear (given_out (Some c.args.note.now.value) (length (writer_of c.self.inside.seat.me.0).tail.log) (account_of (writer_of c.self.inside.seat.me.0) c.args.lane)) i refl refl ∙ sym (out_clear (account_of (writer_of c.self.inside.seat.me.0) c.args.lane) i (calm.rest_is (λ e. omega arith)) (Rattle.am_cast.proofs.Waiting.not_true (account_of (writer_of c.self.inside.seat.me.0) c.args.lane).away (λ e. let c₂ = (calm.away_is e).0 in omega arith)))) c.self.invariant.1,
 )

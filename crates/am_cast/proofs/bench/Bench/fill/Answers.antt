@@ -6,14 +6,14 @@ use Rattle.am_cast.specs.Benches.{BenchView}
 use Rattle.am_cast.specs.Changes.{with_account, laying}
 use Rattle.am_cast.specs.Seats.{account_of}
 use Rattle.am_cast.specs.Keys.{key_of}
-use Rattle.am_cast.specs.Tags.{name_of}
+use Rattle.am_cast.specs.Tags.{name_of_tag}
 use Rattle.am_cast.specs.inside.KeyRows.{RowView}
 use Rattle.am_cast.specs.inside.Waiting.{Gathered, is_live}
 use Rattle.am_cast.proofs.Filling.{fill_step, next_run, this_run}
 use Rattle.am_cast.proofs.bench.Bench.fill.Goals as goal
 
 pub loop-lane-preserved : goal.loop-lane-preserved
-loop-lane-preserved g c = let i = c.loop-lane.invariant in let x = name_of c.args.tag.now in let lane = c.loop-lane.lane in
+loop-lane-preserved g c = let i = c.loop-lane.invariant in let x = name_of_tag c.args.tag.now in let lane = c.loop-lane.lane in
     let run = this_run x lane c.in-Some.run' c.loop-lane.rest c.in-Some.is i.run in
     let key : c.next-key.result.0 ≡ key_of x lane = c.next-key.ensures.key ∙ run.1 in let put = c.put_key-in-loop-lane.ensures in
     let step = fill_step x c.args.self.now.desk c.loop-lane.self.desk c.put_key-in-loop-lane.new.self.desk lane c.loop-lane.row.keys c.put_key-in-loop-lane.new.row.keys run.0 i.filled i.gathered
@@ -27,4 +27,4 @@ loop-lane-preserved g c = let i = c.loop-lane.invariant in let x = name_of c.arg
     }
 
 pub returns-clause-row : goal.returns-clause-row
-returns-clause-row g c = let i = c.loop-lane.invariant in (i.place, subst (λ (n : ℕ). Gathered (name_of c.args.tag.now) (λ m. is_live (account_of c.args.self.now.desk m)) n c.loop-lane.row.keys) (let e = c.loop-lane.auto.lane-end (omega arith) in omega arith) i.gathered)
+returns-clause-row g c = let i = c.loop-lane.invariant in (i.place, subst (λ (n : ℕ). Gathered (name_of_tag c.args.tag.now) (λ m. is_live (account_of c.args.self.now.desk m)) n c.loop-lane.row.keys) (let e = c.loop-lane.auto.lane-end (omega arith) in omega arith) i.gathered)

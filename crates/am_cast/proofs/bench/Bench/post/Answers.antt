@@ -8,7 +8,7 @@ use Rattle.am_cast.specs.declared.views.WriterView.{WriterView}
 use Rattle.am_cast.specs.Changes.{both_of, longer_tail}
 use Rattle.am_cast.specs.Keys.{key_of, items_of}
 use Rattle.am_cast.specs.Seats.{account_of}
-use Rattle.am_cast.specs.Tags.{name_of}
+use Rattle.am_cast.specs.Tags.{name_of_tag}
 use Rattle.am_cast.specs.Writers.{Calm, SameAdmission, owner_of}
 use Rattle.am_cast.specs.inside.KeyRows.{BucketView, RowView, bucket_of}
 use Rattle.am_cast.specs.inside.Waiting.{is_live, Gathered}
@@ -19,25 +19,25 @@ use Rattle.am_cast.proofs.bench.Bench.post.Goals as goal
 
 pub store-requires-clause-writer : goal.store-requires-clause-writer
 store-requires-clause-writer g c = let r = c.requires.writer in let f = c.fill-row.ensures.writer in let log = ap (λ (t : Tail (Name g.row.T.Denot g.row.P.Denot)). length t.log) f.0 in let few = r.1 in
-    (ap (λ (t : Tail (Name g.row.T.Denot g.row.P.Denot)). t.closed) f.0 ∙ r.0, omega arith, all_laid key_of c.args.self.now.desk c.fill-row.new.self.desk (name_of c.tag_batch-tag.result) r.2 f, filled_ready key_of c.args.self.now.desk c.fill-row.new.self.desk (name_of c.tag_batch-tag.result) r.2 f)
+    (ap (λ (t : Tail (Name g.row.T.Denot g.row.P.Denot)). t.closed) f.0 ∙ r.0, omega arith, all_laid key_of c.args.self.now.desk c.fill-row.new.self.desk (name_of_tag c.tag_batch-tag.result) r.2 f, filled_ready key_of c.args.self.now.desk c.fill-row.new.self.desk (name_of_tag c.tag_batch-tag.result) r.2 f)
 
 pub store-requires-clause-row : goal.store-requires-clause-row
 store-requires-clause-row g c = let f = c.fill-row.ensures.writer in let r = c.fill-row.ensures.row in let log = ap (λ (t : Tail (Name g.row.T.Denot g.row.P.Denot)). length t.log) f.0 in let at = ap (λ (r : RowView g.row.T.Denot). r.place) c.requires.row.0 in (
   r.0 ∙ at ∙ sym log,
-  gathered_same (name_of c.tag_batch-tag.result) (λ l. is_live (account_of c.args.self.now.desk l)) (λ l. is_live (account_of c.fill-row.new.self.desk l)) 8 c.fill-row.result.keys (λ l h. filled_live c.args.self.now.desk c.fill-row.new.self.desk (name_of c.tag_batch-tag.result) l h f) r.1,
+  gathered_same (name_of_tag c.tag_batch-tag.result) (λ l. is_live (account_of c.args.self.now.desk l)) (λ l. is_live (account_of c.fill-row.new.self.desk l)) 8 c.fill-row.result.keys (λ l h. filled_live c.args.self.now.desk c.fill-row.new.self.desk (name_of_tag c.tag_batch-tag.result) l h f) r.1,
   subst (λ (z : List (BucketView g.row.T.Denot) × ℕ). 1 ≤ (bucket_of z.0 z.1).room) (λ i. (sym c.fill-row.ensures.rows i, sym r.0 i)) c.requires.row.1,
 )
 
 pub returns-clause-calm : goal.returns-clause-calm
 returns-clause-calm g c = let r = c.requires.writer in subst (λ (q : WriterView (Name g.row.T.Denot g.row.P.Denot) (KeyView g.row.T.Denot) g.row.A.Denot). Calm q) (sym c.store.ensures.writer)
-    (calm_longer key_of c.args.self.now.desk c.fill-row.new.self.desk (name_of c.tag_batch-tag.result) r.2 r.3 c.fill-row.ensures.writer)
+    (calm_longer key_of c.args.self.now.desk c.fill-row.new.self.desk (name_of_tag c.tag_batch-tag.result) r.2 r.3 c.fill-row.ensures.writer)
 
 pub returns-clause-same : goal.returns-clause-same
 returns-clause-same g c l small = subst (λ (q : WriterView (Name g.row.T.Denot g.row.P.Denot) (KeyView g.row.T.Denot) g.row.A.Denot). SameAdmission (account_of c.args.self.now.desk l) (account_of q l) × ((account_of q l).stand ≡ (account_of c.args.self.now.desk l).stand)) (sym c.store.ensures.writer)
-    (longer_same key_of c.args.self.now.desk c.fill-row.new.self.desk (name_of c.tag_batch-tag.result) c.fill-row.ensures.writer l small)
+    (longer_same key_of c.args.self.now.desk c.fill-row.new.self.desk (name_of_tag c.tag_batch-tag.result) c.fill-row.ensures.writer l small)
 
 pub returns-clause-place : goal.returns-clause-place
-returns-clause-place g c = let x : Name g.row.T.Denot g.row.P.Denot = name_of c.tag_batch-tag.result in let f = c.fill-row.ensures.writer in let t = c.store.ensures.to in (
+returns-clause-place g c = let x : Name g.row.T.Denot g.row.P.Denot = name_of_tag c.tag_batch-tag.result in let f = c.fill-row.ensures.writer in let t = c.store.ensures.to in (
   x,
   c.tag_batch-tag.ensures.post,
   ap (λ (k : KeyView g.row.T.Denot). c.tag_batch-tag.result.first.value ∷ drop 1 k.items) c.tag_batch-tag.ensures.key ∙ first_rest c.next-first.result.0.items c.tag_batch-tag.result.first.value c.tag_batch-tag.ensures.first ∙ ap (λ (k : KeyView g.row.T.Denot). k.items) (c.next-first.ensures.key ∙ c.hand_out.ensures.1),

@@ -10,7 +10,7 @@ use Rattle.am_cast.proofs.Writers.{bench_longer}
 use Rattle.am_cast.specs.Changes.{longer, both_of, only_own, without_own, own_at}
 use Rattle.am_cast.specs.Keys.{key_of}
 use Rattle.am_cast.specs.Seats.{account_of, writer_of}
-use Rattle.am_cast.specs.Tags.{name_of}
+use Rattle.am_cast.specs.Tags.{name_of_tag}
 use Rattle.am_cast.specs.Writers.{AllLaid, AreReady}
 use Rattle.am_cast.specs.inside.Waiting.{Gathered, is_live}
 use Rattle.std.proofs.lemmas.Bool.{eqb-true}
@@ -19,34 +19,34 @@ use Rattle.am_cast.proofs.Filling.{no_row_yet, fits_row, fits_ended}
 use Rattle.am_cast.proofs.bench.Bench.store.Goals as goal
 
 pub publish_batch-requires-clause-laid : goal.publish_batch-requires-clause-laid
-publish_batch-requires-clause-laid g c = (name_of c.args.tag.now, refl, subst (λ (q : WriterView (Name g.row.T.Denot g.row.P.Denot) (KeyView g.row.T.Denot) g.row.A.Denot). AllLaid key_of q (name_of c.args.tag.now)) (sym (ap (λ (v : BenchView g.row.T.Denot g.row.P.Denot g.row.A.Denot). v.desk) c.self.view_is)) c.requires.writer.2)
+publish_batch-requires-clause-laid g c = (name_of_tag c.args.tag.now, refl, subst (λ (q : WriterView (Name g.row.T.Denot g.row.P.Denot) (KeyView g.row.T.Denot) g.row.A.Denot). AllLaid key_of q (name_of_tag c.args.tag.now)) (sym (ap (λ (v : BenchView g.row.T.Denot g.row.P.Denot g.row.A.Denot). v.desk) c.self.view_is)) c.requires.writer.2)
 
 pub end-requires : goal.end-requires
-end-requires g c = gathered_all (name_of c.args.tag.now) (λ l. is_live (account_of c.args.self.now.desk l)) c.args.row.keys c.requires.row.1 (eqb-true (length c.args.row.keys) 8 (sym c.is_full.ensures ∙ c.if-is_full.true))
+end-requires g c = gathered_all (name_of_tag c.args.tag.now) (λ l. is_live (account_of c.args.self.now.desk l)) c.args.row.keys c.requires.row.1 (eqb-true (length c.args.row.keys) 8 (sym c.is_full.ensures ∙ c.if-is_full.true))
 
 pub invariant_of-self : goal.invariant_of-self
 invariant_of-self g c = let p = c.publish_batch.ensures in let h = c.hand_own.ensures.from in let i = c.self.invariant.0 in let few = subst (λ (q : WriterView (Name g.row.T.Denot g.row.P.Denot) (KeyView g.row.T.Denot) g.row.A.Denot). length q.tail.log < most) (sym (ap (λ (v : BenchView g.row.T.Denot g.row.P.Denot g.row.A.Denot). v.desk) c.self.view_is)) c.requires.writer.1 in let count = i.count_is in (
-  bench_longer g.N.Feed.table c.self.inside.seat.table_id c.hand_own.new.from.table_id c.self.inside.seat.me c.hand_own.new.from.me c.self.inside.places c.self.inside.count c.self.inside.closed c.self.inside.stand c.self.inside.known c.self.inside.half c.self.inside.away (name_of c.args.tag.now) c.publish_batch.new.seat.me.0
-      i (h.0 ∙ p.same.0) (h.1 ∙ p.same.1) (p.writer (name_of c.args.tag.now) refl ∙ ap (λ (own : List (Own (Name g.row.T.Denot g.row.P.Denot))). let v : View (Name g.row.T.Denot g.row.P.Denot) (KeyView g.row.T.Denot) g.row.A.Denot = record c.self.inside.seat.me.0 { writer = Some (longer (name_of c.args.tag.now) (writer_of c.self.inside.seat.me.0)); own = own } in v) (sym (ap (λ (w : View (Name g.row.T.Denot g.row.P.Denot) (KeyView g.row.T.Denot) g.row.A.Denot). w.own) (p.writer (name_of c.args.tag.now) refl)))) h.2 (omega arith),
-  let x : Name g.row.T.Denot g.row.P.Denot = name_of c.args.tag.now in let r = subst (λ (q : WriterView (Name g.row.T.Denot g.row.P.Denot) (KeyView g.row.T.Denot) g.row.A.Denot). (c.args.row.place ≡ length q.tail.log) × Gathered x (λ l. is_live (account_of q l)) 8 c.args.row.keys × AreReady q) (sym (ap (λ (v : BenchView g.row.T.Denot g.row.P.Denot g.row.A.Denot). v.desk) c.self.view_is)) (c.requires.row.0, c.requires.row.1, c.requires.writer.3) in let grown : writer_of c.hand_own.new.from.me.0 ≡ longer x (writer_of c.self.inside.seat.me.0) = ap (λ (w : View (Name g.row.T.Denot g.row.P.Denot) (KeyView g.row.T.Denot) g.row.A.Denot). writer_of w) (c.hand_own.ensures.from.2 ∙ ap (λ (w : View (Name g.row.T.Denot g.row.P.Denot) (KeyView g.row.T.Denot) g.row.A.Denot). without_own w) (c.publish_batch.ensures.writer x refl)) in
+  bench_longer g.N.Feed.table c.self.inside.seat.table_id c.hand_own.new.from.table_id c.self.inside.seat.me c.hand_own.new.from.me c.self.inside.places c.self.inside.count c.self.inside.closed c.self.inside.stand c.self.inside.known c.self.inside.half c.self.inside.away (name_of_tag c.args.tag.now) c.publish_batch.new.seat.me.0
+      i (h.0 ∙ p.same.0) (h.1 ∙ p.same.1) (p.writer (name_of_tag c.args.tag.now) refl ∙ ap (λ (own : List (Own (Name g.row.T.Denot g.row.P.Denot))). let v : View (Name g.row.T.Denot g.row.P.Denot) (KeyView g.row.T.Denot) g.row.A.Denot = record c.self.inside.seat.me.0 { writer = Some (longer (name_of_tag c.args.tag.now) (writer_of c.self.inside.seat.me.0)); own = own } in v) (sym (ap (λ (w : View (Name g.row.T.Denot g.row.P.Denot) (KeyView g.row.T.Denot) g.row.A.Denot). w.own) (p.writer (name_of_tag c.args.tag.now) refl)))) h.2 (omega arith),
+  let x : Name g.row.T.Denot g.row.P.Denot = name_of_tag c.args.tag.now in let r = subst (λ (q : WriterView (Name g.row.T.Denot g.row.P.Denot) (KeyView g.row.T.Denot) g.row.A.Denot). (c.args.row.place ≡ length q.tail.log) × Gathered x (λ l. is_live (account_of q l)) 8 c.args.row.keys × AreReady q) (sym (ap (λ (v : BenchView g.row.T.Denot g.row.P.Denot g.row.A.Denot). v.desk) c.self.view_is)) (c.requires.row.0, c.requires.row.1, c.requires.writer.3) in let grown : writer_of c.hand_own.new.from.me.0 ≡ longer x (writer_of c.self.inside.seat.me.0) = ap (λ (w : View (Name g.row.T.Denot g.row.P.Denot) (KeyView g.row.T.Denot) g.row.A.Denot). writer_of w) (c.hand_own.ensures.from.2 ∙ ap (λ (w : View (Name g.row.T.Denot g.row.P.Denot) (KeyView g.row.T.Denot) g.row.A.Denot). without_own w) (c.publish_batch.ensures.writer x refl)) in
       fits_ended x (writer_of c.self.inside.seat.me.0) (writer_of c.hand_own.new.from.me.0) c.self.inside.rows c.args.row.place c.args.row.keys grown r.0 r.2 c.self.invariant.1 r.1 (sym c.is_full.ensures ∙ c.if-is_full.true),
 )
 
 pub insert-requires-clause-none : goal.insert-requires-clause-none
-insert-requires-clause-none g c = let x : Name g.row.T.Denot g.row.P.Denot = name_of c.args.tag.now in let r = subst (λ (q : WriterView (Name g.row.T.Denot g.row.P.Denot) (KeyView g.row.T.Denot) g.row.A.Denot). (c.args.row.place ≡ length q.tail.log) × Gathered x (λ l. is_live (account_of q l)) 8 c.args.row.keys × AreReady q) (sym (ap (λ (v : BenchView g.row.T.Denot g.row.P.Denot g.row.A.Denot). v.desk) c.self.view_is)) (c.requires.row.0, c.requires.row.1, c.requires.writer.3) in no_row_yet x (writer_of c.self.inside.seat.me.0) c.self.inside.rows c.args.row.place r.0 c.self.invariant.1
+insert-requires-clause-none g c = let x : Name g.row.T.Denot g.row.P.Denot = name_of_tag c.args.tag.now in let r = subst (λ (q : WriterView (Name g.row.T.Denot g.row.P.Denot) (KeyView g.row.T.Denot) g.row.A.Denot). (c.args.row.place ≡ length q.tail.log) × Gathered x (λ l. is_live (account_of q l)) 8 c.args.row.keys × AreReady q) (sym (ap (λ (v : BenchView g.row.T.Denot g.row.P.Denot g.row.A.Denot). v.desk) c.self.view_is)) (c.requires.row.0, c.requires.row.1, c.requires.writer.3) in no_row_yet x (writer_of c.self.inside.seat.me.0) c.self.inside.rows c.args.row.place r.0 c.self.invariant.1
 
 pub invariant_of-self-else-is_full : goal.invariant_of-self-else-is_full
 invariant_of-self-else-is_full g c = let p = c.publish_batch.ensures in let h = c.hand_own.ensures.from in let i = c.self.invariant.0 in let few = subst (λ (q : WriterView (Name g.row.T.Denot g.row.P.Denot) (KeyView g.row.T.Denot) g.row.A.Denot). length q.tail.log < most) (sym (ap (λ (v : BenchView g.row.T.Denot g.row.P.Denot g.row.A.Denot). v.desk) c.self.view_is)) c.requires.writer.1 in let count = i.count_is in (
-  bench_longer g.N.Feed.table c.self.inside.seat.table_id c.hand_own.new.from.table_id c.self.inside.seat.me c.hand_own.new.from.me c.self.inside.places c.self.inside.count c.self.inside.closed c.self.inside.stand c.self.inside.known c.self.inside.half c.self.inside.away (name_of c.args.tag.now) c.publish_batch.new.seat.me.0
-      i (h.0 ∙ p.same.0) (h.1 ∙ p.same.1) (p.writer (name_of c.args.tag.now) refl ∙ ap (λ (own : List (Own (Name g.row.T.Denot g.row.P.Denot))). let v : View (Name g.row.T.Denot g.row.P.Denot) (KeyView g.row.T.Denot) g.row.A.Denot = record c.self.inside.seat.me.0 { writer = Some (longer (name_of c.args.tag.now) (writer_of c.self.inside.seat.me.0)); own = own } in v) (sym (ap (λ (w : View (Name g.row.T.Denot g.row.P.Denot) (KeyView g.row.T.Denot) g.row.A.Denot). w.own) (p.writer (name_of c.args.tag.now) refl)))) h.2 (omega arith),
-  let x : Name g.row.T.Denot g.row.P.Denot = name_of c.args.tag.now in let r = subst (λ (q : WriterView (Name g.row.T.Denot g.row.P.Denot) (KeyView g.row.T.Denot) g.row.A.Denot). (c.args.row.place ≡ length q.tail.log) × Gathered x (λ l. is_live (account_of q l)) 8 c.args.row.keys × AreReady q) (sym (ap (λ (v : BenchView g.row.T.Denot g.row.P.Denot g.row.A.Denot). v.desk) c.self.view_is)) (c.requires.row.0, c.requires.row.1, c.requires.writer.3) in let grown : writer_of c.hand_own.new.from.me.0 ≡ longer x (writer_of c.self.inside.seat.me.0) = ap (λ (w : View (Name g.row.T.Denot g.row.P.Denot) (KeyView g.row.T.Denot) g.row.A.Denot). writer_of w) (c.hand_own.ensures.from.2 ∙ ap (λ (w : View (Name g.row.T.Denot g.row.P.Denot) (KeyView g.row.T.Denot) g.row.A.Denot). without_own w) (c.publish_batch.ensures.writer x refl)) in
+  bench_longer g.N.Feed.table c.self.inside.seat.table_id c.hand_own.new.from.table_id c.self.inside.seat.me c.hand_own.new.from.me c.self.inside.places c.self.inside.count c.self.inside.closed c.self.inside.stand c.self.inside.known c.self.inside.half c.self.inside.away (name_of_tag c.args.tag.now) c.publish_batch.new.seat.me.0
+      i (h.0 ∙ p.same.0) (h.1 ∙ p.same.1) (p.writer (name_of_tag c.args.tag.now) refl ∙ ap (λ (own : List (Own (Name g.row.T.Denot g.row.P.Denot))). let v : View (Name g.row.T.Denot g.row.P.Denot) (KeyView g.row.T.Denot) g.row.A.Denot = record c.self.inside.seat.me.0 { writer = Some (longer (name_of_tag c.args.tag.now) (writer_of c.self.inside.seat.me.0)); own = own } in v) (sym (ap (λ (w : View (Name g.row.T.Denot g.row.P.Denot) (KeyView g.row.T.Denot) g.row.A.Denot). w.own) (p.writer (name_of_tag c.args.tag.now) refl)))) h.2 (omega arith),
+  let x : Name g.row.T.Denot g.row.P.Denot = name_of_tag c.args.tag.now in let r = subst (λ (q : WriterView (Name g.row.T.Denot g.row.P.Denot) (KeyView g.row.T.Denot) g.row.A.Denot). (c.args.row.place ≡ length q.tail.log) × Gathered x (λ l. is_live (account_of q l)) 8 c.args.row.keys × AreReady q) (sym (ap (λ (v : BenchView g.row.T.Denot g.row.P.Denot g.row.A.Denot). v.desk) c.self.view_is)) (c.requires.row.0, c.requires.row.1, c.requires.writer.3) in let grown : writer_of c.hand_own.new.from.me.0 ≡ longer x (writer_of c.self.inside.seat.me.0) = ap (λ (w : View (Name g.row.T.Denot g.row.P.Denot) (KeyView g.row.T.Denot) g.row.A.Denot). writer_of w) (c.hand_own.ensures.from.2 ∙ ap (λ (w : View (Name g.row.T.Denot g.row.P.Denot) (KeyView g.row.T.Denot) g.row.A.Denot). without_own w) (c.publish_batch.ensures.writer x refl)) in
       fits_row x (writer_of c.self.inside.seat.me.0) (writer_of c.hand_own.new.from.me.0) c.self.inside.rows c.insert.new.self c.args.row.place c.args.row.keys grown r.0 r.2 c.self.invariant.1 r.1 (sym c.is_full.ensures ∙ c.if-is_full.false) c.insert.ensures.here c.insert.ensures.others,
 )
 
 pub returns-then-is_full-clause-to : goal.returns-then-is_full-clause-to
-returns-then-is_full-clause-to g c = let x : Name g.row.T.Denot g.row.P.Denot = name_of c.args.tag.now in let h = c.hand_own.ensures.to in let log = ap (λ (q : WriterView (Name g.row.T.Denot g.row.P.Denot) (KeyView g.row.T.Denot) g.row.A.Denot). length q.tail.log) (ap (λ (v : BenchView g.row.T.Denot g.row.P.Denot g.row.A.Denot). v.desk) c.self.view_is) in
+returns-then-is_full-clause-to g c = let x : Name g.row.T.Denot g.row.P.Denot = name_of_tag c.args.tag.now in let h = c.hand_own.ensures.to in let log = ap (λ (q : WriterView (Name g.row.T.Denot g.row.P.Denot) (KeyView g.row.T.Denot) g.row.A.Denot). length q.tail.log) (ap (λ (v : BenchView g.row.T.Denot g.row.P.Denot g.row.A.Denot). v.desk) c.self.view_is) in
     (h.0, h.1, h.2 ∙ ap (λ (w : View (Name g.row.T.Denot g.row.P.Denot) (KeyView g.row.T.Denot) g.row.A.Denot). both_of c.args.to.now.me.0 (only_own w)) (c.publish_batch.ensures.writer x refl) ∙ ap (λ (own : List (Own (Name g.row.T.Denot g.row.P.Denot))). let v : View (Name g.row.T.Denot g.row.P.Denot) (KeyView g.row.T.Denot) g.row.A.Denot = both_of c.args.to.now.me.0 (record blank { own = own ++ own_at (length (writer_of c.self.inside.seat.me.0).tail.log) x ∷ [] }) in v) c.self.invariant.0.no_own ∙ ap (λ (n : ℕ). let v : View (Name g.row.T.Denot g.row.P.Denot) (KeyView g.row.T.Denot) g.row.A.Denot = both_of c.args.to.now.me.0 (record blank { own = own_at n x ∷ [] }) in v) log)
 
 pub returns-else-is_full-clause-to : goal.returns-else-is_full-clause-to
-returns-else-is_full-clause-to g c = let x : Name g.row.T.Denot g.row.P.Denot = name_of c.args.tag.now in let h = c.hand_own.ensures.to in let log = ap (λ (q : WriterView (Name g.row.T.Denot g.row.P.Denot) (KeyView g.row.T.Denot) g.row.A.Denot). length q.tail.log) (ap (λ (v : BenchView g.row.T.Denot g.row.P.Denot g.row.A.Denot). v.desk) c.self.view_is) in
+returns-else-is_full-clause-to g c = let x : Name g.row.T.Denot g.row.P.Denot = name_of_tag c.args.tag.now in let h = c.hand_own.ensures.to in let log = ap (λ (q : WriterView (Name g.row.T.Denot g.row.P.Denot) (KeyView g.row.T.Denot) g.row.A.Denot). length q.tail.log) (ap (λ (v : BenchView g.row.T.Denot g.row.P.Denot g.row.A.Denot). v.desk) c.self.view_is) in
     (h.0, h.1, h.2 ∙ ap (λ (w : View (Name g.row.T.Denot g.row.P.Denot) (KeyView g.row.T.Denot) g.row.A.Denot). both_of c.args.to.now.me.0 (only_own w)) (c.publish_batch.ensures.writer x refl) ∙ ap (λ (own : List (Own (Name g.row.T.Denot g.row.P.Denot))). let v : View (Name g.row.T.Denot g.row.P.Denot) (KeyView g.row.T.Denot) g.row.A.Denot = both_of c.args.to.now.me.0 (record blank { own = own ++ own_at (length (writer_of c.self.inside.seat.me.0).tail.log) x ∷ [] }) in v) c.self.invariant.0.no_own ∙ ap (λ (n : ℕ). let v : View (Name g.row.T.Denot g.row.P.Denot) (KeyView g.row.T.Denot) g.row.A.Denot = both_of c.args.to.now.me.0 (record blank { own = own_at n x ∷ [] }) in v) log)

@@ -5,7 +5,7 @@ use Rattle.am_cast.specs.declared.views.View.{View}
 use Rattle.am_cast.specs.declared.views.WriterView.{WriterView}
 use Rattle.am_cast.specs.Benches.{BenchView}
 use Rattle.am_cast.specs.Rule.{idle, live, cut}
-use Rattle.am_cast.specs.Changes.{marked, known_to, back, loaded, severed, laying, clearing, admitted, retired, shut, with_account}
+use Rattle.am_cast.specs.Changes.{marked, known_to, back, loaded, severed, laying, clearing, given_out, retired, shut, with_account}
 use Rattle.am_cast.specs.Seats.{account_of, writer_of}
 use Rattle.am_cast.specs.Writers.{IsCalm, IsBehind, Calm}
 use Rattle.am_cast.proofs.Waiting.{fits_set, fits_one, fits_tail, out_known, out_back, out_severed, out_clear, out_retired, may_bring, brought}
