@@ -93,7 +93,8 @@ impl<T: Drop, P, A, N: Feed> Writer<T, P, A, N> {
         }
     }
 
-    /// A new place, with the batch. Its number is the length before, and the pass owns it.
+    /// A new place, with the batch. Its number is the length before, and the pass owns it. Whatever it
+    /// answers, it loads each live lane's word first, and ends the segments that all lanes have passed.
     pub fn publish(
         &mut self,
         cast: &Cast<T, P, A, N>,
@@ -106,11 +107,12 @@ impl<T: Drop, P, A, N: Feed> Writer<T, P, A, N> {
             × (self.new.tail ≡ longer_tail x self.old.tail) × (pass.new.own ≡ pass.old.own ++ own_at place x ∷ []))) }
         ensures known { OnOk result (Stand pass.new.own pass.new.noted × IsPrefix pass.old.noted pass.new.noted) }
         ensures lanes { (l : ℕ) → l < 8 → StaysAs (account_of self.old l) (account_of self.new l) }
-        ensures loads { IsOpen self.old → (l : ℕ) → l < 8 → (account_of self.old l).stand ≡ live → (account_of self.old l).loads < (account_of self.new l).loads }
+        ensures loads { (l : ℕ) → l < 8 → (account_of self.old l).stand ≡ live → (account_of self.old l).loads < (account_of self.new l).loads }
 
         ensures err { OnErr result ((self.new.tail ≡ self.old.tail) × (pass.new ≡ pass.old)) }
         ensures refused { IfErr result (λ e. (e.batch ≡ batch) × IsRefusal self.old self.new e.fault) }
     {
+        self.bench.harvest(cast);
         if self.bench.is_closed() {
             return Err(Refused {
                 fault: PublishFault::Closed,
@@ -123,7 +125,6 @@ impl<T: Drop, P, A, N: Feed> Writer<T, P, A, N> {
                 batch,
             });
         }
-        self.bench.harvest(cast);
         if let Some(lane) = self.bench.full_lane() {
             let passed = self.bench.known_of(lane);
             return Err(Refused {
@@ -157,11 +158,12 @@ impl<T: Drop, P, A, N: Feed> Writer<T, P, A, N> {
         ensures cut { IfOk result (λ r. (l : ℕ) → l < 8 → IsCutAs (account_of self.old l) (account_of self.new l) (slice_index_or r.cut l false)) }
         ensures known { OnOk result (Stand pass.new.own pass.new.noted × IsPrefix pass.old.noted pass.new.noted) }
         ensures lanes { (l : ℕ) → l < 8 → SameAdmission (account_of self.old l) (account_of self.new l) }
-        ensures loads { IsOpen self.old → (l : ℕ) → l < 8 → (account_of self.old l).stand ≡ live → (account_of self.old l).loads < (account_of self.new l).loads }
+        ensures loads { (l : ℕ) → l < 8 → (account_of self.old l).stand ≡ live → (account_of self.old l).loads < (account_of self.new l).loads }
 
         ensures err { OnErr result ((self.new.tail ≡ self.old.tail) × (pass.new ≡ pass.old) × ((l : ℕ) → l < 8 → StaysAs (account_of self.old l) (account_of self.new l))) }
         ensures refused { IfErr result (λ e. (e.batch ≡ batch) × IsCutRefusal self.old e.fault) }
     {
+        self.bench.harvest(cast);
         if self.bench.is_closed() {
             return Err(Refused {
                 fault: PublishFault::Closed,
@@ -174,7 +176,6 @@ impl<T: Drop, P, A, N: Feed> Writer<T, P, A, N> {
                 batch,
             });
         }
-        self.bench.harvest(cast);
         let Ok(row) = self.bench.reserve() else {
             return Err(Refused {
                 fault: PublishFault::NoMemory,

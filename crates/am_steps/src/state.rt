@@ -1,6 +1,7 @@
 //! The core's state and how one begins. What an event makes of it is in `state/apply.rt`, and which
 //! places are freed in `state/freed.rt`.
-ghost use Rattle.std.specs.Prelude.{◌≡◌, IfOk, replicate};
+ghost use Rattle.std.specs.Prelude.{◌≡◌, IfOk, replicate, slice_get};
+ghost use Rattle.std.specs.Option.{option_copied};
 ghost use Rattle.am_steps.specs.declared.lane.Lane.TheVariants.{Idle};
 ghost use Rattle.am_steps.specs.Soundness.{IsSound};
 ghost use Rattle.am_steps.specs.States.{core_of, first_state, first_state_open};
@@ -79,6 +80,13 @@ impl State {
             posters: unaware_posters(alloc, posters)?,
             alloc,
         })
+    }
+
+    /// The lane of that number.
+    pub fn lane(&self, lane: usize) -> Option<&Lane<u64>>
+        ensures { option_copied result ≡ slice_get self.now.lanes lane }
+    {
+        self.lanes.get(lane)
     }
 
     /// A law: each `State` is sound. It does nothing; a proof calls it where it needs that.

@@ -7,14 +7,18 @@ use Rattle.am_cast.specs.declared.views.View.{View}
 use Rattle.am_cast.specs.declared.views.WriterView.{WriterView}
 use Rattle.am_cast.specs.Changes.{longer_tail, own_at}
 use Rattle.am_cast.specs.Posters.{PassView}
-use Rattle.am_cast.specs.Refusals.{IsOpen}
+use Rattle.am_cast.specs.Rule.{most}
 use Rattle.am_cast.proofs.writer.Writer.publish_cutting.Goals as goal
 
 pub returns-clause-ok : goal.returns-clause-ok
 returns-clause-ok g c = let p = c.post.ensures.place in let tail : c.make_all_room-cut.new.self.desk.tail ≡ c.args.self.now.tail = c.make_all_room-cut.ensures.tail ∙ ap (λ (q : WriterView (Name g.row.T.Denot g.row.P.Denot) (KeyView g.row.T.Denot) g.row.A.Denot). q.tail) c.reserve.ensures.desk ∙ c.harvest.ensures.same.tail ∙ ap (λ (q : WriterView (Name g.row.T.Denot g.row.P.Denot) (KeyView g.row.T.Denot) g.row.A.Denot). q.tail) c.self.view_is in
+    let found : c.harvest.new.self.desk.tail ≡ c.args.self.now.tail = c.harvest.ensures.same.tail ∙ ap (λ (q : WriterView (Name g.row.T.Denot g.row.P.Denot) (KeyView g.row.T.Denot) g.row.A.Denot). q.tail) c.self.view_is in
     let few = c.if-len-ge-MOST_PLACES.false in let len = c.len.ensures.0 in (
       c.len-place.ensures.0 ∙ ap (λ (t : Tail (Name g.row.T.Denot g.row.P.Denot)). length t.log) tail,
-      subst (λ (q : WriterView (Name g.row.T.Denot g.row.P.Denot) (KeyView g.row.T.Denot) g.row.A.Denot). IsOpen q) c.self.view_is (sym c.is_closed.ensures ∙ c.if-is_closed.false, omega arith),
+      (
+        sym (ap (λ (t : Tail (Name g.row.T.Denot g.row.P.Denot)). t.closed) found) ∙ (sym c.is_closed.ensures ∙ c.if-is_closed.false),
+        subst (λ (t : Tail (Name g.row.T.Denot g.row.P.Denot)). length t.log < most) found (omega arith),
+      ),
       (
         p.0,
         p.1,

@@ -1,0 +1,476 @@
+//! Calls of the log beside the atomic steps that each of them makes of the pure state: after each
+//! call the same was answered and taken, and the same places are freed.
+//!
+//! Two lanes and one place, in one thread. A batch's name is its place, and its items follow from it.
+
+ghost use Rattle.std.specs.Prelude.{◌≡◌, ◌<◌, length, IfOk};
+
+use am_cast::{
+    Begun, Cast, Cursor, Feed, Parts, Pass, PublishFault, Refused, Step, Writer, begin, end,
+};
+use am_segment::SegmentBuilder;
+use am_steps::{Event, Lane, State};
+use std::alloc::{AllocError, Global};
+use std::marker::Brand;
+use std::snapshot::Snapshot;
+use std::sync::Wait;
+use std::test::Fail;
+
+// How many kinds of call there are.
+const KINDS: u64 = 13;
+
+/// A reader's lane, its cursor where it has one, and what that cursor was shown.
+struct Reader<'a, N: Feed> {
+    lane: usize,
+    cursor: Option<Cursor<'a, u64, u64, u64, N>>,
+    shown: Vec<u64>,
+    // How many items of the place in its hand it was shown.
+    of_hand: u64,
+}
+
+/// The log with the pure state beside it.
+#[derive(Drop)]
+struct Both<'a, N: Feed> {
+    alloc: Global,
+    cast: &'a Cast<u64, u64, u64, N>,
+    state: State,
+    length: u64,
+}
+
+// How many items the batch of that name has, and each of them.
+fn count_of(name: u64) -> u64
+    ensures { 0 < result }
+{
+    1 + name % 3
+}
+
+fn item_of(name: u64, at: u64) -> u64 {
+    name.wrapping_mul(4).wrapping_add(at)
+}
+
+fn batch_of(alloc: Global, name: u64) -> Result<SegmentBuilder<u64>, AllocError>
+    ensures { IfOk result (λ batch. 0 < length batch.items) }
+{
+    let mut batch = SegmentBuilder::with_places(alloc, 3)?;
+    let _pushed = batch.push(item_of(name, 0));
+    for at in 1..count_of(name) {
+        let _pushed = batch.push(item_of(name, at));
+    }
+    Ok(batch)
+}
+
+impl<'a, N: Feed> Both<'a, N> {
+    // The writer loads the word of each lane that is given out.
+    fn harvest(&mut self) -> Result<(), AllocError> {
+        for lane in 0..8 {
+            let _made = self.state.apply(Event::Harvest(lane))?;
+        }
+        Ok(())
+    }
+
+    // A post: refused by both, or taken by both.
+    fn publish(
+        &mut self,
+        writer: &mut Writer<u64, u64, u64, N>,
+        pass: &mut Pass<u64, u64, u64, N>,
+    ) -> Result<bool, AllocError> {
+        let name = self.length;
+        let said = 7;
+        self.harvest()?;
+        let may = self.state.apply(Event::Publish(name))?;
+        let batch = batch_of(self.alloc, name)?;
+        match writer.publish(self.cast, batch, Snapshot::of(&said), pass) {
+            Ok(place) => Ok(may && place == name && self.note(name)?),
+            Err(Refused { fault, batch }) => {
+                batch.discard();
+                Ok(!may && self.is_cause(fault))
+            }
+        }
+    }
+
+    // The poster's own post is known.
+    fn note(&mut self, name: u64) -> Result<bool, AllocError> {
+        self.length = self.length.wrapping_add(1);
+        self.state.apply(Event::Note(0, Some((name, name))))
+    }
+
+    // Whether a refusal names the lowest lane that has passed none of the log's last place.
+    fn is_cause(&self, fault: PublishFault) -> bool {
+        match fault {
+            PublishFault::Full { lane, passed } => self.full_lane() == Some((lane, passed)),
+            PublishFault::Closed => true,
+            _ => false,
+        }
+    }
+
+    // The lowest lane that is a place behind, as the writer knows it, and how many it has passed.
+    fn full_lane(&self) -> Option<(usize, u64)> {
+        for lane in 0..8 {
+            if let Some(Lane::Open(record, _)) = self.state.lane(lane) {
+                if !record.cut && record.known.wrapping_add(1) == self.length {
+                    return Some((lane, record.known));
+                }
+            }
+        }
+        None
+    }
+
+    // A post that cuts: the same lanes are cut, and it is refused only by a closed log.
+    fn publish_cutting(
+        &mut self,
+        writer: &mut Writer<u64, u64, u64, N>,
+        pass: &mut Pass<u64, u64, u64, N>,
+    ) -> Result<bool, AllocError> {
+        let name = self.length;
+        let said = 7;
+        self.harvest()?;
+        let batch = batch_of(self.alloc, name)?;
+        match writer.publish_cutting(self.cast, batch, Snapshot::of(&said), pass) {
+            Ok(made) => {
+                let mut same = made.place == name;
+                for lane in 0..8 {
+                    same &= self.state.apply(Event::Cut(lane))? == made.cut[lane];
+                }
+                same &= self.state.apply(Event::Publish(name))?;
+                Ok(same && self.note(name)?)
+            }
+            Err(Refused { fault, batch }) => {
+                batch.discard();
+                Ok(fault == PublishFault::Closed && !self.state.apply(Event::Publish(name))?)
+            }
+        }
+    }
+
+    // The lowest idle lane, where it is the reader's and the log is open.
+    fn admit(
+        &mut self,
+        writer: &mut Writer<u64, u64, u64, N>,
+        reader: &mut Reader<'a, N>,
+    ) -> Result<bool, AllocError> {
+        if reader.cursor.is_some() {
+            return Ok(true);
+        }
+        let note = 0;
+        match writer.admit(self.cast, Snapshot::of(&note)) {
+            Ok(cursor) => {
+                let lane = cursor.lane();
+                reader.lane = lane;
+                reader.shown.clear();
+                reader.of_hand = 0;
+                match reader.cursor.replace(cursor) {
+                    None => {}
+                    Some(_) => unreachable!(),
+                }
+                let may = self.state.apply(Event::Admit(lane))?;
+                Ok(may && self.state.apply(Event::Open(lane))?)
+            }
+            Err(_) => Ok(!self.state.apply(Event::Admit(0))?),
+        }
+    }
+
+    fn retire(
+        &mut self,
+        writer: &mut Writer<u64, u64, u64, N>,
+        reader: &mut Reader<'a, N>,
+    ) -> Result<bool, AllocError> {
+        let Some(cursor) = reader.cursor.take() else {
+            return Ok(true);
+        };
+        writer.retire(self.cast, cursor);
+        let left = self.state.apply(Event::Leave(reader.lane))?;
+        Ok(left && self.state.apply(Event::Retire(reader.lane))?)
+    }
+
+    // The steps of a `next` in the state, and what it has to answer: an item, or 1 Pending, 2 Closed,
+    // 3 Cut.
+    fn advance(&mut self, lane: usize, of_hand: &mut u64) -> Result<Result<u64, u8>, AllocError> {
+        if let Some(Lane::Open(_, cursor)) = self.state.lane(lane) {
+            if cursor.held {
+                let name = cursor.passed;
+                if *of_hand < count_of(name) {
+                    let item = item_of(name, *of_hand);
+                    *of_hand = of_hand.wrapping_add(1);
+                    return Ok(Ok(item));
+                }
+            }
+        }
+        *of_hand = 0;
+        let _passed = self.state.apply(Event::Pass(lane))?;
+        for looks in 0..2_u8 {
+            if let Some(Lane::Open(_, cursor)) = self.state.lane(lane) {
+                if cursor.told_cut {
+                    return Ok(Err(3));
+                }
+                if cursor.passed < cursor.seen {
+                    return self.take(lane, of_hand);
+                }
+                if cursor.told {
+                    return Ok(Err(2));
+                }
+            }
+            if looks == 0 {
+                let _looked = self.state.apply(Event::Look(lane))?;
+            }
+        }
+        Ok(Err(1))
+    }
+
+    // The key of the next place, or that the lane was cut.
+    fn take(&mut self, lane: usize, of_hand: &mut u64) -> Result<Result<u64, u8>, AllocError> {
+        let _taken = self.state.apply(Event::Take(lane))?;
+        match self.state.lane(lane) {
+            Some(Lane::Open(_, cursor)) if cursor.held => {
+                *of_hand = 1;
+                Ok(Ok(item_of(cursor.passed, 0)))
+            }
+            _ => Ok(Err(3)),
+        }
+    }
+
+    // A read, with what the pass knows or without.
+    fn next(
+        &mut self,
+        reader: &mut Reader<'a, N>,
+        past: Option<&mut Pass<u64, u64, u64, N>>,
+    ) -> Result<bool, AllocError> {
+        let lane = reader.lane;
+        let Some(cursor) = &mut reader.cursor else {
+            return Ok(true);
+        };
+        let step = match past {
+            Some(pass) => cursor.next_past(pass),
+            None => cursor.next(),
+        };
+        let answer = match step {
+            Step::Item(item) => Ok(*item),
+            Step::Pending => Err(1),
+            Step::Closed => Err(2),
+            Step::Cut => Err(3),
+        };
+        if let Ok(item) = answer {
+            reader.shown.push(item)?;
+        }
+        Ok(self.advance(lane, &mut reader.of_hand)? == answer)
+    }
+
+    // Whether the reader was shown the items of the places that it has passed, and those of the place in
+    // its hand so far.
+    fn has_shown(&self, reader: &Reader<'a, N>) -> bool {
+        if reader.cursor.is_none() {
+            return true;
+        }
+        let Some(Lane::Open(_, cursor)) = self.state.lane(reader.lane) else {
+            return false;
+        };
+        let mut at = 0;
+        for name in &cursor.got.names {
+            for item in 0..count_of(*name) {
+                if reader.shown.get(at) != Some(&item_of(*name, item)) {
+                    return false;
+                }
+                at = at.saturating_add(1);
+            }
+        }
+        if cursor.held {
+            for item in 0..reader.of_hand {
+                if reader.shown.get(at) != Some(&item_of(cursor.passed, item)) {
+                    return false;
+                }
+                at = at.saturating_add(1);
+            }
+        }
+        at == reader.shown.len()
+    }
+
+    // Whether both free the same places.
+    fn frees_the_same(&self, writer: &Writer<u64, u64, u64, N>) -> bool {
+        for place in 0..self.length {
+            if self.state.freed(place) != writer.freed(place) {
+                return false;
+            }
+        }
+        true
+    }
+
+    fn meet(
+        &mut self,
+        reader: &mut Reader<'a, N>,
+        pass: &mut Pass<u64, u64, u64, N>,
+    ) -> Result<bool, AllocError> {
+        let Some(cursor) = &mut reader.cursor else {
+            return Ok(true);
+        };
+        pass.meet(self.cast, cursor);
+        self.state.apply(Event::Note(0, None))
+    }
+
+    // A call of that kind. Answers whether both came to the same.
+    fn call(
+        &mut self,
+        kind: u64,
+        writer: &mut Writer<u64, u64, u64, N>,
+        pass: &mut Pass<u64, u64, u64, N>,
+        first: &mut Reader<'a, N>,
+        second: &mut Reader<'a, N>,
+    ) -> Result<bool, AllocError> {
+        let same = match kind {
+            0 => self.publish(writer, pass)?,
+            1 => self.publish_cutting(writer, pass)?,
+            2 => {
+                self.harvest()?;
+                writer.harvest(self.cast) == self.full_lane()
+            }
+            3 => self.admit(writer, first)?,
+            4 => self.admit(writer, second)?,
+            5 => self.retire(writer, first)?,
+            6 => self.retire(writer, second)?,
+            7 => self.next(first, None)?,
+            8 => self.next(second, None)?,
+            9 => self.next(first, Some(pass))?,
+            10 => self.next(second, Some(pass))?,
+            11 => self.meet(first, pass)?,
+            _ => self.state.apply(Event::Close)? == writer.close(self.cast).is_ok(),
+        };
+        let shown = self.has_shown(first) && self.has_shown(second);
+        Ok(same && shown && self.frees_the_same(writer))
+    }
+}
+
+/// What to call: each kind in turn after two subscriptions and a post, or so many kinds from a seed.
+#[derive(Clone, Copy, Drop)]
+enum Script {
+    Two(u64, u64),
+    Seeded(u64, u32),
+}
+
+// The next number of a fixed sequence.
+fn next_seed(seed: u64) -> u64 {
+    seed.wrapping_mul(6_364_136_223_846_793_005)
+        .wrapping_add(1_442_695_040_888_963_407)
+}
+
+fn play<'a, N: Feed>(
+    both: &mut Both<'a, N>,
+    script: Script,
+    writer: &mut Writer<u64, u64, u64, N>,
+    pass: &mut Pass<u64, u64, u64, N>,
+    first: &mut Reader<'a, N>,
+    second: &mut Reader<'a, N>,
+) -> Result<bool, AllocError> {
+    match script {
+        Script::Two(one, other) => {
+            let mut same = true;
+            for kind in [3, 4, 0, 7, one, other, 7, 8, 1] {
+                same &= both.call(kind, writer, pass, first, second)?;
+            }
+            Ok(same)
+        }
+        Script::Seeded(start, calls) => {
+            let mut seed = start;
+            for _call in 0..calls {
+                seed = next_seed(seed);
+                // No Close, after which little would happen.
+                let kind = (seed >> 33) % (KINDS - 1);
+                if !both.call(kind, writer, pass, first, second)? {
+                    return Ok(false);
+                }
+            }
+            both.call(KINDS - 1, writer, pass, first, second)
+        }
+    }
+}
+
+fn new_reader<'a, N: Feed>(alloc: Global) -> Reader<'a, N> {
+    Reader {
+        lane: 0,
+        cursor: None,
+        shown: Vec::new(alloc),
+        of_hand: 0,
+    }
+}
+
+// The reader's cursor goes back to the writer.
+fn give_back<N: Feed>(
+    cast: &Cast<u64, u64, u64, N>,
+    writer: &mut Writer<u64, u64, u64, N>,
+    reader: Reader<'_, N>,
+) {
+    let Reader {
+        lane: _,
+        cursor,
+        shown: _,
+        of_hand: _,
+    } = reader;
+    match cursor {
+        Some(cursor) => writer.retire(cast, cursor),
+        None => {}
+    }
+}
+
+// A whole run on a log of its own. Answers whether both came to the same throughout.
+fn run<N: Feed, R: Wait>(
+    rt: &R,
+    parts: Parts<u64, u64, u64>,
+    alloc: Global,
+    script: Script,
+) -> Result<bool, AllocError>
+    requires { parts.board.shared.table_id ≡ N.table }
+{
+    let Begun {
+        cast,
+        mut writer,
+        mut passes,
+    } = begin::<u64, u64, u64, N>(parts, 1)?;
+    let log = &cast;
+    let mut first = new_reader(alloc);
+    let mut second = new_reader(alloc);
+    let same = match (State::new(alloc, 1, 8, 1), passes.pop()) {
+        (Ok(state), Some(mut pass)) => {
+            let mut both = Both {
+                alloc,
+                cast: log,
+                state,
+                length: 0,
+            };
+            play(
+                &mut both,
+                script,
+                &mut writer,
+                &mut pass,
+                &mut first,
+                &mut second,
+            )
+        }
+        _ => Err(AllocError),
+    };
+    give_back(log, &mut writer, first);
+    give_back(log, &mut writer, second);
+    if !writer.is_idle() {
+        for _ in rt.forever() {}
+    }
+    end(cast, writer);
+    same
+}
+
+fn run_of<R: Wait>(rt: &R, alloc: Global, script: Script) -> Result<bool, AllocError> {
+    let parts = Parts::make(alloc, 1)?;
+    run::<Brand, R>(rt, parts, alloc, script)
+}
+
+#[test]
+fn each_kind_after_each_other_kind(rt: HostRuntime) -> Result<(), Fail> {
+    for one in 0..KINDS {
+        for other in 0..KINDS {
+            assert!(rt; run_of(&rt, rt.alloc(), Script::Two(one, other))?);
+        }
+    }
+    Ok(())
+}
+
+#[test]
+fn two_thousand_calls(rt: HostRuntime) -> Result<(), Fail> {
+    for start in 1..5 {
+        assert!(rt; run_of(&rt, rt.alloc(), Script::Seeded(start, 500))?);
+    }
+    Ok(())
+}

@@ -1,0 +1,6 @@
+//! Tests of the log without a lock, of what no contract says: what whole runs show, in one thread and
+//! in several.
+#![tactic(auto)]
+
+#[cfg(test)]
+mod calls;
