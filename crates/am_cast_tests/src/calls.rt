@@ -59,6 +59,16 @@ fn batch_of(alloc: Global, name: u64) -> Result<SegmentBuilder<u64>, AllocError>
     Ok(batch)
 }
 
+// What a read answered: an item, or 1 Pending, 2 Closed, 3 Cut.
+fn answer_of(step: Step<'_, u64>) -> Result<u64, u8> {
+    match step {
+        Step::Item(item) => Ok(*item),
+        Step::Pending => Err(1),
+        Step::Closed => Err(2),
+        Step::Cut => Err(3),
+    }
+}
+
 impl<'a, N: Feed> Both<'a, N> {
     // The writer loads the word of each lane that is given out.
     fn harvest(&mut self) -> Result<(), AllocError> {
@@ -181,8 +191,7 @@ impl<'a, N: Feed> Both<'a, N> {
         Ok(left && self.state.apply(Event::Retire(reader.lane))?)
     }
 
-    // The steps of a `next` in the state, and what it has to answer: an item, or 1 Pending, 2 Closed,
-    // 3 Cut.
+    // Makes the steps of a `next` in the state, and tells what it has to answer.
     fn advance(&mut self, lane: usize, of_hand: &mut u64) -> Result<Result<u64, u8>, AllocError> {
         if let Some(Lane::Open(_, cursor)) = self.state.lane(lane) {
             if cursor.held {
@@ -227,30 +236,38 @@ impl<'a, N: Feed> Both<'a, N> {
         }
     }
 
-    // A read, with what the pass knows or without.
-    fn next(
-        &mut self,
-        reader: &mut Reader<'a, N>,
-        past: Option<&mut Pass<u64, u64, u64, N>>,
-    ) -> Result<bool, AllocError> {
-        let lane = reader.lane;
+    // A read.
+    fn next(&mut self, reader: &mut Reader<'a, N>) -> Result<bool, AllocError> {
         let Some(cursor) = &mut reader.cursor else {
             return Ok(true);
         };
-        let step = match past {
-            Some(pass) => cursor.next_past(pass),
-            None => cursor.next(),
+        let answer = answer_of(cursor.next());
+        self.has_answered(reader, answer)
+    }
+
+    // A read of all that the pass knows.
+    fn next_past(
+        &mut self,
+        reader: &mut Reader<'a, N>,
+        pass: &mut Pass<u64, u64, u64, N>,
+    ) -> Result<bool, AllocError> {
+        let Some(cursor) = &mut reader.cursor else {
+            return Ok(true);
         };
-        let answer = match step {
-            Step::Item(item) => Ok(*item),
-            Step::Pending => Err(1),
-            Step::Closed => Err(2),
-            Step::Cut => Err(3),
-        };
+        let answer = answer_of(cursor.next_past(pass));
+        self.has_answered(reader, answer)
+    }
+
+    // Whether the state answers the same to a read.
+    fn has_answered(
+        &mut self,
+        reader: &mut Reader<'a, N>,
+        answer: Result<u64, u8>,
+    ) -> Result<bool, AllocError> {
         if let Ok(item) = answer {
             reader.shown.push(item)?;
         }
-        Ok(self.advance(lane, &mut reader.of_hand)? == answer)
+        Ok(self.advance(reader.lane, &mut reader.of_hand)? == answer)
     }
 
     // Whether the reader was shown the items of the places that it has passed, and those of the place in
@@ -324,10 +341,10 @@ impl<'a, N: Feed> Both<'a, N> {
             4 => self.admit(writer, second)?,
             5 => self.retire(writer, first)?,
             6 => self.retire(writer, second)?,
-            7 => self.next(first, None)?,
-            8 => self.next(second, None)?,
-            9 => self.next(first, Some(pass))?,
-            10 => self.next(second, Some(pass))?,
+            7 => self.next(first)?,
+            8 => self.next(second)?,
+            9 => self.next_past(first, pass)?,
+            10 => self.next_past(second, pass)?,
             11 => self.meet(first, pass)?,
             _ => self.state.apply(Event::Close)? == writer.close(self.cast).is_ok(),
         };
