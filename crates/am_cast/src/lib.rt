@@ -81,6 +81,3 @@ pub use name::{Name, SegmentKeys};
 pub use parts::{Begun, Parts, begin, end};
 pub use pass::Pass;
 pub use writer::{MOST_PLACES, Published, Writer};
-
-#[cfg(test)]
-mod tests;
