@@ -93,7 +93,10 @@ impl<'a, N: Feed> Both<'a, N> {
             Ok(place) => Ok(may && place == name && self.note(name)?),
             Err(Refused { fault, batch }) => {
                 batch.discard();
-                Ok(!may && self.is_cause(fault))
+                match fault {
+                    PublishFault::NoMemory => Err(AllocError),
+                    _ => Ok(!may && self.is_cause(fault)),
+                }
             }
         }
     }
@@ -146,7 +149,11 @@ impl<'a, N: Feed> Both<'a, N> {
             }
             Err(Refused { fault, batch }) => {
                 batch.discard();
-                Ok(fault == PublishFault::Closed && !self.state.apply(Event::Publish(name))?)
+                match fault {
+                    PublishFault::NoMemory => Err(AllocError),
+                    PublishFault::Closed => Ok(!self.state.apply(Event::Publish(name))?),
+                    _ => Ok(false),
+                }
             }
         }
     }
