@@ -29,8 +29,8 @@
 //! lane 1's word    4 * 6 + 2 + 1                       6 passed, key 6 in hand, cut
 //! lane 2, idle     the greatest u64
 //!
-//! rows             6: seven keys, key 1 is out         the writer's: a segment's eighth key ends it
-//!                  8: six keys      9: six keys        (two lanes were live when 8 was published)
+//! rows             of place 6: seven keys, lane 1's is out         the writer's: the eighth key ends
+//!                  of place 8: six keys, of place 9: six keys      a segment; two lanes were live then
 //! ```
 //!
 //! A place holds one batch in one segment (`am_segment`), which has eight keys, one for each lane.
