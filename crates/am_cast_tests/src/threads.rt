@@ -42,10 +42,12 @@ const NOTHING: Shown = Shown {
     cut: false,
 };
 
-// Reads for so many turns, and rests at each eighth where it is lazy.
+// Reads for so many turns the numbers from a first one on, and rests at each eighth turn where it is
+// lazy.
 fn read_all<R: Threads, N: Feed>(
     rt: &R,
     cursor: &mut Cursor<'_, u64, u64, u64, N>,
+    first: u64,
     turns: u64,
     lazy: bool,
 ) -> Shown {
@@ -53,7 +55,8 @@ fn read_all<R: Threads, N: Feed>(
     for turn in 0..turns {
         match cursor.next() {
             Step::Item(item) => {
-                if *item != shown.items || shown.closed || shown.cut {
+                let next = first.wrapping_add(shown.items);
+                if *item != next || shown.closed || shown.cut {
                     shown.wrong = shown.wrong.wrapping_add(1);
                 }
                 shown.items = shown.items.wrapping_add(1);
@@ -96,18 +99,20 @@ fn post_all<N: Feed>(
     Ok(posted)
 }
 
-// Posts so many batches, and cuts whoever is slow. Answers how often a lane was cut.
+// Posts so many batches of the numbers from a first one on, and cuts whoever is slow. Answers how
+// often a lane was cut.
 fn post_over<N: Feed>(
     alloc: Global,
     cast: &Cast<u64, u64, u64, N>,
     writer: &mut Writer<u64, u64, u64, N>,
     pass: &mut Pass<u64, u64, u64, N>,
+    first: u64,
     batches: u64,
 ) -> Result<u64, AllocError> {
     let mut cuts: u64 = 0;
     for at in 0..batches {
         let said = 7;
-        let batch = batch_of(alloc, at.wrapping_mul(3))?;
+        let batch = batch_of(alloc, first.wrapping_add(at.wrapping_mul(3)))?;
         match writer.publish_cutting(cast, batch, Snapshot::of(&said), pass) {
             Ok(made) => {
                 for lane in 0..8 {
@@ -160,7 +165,7 @@ fn drive<N: Feed + Send + Sync, R: Threads + Sync>(
             rt,
             move || {
                 if load.cuts {
-                    post_over(alloc, cast, writer, pass, load.batches)
+                    post_over(alloc, cast, writer, pass, 0, load.batches)
                 } else {
                     post_all(alloc, cast, writer, pass, load.batches, load.turns)
                 }
@@ -168,8 +173,8 @@ fn drive<N: Feed + Send + Sync, R: Threads + Sync>(
             move || {
                 thread::join(
                     rt,
-                    move || read_all(rt, a, load.turns, false),
-                    move || read_all(rt, b, load.turns, true),
+                    move || read_all(rt, a, 0, load.turns, false),
+                    move || read_all(rt, b, 0, load.turns, true),
                 )
             },
         )
@@ -330,5 +335,77 @@ fn come_and_go_of<R: Wait>(rt: &R, alloc: Global, rounds: u64) -> Result<bool, A
 #[test]
 fn lanes_come_and_go(rt: HostRuntime) -> Result<(), Fail> {
     assert!(rt; come_and_go_of(&rt, rt.alloc(), 10_000)?);
+    Ok(())
+}
+
+// One poster against one reader at one place: the reader is shown a front of what is posted, and may
+// be cut.
+fn race_once<N: Feed + Send + Sync, R: Threads + Sync>(
+    rt: &R,
+    alloc: Global,
+    cast: &Cast<u64, u64, u64, N>,
+    writer: &mut Writer<u64, u64, u64, N>,
+    pass: &mut Pass<u64, u64, u64, N>,
+    round: u64,
+) -> Result<bool, AllocError> {
+    let note = 0;
+    let Ok(mut cursor) = writer.admit(cast, Snapshot::of(&note)) else {
+        return Err(AllocError);
+    };
+    let first = round.wrapping_mul(9);
+    let (cuts, shown) = {
+        let (writer, pass, cursor) = (&mut *writer, &mut *pass, &mut cursor);
+        thread::join(
+            rt,
+            move || post_over(alloc, cast, writer, pass, first, 3),
+            move || read_all(rt, cursor, first, 12, false),
+        )
+    };
+    writer.retire(cast, cursor);
+    let cuts = cuts?;
+    let told = shown.cut as u64;
+    Ok(shown.wrong == 0 && !shown.closed && shown.items <= 9 && told <= cuts && cuts <= 1)
+}
+
+fn race<N: Feed + Send + Sync, R: Threads + Wait + Sync>(
+    rt: &R,
+    alloc: Global,
+    parts: Parts<u64, u64, u64>,
+    rounds: u64,
+) -> Result<bool, AllocError>
+    requires { parts.board.shared.table_id ≡ N.table }
+{
+    let Begun {
+        cast,
+        mut writer,
+        mut passes,
+    } = begin::<u64, u64, u64, N>(parts, 1)?;
+    let mut right = Ok(true);
+    if let Some(mut pass) = passes.pop() {
+        for round in 0..rounds {
+            if right == Ok(true) {
+                right = race_once(rt, alloc, &cast, &mut writer, &mut pass, round);
+            }
+        }
+    }
+    if !writer.is_idle() {
+        for _ in rt.forever() {}
+    }
+    end(cast, writer);
+    right
+}
+
+fn race_of<R: Threads + Wait + Sync>(
+    rt: &R,
+    alloc: Global,
+    rounds: u64,
+) -> Result<bool, AllocError> {
+    let parts = Parts::make(alloc, 1)?;
+    race::<Brand, R>(rt, alloc, parts, rounds)
+}
+
+#[test]
+fn ten_thousand_races_at_one_place(rt: HostRuntime) -> Result<(), Fail> {
+    assert!(rt; race_of(&rt, rt.alloc(), 10_000)?);
     Ok(())
 }
