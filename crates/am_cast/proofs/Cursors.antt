@@ -1,5 +1,5 @@
 -- What a cursor has taken.
-use Rattle.std.proofs.Common.{◌≡◌, ℕ, zero, suc, ◌+◌, ◌-◌, ◌<◌, ◌≤◌, List, [], ◌∷◌, ◌++◌, length, length-append, take, drop, sym, refl, ap, ◌∙◌, subst, arith, Bool, true, false, add-one, append_assoc, Option, Some, None, slice_get}
+use Rattle.std.proofs.Common.{◌≡◌, ℕ, zero, suc, ◌+◌, ◌-◌, ◌<◌, ◌≤◌, List, [], ◌∷◌, ◌++◌, length, take, drop, sym, refl, ap, ◌∙◌, subst, arith, Bool, true, false, add-one, append_assoc, Option, Some, None, slice_get}
 use Rattle.std.proofs.lemmas.Bool.{false≢true}
 use mathlib.Core.Option.{some, some-ne-none, some-injective}
 use mathlib.Core.List.{IsPrefix}
@@ -12,7 +12,7 @@ use Rattle.am_cast.specs.declared.lends.Moved.TheVariants.{One, Pending, Closed,
 use Rattle.am_cast.specs.declared.views.LaneView.{LaneView}
 use Rattle.am_cast.specs.declared.views.Account.{Account}
 use Rattle.am_cast.specs.declared.views.Tail.{Tail}
-use Rattle.am_cast.specs.Rule.{bit, Sound}
+use Rattle.am_cast.specs.Rule.{Sound}
 use Rattle.am_cast.specs.Changes.{seeing, holding, cut_off, left}
 use Rattle.am_cast.specs.Seats.{IsKey, Took, lane_of}
 use Rattle.am_cast.specs.Keys.{items_of, all_items, key_of}
@@ -20,7 +20,7 @@ use Rattle.am_cast.specs.Steps.{SeatState}
 use Rattle.atomic_table.specs.Seated.{TableId}
 use Rattle.am_cast.specs.declared.views.View.{View}
 use Rattle.am_cast.specs.Cursors.{CursorView, CursorOk, HasHand, items_at, taken, HasCut, HasEnded}
-use Rattle.am_cast.specs.Lent.{AreAllSeen, NeedsLook, Found, IsItem, IsPending, IsClosed, IsCut, IsInHand, Moves, MovesPast, Takes}
+use Rattle.am_cast.specs.Lent.{AreAllSeen, NeedsLook, Found, IsItem, IsInHand, Moves, MovesPast, Takes}
 use Rattle.am_cast.proofs.Slots.{at_length}
 
 module _ {X : Type 0} where

@@ -2,11 +2,9 @@
 use Rattle.std.proofs.Common.{◌≡◌, ◌≢◌, ℕ, zero, suc, ◌+◌, ◌<◌, ◌≤◌, List, [], ◌∷◌, ◌++◌, length, length-append, refl, sym, ap, ◌∙◌, subst, arith, Option, Some, None, Bool, true, false, nat_eq, eq-eqb, add-one, MatchOption, drop, slice_get}
 use Rattle.std.proofs.lemmas.Bool.{eqb-true, false≢true}
 use mathlib.Core.Logic.{dite}
-use mathlib.Core.Option.{some}
-use lib.ListN.{get_elem?}
 use native.Mathlib.Decide.{ℕ_discrete}
 use Rattle.atomic_table.proofs.Lists.{at_last}
-use Rattle.am_segment.specs.Segments.{KeyView, AreAllKeys}
+use Rattle.am_segment.specs.Segments.{KeyView}
 use Rattle.am_cast.specs.declared.name.Name.{Name}
 use Rattle.am_cast.specs.declared.views.Account.{Account}
 use Rattle.am_cast.specs.declared.views.Tail.{Tail}
@@ -21,7 +19,7 @@ use Rattle.am_cast.specs.inside.Waiting.{is_out, is_live, Gathered, FitsAt, Rows
 use Rattle.am_cast.proofs.Slots.{at_length, prefix_at}
 use Rattle.am_cast.proofs.Tails.{grown_live, grown_else}
 use Rattle.am_cast.proofs.Writers.{account_same, account_else, account_longer, filled_else}
-use Rattle.am_cast.proofs.Waiting.{IsOut, slotted, handed, same_out, is_out_when, never_out, not_true, fits_ext, gathered_more, gathered_skip, gathered_same, gathered_all, gathered_clear}
+use Rattle.am_cast.proofs.Waiting.{IsOut, slotted, handed, same_out, is_out_when, never_out, not_true, fits_ext, gathered_more, gathered_skip, gathered_same, gathered_clear}
 
 live_is : {K A : Type 0} (b : Account K A) → b.stand ≡ live → is_live b ≡ true
 live_is b e = eq-eqb b.stand live e

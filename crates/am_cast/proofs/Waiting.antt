@@ -1,27 +1,25 @@
 -- Rows of keys and accounts: which keys are out after a step.
-use Rattle.std.proofs.Common.{◌≡◌, ◌≢◌, ℕ, zero, suc, ◌+◌, ◌*◌, ◌/◌, ◌%◌, ◌<◌, ◌≤◌, ◌⊎◌, inl, inr, ⊎_elim, List, [], ◌∷◌, ◌++◌, map, length, length-append, set, get_or, refl, sym, ap, ◌∙◌, subst, arith, Option, Some, None, Bool, true, false, cond, nat_eq, nat_le, nat_lt, ◌&&◌, ◌||◌, count_by, length-set, get_or-set_same, get_or-set_other, eq-eqb, zero-add, add-zero}
+use Rattle.std.proofs.Common.{◌≡◌, ◌≢◌, ℕ, zero, suc, ◌+◌, ◌<◌, ◌≤◌, ◌⊎◌, inl, inr, List, [], ◌∷◌, ◌++◌, length, length-append, get_or, refl, sym, ap, ◌∙◌, subst, arith, Option, Some, None, Bool, true, false, cond, nat_eq, nat_le, nat_lt, ◌&&◌, ◌||◌, count_by, get_or-set_same, get_or-set_other, eq-eqb}
 use Rattle.std.specs.List.{All}
 use Rattle.std.proofs.lemmas.Bool.{leb-true, le-leb, ltb-true, lt-ltb, eqb-true, false≢true}
 use Rattle.std.proofs.lemmas.List.Sums.{sum_by-append, sum_by-cons}
 use Rattle.std.proofs.lemmas.List.Elements.{All-append}
 use mathlib.Core.Logic.{dite}
-use mathlib.Core.Option.{some, some-ne-none, some-injective}
+use mathlib.Core.Option.{some, some-injective}
 use lib.ListN.{get_elem?}
 use native.Mathlib.Decide.{ℕ_discrete}
 use Rattle.am_segment.specs.Segments.{KeyView, AreAllKeys}
 use Rattle.am_cast.specs.declared.name.Name.{Name}
 use Rattle.am_cast.specs.declared.views.Account.{Account}
-use Rattle.am_cast.specs.declared.views.Tail.{Tail}
 use Rattle.am_cast.specs.declared.views.WriterView.{WriterView}
-use Rattle.am_cast.specs.Rule.{bit, idle, live, cut, first_account}
+use Rattle.am_cast.specs.Rule.{bit, idle, first_account}
 use Rattle.am_cast.specs.declared.views.View.{View}
-use Rattle.am_cast.specs.Changes.{with_writer, with_account, loaded, marked, known_to, back, returned, back_if, retired, given_out, severed, laying, clearing, grown, longer}
+use Rattle.am_cast.specs.Changes.{with_writer, with_account, loaded, known_to, back, returned, back_if, retired, severed, clearing}
 use Rattle.am_cast.specs.Seats.{account_of, writer_of, IsKey}
 use Rattle.am_cast.specs.Writers.{Calm}
 use Rattle.am_cast.specs.Keys.{key_of}
 use Rattle.am_cast.specs.inside.KeyRows.{BucketView, row_at, MayTake, row_with}
-use Rattle.am_cast.specs.inside.Waiting.{is_out, is_live, outs, Gathered, FitsAt, RowsFit}
-use Rattle.am_cast.proofs.Slots.{at_length, at_below}
+use Rattle.am_cast.specs.inside.Waiting.{is_out, outs, Gathered, FitsAt, RowsFit}
 
 bool_same : (p q : Bool) → (p ≡ true → q ≡ true) → (q ≡ true → p ≡ true) → p ≡ q
 bool_same true true f g = refl

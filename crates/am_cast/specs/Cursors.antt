@@ -1,11 +1,11 @@
 -- What a cursor knows, and the items that it has taken.
-use Rattle.std.specs.Prelude.{◌≡◌, ℕ, ◌+◌, ◌<◌, ◌≤◌, List, [], ◌++◌, take, drop, length, Option, Some, None, Bool, true, false}
+use Rattle.std.specs.Prelude.{◌≡◌, ℕ, ◌<◌, ◌≤◌, List, [], ◌++◌, take, drop, length, Option, Some, None, Bool, true, false}
 use mathlib.Core.List.{IsPrefix}
 use Rattle.atomic_table.specs.Seated.{TableId}
 use Rattle.am_segment.specs.Segments.{KeyView}
 use Rattle.am_cast.specs.declared.name.Name.{Name}
 use Rattle.am_cast.specs.declared.views.LaneView.{LaneView}
-use Rattle.am_cast.specs.Rule.{most, bit}
+use Rattle.am_cast.specs.Rule.{most}
 use Rattle.am_cast.specs.Steps.{SeatState}
 use Rattle.am_cast.specs.Keys.{key_of, all_items}
 use Rattle.am_cast.specs.Seats.{lane_of, IsLane, IsKey, HasOut}

@@ -1,12 +1,12 @@
 -- The answers of a `next` that lends.
-use Rattle.std.specs.Prelude.{◌≡◌, ◌+◌, ◌-◌, ◌≤◌, List, [], ◌∷◌, ◌++◌, Some, true, false, length, slice_get}
+use Rattle.std.specs.Prelude.{◌≡◌, ◌+◌, ◌-◌, List, [], ◌∷◌, ◌++◌, Some, true, false, length, slice_get}
 use mathlib.Core.List.{IsPrefix}
 use Rattle.am_cast.specs.declared.name.Name.{Name}
 use Rattle.am_cast.specs.declared.lends.Step.{Step}
 use Rattle.am_cast.specs.declared.lends.Step.TheVariants as step
 use Rattle.am_cast.specs.declared.lends.Moved.{Moved}
 use Rattle.am_cast.specs.declared.lends.Moved.TheVariants as moved
-use Rattle.am_cast.specs.Cursors.{CursorView, taken, items_at, HasCut, HasEnded, GoesOn}
+use Rattle.am_cast.specs.Cursors.{CursorView, taken, items_at, HasCut, HasEnded}
 
 -- no answer that waits for a look
 abbrev pub AreAllSeen : Moved → Type 0

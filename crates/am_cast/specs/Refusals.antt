@@ -1,6 +1,5 @@
 -- What a refusal says of the log.
 use Rattle.std.specs.Prelude.{◌≡◌, ◌≢◌, ℕ, ◌<◌, ◌≤◌, length, true, false}
-use Rattle.am_segment.specs.Segments.{KeyView}
 use Rattle.am_cast.specs.declared.views.WriterView.{WriterView}
 use Rattle.am_cast.specs.declared.faults.PublishFault.{PublishFault}
 use Rattle.am_cast.specs.declared.faults.PublishFault.TheVariants.{NoMemory, Closed, Full, LogEnd}

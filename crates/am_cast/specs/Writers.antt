@@ -1,5 +1,5 @@
 -- The writer's numbers, and what it knows between two calls.
-use Rattle.std.specs.Prelude.{◌≡◌, ◌≢◌, ℕ, zero, suc, ◌+◌, ◌*◌, ◌/◌, ◌<◌, ◌≤◌, List, [], ◌∷◌, length, slice_index, slice_index_or, Some, None, Bool, true, false, ◌↔◌}
+use Rattle.std.specs.Prelude.{◌≡◌, ◌≢◌, ℕ, zero, suc, ◌+◌, ◌*◌, ◌/◌, ◌<◌, ◌≤◌, List, [], ◌∷◌, length, slice_index, Some, None, Bool, true, false}
 use Rattle.atomic_table.specs.Seated.{TableId}
 use Rattle.am_cast.specs.declared.views.Account.{Account}
 use Rattle.am_cast.specs.declared.views.WriterView.{WriterView}
@@ -40,10 +40,11 @@ StandsOn b c = (c.stand ≢ b.stand → (b.stand ≡ live) × (c.stand ≡ vacat
 abbrev pub StaysAs : {K A : Type 0} → Account K A → Account K A → Type 0
 StaysAs b c = SameAdmission b c × StandsOn b c
 
--- whether the lane was cut between two moments
-abbrev pub IsCutAs : {K A : Type 0} → Account K A → Account K A → Bool → Type 0
-IsCutAs b c true = (b.stand ≡ live) × (c.stand ≡ cut)
-IsCutAs b c false = StandsOn b c
+-- whether the lane was cut between two moments, in a log of n places: only where it was as many places
+-- behind as there are
+abbrev pub IsCutAs : {K A : Type 0} → ℕ → ℕ → Account K A → Account K A → Bool → Type 0
+IsCutAs n places b c true = (b.stand ≡ live) × (c.stand ≡ cut) × (n ≡ c.known + places)
+IsCutAs n places b c false = StandsOn b c
 
 module _ {B K A : Type 0} where
   abbrev pub Calm : WriterView B K A → Type 0

@@ -459,7 +459,8 @@ impl<T: Drop, P, A, N: Feed> Bench<T, P, A, N> {
         requires row { (row ≡ record { place = length self.old.desk.tail.log; keys = [] }) × (1 ≤ (bucket_of self.old.rows row.place).room) }
         requires to { to.old.table_id ≡ N.table }
         ensures calm { Calm self.new.desk }
-        ensures same { (l : ℕ) → l < 8 → SameAdmission (account_of self.old.desk l) (account_of self.new.desk l) × ((account_of self.new.desk l).stand ≡ (account_of self.old.desk l).stand) }
+        ensures same { (l : ℕ) → l < 8 → SameAdmission (account_of self.old.desk l) (account_of self.new.desk l) × ((account_of self.new.desk l).stand ≡ (account_of self.old.desk l).stand)
+            × ((account_of self.new.desk l).known ≡ (account_of self.old.desk l).known) }
         ensures place { (x : Name T P) × (x.post ≡ post.value) × (items_of x ≡ batch.items) × (self.new.desk.tail ≡ longer_tail x self.old.desk.tail)
             × (to.new.table_id ≡ to.old.table_id) × (to.new.me.1 ≡ to.old.me.1) × (to.new.me.0 ≡ both_of to.old.me.0 (owner_of (length self.old.desk.tail.log) x)) }
     {
@@ -500,7 +501,7 @@ impl<T: Drop, P, A, N: Feed> Bench<T, P, A, N> {
         ensures calm { IsCalm (length self.old.desk.tail.log) self.old.desk.tail.places (account_of self.new.desk lane) }
         ensures rows { KeepsRoom self.old.rows self.new.rows }
         ensures same { SameAdmission (account_of self.old.desk lane) (account_of self.new.desk lane) }
-        ensures cut { result ≡ word → (account_of self.new.desk lane).stand ≡ cut }
+        ensures cut { result ≡ word → ((account_of self.new.desk lane).stand ≡ cut) × ((account_of self.new.desk lane).known ≡ (account_of self.old.desk lane).known) }
         ensures gone { result ≡ gone → (account_of self.new.desk lane).stand ≡ vacated }
         ensures found { result ≢ word → result ≢ gone → ((account_of self.new.desk lane).stand ≡ live) × ((account_of self.new.desk lane).known ≡ result / 4) × ((account_of self.new.desk lane).half ≡ result / 2) × ((account_of self.old.desk lane).half ≤ result / 2) × (result % 2 ≡ 0) }
     {
@@ -538,7 +539,7 @@ impl<T: Drop, P, A, N: Feed> Bench<T, P, A, N> {
         ensures same { SameAdmission (account_of self.old.desk lane) (account_of self.new.desk lane) }
         ensures room { (account_of self.new.desk lane).stand ≡ live → length self.old.desk.tail.log < (account_of self.new.desk lane).known + self.old.desk.tail.places }
         ensures rows { KeepsRoom self.old.rows self.new.rows }
-        ensures cut { IsCutAs (account_of self.old.desk lane) (account_of self.new.desk lane) result }
+        ensures cut { IsCutAs (length self.old.desk.tail.log) self.old.desk.tail.places (account_of self.old.desk lane) (account_of self.new.desk lane) result }
     {
         let next = self.cut_once(cast, lane, word);
         if next == word {
@@ -562,7 +563,7 @@ impl<T: Drop, P, A, N: Feed> Bench<T, P, A, N> {
         ensures calm { IsCalm (length self.old.desk.tail.log) self.old.desk.tail.places (account_of self.new.desk lane) }
         ensures room { (account_of self.new.desk lane).stand ≡ live → length self.old.desk.tail.log < (account_of self.new.desk lane).known + self.old.desk.tail.places }
         ensures same { SameAdmission (account_of self.old.desk lane) (account_of self.new.desk lane) }
-        ensures cut { IsCutAs (account_of self.old.desk lane) (account_of self.new.desk lane) result }
+        ensures cut { IsCutAs (length self.old.desk.tail.log) self.old.desk.tail.places (account_of self.old.desk lane) (account_of self.new.desk lane) result }
     {
         if !self.is_live(lane) || !self.is_behind(lane) {
             return false;
@@ -579,7 +580,7 @@ impl<T: Drop, P, A, N: Feed> Bench<T, P, A, N> {
         ensures room { HasRoom self.new.desk 8 }
         ensures rows { KeepsRoom self.old.rows self.new.rows }
         ensures same { (l : ℕ) → l < 8 → SameAdmission (account_of self.old.desk l) (account_of self.new.desk l) }
-        ensures cut { (l : ℕ) → l < 8 → IsCutAs (account_of self.old.desk l) (account_of self.new.desk l) (slice_index_or result l false) }
+        ensures cut { (l : ℕ) → l < 8 → IsCutAs (length self.old.desk.tail.log) self.old.desk.tail.places (account_of self.old.desk l) (account_of self.new.desk l) (slice_index_or result l false) }
     {
         let mut lanes = [false; 8];
         for lane in 0..8 {

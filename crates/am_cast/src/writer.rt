@@ -155,7 +155,7 @@ impl<T: Drop, P, A, N: Feed> Writer<T, P, A, N> {
         requires { 0 < length batch.items }
         ensures ok { IfOk result (λ r. (r.place ≡ length self.old.tail.log) × IsOpen self.old × ((x : Name T P) × (x.post ≡ post.value) × (items_of x ≡ batch.items)
             × (self.new.tail ≡ longer_tail x self.old.tail) × (pass.new.own ≡ pass.old.own ++ own_at r.place x ∷ []))) }
-        ensures cut { IfOk result (λ r. (l : ℕ) → l < 8 → IsCutAs (account_of self.old l) (account_of self.new l) (slice_index_or r.cut l false)) }
+        ensures cut { IfOk result (λ r. (l : ℕ) → l < 8 → IsCutAs (length self.old.tail.log) self.old.tail.places (account_of self.old l) (account_of self.new l) (slice_index_or r.cut l false)) }
         ensures known { OnOk result (Stand pass.new.own pass.new.noted × IsPrefix pass.old.noted pass.new.noted) }
         ensures lanes { (l : ℕ) → l < 8 → SameAdmission (account_of self.old l) (account_of self.new l) }
         ensures loads { (l : ℕ) → l < 8 → (account_of self.old l).stand ≡ live → (account_of self.old l).loads < (account_of self.new l).loads }

@@ -1,5 +1,5 @@
 -- Which keys are out, and how the rows of keys stand to what the writer knows.
-use Rattle.std.specs.Prelude.{◌≡◌, ℕ, zero, suc, ◌+◌, ◌<◌, ◌≤◌, nat_eq, nat_le, nat_lt, ◌&&◌, ◌||◌, List, length, count_by, Option, Some, None, Bool, true, false}
+use Rattle.std.specs.Prelude.{◌≡◌, ℕ, zero, suc, ◌+◌, ◌<◌, ◌≤◌, nat_eq, nat_le, nat_lt, ◌&&◌, ◌||◌, List, length, count_by, Option, Some, None, Bool, false}
 use Rattle.std.specs.List.{All}
 use mathlib.Core.Option.{some}
 use lib.ListN.{get_elem?}

@@ -1,4 +1,4 @@
-use Rattle.std.proofs.Common.{◌≡◌, [], length, vec_len, vec_capacity}
+use Rattle.std.proofs.Common.{◌≡◌, [], vec_len, vec_capacity}
 use Rattle.std.specs.List.{All}
 use Rattle.am_cast.proofs.parts.deal_passes.Given as goal
 

@@ -1,7 +1,5 @@
-use Rattle.std.proofs.Common.{rules, arith, ◌≡◌, ◌+◌, ◌++◌, ◌∷◌, [], List, ℕ, sym, ap, ◌∙◌, subst}
+use Rattle.std.proofs.Common.{arith, ◌≡◌, ◌++◌, ◌∷◌, [], ℕ, ap, ◌∙◌, subst}
 use Rattle.am_segment.specs.Segments.{KeyView}
-use Rattle.am_cast.specs.declared.name.Name.{Name}
-use Rattle.am_cast.specs.declared.views.WriterView.{WriterView}
 use Rattle.am_cast.specs.Benches.{BenchView}
 use Rattle.am_cast.specs.Changes.{with_account, laying}
 use Rattle.am_cast.specs.Seats.{account_of}

@@ -1,4 +1,4 @@
-use Rattle.std.proofs.Common.{◌≡◌, ◌<◌, ℕ, MatchOption}
+use Rattle.std.proofs.Common.{◌≡◌, ◌<◌, MatchOption}
 use Rattle.am_cast.specs.Keys.{key_of}
 use Rattle.am_cast.specs.Seats.{account_of}
 use Rattle.am_cast.specs.Tags.{name_of_tag}

@@ -12,6 +12,6 @@ invariant-loop-lane g l = record {
   rows : KeepsRoom l.initial.self.rows l.self.rows;
   same : (m : ℕ) → m < 8 → SameAdmission (account_of l.initial.self.desk m) (account_of l.self.desk m);
   long : length l.lanes ≡ 8;
-  cut : (m : ℕ) → m < l.lane → IsCutAs (account_of l.initial.self.desk m) (account_of l.self.desk m) (get_or l.lanes m false);
+  cut : (m : ℕ) → m < l.lane → IsCutAs (length l.initial.self.desk.tail.log) l.initial.self.desk.tail.places (account_of l.initial.self.desk m) (account_of l.self.desk m) (get_or l.lanes m false);
   rest : (m : ℕ) → l.lane ≤ m → account_of l.self.desk m ≡ account_of l.initial.self.desk m;
 }

@@ -1,17 +1,16 @@
-use Rattle.std.proofs.Common.{arith, ◌≡◌, ◌<◌, ◌≤◌, ◌∷◌, [], List, ℕ, length, drop, refl, sym, ap, ◌∙◌, subst, false, Some, Option, slice_get}
+use Rattle.std.proofs.Common.{arith, ◌≡◌, ◌≤◌, ◌∷◌, List, ℕ, length, drop, sym, ap, ◌∙◌, subst}
 use Rattle.am_segment.specs.Segments.{KeyView}
 use Rattle.am_cast.specs.declared.name.Name.{Name}
-use Rattle.am_cast.specs.declared.views.Account.{Account}
 use Rattle.am_cast.specs.declared.views.Tail.{Tail}
 use Rattle.am_cast.specs.declared.views.View.{View}
 use Rattle.am_cast.specs.declared.views.WriterView.{WriterView}
 use Rattle.am_cast.specs.Changes.{both_of, longer_tail}
-use Rattle.am_cast.specs.Keys.{key_of, items_of}
+use Rattle.am_cast.specs.Keys.{key_of}
 use Rattle.am_cast.specs.Seats.{account_of}
 use Rattle.am_cast.specs.Tags.{name_of_tag}
 use Rattle.am_cast.specs.Writers.{Calm, SameAdmission, owner_of}
 use Rattle.am_cast.specs.inside.KeyRows.{BucketView, RowView, bucket_of}
-use Rattle.am_cast.specs.inside.Waiting.{is_live, Gathered}
+use Rattle.am_cast.specs.inside.Waiting.{is_live}
 use Rattle.am_cast.proofs.Waiting.{gathered_same}
 use Rattle.am_cast.proofs.Filling.{filled_live, first_rest}
 use Rattle.am_cast.proofs.Writers.{all_laid, filled_ready, calm_longer, longer_same}
@@ -33,7 +32,7 @@ returns-clause-calm g c = let r = c.requires.writer in subst (λ (q : WriterView
     (calm_longer key_of c.args.self.now.desk c.fill-row.new.self.desk (name_of_tag c.tag_batch-tag.result) r.2 r.3 c.fill-row.ensures.writer)
 
 pub returns-clause-same : goal.returns-clause-same
-returns-clause-same g c l small = subst (λ (q : WriterView (Name g.row.T.Denot g.row.P.Denot) (KeyView g.row.T.Denot) g.row.A.Denot). SameAdmission (account_of c.args.self.now.desk l) (account_of q l) × ((account_of q l).stand ≡ (account_of c.args.self.now.desk l).stand)) (sym c.store.ensures.writer)
+returns-clause-same g c l small = subst (λ (q : WriterView (Name g.row.T.Denot g.row.P.Denot) (KeyView g.row.T.Denot) g.row.A.Denot). SameAdmission (account_of c.args.self.now.desk l) (account_of q l) × ((account_of q l).stand ≡ (account_of c.args.self.now.desk l).stand) × ((account_of q l).known ≡ (account_of c.args.self.now.desk l).known)) (sym c.store.ensures.writer)
     (longer_same key_of c.args.self.now.desk c.fill-row.new.self.desk (name_of_tag c.tag_batch-tag.result) c.fill-row.ensures.writer l small)
 
 pub returns-clause-place : goal.returns-clause-place

@@ -1,14 +1,11 @@
-use Rattle.std.proofs.Common.{rules, arith, ◌≡◌, ◌≢◌, ◌<◌, ◌≤◌, ◌/◌, ◌%◌, ℕ, length, refl, sym, ap, ◌∙◌, subst, true, false, Some, Option, suc}
+use Rattle.std.proofs.Common.{rules, arith, ◌≡◌, ◌/◌, refl, sym, ap, subst, true}
 use Rattle.am_segment.specs.Segments.{KeyView}
 use Rattle.am_cast.specs.declared.name.Name.{Name}
-use Rattle.am_cast.specs.declared.views.View.{View}
 use Rattle.am_cast.specs.declared.views.WriterView.{WriterView}
 use Rattle.am_cast.specs.Benches.{BenchView}
-use Rattle.am_cast.specs.Rule.{idle, live, cut}
-use Rattle.am_cast.specs.Changes.{marked, known_to, back, loaded, severed, laying, clearing, given_out, retired, shut, with_account}
+use Rattle.am_cast.specs.Changes.{back, loaded}
 use Rattle.am_cast.specs.Seats.{account_of, writer_of}
-use Rattle.am_cast.specs.Writers.{IsCalm, IsBehind, Calm}
-use Rattle.am_cast.proofs.Waiting.{fits_set, fits_one, fits_tail, out_known, out_back, out_severed, out_clear, out_retired, may_bring, brought}
+use Rattle.am_cast.proofs.Waiting.{fits_set, out_back}
 use Rattle.am_cast.proofs.bench.Bench.recover.Goals as goal
 
 pub invariant_of-self : goal.invariant_of-self

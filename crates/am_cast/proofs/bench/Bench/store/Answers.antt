@@ -1,4 +1,4 @@
-use Rattle.std.proofs.Common.{rules, arith, ◌≡◌, ◌≢◌, ◌<◌, ◌≤◌, ◌++◌, ◌∷◌, [], ℕ, length, refl, sym, ap, ◌∙◌, subst, true, false, List, Some, ◌+◌}
+use Rattle.std.proofs.Common.{arith, ◌≡◌, ◌<◌, ◌++◌, ◌∷◌, [], ℕ, length, refl, sym, ap, ◌∙◌, subst, List, Some}
 use Rattle.am_segment.specs.Segments.{KeyView}
 use Rattle.am_cast.specs.declared.name.Name.{Name}
 use Rattle.am_cast.specs.declared.views.Own.{Own}

@@ -1,14 +1,12 @@
-use Rattle.std.proofs.Common.{rules, arith, ◌≡◌, ◌≢◌, ◌<◌, ◌≤◌, ◌/◌, ◌%◌, ℕ, length, refl, sym, ap, ◌∙◌, subst, true, false, Some, Option, suc}
+use Rattle.std.proofs.Common.{arith, refl, sym, ap, ◌∙◌, subst, Option}
 use Rattle.am_segment.specs.Segments.{KeyView}
 use Rattle.am_cast.specs.declared.name.Name.{Name}
-use Rattle.am_cast.specs.declared.views.View.{View}
 use Rattle.am_cast.specs.declared.views.WriterView.{WriterView}
 use Rattle.am_cast.specs.Benches.{BenchView}
-use Rattle.am_cast.specs.Rule.{idle, live, cut}
-use Rattle.am_cast.specs.Changes.{marked, known_to, back, loaded, severed, laying, clearing, given_out, retired, shut, with_account}
+use Rattle.am_cast.specs.Changes.{retired}
 use Rattle.am_cast.specs.Seats.{account_of, writer_of}
-use Rattle.am_cast.specs.Writers.{IsCalm, IsBehind, Calm}
-use Rattle.am_cast.proofs.Waiting.{fits_set, fits_one, fits_tail, out_known, out_back, out_severed, out_clear, out_retired, may_bring, brought}
+use Rattle.am_cast.specs.Writers.{Calm}
+use Rattle.am_cast.proofs.Waiting.{fits_one, out_retired}
 use Rattle.std.proofs.Common.{◌++◌, get_or-set_other, slice_set}
 use Rattle.am_cast.specs.Rule.{first_writer}
 use Rattle.am_cast.specs.Seats.{some_or}

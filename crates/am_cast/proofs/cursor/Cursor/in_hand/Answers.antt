@@ -1,14 +1,8 @@
-use Rattle.std.proofs.Common.{rules, arith, ◌≡◌, ◌<◌, ◌+◌, ◌-◌, ℕ, length, refl, sym, ap, ◌∙◌, subst, true, false, Some, slice_get, Option, List}
-use Rattle.std.proofs.lemmas.Bool.{false≢true}
-use Rattle.am_segment.specs.Segments.{KeyView}
-use Rattle.am_cast.specs.declared.name.Name.{Name}
-use Rattle.am_cast.specs.declared.views.LaneView.{LaneView}
-use Rattle.am_cast.specs.declared.views.View.{View}
-use Rattle.am_cast.specs.Rule.{bit}
+use Rattle.std.proofs.Common.{◌-◌, length, sym, ap, ◌∙◌, subst, slice_get, List}
 use Rattle.am_cast.specs.Seats.{lane_of}
-use Rattle.am_cast.specs.Cursors.{CursorView, items_at, taken}
+use Rattle.am_cast.specs.Cursors.{CursorView}
 use Rattle.am_cast.specs.Lent.{IsInHand}
-use Rattle.am_cast.proofs.Cursors.{hand_of, key_items, some_items, taken_pass, taken_look, taken_first, shows_next, moves_back}
+use Rattle.am_cast.proofs.Cursors.{hand_of, key_items}
 use Rattle.am_cast.proofs.cursor.Cursor.in_hand.Goals as goal
 
 pub returns : goal.returns

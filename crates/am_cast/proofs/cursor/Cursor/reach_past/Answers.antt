@@ -1,4 +1,4 @@
-use Rattle.std.proofs.Common.{◌≡◌, length, false, ap, ◌∙◌, subst, sym}
+use Rattle.std.proofs.Common.{ap, ◌∙◌, subst, sym}
 use Rattle.am_cast.specs.Cursors.{CursorView}
 use Rattle.am_cast.specs.Lent.{Moves, NeedsLook}
 use Rattle.am_cast.proofs.Cursors.{found_moves}

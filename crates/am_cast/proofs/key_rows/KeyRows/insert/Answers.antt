@@ -1,4 +1,4 @@
-use Rattle.std.proofs.Common.{ℕ, ◌≡◌, ◌%◌, ap, ◌∙◌, sym, subst, List, None}
+use Rattle.std.proofs.Common.{◌≡◌, ◌%◌, ap, ◌∙◌, sym, subst, List, None}
 use Rattle.am_cast.specs.inside.KeyRows.{BucketView, row_at}
 use Rattle.am_cast.proofs.KeyRows.{insert_sorted, insert_here, insert_others, within}
 use Rattle.am_cast.proofs.key_rows.KeyRows.insert.Goals as goal

@@ -1,4 +1,4 @@
-use Rattle.std.proofs.Common.{arith, ◌≡◌, ◌<◌, ◌++◌, ◌∷◌, [], ℕ, List, length, refl, sym, ap, ◌∙◌, subst, false, Some}
+use Rattle.std.proofs.Common.{arith, ◌≡◌, ◌≢◌, ◌+◌, ◌<◌, ◌++◌, ◌∷◌, [], ℕ, List, length, sym, ap, ◌∙◌, subst, false, true, Bool}
 use Rattle.am_segment.specs.Segments.{KeyView}
 use Rattle.am_cast.specs.declared.name.Name.{Name}
 use Rattle.am_cast.specs.declared.views.Own.{Own}
@@ -7,7 +7,12 @@ use Rattle.am_cast.specs.declared.views.View.{View}
 use Rattle.am_cast.specs.declared.views.WriterView.{WriterView}
 use Rattle.am_cast.specs.Changes.{longer_tail, own_at}
 use Rattle.am_cast.specs.Posters.{PassView}
-use Rattle.am_cast.specs.Rule.{most}
+use Rattle.am_cast.specs.Rule.{live, most}
+use Rattle.am_cast.specs.declared.views.Account.{Account}
+use mathlib.Core.Logic.{dite}
+use native.Mathlib.Decide.{ℕ_discrete}
+use Rattle.am_cast.specs.Seats.{account_of}
+use Rattle.am_cast.specs.Writers.{StandsOn, IsCutAs}
 use Rattle.am_cast.proofs.writer.Writer.publish_cutting.Goals as goal
 
 pub returns-clause-ok : goal.returns-clause-ok
@@ -28,3 +33,29 @@ returns-clause-ok g c = let p = c.post.ensures.place in let tail : c.make_all_ro
             ∙ ap (λ (n : ℕ). c.args.pass.now.own ++ own_at n p.0 ∷ []) (sym c.len-place.ensures.0),
       ),
     )
+
+-- a lane that was cut between two moments, as it stands later and was called before
+cut_later : {K A : Type 0} (n m places size : ℕ) (b c d e : Account K A) (bit : Bool) → StandsOn b c → IsCutAs n places c d bit → e.stand ≡ d.stand → e.known ≡ d.known
+    → n ≡ m → places ≡ size → IsCutAs m size b e bit
+cut_later n m places size b c d e true on is stand known log same =
+    let was : b.stand ≡ live = dite (ℕ_discrete c.stand b.stand) (λ (same_as : c.stand ≡ b.stand). sym same_as ∙ is.0) (λ (other : c.stand ≢ b.stand). (on other).0) in
+    (was, stand ∙ is.1, sym log ∙ (is.2 ∙ (ap (λ (k : ℕ). k + places) (sym known) ∙ ap (λ (p : ℕ). e.known + p) same)))
+cut_later n m places size b c d e false on is stand known log same =
+    λ other.
+    dite (ℕ_discrete c.stand b.stand)
+    (λ (same_as : c.stand ≡ b.stand). let moved = is (λ (still : d.stand ≡ c.stand). other (stand ∙ (still ∙ same_as))) in (sym same_as ∙ moved.0, stand ∙ moved.1))
+    (λ (no : c.stand ≢ b.stand).
+    dite (ℕ_discrete d.stand c.stand)
+    (λ (still : d.stand ≡ c.stand). ((on no).0, stand ∙ (still ∙ (on no).1)))
+    (λ (moved : d.stand ≢ c.stand). ((on no).0, stand ∙ (is moved).1)))
+
+pub returns-clause-cut : goal.returns-clause-cut
+returns-clause-cut g c l small =
+    let found : c.harvest.new.self.desk.tail ≡ c.args.self.now.tail = c.harvest.ensures.same.tail ∙ ap (λ (q : WriterView (Name g.row.T.Denot g.row.P.Denot) (KeyView g.row.T.Denot) g.row.A.Denot). q.tail) c.self.view_is in
+    let tail : c.reserve.new.self.desk.tail ≡ c.args.self.now.tail = ap (λ (q : WriterView (Name g.row.T.Denot g.row.P.Denot) (KeyView g.row.T.Denot) g.row.A.Denot). q.tail) c.reserve.ensures.desk ∙ found in
+    let W = WriterView (Name g.row.T.Denot g.row.P.Denot) (KeyView g.row.T.Denot) g.row.A.Denot in
+    let on : StandsOn (account_of c.args.self.now l) (account_of c.reserve.new.self.desk l) =
+    subst (λ (q : W). StandsOn (account_of q l) (account_of c.reserve.new.self.desk l)) c.self.view_is
+    (subst (λ (q : W). StandsOn (account_of c.self.inside.bench.desk l) (account_of q l)) (sym c.reserve.ensures.desk) (c.harvest.ensures.same.each l small).1) in
+    cut_later _ _ _ _ (account_of c.args.self.now l) (account_of c.reserve.new.self.desk l) (account_of c.make_all_room-cut.new.self.desk l) (account_of c.post.new.self.desk l) _ on (c.make_all_room-cut.ensures.cut l small) (c.post.ensures.same l small).1 (c.post.ensures.same l small).2
+    (ap (λ (t : Tail (Name g.row.T.Denot g.row.P.Denot)). length t.log) tail) (ap (λ (t : Tail (Name g.row.T.Denot g.row.P.Denot)). t.places) tail)

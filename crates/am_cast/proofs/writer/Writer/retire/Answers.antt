@@ -1,4 +1,4 @@
-use Rattle.std.proofs.Common.{ap, ◌∙◌, subst, sym, length, drop, Option}
+use Rattle.std.proofs.Common.{ap, subst, drop, Option}
 use mathlib.Core.List.{IsPrefix}
 use Rattle.am_segment.specs.Segments.{KeyView}
 use Rattle.am_cast.specs.declared.name.Name.{Name}

@@ -1,5 +1,5 @@
 use Rattle.std.proofs.Common.{List, sym, ap, ◌∙◌}
-use Rattle.am_cast.specs.inside.KeyRows.{RowView, BucketView}
+use Rattle.am_cast.specs.inside.KeyRows.{BucketView}
 use Rattle.am_cast.proofs.KeyRows.{Brought, may_add, may_end, one_more, last_more}
 use Rattle.am_cast.proofs.key_rows.bucket.Bucket.bring.Given as given
 use Rattle.am_cast.proofs.key_rows.bucket.Bucket.bring.Goals as goal
