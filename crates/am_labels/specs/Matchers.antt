@@ -1,5 +1,5 @@
 -- Matchers, what they admit, and how one is read (Alertmanager's `labels.Matcher`, pkg/labels/matcher.go).
-use Rattle.std.specs.Prelude.{◌≡◌, ◌⊎◌, ◌<◌, ℕ, Bool, true, false, not, is_some, List, ◌++◌, codes, chars, Option, Some, None, IfSome, Result, Ok, Err, refl}
+use Rattle.std.specs.Prelude.{◌≡◌, ◌⊎◌, ◌<◌, ℕ, Bool, true, false, not, is_some, List, ◌++◌, codes, chars, None, IfSome, Result, Ok, Err, refl}
 use Rattle.std.specs.List.{list_all}
 use Rattle.std.specs.Option.{option_map_or}
 use Rattle.std.specs.Coded.{Coded, code_by, coded×, coded_list, coded_ℕ}

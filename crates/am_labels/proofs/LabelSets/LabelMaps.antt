@@ -1,20 +1,19 @@
 -- The map that pairs in byte order of names make.
-use Rattle.std.proofs.Common.{◌≡◌, ℕ, Option, unwrap_or, List, [], ◌∷◌, ◌++◌, map, length, reverse, String, string_bytes, refl, sym, ap, subst, cond, Some, None, ◌∙◌, T, ◌&&◌, true, false, Less, Equal, Greater}
+use Rattle.std.proofs.Common.{◌≡◌, ℕ, Option, unwrap_or, List, [], ◌∷◌, ◌++◌, length, reverse, refl, sym, ap, subst, cond, Some, None, ◌∙◌, T, ◌&&◌, true, false, Less, Equal, Greater}
 use Rattle.std.specs.FinMap.{entries, empty, from_entries, from_sorted, entries-from_sorted, entries-insert, len, len-entries, empty_of_len, get-entries, get-from_entries, from_entries_push, slice_cmp-IsAntisymmetric, nat_cmp-IsAntisymmetric, entries_sorted, same_entries_map, contains_key}
 use Rattle.std.specs.FinMap.Entries.{put, is_sorted, below_all, find}
 use Rattle.std.specs.Cmp.Lexicographic.{nat_list_cmp_total}
-use Rattle.std.specs.declared.alloc.Global.{Global}
 use Rattle.std.specs.BTreeMap.{insert_entry}
 use Rattle.std.specs.Option.{is_some}
 use Rattle.std.specs.FinMap.Entries.{by_order}
-use Rattle.std.proofs.lemmas.List.{map-append, reverse-append}
+use Rattle.std.proofs.lemmas.List.{reverse-append}
 use Rattle.std.specs.Ordering.{is_eq, is_lt, is_ge}
 use Rattle.std.specs.declared.cmp.Ordering.{Ordering}
 use Rattle.std.specs.Cmp.{both_ways}
 use Rattle.std.proofs.lemmas.Bool.{and_parts, and_from}
 use Rattle.am_labels.specs.Texts.{text_cmp}
 use Rattle.am_labels.proofs.LabelSets.Searches.{both, less}
-use Rattle.am_labels.specs.LabelSets.{Labels, bytes_of, last_holds, value_of}
+use Rattle.am_labels.specs.LabelSets.{Labels, last_holds, value_of}
 
 -- the map of no pairs
 pub from_none : (pairs : List (List ℕ × List ℕ)) → pairs ≡ [] → from_sorted {R = text_cmp} pairs ≡ empty

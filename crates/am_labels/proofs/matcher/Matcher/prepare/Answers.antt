@@ -1,4 +1,4 @@
-use Rattle.std.proofs.Common.{◌≡◌, List, ℕ, sym, subst}
+use Rattle.std.proofs.Common.{List, ℕ, sym, subst}
 use Rattle.am_labels.specs.inside.Searches.{IsSearchWith}
 use Rattle.am_labels.proofs.matcher.Matcher.prepare.Goals as goal
 
