@@ -1,0 +1,135 @@
+//! Items that own memory: each is freed once, whether it was shown, left unread or never asked for.
+
+ghost use Rattle.std.specs.Prelude.{◌≡◌, ◌<◌, length, IfOk};
+
+use am_cast::{
+    Begun, Cast, Cursor, Feed, Parts, Pass, PublishFault, Refused, Step, Writer, begin, end,
+};
+use am_segment::SegmentBuilder;
+use std::alloc::{AllocError, Global};
+use std::marker::Brand;
+use std::snapshot::Snapshot;
+use std::sync::Wait;
+use std::test::Fail;
+
+fn item_of(alloc: Global, value: u64) -> Result<Vec<u64>, AllocError> {
+    let mut item = Vec::new(alloc);
+    item.push(value)?;
+    Ok(item)
+}
+
+// Two items, of the number and of the one after it.
+fn batch_of(alloc: Global, first: u64) -> Result<SegmentBuilder<Vec<u64>>, AllocError>
+    ensures { IfOk result (λ batch. 0 < length batch.items) }
+{
+    let one = item_of(alloc, first)?;
+    let other = item_of(alloc, first.wrapping_add(1))?;
+    let mut batch = SegmentBuilder::with_places(alloc, 2)?;
+    let _pushed = batch.push(one);
+    let _pushed = batch.push(other);
+    Ok(batch)
+}
+
+// Whether the batch was posted, and not refused because a lane is full.
+fn post<N: Feed>(
+    alloc: Global,
+    cast: &Cast<Vec<u64>, u64, u64, N>,
+    writer: &mut Writer<Vec<u64>, u64, u64, N>,
+    pass: &mut Pass<Vec<u64>, u64, u64, N>,
+    first: u64,
+) -> Result<bool, AllocError> {
+    let batch = batch_of(alloc, first)?;
+    let said = 7;
+    match writer.publish(cast, batch, Snapshot::of(&said), pass) {
+        Ok(_) => Ok(true),
+        Err(Refused { fault, batch }) => {
+            batch.discard();
+            if fault == PublishFault::NoMemory {
+                return Err(AllocError);
+            }
+            Ok(false)
+        }
+    }
+}
+
+// The number of the next item, or 100 where there is none.
+fn shown<N: Feed>(cursor: &mut Cursor<'_, Vec<u64>, u64, u64, N>) -> u64 {
+    match cursor.next() {
+        Step::Item(item) => *item.get(0).unwrap_or(&101),
+        _ => 100,
+    }
+}
+
+// Posts beside a reader of two places, which reads three items of four.
+fn read_some<N: Feed>(
+    alloc: Global,
+    cast: &Cast<Vec<u64>, u64, u64, N>,
+    writer: &mut Writer<Vec<u64>, u64, u64, N>,
+    pass: &mut Pass<Vec<u64>, u64, u64, N>,
+    cursor: &mut Cursor<'_, Vec<u64>, u64, u64, N>,
+) -> Result<[u64; 6], AllocError> {
+    let one = post(alloc, cast, writer, pass, 1)?;
+    let two = post(alloc, cast, writer, pass, 3)?;
+    // The log is full.
+    let three = post(alloc, cast, writer, pass, 5)?;
+    Ok([
+        one as u64,
+        two as u64,
+        three as u64,
+        shown(cursor),
+        shown(cursor),
+        shown(cursor),
+    ])
+}
+
+// The reader comes and leaves, and then there is a post that nobody reads.
+fn come_and_post<N: Feed>(
+    alloc: Global,
+    cast: &Cast<Vec<u64>, u64, u64, N>,
+    writer: &mut Writer<Vec<u64>, u64, u64, N>,
+    pass: &mut Pass<Vec<u64>, u64, u64, N>,
+) -> Result<[u64; 6], AllocError> {
+    let note = 0;
+    let Ok(mut cursor) = writer.admit(cast, Snapshot::of(&note)) else {
+        return Err(AllocError);
+    };
+    let saw = read_some(alloc, cast, writer, pass, &mut cursor);
+    writer.retire(cast, cursor);
+    let _posted = post(alloc, cast, writer, pass, 7)?;
+    saw
+}
+
+fn run<N: Feed, R: Wait>(
+    rt: &R,
+    alloc: Global,
+    parts: Parts<Vec<u64>, u64, u64>,
+) -> Result<[u64; 6], AllocError>
+    requires { parts.board.shared.table_id ≡ N.table }
+{
+    let Begun {
+        cast,
+        mut writer,
+        mut passes,
+    } = begin::<Vec<u64>, u64, u64, N>(parts, 1)?;
+    let saw = match passes.pop() {
+        Some(mut pass) => come_and_post(alloc, &cast, &mut writer, &mut pass),
+        None => Err(AllocError),
+    };
+    if !writer.is_idle() {
+        for _ in rt.forever() {}
+    }
+    end(cast, writer);
+    saw
+}
+
+fn run_of<R: Wait>(rt: &R, alloc: Global) -> Result<[u64; 6], AllocError> {
+    let parts = Parts::make(alloc, 2)?;
+    run::<Brand, R>(rt, alloc, parts)
+}
+
+#[test]
+fn shown_unread_and_never_asked_for(rt: HostRuntime) -> Result<(), Fail> {
+    let saw = run_of(&rt, rt.alloc())?;
+    assert_eq!(rt; saw.as_slice(), [1, 1, 0, 1, 2, 3].as_slice());
+    Ok(())
+}
