@@ -65,9 +65,16 @@ impl<T: Drop, P, A, N: Feed> Bench<T, P, A, N> {
 
     /// Loads the lane's word, and answers it.
     pub(crate) fn load(&mut self, cast: &Cast<T, P, A, N>, lane: usize) -> u64
-        requires { (lane < 8) × ((account_of self.old.desk lane).stand ≡ live) × ((account_of self.old.desk lane).laid ≡ None) × ((account_of self.old.desk lane).away ≡ false) }
-        ensures gone { result ≡ gone → OneAccount self.old self.new lane (marked (account_of self.old.desk lane)) }
-        ensures found { result ≢ gone → OneAccount self.old self.new lane (known_to result (account_of self.old.desk lane)) × ((account_of self.old.desk lane).known ≤ result / 4) × (result / 4 ≤ length self.old.desk.tail.log) × ((account_of self.old.desk lane).half ≤ result / 2) × (result % 2 ≡ 0) }
+        requires { (lane < 8) × ((account_of self.old.desk lane).stand ≡ live)
+            × ((account_of self.old.desk lane).laid ≡ None)
+            × ((account_of self.old.desk lane).away ≡ false) }
+        ensures gone { result ≡ gone
+            → OneAccount self.old self.new lane (marked (account_of self.old.desk lane)) }
+        ensures found { result ≢ gone
+            → OneAccount self.old self.new lane (known_to result (account_of self.old.desk lane))
+            × ((account_of self.old.desk lane).known ≤ result / 4)
+            × (result / 4 ≤ length self.old.desk.tail.log)
+            × ((account_of self.old.desk lane).half ≤ result / 2) × (result % 2 ≡ 0) }
     {
         let found = board::find_word(&cast.board.shared, &mut self.seat, lane);
         if found == u64::MAX {
@@ -81,8 +88,9 @@ impl<T: Drop, P, A, N: Feed> Bench<T, P, A, N> {
 
     /// The lane's key of the place `place`, which it has passed, goes to the others of its place.
     fn bring_one(&mut self, cast: &Cast<T, P, A, N>, lane: usize, place: u64)
-        requires { let b = account_of self.old.desk lane in (lane < 8) × (place ≡ b.cleared) × (place < length self.old.desk.tail.log) × IsPast b × (b.out ≡ 0)
-            × (place < b.stop) × (b.away ≡ true → b.known < b.cleared) × (length self.old.desk.accounts ≡ 8) }
+        requires { let b = account_of self.old.desk lane in (lane < 8) × (place ≡ b.cleared)
+            × (place < length self.old.desk.tail.log) × IsPast b × (b.out ≡ 0) × (place < b.stop)
+            × (b.away ≡ true → b.known < b.cleared) × (length self.old.desk.accounts ≡ 8) }
         ensures only { OnlyAccount self.old self.new lane (clearing (account_of self.old.desk lane)) }
         ensures room { KeepsRoom self.old.rows self.new.rows }
     {
@@ -93,8 +101,12 @@ impl<T: Drop, P, A, N: Feed> Bench<T, P, A, N> {
 
     /// The key goes into the lane's slot of the next place.
     pub(crate) fn fill_one(&mut self, cast: &Cast<T, P, A, N>, lane: usize, key: SegKey<T>)
-        requires account { (lane < 8) × ((account_of self.old.desk lane).stand ≡ live) × ((account_of self.old.desk lane).out ≡ 0) × ((account_of self.old.desk lane).laid ≡ None) }
-        requires space { let b = account_of self.old.desk lane in (b.stop ≡ length self.old.desk.tail.log) × (b.stop < b.cleared + self.old.desk.tail.places) }
+        requires account { (lane < 8) × ((account_of self.old.desk lane).stand ≡ live)
+            × ((account_of self.old.desk lane).out ≡ 0)
+            × ((account_of self.old.desk lane).laid ≡ None) }
+        requires space { let b = account_of self.old.desk lane in
+            (b.stop ≡ length self.old.desk.tail.log)
+            × (b.stop < b.cleared + self.old.desk.tail.places) }
         ensures { OneAccount self.old self.new lane (laying key (account_of self.old.desk lane)) }
     {
         let at = 8 * (self.count % self.places) as usize + lane;
@@ -103,9 +115,14 @@ impl<T: Drop, P, A, N: Feed> Bench<T, P, A, N> {
 
     /// A look at a cut lane whose key is away. Answers whether it is back.
     pub(crate) fn recover(&mut self, cast: &Cast<T, P, A, N>, lane: usize) -> bool
-        requires { let b = account_of self.old.desk lane in (lane < 8) × (b.stand ≡ cut) × (b.away ≡ true) × (b.cleared ≡ b.stop) × (b.out ≡ 0) }
-        ensures back { let b = account_of self.old.desk lane in let c = account_of self.new.desk lane in result ≡ true → OneAccount self.old self.new lane (back c.known (loaded b)) × (b.known ≤ c.known) × (c.known ≤ length self.old.desk.tail.log) }
-        ensures away { result ≡ false → OneAccount self.old self.new lane (loaded (account_of self.old.desk lane)) }
+        requires { let b = account_of self.old.desk lane in (lane < 8) × (b.stand ≡ cut)
+            × (b.away ≡ true) × (b.cleared ≡ b.stop) × (b.out ≡ 0) }
+        ensures back { let b = account_of self.old.desk lane in
+            let c = account_of self.new.desk lane in result ≡ true
+            → OneAccount self.old self.new lane (back c.known (loaded b)) × (b.known ≤ c.known)
+            × (c.known ≤ length self.old.desk.tail.log) }
+        ensures away { result ≡ false
+            → OneAccount self.old self.new lane (loaded (account_of self.old.desk lane)) }
     {
         let found = board::recover_key(&cast.board.shared, &mut self.seat, lane);
         if found / 2 % 2 == 0 {
@@ -118,8 +135,11 @@ impl<T: Drop, P, A, N: Feed> Bench<T, P, A, N> {
 
     /// The lane's keys of the places from `from` to `to` are taken out.
     pub(crate) fn clear_to(&mut self, cast: &Cast<T, P, A, N>, lane: usize, from: u64, to: u64)
-        requires bounds { (lane < 8) × (from ≤ to) × (to ≤ length self.old.desk.tail.log) × (length self.old.desk.accounts ≡ 8) }
-        requires account { let b = account_of self.old.desk lane in (from ≡ b.cleared) × (b.out ≡ 0) × (to ≤ b.stop) × (b.stand ≡ live → to ≤ b.known) × (b.away ≡ true → b.known < b.cleared) }
+        requires bounds { (lane < 8) × (from ≤ to) × (to ≤ length self.old.desk.tail.log)
+            × (length self.old.desk.accounts ≡ 8) }
+        requires account { let b = account_of self.old.desk lane in (from ≡ b.cleared)
+            × (b.out ≡ 0) × (to ≤ b.stop) × (b.stand ≡ live → to ≤ b.known) × (b.away ≡ true
+            → b.known < b.cleared) }
         ensures room { KeepsRoom self.old.rows self.new.rows }
         ensures only { OnlyAccount self.old self.new lane (record (account_of self.old.desk lane) { cleared = to }) }
     {
@@ -132,7 +152,8 @@ impl<T: Drop, P, A, N: Feed> Bench<T, P, A, N> {
     pub(crate) fn full_lane(&self) -> Option<usize>
         requires { Calm self.now.desk }
         ensures none { IfNone result (HasRoom self.now.desk 8) }
-        ensures some { IfSome result (λ l. (l < 8) × IsBehind self.now.desk l × HasRoom self.now.desk l) }
+        ensures some { IfSome result (λ l. (l < 8) × IsBehind self.now.desk l
+            × HasRoom self.now.desk l) }
     {
         for lane in 0..8 {
             if self.stand[lane] == 1 && self.count - self.known[lane] >= self.places {
@@ -144,17 +165,23 @@ impl<T: Drop, P, A, N: Feed> Bench<T, P, A, N> {
 
     pub(crate) fn known_of(&self, lane: usize) -> u64
         requires { lane < 8 }
-        ensures { (result ≡ (account_of self.now.desk lane).known) × (result ≤ most) × (0 < self.now.desk.tail.places) }
+        ensures { (result ≡ (account_of self.now.desk lane).known) × (result ≤ most)
+            × (0 < self.now.desk.tail.places) }
     {
         self.known[lane]
     }
 
     /// Loads the word of a live lane, and takes out the keys that it has passed. Answers the word.
     pub(crate) fn harvest_live(&mut self, cast: &Cast<T, P, A, N>, lane: usize) -> u64
-        requires { (lane < 8) × Calm self.old.desk × ((account_of self.old.desk lane).stand ≡ live) }
+        requires { (lane < 8) × Calm self.old.desk
+            × ((account_of self.old.desk lane).stand ≡ live) }
         ensures only { OnlyAccount self.old self.new lane (account_of self.new.desk lane) }
         ensures calm { IsCalm (length self.old.desk.tail.log) self.old.desk.tail.places (account_of self.new.desk lane) }
-        ensures account { let b = account_of self.old.desk lane in let c = account_of self.new.desk lane in SameAdmission b c × (c.loads ≡ b.loads + 1) × (b.known ≤ c.known) × (result ≡ gone → c.stand ≡ vacated) × (result ≢ gone → (c.stand ≡ live) × (c.known ≡ result / 4) × (c.half ≡ result / 2) × (b.half ≤ c.half) × (result % 2 ≡ 0)) }
+        ensures account { let b = account_of self.old.desk lane in
+            let c = account_of self.new.desk lane in SameAdmission b c × (c.loads ≡ b.loads + 1)
+            × (b.known ≤ c.known) × (result ≡ gone → c.stand ≡ vacated) × (result ≢ gone
+            → (c.stand ≡ live) × (c.known ≡ result / 4) × (c.half ≡ result / 2) × (b.half ≤ c.half)
+            × (result % 2 ≡ 0)) }
     {
         let from = self.known_of(lane);
         let found = self.load(cast, lane);
@@ -173,7 +200,8 @@ impl<T: Drop, P, A, N: Feed> Bench<T, P, A, N> {
         requires { (lane < 8) × Calm self.old.desk × ((account_of self.old.desk lane).away ≡ true) }
         ensures only { OnlyAccount self.old self.new lane (account_of self.new.desk lane) }
         ensures calm { IsCalm (length self.old.desk.tail.log) self.old.desk.tail.places (account_of self.new.desk lane) }
-        ensures account { let b = account_of self.old.desk lane in let c = account_of self.new.desk lane in SameAdmission b c × (c.stand ≡ b.stand) }
+        ensures account { let b = account_of self.old.desk lane in
+            let c = account_of self.new.desk lane in SameAdmission b c × (c.stand ≡ b.stand) }
     {
         let place = self.known_of(lane);
         if self.recover(cast, lane) {
@@ -194,7 +222,9 @@ impl<T: Drop, P, A, N: Feed> Bench<T, P, A, N> {
         requires { (lane < 8) × Calm self.old.desk }
         ensures only { OnlyAccount self.old self.new lane (account_of self.new.desk lane) }
         ensures calm { IsCalm (length self.old.desk.tail.log) self.old.desk.tail.places (account_of self.new.desk lane) }
-        ensures account { let b = account_of self.old.desk lane in let c = account_of self.new.desk lane in StaysAs b c × (b.stand ≡ live → b.loads < c.loads) }
+        ensures account { let b = account_of self.old.desk lane in
+            let c = account_of self.new.desk lane in StaysAs b c × (b.stand ≡ live
+            → b.loads < c.loads) }
     {
         if self.is_live(lane) {
             return self.harvest_live(cast, lane);
@@ -218,11 +248,16 @@ impl<T: Drop, P, A, N: Feed> Bench<T, P, A, N> {
 
     // The lane's key of the next place goes into its slot, where the lane is live, or else into the place's row.
     fn put_key(&mut self, cast: &Cast<T, P, A, N>, lane: usize, key: SegKey<T>, row: &mut Row<T>)
-        requires account { let b = account_of self.old.desk lane in (lane < 8) × (b.stand ≡ live → (b.out ≡ 0) × (b.laid ≡ None) × (b.stop ≡ length self.old.desk.tail.log) × (b.stop < b.cleared + self.old.desk.tail.places)) }
+        requires account { let b = account_of self.old.desk lane in (lane < 8) × (b.stand ≡ live
+            → (b.out ≡ 0) × (b.laid ≡ None) × (b.stop ≡ length self.old.desk.tail.log)
+            × (b.stop < b.cleared + self.old.desk.tail.places)) }
         requires row { length row.old.keys < 8 }
         ensures same { (self.new.rows ≡ self.old.rows) × (row.new.place ≡ row.old.place) }
-        ensures live { (account_of self.old.desk lane).stand ≡ live → OneAccount self.old self.new lane (laying key (account_of self.old.desk lane)) × (row.new ≡ row.old) }
-        ensures rest { (account_of self.old.desk lane).stand ≢ live → (self.new ≡ self.old) × (row.new ≡ record row.old { keys = row.old.keys ++ key ∷ [] }) }
+        ensures live { (account_of self.old.desk lane).stand ≡ live
+            → OneAccount self.old self.new lane (laying key (account_of self.old.desk lane))
+            × (row.new ≡ row.old) }
+        ensures rest { (account_of self.old.desk lane).stand ≢ live → (self.new ≡ self.old)
+            × (row.new ≡ record row.old { keys = row.old.keys ++ key ∷ [] }) }
     {
         if self.is_live(lane) {
             self.fill_one(cast, lane, key);
@@ -241,10 +276,12 @@ impl<T: Drop, P, A, N: Feed> Bench<T, P, A, N> {
         row: Row<T>,
     ) -> Row<T>
         requires writer { Calm self.old.desk × HasRoom self.old.desk 8 }
-        requires keys { (first ≡ key_of (name_of_tag tag.now) 0) × (rest ≡ key_of (name_of_tag tag.now) 1) × (row.keys ≡ []) }
+        requires keys { (first ≡ key_of (name_of_tag tag.now) 0)
+            × (rest ≡ key_of (name_of_tag tag.now) 1) × (row.keys ≡ []) }
         ensures writer { FilledTo key_of self.old.desk (name_of_tag tag.now) 8 self.new.desk }
         ensures rows { self.new.rows ≡ self.old.rows }
-        ensures row { (result.place ≡ row.place) × Gathered (name_of_tag tag.now) (λ l. is_live (account_of self.old.desk l)) 8 result.keys }
+        ensures row { (result.place ≡ row.place) × Gathered (name_of_tag tag.now) (λ l.
+            is_live (account_of self.old.desk l)) 8 result.keys }
     {
         let mut row = row;
         self.put_key(cast, 0, first, &mut row);
@@ -267,12 +304,16 @@ impl<T: Drop, P, A, N: Feed> Bench<T, P, A, N> {
         row: Row<T>,
         to: &mut LogSeat<T, P, A>,
     )
-        requires writer { (self.old.desk.tail.closed ≡ false) × (length self.old.desk.tail.log < most) × AllLaid key_of self.old.desk (name_of_tag tag.now) × AreReady self.old.desk }
-        requires row { (row.place ≡ length self.old.desk.tail.log) × Gathered (name_of_tag tag.now) (λ l. is_live (account_of self.old.desk l)) 8 row.keys
+        requires writer { (self.old.desk.tail.closed ≡ false)
+            × (length self.old.desk.tail.log < most)
+            × AllLaid key_of self.old.desk (name_of_tag tag.now) × AreReady self.old.desk }
+        requires row { (row.place ≡ length self.old.desk.tail.log)
+            × Gathered (name_of_tag tag.now) (λ l. is_live (account_of self.old.desk l)) 8 row.keys
             × (1 ≤ (bucket_of self.old.rows row.place).room) }
         requires to { to.old.table_id ≡ N.table }
         ensures writer { self.new.desk ≡ longer (name_of_tag tag.now) self.old.desk }
-        ensures to { (to.new.table_id ≡ to.old.table_id) × (to.new.me.1 ≡ to.old.me.1) × (to.new.me.0 ≡ both_of to.old.me.0 (owner_of (length self.old.desk.tail.log) (name_of_tag tag.now))) }
+        ensures to { (to.new.table_id ≡ to.old.table_id) × (to.new.me.1 ≡ to.old.me.1)
+            × (to.new.me.0 ≡ both_of to.old.me.0 (owner_of (length self.old.desk.tail.log) (name_of_tag tag.now))) }
     {
         let top = &cast.board.shared;
         board::publish_batch::<Name<T, P>, SegKey<T>, A, SegmentKeys<T, P>, Brand, Tag<T, P>>(
@@ -293,7 +334,8 @@ impl<T: Drop, P, A, N: Feed> Bench<T, P, A, N> {
     /// Makes the room that the next place's keys need.
     pub(crate) fn reserve(&mut self) -> Result<Row<T>, AllocError>
         ensures desk { self.new.desk ≡ self.old.desk }
-        ensures ok { IfOk result (λ row. (row ≡ record { place = length self.old.desk.tail.log; keys = [] }) × (1 ≤ (bucket_of self.new.rows row.place).room)) }
+        ensures ok { IfOk result (λ row. (row ≡ record { place = length self.old.desk.tail.log; keys = [] })
+            × (1 ≤ (bucket_of self.new.rows row.place).room)) }
     {
         self.rows.reserve(self.count)?;
         Row::new(self.alloc, self.count)
@@ -314,7 +356,8 @@ impl<T: Drop, P, A, N: Feed> Bench<T, P, A, N> {
         lane: usize,
         note: &Snapshot<A>,
     ) -> Cursor<'a, T, P, A, N>
-        requires { (lane < 8) × Calm self.old.desk × ((account_of self.old.desk lane).stand ≡ idle) × (self.old.desk.tail.closed ≡ false) }
+        requires { (lane < 8) × Calm self.old.desk
+            × ((account_of self.old.desk lane).stand ≡ idle) × (self.old.desk.tail.closed ≡ false) }
         ensures writer { OneAccount self.old self.new lane (given_out (Some note.now.value) (length self.old.desk.tail.log) (account_of self.old.desk lane)) }
         ensures cursor { result ≡ as_cursor (opened (new_lane (Some note.now.value) lane self.old.desk.tail (account_of self.old.desk lane))) }
     {
@@ -348,10 +391,13 @@ impl<T: Drop, P, A, N: Feed> Bench<T, P, A, N> {
     // The lane's seat comes home.
     fn take_home(&mut self, cast: &Cast<T, P, A, N>, lane: usize, other: LogSeat<T, P, A>)
         requires calm { (lane < 8) × Calm self.old.desk }
-        requires other { (other.table_id ≡ N.table) × (other.me.1 ≡ []) × (other.me.0.writer ≡ None) × (other.me.0.own ≡ []) }
-        requires lane { let v = lane_of other.me.0 in (other.me.0.lane ≡ Some v) × (v.number ≡ lane) × (v.here ≡ false) }
+        requires other { (other.table_id ≡ N.table) × (other.me.1 ≡ [])
+            × (other.me.0.writer ≡ None) × (other.me.0.own ≡ []) }
+        requires lane { let v = lane_of other.me.0 in (other.me.0.lane ≡ Some v)
+            × (v.number ≡ lane) × (v.here ≡ false) }
         ensures writer { OneAccount self.old self.new lane (retired (account_of self.old.desk lane)) }
-        ensures sound { Sound self.old.desk.tail (account_of self.old.desk lane) (lane_of other.me.0) lane × ((account_of self.old.desk lane).stand ≢ idle) }
+        ensures sound { Sound self.old.desk.tail (account_of self.old.desk lane) (lane_of other.me.0) lane
+            × ((account_of self.old.desk lane).stand ≢ idle) }
     {
         board::retire_lane(&cast.board.shared, &mut self.seat, other, lane);
         self.stand[lane] = 0;
@@ -365,9 +411,12 @@ impl<T: Drop, P, A, N: Feed> Bench<T, P, A, N> {
         lane: usize,
         other: LogSeat<T, P, A>,
     )
-        requires calm { (lane < 8) × Calm self.old.desk × ((account_of self.old.desk lane).stand ≡ live) }
-        requires other { (other.table_id ≡ N.table) × (other.me.1 ≡ []) × (other.me.0.writer ≡ None) × (other.me.0.own ≡ []) }
-        requires lane { let v = lane_of other.me.0 in (other.me.0.lane ≡ Some v) × (v.number ≡ lane) × (v.here ≡ false) }
+        requires calm { (lane < 8) × Calm self.old.desk
+            × ((account_of self.old.desk lane).stand ≡ live) }
+        requires other { (other.table_id ≡ N.table) × (other.me.1 ≡ [])
+            × (other.me.0.writer ≡ None) × (other.me.0.own ≡ []) }
+        requires lane { let v = lane_of other.me.0 in (other.me.0.lane ≡ Some v)
+            × (v.number ≡ lane) × (v.here ≡ false) }
         ensures writer { OnlyAccount self.old self.new lane (record (retired (account_of self.old.desk lane)) { cleared = length self.old.desk.tail.log }) }
         ensures sound { Sound self.old.desk.tail (account_of self.old.desk lane) (lane_of other.me.0) lane }
     {
@@ -384,9 +433,12 @@ impl<T: Drop, P, A, N: Feed> Bench<T, P, A, N> {
         lane: usize,
         other: LogSeat<T, P, A>,
     )
-        requires calm { (lane < 8) × Calm self.old.desk × ((account_of self.old.desk lane).stand ≢ live) }
-        requires other { (other.table_id ≡ N.table) × (other.me.1 ≡ []) × (other.me.0.writer ≡ None) × (other.me.0.own ≡ []) }
-        requires lane { let v = lane_of other.me.0 in (other.me.0.lane ≡ Some v) × (v.number ≡ lane) × (v.here ≡ false) }
+        requires calm { (lane < 8) × Calm self.old.desk
+            × ((account_of self.old.desk lane).stand ≢ live) }
+        requires other { (other.table_id ≡ N.table) × (other.me.1 ≡ [])
+            × (other.me.0.writer ≡ None) × (other.me.0.own ≡ []) }
+        requires lane { let v = lane_of other.me.0 in (other.me.0.lane ≡ Some v)
+            × (v.number ≡ lane) × (v.here ≡ false) }
         ensures writer { OnlyAccount self.old self.new lane (record (retired (account_of self.old.desk lane)) { cleared = (retired (account_of self.old.desk lane)).stop }) }
         ensures sound { Sound self.old.desk.tail (account_of self.old.desk lane) (lane_of other.me.0) lane }
     {
@@ -421,7 +473,8 @@ impl<T: Drop, P, A, N: Feed> Bench<T, P, A, N> {
 
     /// The lowest lane that is idle.
     pub(crate) fn idle_lane(&self) -> Option<usize>
-        ensures some { IfSome result (λ l. (l < 8) × ((account_of self.now.desk l).stand ≡ idle) × ((m : ℕ) → m < l → (account_of self.now.desk m).stand ≢ idle)) }
+        ensures some { IfSome result (λ l. (l < 8) × ((account_of self.now.desk l).stand ≡ idle)
+            × ((m : ℕ) → m < l → (account_of self.now.desk m).stand ≢ idle)) }
         ensures none { IfNone result ((m : ℕ) → m < 8 → (account_of self.now.desk m).stand ≢ idle) }
     {
         for lane in 0..8 {
@@ -435,7 +488,8 @@ impl<T: Drop, P, A, N: Feed> Bench<T, P, A, N> {
     /// Whether every lane is idle.
     pub(crate) fn is_idle(&self) -> bool
         ensures yes { result ≡ true → (l : ℕ) → l < 8 → (account_of self.now.desk l).stand ≡ idle }
-        ensures no { result ≡ false → (l : ℕ) × (l < 8) × ((account_of self.now.desk l).stand ≢ idle) }
+        ensures no { result ≡ false → (l : ℕ) × (l < 8)
+            × ((account_of self.now.desk l).stand ≢ idle) }
     {
         for lane in 0..8 {
             if self.stand[lane] != 0 {
@@ -454,15 +508,21 @@ impl<T: Drop, P, A, N: Feed> Bench<T, P, A, N> {
         row: Row<T>,
         to: &mut LogSeat<T, P, A>,
     )
-        requires writer { (self.old.desk.tail.closed ≡ false) × (length self.old.desk.tail.log < most) × Calm self.old.desk × HasRoom self.old.desk 8 }
+        requires writer { (self.old.desk.tail.closed ≡ false)
+            × (length self.old.desk.tail.log < most) × Calm self.old.desk × HasRoom self.old.desk 8 }
         requires batch { 0 < length batch.items }
-        requires row { (row ≡ record { place = length self.old.desk.tail.log; keys = [] }) × (1 ≤ (bucket_of self.old.rows row.place).room) }
+        requires row { (row ≡ record { place = length self.old.desk.tail.log; keys = [] })
+            × (1 ≤ (bucket_of self.old.rows row.place).room) }
         requires to { to.old.table_id ≡ N.table }
         ensures calm { Calm self.new.desk }
-        ensures same { (l : ℕ) → l < 8 → SameAdmission (account_of self.old.desk l) (account_of self.new.desk l) × ((account_of self.new.desk l).stand ≡ (account_of self.old.desk l).stand)
+        ensures same { (l : ℕ) → l < 8
+            → SameAdmission (account_of self.old.desk l) (account_of self.new.desk l)
+            × ((account_of self.new.desk l).stand ≡ (account_of self.old.desk l).stand)
             × ((account_of self.new.desk l).known ≡ (account_of self.old.desk l).known) }
-        ensures place { (x : Name T P) × (x.post ≡ post.value) × (items_of x ≡ batch.items) × (self.new.desk.tail ≡ longer_tail x self.old.desk.tail)
-            × (to.new.table_id ≡ to.old.table_id) × (to.new.me.1 ≡ to.old.me.1) × (to.new.me.0 ≡ both_of to.old.me.0 (owner_of (length self.old.desk.tail.log) x)) }
+        ensures place { (x : Name T P) × (x.post ≡ post.value) × (items_of x ≡ batch.items)
+            × (self.new.desk.tail ≡ longer_tail x self.old.desk.tail)
+            × (to.new.table_id ≡ to.old.table_id) × (to.new.me.1 ≡ to.old.me.1)
+            × (to.new.me.0 ≡ both_of to.old.me.0 (owner_of (length self.old.desk.tail.log) x)) }
     {
         let (first, rest) = batch.hand_out(8).next();
         let Some(rest) = rest else { unreachable!() };
@@ -473,10 +533,19 @@ impl<T: Drop, P, A, N: Feed> Bench<T, P, A, N> {
 
     // The lane is cut, if its word is still `word`. Answers the word that was found.
     fn sever(&mut self, cast: &Cast<T, P, A, N>, lane: usize, word: u64) -> u64
-        requires account { let b = account_of self.old.desk lane in (lane < 8) × (word < gone) × IsBehind self.old.desk lane × IsCalm (length self.old.desk.tail.log) self.old.desk.tail.places b × (word / 4 ≡ b.known) × (word / 2 ≡ b.half) }
-        ensures cut { result ≡ word → OneAccount self.old self.new lane (severed (result / 2 % 2) (account_of self.old.desk lane)) }
-        ensures gone { result ≢ word → result ≡ gone → OneAccount self.old self.new lane (marked (account_of self.old.desk lane)) }
-        ensures found { result ≢ word → result ≢ gone → OneAccount self.old self.new lane (known_to result (account_of self.old.desk lane)) × ((account_of self.old.desk lane).known ≤ result / 4) × (result / 4 ≤ length self.old.desk.tail.log) × ((account_of self.old.desk lane).half ≤ result / 2) × (result % 2 ≡ 0) }
+        requires account { let b = account_of self.old.desk lane in (lane < 8) × (word < gone)
+            × IsBehind self.old.desk lane
+            × IsCalm (length self.old.desk.tail.log) self.old.desk.tail.places b
+            × (word / 4 ≡ b.known) × (word / 2 ≡ b.half) }
+        ensures cut { result ≡ word
+            → OneAccount self.old self.new lane (severed (result / 2 % 2) (account_of self.old.desk lane)) }
+        ensures gone { result ≢ word → result ≡ gone
+            → OneAccount self.old self.new lane (marked (account_of self.old.desk lane)) }
+        ensures found { result ≢ word → result ≢ gone
+            → OneAccount self.old self.new lane (known_to result (account_of self.old.desk lane))
+            × ((account_of self.old.desk lane).known ≤ result / 4)
+            × (result / 4 ≤ length self.old.desk.tail.log)
+            × ((account_of self.old.desk lane).half ≤ result / 2) × (result % 2 ≡ 0) }
     {
         let found = board::cut_lane(&cast.board.shared, &mut self.seat, lane, word);
         if found == word {
@@ -496,14 +565,21 @@ impl<T: Drop, P, A, N: Feed> Bench<T, P, A, N> {
     // One exchange on the word of a lane that is as far behind as may be, and its keys that are free then are taken out.
     fn cut_once(&mut self, cast: &Cast<T, P, A, N>, lane: usize, word: u64) -> u64
         requires calm { (lane < 8) × Calm self.old.desk }
-        requires word { (word < gone) × IsBehind self.old.desk lane × (word / 4 ≡ (account_of self.old.desk lane).known) × (word / 2 ≡ (account_of self.old.desk lane).half) }
+        requires word { (word < gone) × IsBehind self.old.desk lane
+            × (word / 4 ≡ (account_of self.old.desk lane).known)
+            × (word / 2 ≡ (account_of self.old.desk lane).half) }
         ensures only { OnlyAccount self.old self.new lane (account_of self.new.desk lane) }
         ensures calm { IsCalm (length self.old.desk.tail.log) self.old.desk.tail.places (account_of self.new.desk lane) }
         ensures rows { KeepsRoom self.old.rows self.new.rows }
         ensures same { SameAdmission (account_of self.old.desk lane) (account_of self.new.desk lane) }
-        ensures cut { result ≡ word → ((account_of self.new.desk lane).stand ≡ cut) × ((account_of self.new.desk lane).known ≡ (account_of self.old.desk lane).known) }
+        ensures cut { result ≡ word → ((account_of self.new.desk lane).stand ≡ cut)
+            × ((account_of self.new.desk lane).known ≡ (account_of self.old.desk lane).known) }
         ensures gone { result ≡ gone → (account_of self.new.desk lane).stand ≡ vacated }
-        ensures found { result ≢ word → result ≢ gone → ((account_of self.new.desk lane).stand ≡ live) × ((account_of self.new.desk lane).known ≡ result / 4) × ((account_of self.new.desk lane).half ≡ result / 2) × ((account_of self.old.desk lane).half ≤ result / 2) × (result % 2 ≡ 0) }
+        ensures found { result ≢ word → result ≢ gone
+            → ((account_of self.new.desk lane).stand ≡ live)
+            × ((account_of self.new.desk lane).known ≡ result / 4)
+            × ((account_of self.new.desk lane).half ≡ result / 2)
+            × ((account_of self.old.desk lane).half ≤ result / 2) × (result % 2 ≡ 0) }
     {
         let known = self.known_of(lane);
         let found = self.sever(cast, lane, word);
@@ -523,9 +599,11 @@ impl<T: Drop, P, A, N: Feed> Bench<T, P, A, N> {
     }
 
     fn is_behind(&self, lane: usize) -> bool
-        requires { (lane < 8) × Calm self.now.desk × ((account_of self.now.desk lane).stand ≡ live) }
+        requires { (lane < 8) × Calm self.now.desk
+            × ((account_of self.now.desk lane).stand ≡ live) }
         ensures yes { result ≡ true → IsBehind self.now.desk lane }
-        ensures no { result ≡ false → length self.now.desk.tail.log < (account_of self.now.desk lane).known + self.now.desk.tail.places }
+        ensures no { result ≡ false
+            → length self.now.desk.tail.log < (account_of self.now.desk lane).known + self.now.desk.tail.places }
     {
         self.count - self.known[lane] >= self.places
     }
@@ -533,11 +611,14 @@ impl<T: Drop, P, A, N: Feed> Bench<T, P, A, N> {
     // A lane whose word was `word` has room for one place more, or is cut by one of two exchanges.
     fn cut_or_move(&mut self, cast: &Cast<T, P, A, N>, lane: usize, word: u64) -> bool
         requires calm { (lane < 8) × Calm self.old.desk }
-        requires word { (word < gone) × IsBehind self.old.desk lane × (word / 4 ≡ (account_of self.old.desk lane).known) × (word / 2 ≡ (account_of self.old.desk lane).half) × (word % 2 ≡ 0) }
+        requires word { (word < gone) × IsBehind self.old.desk lane
+            × (word / 4 ≡ (account_of self.old.desk lane).known)
+            × (word / 2 ≡ (account_of self.old.desk lane).half) × (word % 2 ≡ 0) }
         ensures only { OnlyAccount self.old self.new lane (account_of self.new.desk lane) }
         ensures calm { IsCalm (length self.old.desk.tail.log) self.old.desk.tail.places (account_of self.new.desk lane) }
         ensures same { SameAdmission (account_of self.old.desk lane) (account_of self.new.desk lane) }
-        ensures room { (account_of self.new.desk lane).stand ≡ live → length self.old.desk.tail.log < (account_of self.new.desk lane).known + self.old.desk.tail.places }
+        ensures room { (account_of self.new.desk lane).stand ≡ live
+            → length self.old.desk.tail.log < (account_of self.new.desk lane).known + self.old.desk.tail.places }
         ensures rows { KeepsRoom self.old.rows self.new.rows }
         ensures cut { IsCutAs (length self.old.desk.tail.log) self.old.desk.tail.places (account_of self.old.desk lane) (account_of self.new.desk lane) result }
     {
@@ -561,7 +642,8 @@ impl<T: Drop, P, A, N: Feed> Bench<T, P, A, N> {
         ensures only { OnlyAccount self.old self.new lane (account_of self.new.desk lane) }
         ensures rows { KeepsRoom self.old.rows self.new.rows }
         ensures calm { IsCalm (length self.old.desk.tail.log) self.old.desk.tail.places (account_of self.new.desk lane) }
-        ensures room { (account_of self.new.desk lane).stand ≡ live → length self.old.desk.tail.log < (account_of self.new.desk lane).known + self.old.desk.tail.places }
+        ensures room { (account_of self.new.desk lane).stand ≡ live
+            → length self.old.desk.tail.log < (account_of self.new.desk lane).known + self.old.desk.tail.places }
         ensures same { SameAdmission (account_of self.old.desk lane) (account_of self.new.desk lane) }
         ensures cut { IsCutAs (length self.old.desk.tail.log) self.old.desk.tail.places (account_of self.old.desk lane) (account_of self.new.desk lane) result }
     {
@@ -579,8 +661,10 @@ impl<T: Drop, P, A, N: Feed> Bench<T, P, A, N> {
         ensures tail { self.new.desk.tail ≡ self.old.desk.tail }
         ensures room { HasRoom self.new.desk 8 }
         ensures rows { KeepsRoom self.old.rows self.new.rows }
-        ensures same { (l : ℕ) → l < 8 → SameAdmission (account_of self.old.desk l) (account_of self.new.desk l) }
-        ensures cut { (l : ℕ) → l < 8 → IsCutAs (length self.old.desk.tail.log) self.old.desk.tail.places (account_of self.old.desk l) (account_of self.new.desk l) (slice_index_or result l false) }
+        ensures same { (l : ℕ) → l < 8
+            → SameAdmission (account_of self.old.desk l) (account_of self.new.desk l) }
+        ensures cut { (l : ℕ) → l < 8
+            → IsCutAs (length self.old.desk.tail.log) self.old.desk.tail.places (account_of self.old.desk l) (account_of self.new.desk l) (slice_index_or result l false) }
     {
         let mut lanes = [false; 8];
         for lane in 0..8 {

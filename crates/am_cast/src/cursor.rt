@@ -56,8 +56,11 @@ impl<'a, T, P, A, N: Feed> Cursor<'a, T, P, A, N> {
 
     // One item more is shown, where the place in hand has one. Answers whether it has.
     pub(crate) fn show(&mut self) -> bool
-        ensures yes { result ≡ true → (self.old.lane.held ≡ true) × (self.old.shown < length (items_at self.old.lane.front self.old.lane.passed)) × (self.new ≡ record self.old { shown = self.old.shown + 1 }) }
-        ensures no { result ≡ false → (self.new ≡ self.old) × (self.old.lane.held ≡ true → self.old.shown ≡ length (items_at self.old.lane.front self.old.lane.passed)) }
+        ensures yes { result ≡ true → (self.old.lane.held ≡ true)
+            × (self.old.shown < length (items_at self.old.lane.front self.old.lane.passed))
+            × (self.new ≡ record self.old { shown = self.old.shown + 1 }) }
+        ensures no { result ≡ false → (self.new ≡ self.old) × (self.old.lane.held ≡ true
+            → self.old.shown ≡ length (items_at self.old.lane.front self.old.lane.passed)) }
     {
         let Some(key) = &self.hand else {
             return false;
@@ -71,12 +74,15 @@ impl<'a, T, P, A, N: Feed> Cursor<'a, T, P, A, N> {
 
     // The key in hand goes home, and its place is passed.
     pub(crate) fn put_back(&mut self)
-        requires { self.old.lane.held ≡ true → self.old.shown ≡ length (items_at self.old.lane.front self.old.lane.passed) }
-        ensures lane { let v = self.old.lane in let w = self.new.lane in w ≡ record v { passed = v.passed + bit v.held; held = false; cut = w.cut } }
+        requires { self.old.lane.held ≡ true
+            → self.old.shown ≡ length (items_at self.old.lane.front self.old.lane.passed) }
+        ensures lane { let v = self.old.lane in let w = self.new.lane in
+            w ≡ record v { passed = v.passed + bit v.held; held = false; cut = w.cut } }
         ensures shown { self.new.shown ≡ 0 }
         ensures cut { self.old.lane.cut ≡ true → self.new.lane.cut ≡ true }
         ensures same { self.old.lane.held ≡ false → self.new.lane.cut ≡ self.old.lane.cut }
-        ensures bounds { (self.new.lane.start ≤ self.new.lane.passed) × (self.new.lane.passed ≤ length self.new.lane.front) }
+        ensures bounds { (self.new.lane.start ≤ self.new.lane.passed)
+            × (self.new.lane.passed ≤ length self.new.lane.front) }
         ensures taken { taken self.new ≡ taken self.old }
     {
         if let Some(key) = self.hand.take() {
@@ -101,9 +107,12 @@ impl<'a, T, P, A, N: Feed> Cursor<'a, T, P, A, N> {
 
     // The next key comes into the hand, and its first item is shown, or the lane was cut.
     pub(crate) fn take(&mut self) -> bool
-        requires { (self.old.lane.held ≡ false) × (self.old.lane.cut ≡ false) × (self.old.lane.passed < length self.old.lane.front) }
-        ensures taken { result ≡ true → self.new ≡ record { lane = holding self.old.lane; shown = 1 } }
-        ensures cut { result ≡ false → self.new ≡ record { lane = cut_off self.old.lane; shown = 0 } }
+        requires { (self.old.lane.held ≡ false) × (self.old.lane.cut ≡ false)
+            × (self.old.lane.passed < length self.old.lane.front) }
+        ensures taken { result ≡ true
+            → self.new ≡ record { lane = holding self.old.lane; shown = 1 } }
+        ensures cut { result ≡ false
+            → self.new ≡ record { lane = cut_off self.old.lane; shown = 0 } }
     {
         let at = 8 * (self.passed % self.places) as usize + self.number;
         let top = &self.cast.board.shared;
@@ -145,8 +154,10 @@ impl<'a, T, P, A, N: Feed> Cursor<'a, T, P, A, N> {
 
     /// The lane is left. The key in hand goes home.
     pub(crate) fn depart(self) -> (usize, LogSeat<T, P, A>)
-        ensures same { (result.1.table_id ≡ N.table) × (result.1.me.1 ≡ []) × (self.entry.lane.number ≡ result.0) × (result.0 < 8) }
-        ensures seat { (result.1.me.0.writer ≡ None) × (result.1.me.0.own ≡ []) × (result.1.me.0.lane ≡ Some (left self.entry.lane)) }
+        ensures same { (result.1.table_id ≡ N.table) × (result.1.me.1 ≡ [])
+            × (self.entry.lane.number ≡ result.0) × (result.0 < 8) }
+        ensures seat { (result.1.me.0.writer ≡ None) × (result.1.me.0.own ≡ [])
+            × (result.1.me.0.lane ≡ Some (left self.entry.lane)) }
     {
         let Cursor {
             cast,
@@ -179,7 +190,8 @@ impl<'a, T, P, A, N: Feed> Cursor<'a, T, P, A, N> {
         requires { self.old.lane.held ≡ false }
         ensures lane { let w = self.new.lane in w ≡ seeing w.front w.told self.old.lane }
         ensures shown { self.new.shown ≡ self.old.shown }
-        ensures front { IsPrefix self.old.lane.front self.new.lane.front × IsPrefix pass.old.noted self.new.lane.front }
+        ensures front { IsPrefix self.old.lane.front self.new.lane.front
+            × IsPrefix pass.old.noted self.new.lane.front }
         ensures pass { pass.new ≡ pass.old }
     {
         let top = &self.cast.board.shared;

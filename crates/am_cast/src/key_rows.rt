@@ -70,7 +70,8 @@ impl<T> KeyRows<T> {
     pub(crate) fn bring(&mut self, place: u64, key: SegKey<T>)
     where
         T: Drop,
-        requires { (keys : List (KeyView T)) × (row_at self.old place ≡ Some keys) × MayTake keys key }
+        requires { (keys : List (KeyView T)) × (row_at self.old place ≡ Some keys)
+            × MayTake keys key }
         ensures count { length self.new ≡ length self.old }
         ensures here { (keys : List (KeyView T)) → row_at self.old place ≡ Some keys
             → row_at self.new place ≡ row_with keys key }

@@ -50,7 +50,8 @@ impl<'a, T, P, A, N: Feed> Cursor<'a, T, P, A, N> {
 
     // The key of the next place, or that the lane was cut.
     fn take_one(&mut self) -> Moved
-        requires { (self.old.lane.held ≡ false) × (self.old.shown ≡ 0) × (self.old.lane.cut ≡ false) × (self.old.lane.passed < length self.old.lane.front) }
+        requires { (self.old.lane.held ≡ false) × (self.old.shown ≡ 0)
+            × (self.old.lane.cut ≡ false) × (self.old.lane.passed < length self.old.lane.front) }
         ensures on { GoesOn self.old self.new }
         ensures takes { Takes self.old self.new result }
     {
@@ -59,7 +60,8 @@ impl<'a, T, P, A, N: Feed> Cursor<'a, T, P, A, N> {
 
     // What follows from the looks so far, with at most one Take, or that a look is needed.
     fn reach_seen(&mut self) -> Option<Moved>
-        requires { (self.old.lane.held ≡ false) × (self.old.shown ≡ 0) × (self.old.lane.passed ≤ length self.old.lane.front) }
+        requires { (self.old.lane.held ≡ false) × (self.old.shown ≡ 0)
+            × (self.old.lane.passed ≤ length self.old.lane.front) }
         ensures on { GoesOn self.old self.new }
         ensures moves { IfSome result (λ moved. Moves self.old self.new moved × AreAllSeen moved) }
         ensures none { IfNone result ((self.new ≡ self.old) × NeedsLook self.old) }
@@ -78,7 +80,8 @@ impl<'a, T, P, A, N: Feed> Cursor<'a, T, P, A, N> {
 
     // What follows from a look, with at most one Take.
     fn reach_found(&mut self) -> Moved
-        requires { (self.old.lane.held ≡ false) × (self.old.shown ≡ 0) × (self.old.lane.cut ≡ false) }
+        requires { (self.old.lane.held ≡ false) × (self.old.shown ≡ 0)
+            × (self.old.lane.cut ≡ false) }
         ensures on { GoesOn self.old self.new }
         ensures found { Found self.old self.new result }
     {
@@ -94,7 +97,8 @@ impl<'a, T, P, A, N: Feed> Cursor<'a, T, P, A, N> {
 
     // What comes after the places that were passed: at most one Look and one Take.
     fn reach(&mut self) -> Moved
-        requires { (self.old.lane.held ≡ false) × (self.old.shown ≡ 0) × (self.old.lane.passed ≤ length self.old.lane.front) }
+        requires { (self.old.lane.held ≡ false) × (self.old.shown ≡ 0)
+            × (self.old.lane.passed ≤ length self.old.lane.front) }
         ensures on { GoesOn self.old self.new }
         ensures moves { Moves self.old self.new result }
     {
@@ -133,7 +137,8 @@ impl<'a, T, P, A, N: Feed> Cursor<'a, T, P, A, N> {
 impl<'a, T, P, A, N: Feed> Cursor<'a, T, P, A, N> {
     // As `reach`, but a look comes after what the pass knows.
     fn reach_past(&mut self, pass: &mut Pass<T, P, A, N>) -> Moved
-        requires { (self.old.lane.held ≡ false) × (self.old.shown ≡ 0) × (self.old.lane.passed ≤ length self.old.lane.front) }
+        requires { (self.old.lane.held ≡ false) × (self.old.shown ≡ 0)
+            × (self.old.lane.passed ≤ length self.old.lane.front) }
         ensures on { GoesOn self.old self.new }
         ensures moves { Moves self.old self.new result }
         ensures past { MovesPast pass.old.noted self.new result }

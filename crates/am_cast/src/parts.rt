@@ -75,10 +75,12 @@ fn deal_passes<T, P, A, N: Feed>(
     seat: &mut LogSeat<T, P, A>,
     posters: usize,
 ) -> Result<Vec<Pass<T, P, A, N>>, AllocError>
-    requires table { (board.now.shared.table_id ≡ N.table) × (seat.old.table_id ≡ N.table) × (N.table.words ≡ 144) }
+    requires table { (board.now.shared.table_id ≡ N.table) × (seat.old.table_id ≡ N.table)
+        × (N.table.words ≡ 144) }
     requires fresh { (seat.old.me.1 ≡ []) × (copied seat.old.me.0 ≡ blank) }
     ensures seat { (seat.new.table_id ≡ seat.old.table_id) × (seat.new.me ≡ seat.old.me) }
-    ensures passes { IfOk result (λ made. (length made.items ≡ posters) × All (λ pass. pass ≡ record { noted = []; own = [] }) made.items) }
+    ensures passes { IfOk result (λ made. (length made.items ≡ posters)
+        × All (λ pass. pass ≡ record { noted = []; own = [] }) made.items) }
 {
     let mut passes = Vec::with_capacity(alloc, posters)?;
     for _poster in 0..posters {
@@ -97,8 +99,10 @@ pub fn begin<T: Drop, P, A, N: Feed>(
 ) -> Result<Begun<T, P, A, N>, AllocError>
     requires { parts.board.shared.table_id ≡ N.table }
     ensures empty { IfOk result (λ begun. begun.writer.tail ≡ record { places = parts.places; log = []; closed = false }) }
-    ensures idle { IfOk result (λ begun. (l : ℕ) → l < 8 → (account_of begun.writer l).stand ≡ idle) }
-    ensures passes { IfOk result (λ begun. (length begun.passes.items ≡ posters) × All (λ pass. pass ≡ record { noted = []; own = [] }) begun.passes.items) }
+    ensures idle { IfOk result (λ begun. (l : ℕ) → l < 8
+        → (account_of begun.writer l).stand ≡ idle) }
+    ensures passes { IfOk result (λ begun. (length begun.passes.items ≡ posters)
+        × All (λ pass. pass ≡ record { noted = []; own = [] }) begun.passes.items) }
 {
     let Parts {
         board,

@@ -42,8 +42,11 @@ impl<T, P, A, N: Feed> Pass<T, P, A, N> {
     /// Each own post that the cursor has seen stands at its place there, and the pass knows at least as much as the cursor.
     pub fn meet(&mut self, cast: &Cast<T, P, A, N>, cursor: &mut Cursor<'_, T, P, A, N>)
         ensures same { (self.new.own ≡ self.old.own) × (cursor.new ≡ cursor.old) }
-        ensures own { (k : ℕ) (o : Own (Name T P)) → get_elem? self.old.own k ≡ some o → o.place < length cursor.old.lane.front → get_elem? cursor.old.lane.front o.place ≡ some o.name }
-        ensures noted { IsPrefix self.old.noted self.new.noted × IsPrefix cursor.old.lane.front self.new.noted × Stand self.old.own self.new.noted }
+        ensures own { (k : ℕ) (o : Own (Name T P)) → get_elem? self.old.own k ≡ some o
+            → o.place < length cursor.old.lane.front
+            → get_elem? cursor.old.lane.front o.place ≡ some o.name }
+        ensures noted { IsPrefix self.old.noted self.new.noted
+            × IsPrefix cursor.old.lane.front self.new.noted × Stand self.old.own self.new.noted }
     {
         let top = &cast.board.shared;
         board::tell_seat(top, &mut cursor.seat, &mut self.seat);

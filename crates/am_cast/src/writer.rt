@@ -83,7 +83,8 @@ impl<T: Drop, P, A, N: Feed> Writer<T, P, A, N> {
     pub fn harvest(&mut self, cast: &Cast<T, P, A, N>) -> Option<(usize, u64)>
         ensures harvested { Harvested self.old self.new 8 }
 
-        ensures full { IfSome result (λ r. (r.0 < 8) × (r.1 ≡ (account_of self.new r.0).known) × IsBehind self.new r.0 × HasRoom self.new r.0) }
+        ensures full { IfSome result (λ r. (r.0 < 8) × (r.1 ≡ (account_of self.new r.0).known)
+            × IsBehind self.new r.0 × HasRoom self.new r.0) }
         ensures room { IfNone result (HasRoom self.new 8) }
     {
         self.bench.harvest(cast);
@@ -103,14 +104,19 @@ impl<T: Drop, P, A, N: Feed> Writer<T, P, A, N> {
         pass: &mut Pass<T, P, A, N>,
     ) -> Result<u64, Refused<T>>
         requires { 0 < length batch.items }
-        ensures ok { IfOk result (λ place. (place ≡ length self.old.tail.log) × IsOpen self.old × ((x : Name T P) × (x.post ≡ post.value) × (items_of x ≡ batch.items)
-            × (self.new.tail ≡ longer_tail x self.old.tail) × (pass.new.own ≡ pass.old.own ++ own_at place x ∷ []))) }
-        ensures known { OnOk result (Stand pass.new.own pass.new.noted × IsPrefix pass.old.noted pass.new.noted) }
+        ensures ok { IfOk result (λ place. (place ≡ length self.old.tail.log) × IsOpen self.old
+            × ((x : Name T P) × (x.post ≡ post.value) × (items_of x ≡ batch.items)
+            × (self.new.tail ≡ longer_tail x self.old.tail)
+            × (pass.new.own ≡ pass.old.own ++ own_at place x ∷ []))) }
+        ensures known { OnOk result (Stand pass.new.own pass.new.noted
+            × IsPrefix pass.old.noted pass.new.noted) }
         ensures lanes { (l : ℕ) → l < 8 → StaysAs (account_of self.old l) (account_of self.new l) }
-        ensures loads { (l : ℕ) → l < 8 → (account_of self.old l).stand ≡ live → (account_of self.old l).loads < (account_of self.new l).loads }
+        ensures loads { (l : ℕ) → l < 8 → (account_of self.old l).stand ≡ live
+            → (account_of self.old l).loads < (account_of self.new l).loads }
 
         ensures err { OnErr result ((self.new.tail ≡ self.old.tail) × (pass.new ≡ pass.old)) }
-        ensures refused { IfErr result (λ e. (e.batch ≡ batch) × IsRefusal self.old self.new e.fault) }
+        ensures refused { IfErr result (λ e. (e.batch ≡ batch)
+            × IsRefusal self.old self.new e.fault) }
     {
         self.bench.harvest(cast);
         if self.bench.is_closed() {
@@ -153,14 +159,21 @@ impl<T: Drop, P, A, N: Feed> Writer<T, P, A, N> {
         pass: &mut Pass<T, P, A, N>,
     ) -> Result<Published, Refused<T>>
         requires { 0 < length batch.items }
-        ensures ok { IfOk result (λ r. (r.place ≡ length self.old.tail.log) × IsOpen self.old × ((x : Name T P) × (x.post ≡ post.value) × (items_of x ≡ batch.items)
-            × (self.new.tail ≡ longer_tail x self.old.tail) × (pass.new.own ≡ pass.old.own ++ own_at r.place x ∷ []))) }
-        ensures cut { IfOk result (λ r. (l : ℕ) → l < 8 → IsCutAs (length self.old.tail.log) self.old.tail.places (account_of self.old l) (account_of self.new l) (slice_index_or r.cut l false)) }
-        ensures known { OnOk result (Stand pass.new.own pass.new.noted × IsPrefix pass.old.noted pass.new.noted) }
-        ensures lanes { (l : ℕ) → l < 8 → SameAdmission (account_of self.old l) (account_of self.new l) }
-        ensures loads { (l : ℕ) → l < 8 → (account_of self.old l).stand ≡ live → (account_of self.old l).loads < (account_of self.new l).loads }
+        ensures ok { IfOk result (λ r. (r.place ≡ length self.old.tail.log) × IsOpen self.old
+            × ((x : Name T P) × (x.post ≡ post.value) × (items_of x ≡ batch.items)
+            × (self.new.tail ≡ longer_tail x self.old.tail)
+            × (pass.new.own ≡ pass.old.own ++ own_at r.place x ∷ []))) }
+        ensures cut { IfOk result (λ r. (l : ℕ) → l < 8
+            → IsCutAs (length self.old.tail.log) self.old.tail.places (account_of self.old l) (account_of self.new l) (slice_index_or r.cut l false)) }
+        ensures known { OnOk result (Stand pass.new.own pass.new.noted
+            × IsPrefix pass.old.noted pass.new.noted) }
+        ensures lanes { (l : ℕ) → l < 8
+            → SameAdmission (account_of self.old l) (account_of self.new l) }
+        ensures loads { (l : ℕ) → l < 8 → (account_of self.old l).stand ≡ live
+            → (account_of self.old l).loads < (account_of self.new l).loads }
 
-        ensures err { OnErr result ((self.new.tail ≡ self.old.tail) × (pass.new ≡ pass.old) × ((l : ℕ) → l < 8 → StaysAs (account_of self.old l) (account_of self.new l))) }
+        ensures err { OnErr result ((self.new.tail ≡ self.old.tail) × (pass.new ≡ pass.old)
+            × ((l : ℕ) → l < 8 → StaysAs (account_of self.old l) (account_of self.new l))) }
         ensures refused { IfErr result (λ e. (e.batch ≡ batch) × IsCutRefusal self.old e.fault) }
     {
         self.bench.harvest(cast);
@@ -210,10 +223,15 @@ impl<T: Drop, P, A, N: Feed> Writer<T, P, A, N> {
         note: Snapshot<A>,
     ) -> Result<Cursor<'a, T, P, A, N>, AdmitFault>
         ensures tail { self.new.tail ≡ self.old.tail }
-        ensures ok { IfOk result (λ c. (c.lane.number < 8) × ((account_of self.old c.lane.number).stand ≡ idle) × ((m : ℕ) → m < c.lane.number → (account_of self.old m).stand ≢ idle)
+        ensures ok { IfOk result (λ c. (c.lane.number < 8)
+            × ((account_of self.old c.lane.number).stand ≡ idle) × ((m : ℕ) → m < c.lane.number
+            → (account_of self.old m).stand ≢ idle)
             × (c ≡ as_cursor (opened (new_lane (Some note.value) c.lane.number self.old.tail (account_of self.old c.lane.number))))) }
-        ensures lane { IfOk result (λ c. let b = account_of self.new c.lane.number in (b.stand ≡ live) × (b.turn ≡ c.lane.turn) × (b.note ≡ Some note.value) × (b.start ≡ length self.old.tail.log)) }
-        ensures others { IfOk result (λ c. (m : ℕ) → m ≢ c.lane.number → account_of self.new m ≡ account_of self.old m) }
+        ensures lane { IfOk result (λ c. let b = account_of self.new c.lane.number in
+            (b.stand ≡ live) × (b.turn ≡ c.lane.turn) × (b.note ≡ Some note.value)
+            × (b.start ≡ length self.old.tail.log)) }
+        ensures others { IfOk result (λ c. (m : ℕ) → m ≢ c.lane.number
+            → account_of self.new m ≡ account_of self.old m) }
 
         ensures open { IfOk result (λ c. self.old.tail.closed ≡ false) }
         ensures err { OnErr result (self.new ≡ self.old) }
@@ -231,11 +249,14 @@ impl<T: Drop, P, A, N: Feed> Writer<T, P, A, N> {
     /// The cursor leaves, whatever it hasn't passed, and its lane is idle.
     pub fn retire(&mut self, cast: &Cast<T, P, A, N>, cursor: Cursor<'_, T, P, A, N>)
         ensures tail { self.new.tail ≡ self.old.tail }
-        ensures lane { (cursor.entry.lane.number < 8) × ((account_of self.new cursor.entry.lane.number).stand ≡ idle) }
-        ensures others { (m : ℕ) → m ≢ cursor.entry.lane.number → account_of self.new m ≡ account_of self.old m }
+        ensures lane { (cursor.entry.lane.number < 8)
+            × ((account_of self.new cursor.entry.lane.number).stand ≡ idle) }
+        ensures others { (m : ℕ) → m ≢ cursor.entry.lane.number
+            → account_of self.new m ≡ account_of self.old m }
         ensures sound { Sound self.old.tail (account_of self.old cursor.entry.lane.number) (left cursor.entry.lane) cursor.entry.lane.number }
         ensures taken { IsPrefix (taken cursor.entry) (all_items (drop cursor.entry.lane.start self.old.tail.log)) }
-        ensures ended { HasEnded cursor.entry → taken cursor.entry ≡ all_items (drop cursor.entry.lane.start self.old.tail.log) }
+        ensures ended { HasEnded cursor.entry
+            → taken cursor.entry ≡ all_items (drop cursor.entry.lane.start self.old.tail.log) }
     {
         let (lane, seat) = cursor.depart();
         if self.bench.is_live(lane) {

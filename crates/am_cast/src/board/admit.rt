@@ -37,7 +37,8 @@ pub(crate) fn admit_lane<B, K, A, R: Keyed<B, K>, X: Noted<A>>(
     tag: &Snapshot<A>,
 ) -> LogSeat<B, K, A>
     requires tag { X.note ≡ Some tag.now.value }
-    requires table { (seat.old.table_id ≡ top.now.table_id) × IsSized top.now.table_id × (lane < 8) × (count ≤ most) }
+    requires table { (seat.old.table_id ≡ top.now.table_id) × IsSized top.now.table_id
+        × (lane < 8) × (count ≤ most) }
     requires writer { let q = writer_of seat.old.me.0 in
         IsWriter seat.old.me q × (length q.accounts ≡ 8) × (q.tail.closed ≡ false)
         × (count ≡ length q.tail.log) × (seat.old.me.0.lane ≡ None) }
@@ -46,8 +47,8 @@ pub(crate) fn admit_lane<B, K, A, R: Keyed<B, K>, X: Noted<A>>(
     ensures same { (seat.new.table_id ≡ seat.old.table_id) × (seat.new.me.1 ≡ []) }
     ensures writer { let q = writer_of seat.old.me.0 in
         seat.new.me.0 ≡ with_writer (with_account lane (given_out X.note (length q.tail.log) (account_of q lane)) q) seat.old.me.0 }
-    ensures lane { let q = writer_of seat.old.me.0 in
-        (result.table_id ≡ seat.old.table_id) × (result.me.1 ≡ [])
+    ensures lane { let q = writer_of seat.old.me.0 in (result.table_id ≡ seat.old.table_id)
+        × (result.me.1 ≡ [])
         × (result.me.0 ≡ record { writer = None; lane = Some (new_lane X.note lane q.tail (account_of q lane)); noted = []; heard = []; whole = false; own = []; counted = 0 }) }
 {
     let _ = tag;

@@ -31,11 +31,12 @@ pub(crate) fn clear_slot<B, K, A, R: Keyed<B, K>>(
     at: usize,
     lane: usize,
 ) -> K
-    requires table { (seat.old.table_id ≡ top.now.table_id) × IsSized top.now.table_id × (lane < 8) }
-    requires writer { let q = writer_of seat.old.me.0 in IsWriter seat.old.me q × (length q.accounts ≡ 8) }
-    requires account { let q = writer_of seat.old.me.0 in
-        let b = account_of q lane in
-        (b.out ≡ 0) × IsPast b × (b.cleared < length q.tail.log) × (at ≡ slot q.tail.places lane b.cleared) }
+    requires table { (seat.old.table_id ≡ top.now.table_id) × IsSized top.now.table_id
+        × (lane < 8) }
+    requires writer { let q = writer_of seat.old.me.0 in IsWriter seat.old.me q
+        × (length q.accounts ≡ 8) }
+    requires account { let q = writer_of seat.old.me.0 in let b = account_of q lane in (b.out ≡ 0)
+        × IsPast b × (b.cleared < length q.tail.log) × (at ≡ slot q.tail.places lane b.cleared) }
     ensures same { (seat.new.table_id ≡ seat.old.table_id) × (seat.new.me.1 ≡ []) }
     ensures writer { let q = writer_of seat.old.me.0 in
         seat.new.me.0 ≡ with_writer (with_account lane (clearing (account_of q lane)) q) seat.old.me.0 }

@@ -20,11 +20,13 @@ pub(crate) fn close_log<B, K, A, R: Keyed<B, K>>(
     seat: &mut LogSeat<B, K, A>,
     count: u64,
 )
-    requires table { (seat.old.table_id ≡ top.now.table_id) × IsSized top.now.table_id × (count ≤ most) }
+    requires table { (seat.old.table_id ≡ top.now.table_id) × IsSized top.now.table_id
+        × (count ≤ most) }
     requires writer { let q = writer_of seat.old.me.0 in
         IsWriter seat.old.me q × (q.tail.closed ≡ false) × (count ≡ length q.tail.log) }
     ensures same { (seat.new.table_id ≡ seat.old.table_id) × (seat.new.me.1 ≡ []) }
-    ensures writer { let q = writer_of seat.old.me.0 in seat.new.me.0 ≡ with_writer (shut q) seat.old.me.0 }
+    ensures writer { let q = writer_of seat.old.me.0 in
+        seat.new.me.0 ≡ with_writer (shut q) seat.old.me.0 }
 {
     top.store::<Close>(seat, 0, 2 * count + 1);
 }

@@ -22,15 +22,16 @@ pub(crate) fn cut_lane<B, K, A, R: Keyed<B, K>>(
     lane: usize,
     old: u64,
 ) -> u64
-    requires table { (seat.old.table_id ≡ top.now.table_id) × IsSized top.now.table_id × (lane < 8) × (old < gone) }
-    requires writer { let q = writer_of seat.old.me.0 in IsWriter seat.old.me q × (length q.accounts ≡ 8) }
+    requires table { (seat.old.table_id ≡ top.now.table_id) × IsSized top.now.table_id
+        × (lane < 8) × (old < gone) }
+    requires writer { let q = writer_of seat.old.me.0 in IsWriter seat.old.me q
+        × (length q.accounts ≡ 8) }
     requires account { let q = writer_of seat.old.me.0 in
         let b = account_of q lane in
         (b.stand ≡ live) × (b.cleared ≡ b.known) × (b.stop ≡ b.known + q.tail.places) × (b.out ≡ 0)
         × (b.laid ≡ None) × (old / 4 ≡ b.known) × (old / 2 ≡ b.half) }
     ensures same { (seat.new.table_id ≡ seat.old.table_id) × (seat.new.me.1 ≡ []) }
-    ensures cut { let q = writer_of seat.old.me.0 in
-        result ≡ old
+    ensures cut { let q = writer_of seat.old.me.0 in result ≡ old
         → seat.new.me.0 ≡ with_writer (with_account lane (severed (result / 2 % 2) (account_of q lane)) q) seat.old.me.0 }
     ensures moved { let q = writer_of seat.old.me.0 in
         result ≢ old → Finds lane q (account_of q lane) result seat.old.me.0 seat.new.me.0 }

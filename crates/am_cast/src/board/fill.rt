@@ -30,8 +30,10 @@ pub(crate) fn fill_slot<B, K, A, R: Keyed<B, K>>(
     lane: usize,
     key: K,
 )
-    requires table { (seat.old.table_id ≡ top.now.table_id) × IsSized top.now.table_id × (lane < 8) }
-    requires writer { let q = writer_of seat.old.me.0 in IsWriter seat.old.me q × (length q.accounts ≡ 8) }
+    requires table { (seat.old.table_id ≡ top.now.table_id) × IsSized top.now.table_id
+        × (lane < 8) }
+    requires writer { let q = writer_of seat.old.me.0 in IsWriter seat.old.me q
+        × (length q.accounts ≡ 8) }
     requires account { let q = writer_of seat.old.me.0 in
         let b = account_of q lane in
         (b.stand ≡ live) × (b.out ≡ 0) × (b.laid ≡ None) × (b.stop < b.cleared + q.tail.places)

@@ -20,7 +20,8 @@ pub(crate) fn find_word<B, K, A, R: Keyed<B, K>>(
     seat: &mut LogSeat<B, K, A>,
     lane: usize,
 ) -> u64
-    requires table { (seat.old.table_id ≡ top.now.table_id) × IsSized top.now.table_id × (lane < 8) }
+    requires table { (seat.old.table_id ≡ top.now.table_id) × IsSized top.now.table_id
+        × (lane < 8) }
     requires writer { let q = writer_of seat.old.me.0 in
         IsWriter seat.old.me q × (length q.accounts ≡ 8) × ((account_of q lane).stand ≡ live)
         × ((account_of q lane).laid ≡ None) }

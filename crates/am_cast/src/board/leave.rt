@@ -22,7 +22,8 @@ pub(crate) fn leave_bare<B, K, A, R: Keyed<B, K>>(
     seat: &mut LogSeat<B, K, A>,
     lane: usize,
 )
-    requires table { (seat.old.table_id ≡ top.now.table_id) × IsSized top.now.table_id × (lane < 8) }
+    requires table { (seat.old.table_id ≡ top.now.table_id) × IsSized top.now.table_id
+        × (lane < 8) }
     requires lane { let v = lane_of seat.old.me.0 in
         IsLane seat.old.me v × (lane ≡ v.number) × (v.begun ≡ true) × (v.held ≡ false) }
     ensures same { (seat.new.table_id ≡ seat.old.table_id) × (seat.new.me.1 ≡ seat.old.me.1) }
@@ -39,7 +40,8 @@ pub(crate) fn leave_with_key<B, K, A, R: Keyed<B, K>>(
     key: K,
     lane: usize,
 )
-    requires table { (seat.old.table_id ≡ top.now.table_id) × IsSized top.now.table_id × (lane < 8) }
+    requires table { (seat.old.table_id ≡ top.now.table_id) × IsSized top.now.table_id
+        × (lane < 8) }
     requires lane { let v = lane_of seat.old.me.0 in
         IsLane seat.old.me v × (lane ≡ v.number) × (at ≡ slot v.places v.number v.passed) }
     requires held { let v = lane_of seat.old.me.0 in

@@ -27,10 +27,9 @@ pub(crate) fn look_at_log<B, K, A, R: Keyed<B, K>>(
     ensures lane { let v = lane_of seat.old.me.0 in
         let w = lane_of seat.new.me.0 in
         (seat.new.me.0 ≡ with_lane w seat.old.me.0) × (w ≡ seeing w.front result.1 v) }
-    ensures seen { let v = lane_of seat.old.me.0 in
-        let w = lane_of seat.new.me.0 in
-        IsPrefix v.front w.front × IsPrefix seat.old.me.0.heard w.front × (result.0 ≡ length w.front)
-        × (result.0 ≤ most) }
+    ensures seen { let v = lane_of seat.old.me.0 in let w = lane_of seat.new.me.0 in
+        IsPrefix v.front w.front × IsPrefix seat.old.me.0.heard w.front
+        × (result.0 ≡ length w.front) × (result.0 ≤ most) }
 {
     let n = top.load::<Look>(seat, 0);
     (n / 2, n % 2 == 1)

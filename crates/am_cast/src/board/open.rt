@@ -20,7 +20,8 @@ pub(crate) fn open_lane<B, K, A, R: Keyed<B, K>>(
     seat: &mut LogSeat<B, K, A>,
     lane: usize,
 )
-    requires table { (seat.old.table_id ≡ top.now.table_id) × IsSized top.now.table_id × (lane < 8) }
+    requires table { (seat.old.table_id ≡ top.now.table_id) × IsSized top.now.table_id
+        × (lane < 8) }
     requires lane { let v = lane_of seat.old.me.0 in
         IsLane seat.old.me v × (lane ≡ v.number) × (v.here ≡ true) × (v.begun ≡ false) }
     ensures same { (seat.new.table_id ≡ seat.old.table_id) × (seat.new.me.1 ≡ seat.old.me.1) }

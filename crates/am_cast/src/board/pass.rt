@@ -24,7 +24,8 @@ pub(crate) fn pass_place<B, K, A, R: Keyed<B, K>>(
     key: K,
     lane: usize,
 ) -> bool
-    requires table { (seat.old.table_id ≡ top.now.table_id) × IsSized top.now.table_id × (lane < 8) }
+    requires table { (seat.old.table_id ≡ top.now.table_id) × IsSized top.now.table_id
+        × (lane < 8) }
     requires lane { let v = lane_of seat.old.me.0 in
         IsLane seat.old.me v × (lane ≡ v.number) × (at ≡ slot v.places v.number v.passed) }
     requires held { let v = lane_of seat.old.me.0 in

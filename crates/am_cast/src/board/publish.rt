@@ -25,15 +25,15 @@ pub(crate) fn publish_batch<B, K, A, R: Keyed<B, K>, X: Named<B>, E>(
     count: u64,
     tag: &E,
 )
-    requires table { (seat.old.table_id ≡ top.now.table_id) × IsSized top.now.table_id × (count < most) }
+    requires table { (seat.old.table_id ≡ top.now.table_id) × IsSized top.now.table_id
+        × (count < most) }
     requires writer { let q = writer_of seat.old.me.0 in
         IsWriter seat.old.me q × (q.tail.closed ≡ false) × (count ≡ length q.tail.log) }
-    requires laid { let q = writer_of seat.old.me.0 in
-        (x : B) × (X.name ≡ Some x)
-        × ((l : ℕ) → l < length q.accounts → ((account_of q l).out ≡ 0) × ((account_of q l).stand ≡ live → (account_of q l).laid ≡ Some (R.key x l))) }
+    requires laid { let q = writer_of seat.old.me.0 in (x : B) × (X.name ≡ Some x) × ((l : ℕ)
+        → l < length q.accounts → ((account_of q l).out ≡ 0) × ((account_of q l).stand ≡ live
+        → (account_of q l).laid ≡ Some (R.key x l))) }
     ensures same { (seat.new.table_id ≡ seat.old.table_id) × (seat.new.me.1 ≡ []) }
-    ensures writer { let q = writer_of seat.old.me.0 in
-        (x : B) → X.name ≡ Some x
+    ensures writer { let q = writer_of seat.old.me.0 in (x : B) → X.name ≡ Some x
         → seat.new.me.0 ≡ record seat.old.me.0 { writer = Some (longer x q); own = seat.old.me.0.own ++ own_at (length q.tail.log) x ∷ [] } }
 {
     let _ = tag;

@@ -21,17 +21,18 @@ pub(crate) fn recover_key<B, K, A, R: Keyed<B, K>>(
     seat: &mut LogSeat<B, K, A>,
     lane: usize,
 ) -> u64
-    requires table { (seat.old.table_id ≡ top.now.table_id) × IsSized top.now.table_id × (lane < 8) }
-    requires writer { let q = writer_of seat.old.me.0 in IsWriter seat.old.me q × (length q.accounts ≡ 8) }
+    requires table { (seat.old.table_id ≡ top.now.table_id) × IsSized top.now.table_id
+        × (lane < 8) }
+    requires writer { let q = writer_of seat.old.me.0 in IsWriter seat.old.me q
+        × (length q.accounts ≡ 8) }
     requires account { let b = account_of (writer_of seat.old.me.0) lane in
         (b.stand ≡ cut) × (b.away ≡ true) × (b.cleared ≡ b.stop) × (b.out ≡ 0) }
     ensures same { (seat.new.table_id ≡ seat.old.table_id) × (seat.new.me.1 ≡ []) }
-    ensures back { let q = writer_of seat.old.me.0 in
-        let b = account_of q lane in
+    ensures back { let q = writer_of seat.old.me.0 in let b = account_of q lane in
         result / 2 % 2 ≡ 0
-        → (seat.new.me.0 ≡ with_writer (with_account lane (back (result / 4) (loaded b)) q) seat.old.me.0) × (b.known ≤ result / 4) × (result / 4 ≤ length q.tail.log) }
-    ensures away { let q = writer_of seat.old.me.0 in
-        result / 2 % 2 ≢ 0
+        → (seat.new.me.0 ≡ with_writer (with_account lane (back (result / 4) (loaded b)) q) seat.old.me.0)
+        × (b.known ≤ result / 4) × (result / 4 ≤ length q.tail.log) }
+    ensures away { let q = writer_of seat.old.me.0 in result / 2 % 2 ≢ 0
         → seat.new.me.0 ≡ with_writer (with_account lane (loaded (account_of q lane)) q) seat.old.me.0 }
 {
     top.load::<Recover>(seat, 16 * lane + 16)

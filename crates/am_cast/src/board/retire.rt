@@ -24,9 +24,10 @@ pub(crate) fn retire_lane<B, K, A, R: Keyed<B, K>>(
     other: LogSeat<B, K, A>,
     lane: usize,
 )
-    requires table { (seat.old.table_id ≡ top.now.table_id) × IsSized top.now.table_id × (lane < 8) }
-    requires other { (other.table_id ≡ top.now.table_id) × (other.me.1 ≡ []) × (other.me.0.writer ≡ None)
-        × (other.me.0.own ≡ []) }
+    requires table { (seat.old.table_id ≡ top.now.table_id) × IsSized top.now.table_id
+        × (lane < 8) }
+    requires other { (other.table_id ≡ top.now.table_id) × (other.me.1 ≡ [])
+        × (other.me.0.writer ≡ None) × (other.me.0.own ≡ []) }
     requires writer { let q = writer_of seat.old.me.0 in
         IsWriter seat.old.me q × (length q.accounts ≡ 8) × (seat.old.me.0.lane ≡ None) }
     requires lane { let v = lane_of other.me.0 in
@@ -38,7 +39,8 @@ pub(crate) fn retire_lane<B, K, A, R: Keyed<B, K>>(
         (seat.new.me.0.writer ≡ Some (with_account lane (retired (account_of q lane)) q))
         × (seat.new.me.0.lane ≡ None) × (seat.new.me.0.own ≡ seat.old.me.0.own ++ other.me.0.own) }
     ensures sound { let q = writer_of seat.old.me.0 in
-        Sound q.tail (account_of q lane) (lane_of other.me.0) lane × ((account_of q lane).stand ≢ idle) }
+        Sound q.tail (account_of q lane) (lane_of other.me.0) lane
+        × ((account_of q lane).stand ≢ idle) }
 {
     top.join_seat::<Hear>(seat, other);
     top.load::<Retire>(seat, 16 * lane + 16);

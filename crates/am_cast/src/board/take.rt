@@ -26,7 +26,8 @@ pub(crate) fn take_key<B, K, A, R: Keyed<B, K>>(
     lane: usize,
     passed: u64,
 ) -> Option<K>
-    requires table { (seat.old.table_id ≡ top.now.table_id) × IsSized top.now.table_id × (lane < 8) × (passed ≤ most) }
+    requires table { (seat.old.table_id ≡ top.now.table_id) × IsSized top.now.table_id
+        × (lane < 8) × (passed ≤ most) }
     requires lane { let v = lane_of seat.old.me.0 in
         IsLane seat.old.me v × (lane ≡ v.number) × (passed ≡ v.passed)
         × (at ≡ slot v.places v.number v.passed) }

@@ -69,7 +69,8 @@ impl<T> Bucket<T> {
     pub(crate) fn bring(&mut self, place: u64, key: SegKey<T>)
     where
         T: Drop,
-        requires row { (keys : List (KeyView T)) × (find_row place self.old.rows ≡ Some keys) × MayTake keys key }
+        requires row { (keys : List (KeyView T)) × (find_row place self.old.rows ≡ Some keys)
+            × MayTake keys key }
         requires apart { AreApart self.old.rows }
         ensures here { (keys : List (KeyView T)) → find_row place self.old.rows ≡ Some keys
             → find_row place self.new.rows ≡ row_with keys key }
