@@ -1,8 +1,6 @@
 use Rattle.std.proofs.Common.{◌≡◌, ℕ, List, [], ◌∷◌, ◌++◌, sym, subst, string_bytes}
 use Rattle.am_script.specs.ScriptTexts.{refusal_text}
 use Rattle.am_replay.specs.Replays.{ComesTo, refused}
-use Rattle.am_replay.specs.Runs.{Runs, empty_session}
-use Rattle.am_script.specs.declared.command.Line.{Line}
 use Rattle.am_replay.specs.declared.status.Status.TheVariants.{Refused}
 use Rattle.am_replay.proofs.Outcomes.{comes, if_ok_both}
 use Rattle.am_replay.proofs.program.outcome_of.Goals as goal

@@ -1,4 +1,4 @@
-use Rattle.std.proofs.Common.{◌≡◌, ◌++◌, ◌∷◌, [], List, ℕ, length, ap, append-nil, sym, ◌∙◌, refl, rules}
+use Rattle.std.proofs.Common.{◌≡◌, ◌++◌, ◌∷◌, [], List, ℕ, length, ap, sym, ◌∙◌, refl, rules}
 use Rattle.std.proofs.lemmas.List.{nil_from_length}
 use Rattle.am_replay.proofs.Taken.{part_taken, part_added}
 use Rattle.am_replay.proofs.io.line_counter.LineCounter.take_in.Goals as goal
