@@ -47,6 +47,10 @@ def close():
     return {"do": "close", "thread": 0}
 
 
+def trim(thread=0):
+    return {"do": "trim", "thread": thread}
+
+
 def alert(labels, start=None, end=None, **annotations):
     """An alert as Prometheus posts it, its times in minutes after ten o'clock."""
     made = {"labels": labels, "annotations": annotations, "generatorURL": "http://prometheus.example.org:9090/graph"}
@@ -298,10 +302,12 @@ def drawn_alert(draw, minute):
 
 def drawn(seed, lines):
     """Any calls of all threads in any order, their moments near each other and not always in order."""
-    draw = random.Random(seed)
+    draw, trims = random.Random(seed), random.Random(-seed)
     names = set()
     for line in range(lines):
         minute, thread = line // 20, draw.randrange(8)
+        if trims.random() < 0.02:
+            yield trim(trims.randrange(8))
         if line == lines - 100:
             yield close()
         choice = draw.random()
@@ -323,6 +329,65 @@ def drawn(seed, lines):
 def drawn_calls():
     """Ten thousand calls, drawn at random."""
     return drawn(1, 10_000)
+
+
+def every_call():
+    """A short script with a call of each kind in each state: posts with and without alerts, merges, reads from the
+    opening and from the log, lanes that are left and taken again, collections and an end."""
+    yield post(0, numbered([1, 2], 0, 10))
+    yield subscribe("a")
+    yield post(1, numbered([2, 3], 1, 20))
+    yield read("a", 3)
+    yield subscribe("b")
+    yield post(2, [])
+    yield collect(11)
+    yield post(12, numbered([1], 12, 30))
+    yield read("b", 9)
+    yield leave("a")
+    yield subscribe("c", 1)
+    yield post(13, numbered([4, 3], 5, 40))
+    yield read("c", 2, 1)
+    yield leave("b")
+    yield subscribe("a")
+    yield collect(30)
+    yield post(31, [{"labels": {}}])
+    yield close()
+    yield post(32, numbered([5], 32, 50))
+    yield subscribe("late")
+    yield read("c", 9, 1)
+    yield read("a", 9)
+    yield leave("c", 1)
+    yield collect(60)
+    yield leave("a")
+
+
+def with_trims(points):
+    """The short script of every call with a trim before each of these of its commands."""
+    for number, command in enumerate(every_call()):
+        if number in points:
+            yield trim(number % 8)
+        yield command
+    yield trim()
+
+
+def trims_between_posts():
+    """Many posts of few label sets with a trim each hundred, and a subscriber that lags behind until the next one is
+    there."""
+    name = "0"
+    yield subscribe(name)
+    for turn in range(5_000):
+        yield post(turn % 50, numbered([turn % 100], turn % 50, 60))
+        if turn % 100 == 99:
+            yield read(name, 95)
+            yield trim()
+        if turn % 500 == 499:
+            yield subscribe(str(turn))
+            yield read(name, 1_000)
+            yield leave(name)
+            yield trim()
+            name = str(turn)
+    yield leave(name)
+    yield trim()
 
 
 def most_lines():
@@ -356,8 +421,12 @@ SCRIPTS = {
         faults,
         drawn_calls,
         most_lines,
+        trims_between_posts,
     )
 } | {f"bench_{name}": lambda name=name: of_bench(name) for name in BENCH}
+CALLS = len(list(every_call()))
+SCRIPTS |= {f"trim_before_call_{point}": lambda point=point: with_trims({point}) for point in range(CALLS)}
+SCRIPTS["trim_before_every_call"] = lambda: with_trims(set(range(CALLS)))
 
 
 def script(name):

@@ -11,7 +11,7 @@ import functools
 import json
 import re
 
-COMMANDS = ("post", "subscribe", "read", "leave", "collect", "close")
+COMMANDS = ("post", "subscribe", "read", "leave", "collect", "close", "trim")
 SECOND = 1_000_000_000
 RESOLVE_TIMEOUT = 300 * SECOND
 LANES = 8
@@ -211,8 +211,10 @@ def absorbed(old, new, now):
 
 
 class Subscription:
-    def __init__(self, lane, opening):
+    def __init__(self, lane, at, opening):
         self.lane = lane
+        # How many calls there had been before it.
+        self.at = at
         # All that it is to be shown: what was stored when it came, and then each batch.
         self.due = list(opening)
         self.ends = []
@@ -234,12 +236,16 @@ class Provider:
         self.posts = 0
         self.closed = False
         self.open = []
+        # How many calls were accepted, and how many of them trims dropped.
+        self.calls = 0
+        self.dropped = 0
 
     def post(self, alerts, now):
         """The number of the batch, None where there is nothing to send out."""
         if self.closed:
             raise Refused("E14 Closed")
         self.posts += 1
+        self.calls += 1
         batch = []
         for alert in alerts:
             key = alert.key
@@ -258,13 +264,31 @@ class Provider:
         free = set(range(LANES)) - {subscription.lane for subscription in self.open}
         if not free:
             raise Refused("E15 NoLane")
-        self.open.append(Subscription(min(free), self.stored.values()))
+        self.open.append(Subscription(min(free), self.calls, self.stored.values()))
+        self.calls += 1
         return self.open[-1]
+
+    def leave(self, subscription):
+        self.open.remove(subscription)
+        self.calls += 1
+
+    def close(self):
+        if self.closed:
+            raise Refused("E14 Closed")
+        self.closed = True
+        self.calls += 1
+
+    def trim(self):
+        """How many calls were dropped: those before the earliest open subscription."""
+        end = min((subscription.at for subscription in self.open), default=self.calls)
+        count, self.dropped = end - self.dropped, end
+        return count
 
     def collect(self, now):
         gone = [key for key, alert in self.stored.items() if alert.resolved_at(now)]
         for key in gone:
             del self.stored[key]
+        self.calls += 1
         return len(gone)
 
 
@@ -322,17 +346,18 @@ class Run:
         if subscription is None:
             yield "leave none"
             return
-        self.provider.open.remove(subscription)
+        self.provider.leave(subscription)
         yield f"leave taken {subscription.taken}" + (" closed" if subscription.told_closed else "")
 
     def collect(self, command):
         yield f"collect removed {self.provider.collect(moment(command['at']))}"
 
     def close(self, _command):
-        if self.provider.closed:
-            raise Refused("E14 Closed")
-        self.provider.closed = True
+        self.provider.close()
         yield "close"
+
+    def trim(self, _command):
+        yield f"trim dropped {self.provider.trim()}"
 
 
 def commands(script):

@@ -11,6 +11,7 @@ use Rattle.std.proofs.Math.Seq.{drop-length, drop-nil, drop-append_seam}
 use Rattle.am_alert.specs.declared.alert.Alert.{Alert}
 use Rattle.am_provider.specs.Broadcast.{items_of}
 use Rattle.am_provider.specs.Shared.{alerts_in}
+use Rattle.am_provider.proofs.Journals.{drop_front, drop_twice}
 use Rattle.am_provider.specs.inside.Cuts.{cut, IsCutInOrder, batch_start}
 
 pub cut_length : (from : ℕ) (ends : List ℕ) (alerts : List Alert) → length (cut from ends alerts) ≡ length ends
@@ -20,17 +21,6 @@ cut_length from (end ∷ ends) alerts = ap suc (cut_length end ends alerts)
 in_order : (from : ℕ) (ends : List ℕ) (count : ℕ) → IsCutInOrder from ends count → from ≤ count
 in_order from [] count order = omega (arith, order)
 in_order from (end ∷ ends) count order = let rest = in_order end ends count order.1 in omega (arith, order.0, rest)
-
-drop_front : (n : ℕ) (xs ys : List Alert) → n ≤ length xs → drop n (xs ++ ys) ≡ drop n xs ++ ys
-drop_front zero xs ys h = refl
-drop_front (suc n) [] ys h = absurd (omega arith)
-drop_front (suc n) (x ∷ xs) ys h = drop_front n xs ys (omega arith)
-
-drop_twice : (m n : ℕ) (xs : List Alert) → drop n (drop m xs) ≡ drop (m + n) xs
-drop_twice zero n xs = let e : n ≡ zero + n = omega arith in ap (λ k. drop k xs) e
-drop_twice (suc m) zero [] = sym (drop-nil (suc m + 0))
-drop_twice (suc m) (suc n) [] = sym (drop-nil (suc m + suc n))
-drop_twice (suc m) n (x ∷ xs) = let e : suc (m + n) ≡ suc m + n = omega arith in subst (λ k. drop n (drop m xs) ≡ drop k (x ∷ xs)) e (drop_twice m n xs)
 
 -- one batch more at the end
 pub cut_more : (from : ℕ) (ends : List ℕ) (alerts batch : List Alert) (last : ℕ) → IsCutInOrder from ends (length alerts) → last ≡ length alerts + length batch
@@ -43,7 +33,7 @@ cut_more from (end ∷ ends) alerts batch last order at =
     let later = in_order end ends (length alerts) order.1 in
     let begins : from ≤ length alerts = omega (arith, order.0, later) in
     let within : end - from ≤ length (drop from alerts) = omega (arith, later, length-drop from alerts) in
-    ap (λ one. one ∷ cut end (ends ++ last ∷ []) (alerts ++ batch)) (ap (take (end - from)) (drop_front from alerts batch begins) ∙ take-append-le (end - from) (drop from alerts) batch within)
+    ap (λ one. one ∷ cut end (ends ++ last ∷ []) (alerts ++ batch)) (ap (take (end - from)) (drop_front alerts batch from begins) ∙ take-append-le (end - from) (drop from alerts) batch within)
     ∙ ap (λ rest. take (end - from) (drop from alerts) ∷ rest) (cut_more end ends alerts batch last order.1 at)
 
 pub order_more : (from : ℕ) (ends : List ℕ) (count more last : ℕ) → IsCutInOrder from ends count → count ≤ more → last ≡ more → IsCutInOrder from (ends ++ last ∷ []) more

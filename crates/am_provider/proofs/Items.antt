@@ -1,5 +1,5 @@
 -- Items of lists one after another.
-use Rattle.std.proofs.Common.{◌≡◌, ℕ, zero, suc, ◌*◌, ◌^◌, length-append, length-drop, ◌+◌, ◌<◌, ◌≤◌, true, false, List, [], ◌∷◌, ◌++◌, length, take, drop, get_or, Option, Some, None, refl, sym, ap, subst, ◌∙◌, arith}
+use Rattle.std.proofs.Common.{◌≡◌, ℕ, zero, suc, ◌*◌, ◌^◌, length-append, length-drop, ◌+◌, ◌-◌, ◌<◌, ◌≤◌, true, false, List, [], ◌∷◌, ◌++◌, length, take, drop, get_or, Option, Some, None, refl, sym, ap, subst, ◌∙◌, arith}
 use Rattle.std.specs.List.{slice_get, All}
 use Rattle.std.proofs.lemmas.List.Elements.{All-drop}
 use Rattle.am_alert.specs.declared.post.TheConstants.{MAX_ALERTS}
@@ -8,20 +8,15 @@ use Rattle.am_provider.specs.inside.BookLimits.{IsWithinLogLimits}
 use Rattle.std.proofs.Math.Seq.{drop-cons}
 use Rattle.am_alert.specs.declared.alert.Alert.{Alert}
 use Rattle.am_provider.specs.Broadcast.{broadcast, broadcast_from, items_of, due}
-use Rattle.am_provider.specs.Journal.{is_closed}
+use Rattle.am_provider.specs.Journal.{until, since, is_closed}
 use Rattle.am_provider.specs.BookView.{BookView, SubscriptionView, all_of, taken, BelongsTo, IsFaithful}
 use Rattle.am_provider.specs.inside.Advances.{Advances}
 use Rattle.std.specs.Option.{is_some}
 use Rattle.am_provider.specs.declared.subscription.Advance.TheVariants.{Item, Pending, Closed}
 use Rattle.am_provider.specs.Stored.{updates}
-use Rattle.am_provider.proofs.Journals.{broadcast_parts}
+use Rattle.am_provider.proofs.Journals.{take_more, broadcast_parts}
 use Rattle.am_provider.proofs.Stored.{by_option}
 use Rattle.am_provider.proofs.Flags.{due_of}
-
-pub get_front : {A : Type 0} (xs ys : List A) (i : ℕ) → i < length xs → slice_get (xs ++ ys) i ≡ slice_get xs i
-get_front [] ys i h = absurd (omega arith)
-get_front (x ∷ xs) ys zero h = refl
-get_front (x ∷ xs) ys (suc i) h = get_front xs ys i (omega arith)
 
 pub get_back : {A : Type 0} (xs ys : List A) (i k : ℕ) → i ≡ length xs + k → slice_get (xs ++ ys) i ≡ slice_get ys k
 get_back [] ys i k h = let e : i ≡ k = omega arith in ap (slice_get ys) e
@@ -33,13 +28,6 @@ pub items_at : (batches : List (List Alert)) (at : ℕ) (batch : List Alert) →
 items_at batches at batch h e =
     let n : suc at ≡ at + 1 = omega arith in
     ap items_of (drop-cons batches at batch h) ∙ (ap (λ b. b ++ items_of (drop (suc at) batches)) (sym e) ∙ ap (λ n. batch ++ items_of (drop n batches)) n)
-
-pub taken_more : (xs : List Alert) (n : ℕ) (a : Alert) → slice_get xs n ≡ Some a → take (n + 1) xs ≡ take n xs ++ a ∷ []
-taken_more [] n a e = (cc)
-taken_more (x ∷ xs) zero a e = let same : x ≡ a = (cc) in ap (λ a. a ∷ []) same
-taken_more (x ∷ xs) (suc n) a e =
-    let m : suc (n + 1) ≡ suc n + 1 = omega arith in
-    subst (λ m. take m (x ∷ xs) ≡ x ∷ take n xs ++ a ∷ []) m (ap (λ rest. x ∷ rest) (taken_more xs n a e))
 
 pub taken_all : (xs : List Alert) (n : ℕ) → slice_get xs n ≡ None → take n xs ≡ xs
 taken_all [] zero e = refl
@@ -57,9 +45,11 @@ taken_due book sub kept of none = taken_all (all_of book sub) sub.count none ∙
 
 pub start_within : (book : BookView) (sub : SubscriptionView) → IsFaithful book → BelongsTo book sub → sub.start ≤ length book.log
 start_within book sub kept of =
-    let parts : length book.log ≡ length (broadcast (take sub.at book.journal)) + length (broadcast_from (updates (take sub.at book.journal)) (drop sub.at book.journal)) =
-    ap length (kept.log ∙ broadcast_parts book.journal sub.at) ∙ length-append (broadcast (take sub.at book.journal)) (broadcast_from (updates (take sub.at book.journal)) (drop sub.at book.journal)) in
-    omega (arith, of.start)
+    let before = broadcast (until book.journal sub.at) in
+    let after = broadcast_from (updates (until book.journal sub.at)) (since book.journal sub.at) in
+    let parts : length (drop book.journal.places book.log) ≡ length before + length after =
+    ap length (kept.log ∙ broadcast_parts book.journal (sub.at - book.journal.before)) ∙ length-append before after in
+    omega (arith, of.start, parts, length-drop book.journal.places book.log, kept.places)
 
 -- ---- how much there can be
 
@@ -87,17 +77,15 @@ pub shows_item : (book : BookView) (old new : SubscriptionView) → new ≡ reco
 shows_item book old new e more =
     by_option {P = Advances book old Item new} (slice_get (all_of book old) old.count)
     (λ none. absurd (let no : true ≡ false = more ∙ ap is_some none in (cc)))
-    (λ a some. (a, (e, ap (taken book) e ∙ taken_more (all_of book old) old.count a some)))
+    (λ a some. (a, (e, ap (taken book) e ∙ take_more (all_of book old) old.count a some)))
 
 pub given_item : (book : BookView) (old new : SubscriptionView) → BelongsTo book old → new ≡ record old { count = old.count + 1 } → true ≡ is_some (slice_get (all_of book old) old.count) → BelongsTo book new
 given_item book old new of e more =
     let below = more_within (all_of book old) old.count more in
     subst (BelongsTo book) (sym e) (record {
-      entry = of.entry;
+      given = of.given;
       opening = of.opening;
       start = of.start;
-      still = of.still;
-      since = of.since;
       within = omega arith;
       told = λ told. let all = (of.told told).all in absurd (omega arith);
     })
@@ -121,11 +109,9 @@ pub given_closed : (book : BookView) (old new : SubscriptionView) → BelongsTo 
 given_closed book old new of e more ended =
     let past = none_past (all_of book old) old.count (none_of (slice_get (all_of book old) old.count) more) in
     subst (BelongsTo book) (sym e) (record {
-      entry = of.entry;
+      given = of.given;
       opening = of.opening;
       start = of.start;
-      still = of.still;
-      since = of.since;
       within = of.within;
       told = λ told. record { ended = ended; all = omega (arith, past, of.within) };
     })

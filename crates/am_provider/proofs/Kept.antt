@@ -1,9 +1,14 @@
 -- A book stays sound as a call comes.
-use Rattle.std.proofs.Common.{◌≡◌, ℕ, zero, suc, ◌+◌, ◌<◌, ◌≤◌, Bool, true, false, not, cond, ◌||◌, nat_eq, List, [], ◌∷◌, ◌++◌, length, get_or, refl, sym, ap, subst, ◌∙◌, arith, filter, length-append, ◌^◌}
-use Rattle.std.specs.Vec.{vec_len, vec_capacity}
-use Rattle.am_provider.specs.inside.Lanes.{open_count}
+use Rattle.std.proofs.Common.{◌≡◌, ℕ, zero, suc, ◌+◌, ◌<◌, ◌≤◌, Bool, true, false, not, cond, ◌||◌, nat_eq, List, [], ◌∷◌, ◌++◌, length, drop, get_or, Option, None, Some, refl, sym, ap, subst, ◌∙◌, arith, filter, length-append, ◌^◌}
+use Rattle.std.specs.Option.{is_some, IfSome}
+use Rattle.std.specs.VecDeque.{deque_len, deque_capacity}
+use Rattle.am_provider.specs.declared.lanes.OpenLane.{OpenLane}
+use Rattle.am_provider.specs.declared.journal.TheConstants.{MAX_BEFORE}
+use Rattle.am_provider.specs.inside.Journals.{journal_of}
+use Rattle.am_provider.specs.inside.Lanes.{lane_at, open_count, IsItsOpening}
 use Rattle.std.proofs.lemmas.List.{append-nil}
 use Rattle.std.proofs.lemmas.List.Elements.{All-append}
+use Rattle.std.specs.List.{count_by}
 use Rattle.std.proofs.lemmas.List.Sums.{count_by-le-length}
 use Rattle.am_alert.specs.declared.alert.Alert.{Alert}
 use Rattle.am_alert.specs.Merging.{is_resolved_at}
@@ -13,42 +18,87 @@ use Rattle.am_alert.specs.declared.post.TheConstants.{MAX_ALERTS}
 use Rattle.am_provider.specs.declared.book.TheConstants.{LOG_END}
 use Rattle.am_provider.specs.declared.book.Book.TheInside.{Inside}
 use Rattle.am_provider.specs.Stored.{Update, updates_of, updates, stored}
-use Rattle.am_provider.specs.Broadcast.{batch_of, batches_of, broadcast}
-use Rattle.am_provider.specs.Journal.{closes, is_closed, is_post, posts_of, open_after, is_open, MayFollow, IsLegal}
+use Rattle.am_provider.specs.Broadcast.{batch_of, batches_of}
+use Rattle.am_provider.specs.Journal.{JournalView, with_call, closes, is_closed, is_post, posts_of, open_after, is_open, MayFollow}
 use Rattle.am_provider.specs.AlertList.{with_alerts, batch_by_list}
 use Rattle.am_provider.specs.inside.Batches.{batches_in, AreEnds}
 use Rattle.am_provider.specs.inside.BookLimits.{IsWithinLogLimits}
+use Rattle.am_provider.specs.BookView.{IsFaithful}
 use Rattle.am_provider.specs.inside.BookInside.{AgreesWithJournal}
 use Rattle.am_provider.proofs.Stored.{stored_post, batch_of_post, stored_collect}
-use Rattle.am_provider.proofs.Journals.{updates_last, broadcast_last, posts_last, closed_last, open_last, legal_last}
+use Rattle.am_provider.proofs.Journals.{drop_front, updates_last, broadcast_last, posts_last, closed_last, open_last, legal_last}
+use Rattle.am_provider.proofs.Opens.{until_stays, open_stays}
 
 pub record Grows (a b : Inside) (c : Call) : Type 0 where
-  pub journal : b.journal.items ≡ a.journal.items ++ c ∷ []
-  pub stored : b.stored ≡ stored (updates a.journal.items ++ updates_of c)
-  pub log : batches_in b.log ≡ batches_in a.log ++ batches_of (updates a.journal.items) c
+  pub journal : journal_of b.journal ≡ with_call (journal_of a.journal) c
+  pub stored : b.stored ≡ stored (updates (journal_of a.journal) ++ updates_of c)
+  pub log : batches_in b.log ≡ batches_in a.log ++ batches_of (updates (journal_of a.journal)) c
   pub closed : b.closed ≡ (a.closed || closes c)
   pub eight : length b.lanes ≡ length a.lanes
-  pub lanes : (lane : ℕ) → lane < 8 → get_or b.lanes lane false ≡ open_after lane (get_or a.lanes lane false) c
-  pub posts : b.posts ≡ a.posts + posts_of (c ∷ [])
+  pub lanes : (lane : ℕ) → lane < 8 → is_some (lane_at b.lanes lane) ≡ open_after lane (is_some (lane_at a.lanes lane)) c
+  pub openings : (lane : ℕ) → IfSome (lane_at b.lanes lane) (IsItsOpening (with_call (journal_of a.journal) c) lane)
+  pub posts : b.posts ≡ a.posts + count_by is_post (c ∷ [])
   pub ends : AreEnds b.log
   pub limits : IsWithinLogLimits (batches_in b.log)
-  pub room : vec_len b.journal + open_count b.lanes + cond b.closed 0 1 ≤ vec_capacity b.journal
+  pub room : deque_len b.journal.calls + open_count b.lanes + cond b.closed 0 1 ≤ deque_capacity b.journal.calls
 
-pub sound_grown : (a b : Inside) (c : Call) → AgreesWithJournal a → MayFollow a.journal.items c → Grows a b c → AgreesWithJournal b
-sound_grown a b c sound may grows = record {
-  kept = record {
-    stored = grows.stored ∙ sym (ap (λ calls. stored (updates calls)) grows.journal ∙ ap stored (updates_last a.journal.items c));
-    log = grows.log ∙ (ap (λ log. log ++ batches_of (updates a.journal.items) c) sound.kept.log ∙ sym (ap broadcast grows.journal ∙ broadcast_last a.journal.items c));
-    legal = subst IsLegal (sym grows.journal) (legal_last a.journal.items c sound.kept.legal may);
-  };
-  eight = grows.eight ∙ sound.eight;
-  closed = grows.closed ∙ (ap (λ b. b || closes c) sound.closed ∙ sym (ap is_closed grows.journal ∙ closed_last a.journal.items c));
-  lanes = λ lane h. grows.lanes lane h ∙ (ap (λ was. open_after lane was c) (sound.lanes lane h) ∙ sym (ap (λ calls. is_open calls lane) grows.journal ∙ open_last a.journal.items c lane));
-  posts = grows.posts ∙ (ap (λ n. n + posts_of (c ∷ [])) sound.posts ∙ sym (ap posts_of grows.journal ∙ posts_last a.journal.items c));
-  ends = grows.ends;
-  limits = grows.limits;
-  room = grows.room;
+faithful_grown : (a b : Inside) (c : Call) → AgreesWithJournal a → MayFollow (journal_of a.journal) c → Grows a b c
+    → IsFaithful (record { stored = b.stored; journal = with_call (journal_of a.journal) c; log = batches_in b.log })
+faithful_grown a b c sound may grows =
+    let journal = journal_of a.journal in
+    let sent = batches_of (updates journal) c in
+    record {
+      stored = grows.stored ∙ sym (ap stored (updates_last journal c));
+      log = ap (drop journal.places) grows.log
+          ∙ (drop_front (batches_in a.log) sent journal.places sound.kept.places
+          ∙ (ap (λ batches. batches ++ sent) sound.kept.log ∙ sym (broadcast_last journal c)));
+      places = omega (arith, sound.kept.places, ap length grows.log, length-append (batches_in a.log) sent);
+      base = sound.kept.base;
+      legal = legal_last journal c sound.kept.legal may;
+    }
+
+pub sound_grown : (a b : Inside) (c : Call) → AgreesWithJournal a → MayFollow (journal_of a.journal) c → Grows a b c → AgreesWithJournal b
+sound_grown a b c sound may grows =
+    let journal = journal_of a.journal in
+    let places : b.journal.places ≡ a.journal.places = ap (λ (j : JournalView). j.places) grows.journal in
+    let bits : b.journal.lanes ≡ a.journal.lanes = ap (λ (j : JournalView). j.lanes) grows.journal in
+    let posts : b.journal.posts ≡ a.journal.posts = ap (λ (j : JournalView). j.posts) grows.journal in
+    let before : b.journal.before ≡ a.journal.before = ap (λ (j : JournalView). j.before) grows.journal in
+    record {
+      kept = subst (λ j. IsFaithful (record { stored = b.stored; journal = j; log = batches_in b.log })) (sym grows.journal) (faithful_grown a b c sound may grows);
+      eight = grows.eight ∙ sound.eight;
+      closed = grows.closed ∙ (ap (λ b. b || closes c) sound.closed ∙ sym (ap is_closed grows.journal ∙ closed_last journal c));
+      lanes = λ lane h. grows.lanes lane h ∙ (ap (λ was. open_after lane was c) (sound.lanes lane h) ∙ sym (ap (λ j. is_open j lane) grows.journal ∙ open_last journal c lane));
+      openings = λ lane. subst (λ j. IfSome (lane_at b.lanes lane) (IsItsOpening j lane)) (sym grows.journal) (grows.openings lane);
+      posts = grows.posts ∙ (ap (λ n. n + count_by is_post (c ∷ [])) sound.posts ∙ sym (ap posts_of grows.journal ∙ posts_last journal c));
+      dropped = record {
+        places = omega (arith, places, posts, sound.dropped.places);
+        posts = omega (arith, posts, before, sound.dropped.posts);
+        before = omega (arith, before, sound.dropped.before);
+        lanes = omega (arith, bits, sound.dropped.lanes);
+      };
+      ends = grows.ends;
+      limits = grows.limits;
+      room = grows.room;
+    }
+
+-- ---- what each lane has stays its subscription's
+
+pub if_some : {A : Type 0} {P Q : A → Type 0} (o : Option A) → ((x : A) → o ≡ Some x → P x → Q x) → IfSome o P → IfSome o Q
+if_some None f p = tt
+if_some (Some x) f p = f x refl p
+
+pub opening_stays : (journal : JournalView) (c : Call) (lane : ℕ) (one : OpenLane) → open_after lane true c ≡ true → IsItsOpening journal lane one → IsItsOpening (with_call journal c) lane one
+opening_stays journal c lane one goes its = record {
+  given = open_stays journal c lane one.at its.given goes;
+  opening = its.opening ∙ ap (λ j. stored (updates j)) (sym (until_stays journal c lane one.at its.given));
 }
+
+pub openings_stay : (a b : Inside) (c : Call) → AgreesWithJournal a → ((lane : ℕ) → open_after lane true c ≡ true) → b.lanes ≡ a.lanes
+    → (lane : ℕ) → IfSome (lane_at b.lanes lane) (IsItsOpening (with_call (journal_of a.journal) c) lane)
+openings_stay a b c sound goes lanes lane =
+    subst (λ lanes. IfSome (lane_at lanes lane) (IsItsOpening (with_call (journal_of a.journal) c) lane)) (sym lanes)
+    (if_some (lane_at a.lanes lane) (λ one e its. opening_stays (journal_of a.journal) c lane one (goes lane) its) (sound.openings lane))
 
 pub or_false : (b : Bool) → (b || false) ≡ b
 or_false true = refl
@@ -62,16 +112,17 @@ cond_append : (b : Bool) (xs : List (List Alert)) (y : List Alert) → cond b xs
 cond_append true xs y = sym (append-nil xs)
 cond_append false xs y = refl
 
-few : (bs : List Bool) → open_count bs ≤ length bs
+few : (lanes : List (Option OpenLane)) → open_count lanes ≤ length lanes
 few [] = omega arith
-few (true ∷ bs) = let h = few bs in omega arith
-few (false ∷ bs) = let h = few bs in omega arith
+few (None ∷ lanes) = let h = few lanes in omega arith
+few (Some one ∷ lanes) = let h = few lanes in omega arith
 
 at_most_one : (b : Bool) → cond b 0 1 ≤ 1
 at_most_one true = omega arith
 at_most_one false = omega arith
 
-pub enough : (b : Inside) → length b.lanes ≡ 8 → vec_len b.journal + 9 ≤ vec_capacity b.journal → vec_len b.journal + open_count b.lanes + cond b.closed 0 1 ≤ vec_capacity b.journal
+pub enough : (b : Inside) → length b.lanes ≡ 8 → deque_len b.journal.calls + 9 ≤ deque_capacity b.journal.calls
+    → deque_len b.journal.calls + open_count b.lanes + cond b.closed 0 1 ≤ deque_capacity b.journal.calls
 enough b eight room =
     let x : open_count b.lanes ≤ length b.lanes = few b.lanes in
     let y : cond b.closed 0 1 ≤ 1 = at_most_one b.closed in
@@ -99,34 +150,36 @@ limits_same a b sound log = subst (λ log. IsWithinLogLimits (batches_in log)) (
 
 pub posts_small : (a : Inside) → AgreesWithJournal a → a.posts + 1 < 2 ^ 64
 posts_small a sound =
-    let le : posts_of a.journal.items ≤ length a.journal.items = count_by-le-length is_post a.journal.items in
-    let long : vec_len a.journal ≡ length a.journal.items = a.journal.ok.0 in
-    let small = a.journal.small in
-    omega (arith, sound.posts, le, long, small)
+    let le : count_by is_post a.journal.calls.items ≤ length a.journal.calls.items = count_by-le-length is_post a.journal.calls.items in
+    let long : deque_len a.journal.calls ≡ length a.journal.calls.items = a.journal.calls.ok.0 in
+    let small = a.journal.calls.small in
+    let before : a.journal.before ≤ MAX_BEFORE = sound.dropped.before in
+    omega (arith, sound.posts, sound.dropped.posts, before, le, long, small)
 
 -- ---- a post
 
 pub sound_posted : (a b : Inside) (now : ℕ) (news batch : List Alert) → AgreesWithJournal a → a.closed ≡ false
-    → b.journal.items ≡ a.journal.items ++ Posted now news ∷ []
+    → journal_of b.journal ≡ with_call (journal_of a.journal) (Posted now news)
     → b.stored ≡ with_alerts batch a.stored
     → batches_in b.log ≡ cond (nat_eq (length batch) 0) (batches_in a.log) (batches_in a.log ++ batch ∷ [])
     → AreEnds b.log
     → batch ≡ batch_by_list now news a.stored
     → length batch ≡ length news → length news ≤ MAX_ALERTS → (0 < length news → length (batches_in a.log) < LOG_END)
-    → b.closed ≡ a.closed → b.lanes ≡ a.lanes → b.posts ≡ a.posts + 1 → vec_len b.journal + 9 ≤ vec_capacity b.journal → AgreesWithJournal b
+    → b.closed ≡ a.closed → b.lanes ≡ a.lanes → b.posts ≡ a.posts + 1 → deque_len b.journal.calls + 9 ≤ deque_capacity b.journal.calls → AgreesWithJournal b
 sound_posted a b now news batch sound still journal store log ends sent long few fits closed lanes posts room =
-    let same = batch_of_post (updates a.journal.items) now news ∙ ap (batch_by_list now news) (sym sound.kept.stored) in
+    let same = batch_of_post (updates (journal_of a.journal)) now news ∙ ap (batch_by_list now news) (sym sound.kept.stored) in
     let short : length batch ≤ MAX_ALERTS = omega arith in
     let below : 0 < length batch → length (batches_in a.log) < LOG_END = λ h. fits (omega arith) in
     sound_grown a b (Posted now news) sound (sym sound.closed ∙ still) (record {
       journal = journal;
-      stored = store ∙ (ap (λ batch. with_alerts batch a.stored) sent ∙ sym (stored_post (updates a.journal.items) now news ∙ ap (λ olds. with_alerts (batch_by_list now news olds) olds) (sym sound.kept.stored)));
+      stored = store ∙ (ap (λ batch. with_alerts batch a.stored) sent ∙ sym (stored_post (updates (journal_of a.journal)) now news ∙ ap (λ olds. with_alerts (batch_by_list now news olds) olds) (sym sound.kept.stored)));
       log = log ∙ (ap (λ n. cond (nat_eq n 0) (batches_in a.log) (batches_in a.log ++ batch ∷ [])) long
           ∙ (cond_append (nat_eq (length news) 0) (batches_in a.log) batch
-          ∙ ap (λ sent. batches_in a.log ++ sent) (ap (λ x. cond (nat_eq (length news) 0) [] (x ∷ [])) (sent ∙ sym same) ∙ sym (batches_posted (updates a.journal.items) now news))));
+          ∙ ap (λ sent. batches_in a.log ++ sent) (ap (λ x. cond (nat_eq (length news) 0) [] (x ∷ [])) (sent ∙ sym same) ∙ sym (batches_posted (updates (journal_of a.journal)) now news))));
       closed = closed ∙ sym (or_false a.closed);
       eight = ap length lanes;
-      lanes = λ lane h. ap (λ lanes. get_or lanes lane false) lanes;
+      lanes = λ lane h. ap (λ lanes. is_some (lane_at lanes lane)) lanes;
+      openings = openings_stay a b (Posted now news) sound (λ lane. refl) lanes;
       posts = posts;
       ends = ends;
       limits = subst IsWithinLogLimits (sym log) (limits_grown (batches_in a.log) batch sound.limits short below);
@@ -136,17 +189,18 @@ sound_posted a b now news batch sound still journal store log ends sent long few
 -- ---- a collection
 
 pub sound_collected : (a b : Inside) (now : ℕ) → AgreesWithJournal a
-    → b.journal.items ≡ a.journal.items ++ Collected now ∷ []
+    → journal_of b.journal ≡ with_call (journal_of a.journal) (Collected now)
     → b.stored ≡ filter (λ alert. not (is_resolved_at now alert)) a.stored
-    → b.log ≡ a.log → b.closed ≡ a.closed → b.lanes ≡ a.lanes → b.posts ≡ a.posts → vec_len b.journal + 9 ≤ vec_capacity b.journal → AgreesWithJournal b
+    → b.log ≡ a.log → b.closed ≡ a.closed → b.lanes ≡ a.lanes → b.posts ≡ a.posts → deque_len b.journal.calls + 9 ≤ deque_capacity b.journal.calls → AgreesWithJournal b
 sound_collected a b now sound journal store log closed lanes posts room =
     sound_grown a b (Collected now) sound tt (record {
       journal = journal;
-      stored = store ∙ sym (stored_collect (updates a.journal.items) now ∙ ap (filter (λ alert. not (is_resolved_at now alert))) (sym sound.kept.stored));
+      stored = store ∙ sym (stored_collect (updates (journal_of a.journal)) now ∙ ap (filter (λ alert. not (is_resolved_at now alert))) (sym sound.kept.stored));
       log = ap batches_in log ∙ sym (append-nil (batches_in a.log));
       closed = closed ∙ sym (or_false a.closed);
       eight = ap length lanes;
-      lanes = λ lane h. ap (λ lanes. get_or lanes lane false) lanes;
+      lanes = λ lane h. ap (λ lanes. is_some (lane_at lanes lane)) lanes;
+      openings = openings_stay a b (Collected now) sound (λ lane. refl) lanes;
       posts = omega (arith, posts);
       ends = subst AreEnds (sym log) sound.ends;
       limits = limits_same a b sound log;
@@ -159,8 +213,8 @@ or_true : (b : Bool) → (b || true) ≡ true
 or_true true = refl
 or_true false = refl
 
-closed_room : (a b : Inside) → vec_len a.journal + open_count a.lanes + cond a.closed 0 1 ≤ vec_capacity a.journal → a.closed ≡ false → b.closed ≡ true → b.lanes ≡ a.lanes
-    → (vec_len b.journal ≡ vec_len a.journal + 1) × (vec_capacity a.journal ≤ vec_capacity b.journal) → vec_len b.journal + open_count b.lanes + cond b.closed 0 1 ≤ vec_capacity b.journal
+closed_room : (a b : Inside) → deque_len a.journal.calls + open_count a.lanes + cond a.closed 0 1 ≤ deque_capacity a.journal.calls → a.closed ≡ false → b.closed ≡ true → b.lanes ≡ a.lanes
+    → (deque_len b.journal.calls ≡ deque_len a.journal.calls + 1) × (deque_capacity a.journal.calls ≤ deque_capacity b.journal.calls) → deque_len b.journal.calls + open_count b.lanes + cond b.closed 0 1 ≤ deque_capacity b.journal.calls
 closed_room a b old still closed lanes room =
     let x : cond {A = ℕ} a.closed 0 1 ≡ 1 = ap (λ (b : Bool). cond {A = ℕ} b 0 1) still in
     let y : cond {A = ℕ} b.closed 0 1 ≡ 0 = ap (λ (b : Bool). cond {A = ℕ} b 0 1) closed in
@@ -168,17 +222,18 @@ closed_room a b old still closed lanes room =
     omega arith
 
 pub sound_closed : (a b : Inside) → AgreesWithJournal a → a.closed ≡ false
-    → b.journal.items ≡ a.journal.items ++ Closed ∷ []
+    → journal_of b.journal ≡ with_call (journal_of a.journal) Closed
     → b.stored ≡ a.stored → b.log ≡ a.log → b.lanes ≡ a.lanes → b.posts ≡ a.posts → b.closed ≡ true
-    → (vec_len b.journal ≡ vec_len a.journal + 1) × (vec_capacity a.journal ≤ vec_capacity b.journal) → AgreesWithJournal b
+    → (deque_len b.journal.calls ≡ deque_len a.journal.calls + 1) × (deque_capacity a.journal.calls ≤ deque_capacity b.journal.calls) → AgreesWithJournal b
 sound_closed a b sound still journal store log lanes posts closed room =
     sound_grown a b Closed sound (sym sound.closed ∙ still) (record {
       journal = journal;
-      stored = store ∙ (sound.kept.stored ∙ ap stored (sym (append-nil (updates a.journal.items))));
+      stored = store ∙ (sound.kept.stored ∙ ap stored (sym (append-nil (updates (journal_of a.journal)))));
       log = ap batches_in log ∙ sym (append-nil (batches_in a.log));
       closed = closed ∙ sym (or_true a.closed);
       eight = ap length lanes;
-      lanes = λ lane h. ap (λ lanes. get_or lanes lane false) lanes;
+      lanes = λ lane h. ap (λ lanes. is_some (lane_at lanes lane)) lanes;
+      openings = openings_stay a b Closed sound (λ lane. refl) lanes;
       posts = omega (arith, posts);
       ends = subst AreEnds (sym log) sound.ends;
       limits = limits_same a b sound log;

@@ -4,7 +4,7 @@ use Rattle.am_alert.specs.declared.alert.Alert.{Alert}
 use Rattle.am_labels.specs.LabelSets.{Labels}
 use Rattle.am_provider.specs.declared.call.Call.{Call}
 use Rattle.am_provider.specs.declared.call.Call.TheVariants.{Posted, Collected, Subscribed, Left, Closed}
-use Rattle.am_provider.specs.Stored.{Update, Report, updates_of, Holding, holding_of, after_report}
+use Rattle.am_provider.specs.Stored.{Update, Report, updates_of, first_reports, Holding, holding_of, after_report}
 use Rattle.am_provider.specs.Broadcast.{alert_of, batch_of, broadcast_from}
 use Rattle.am_provider.specs.Laws.{BatchesAnswerPosts, labels_of_batch, posted_labels}
 use Rattle.am_provider.proofs.Stored.{held_own, absorbed_labels, Sits, sits}
@@ -37,4 +37,4 @@ from_calls before (Left lane ∷ calls) = from_calls (before ++ []) calls
 from_calls before (Closed ∷ calls) = from_calls (before ++ []) calls
 
 pub batches_answer_posts : BatchesAnswerPosts
-batches_answer_posts calls = from_calls [] calls
+batches_answer_posts journal = from_calls (first_reports journal.store) journal.calls

@@ -390,7 +390,7 @@ with_alert_absent alert (a ∷ olds) e =
     (λ t. let some : Some a ≡ None = sym (ap (λ b. cond b (Some a) (lookup alert.labels olds)) t) ∙ e in (cc))
     (λ f. ap (λ b. cond b (alert ∷ olds) (a ∷ with_alert alert olds)) f ∙ ap (λ rest. a ∷ rest) (with_alert_absent alert olds (sym (ap (λ b. cond b (Some a) (lookup alert.labels olds)) f) ∙ e)))
 
-absorb_into_absent : (now : ℕ) (new : Alert) (olds : List Alert) → lookup new.labels olds ≡ None → absorb_into now new olds ≡ olds ++ new ∷ []
+pub absorb_into_absent : (now : ℕ) (new : Alert) (olds : List Alert) → lookup new.labels olds ≡ None → absorb_into now new olds ≡ olds ++ new ∷ []
 absorb_into_absent now new olds e = ap (λ o. with_alert (absorbed now o new) olds) e ∙ with_alert_absent new olds e
 
 update_absent : (now : ℕ) (new : Alert) (olds : List Alert) → absent new.labels olds ≡ true → map (update now new) olds ≡ olds

@@ -1,10 +1,11 @@
 -- What is sent out, by the journal alone, and what of it is due to a subscription.
-use Rattle.std.specs.Prelude.{◌≡◌, ℕ, List, [], ◌∷◌, ◌++◌, take, drop, Option, Some, None}
+use Rattle.std.specs.Prelude.{◌≡◌, ℕ, List, [], ◌∷◌, ◌++◌, Option, Some, None}
 use Rattle.std.specs.List.{flat_map}
 use Rattle.am_alert.specs.declared.alert.Alert.{Alert}
 use Rattle.am_provider.specs.declared.call.Call.{Call}
 use Rattle.am_provider.specs.declared.call.Call.TheVariants.{Posted, Collected, Subscribed, Left, Closed}
-use Rattle.am_provider.specs.Stored.{Update, Report, updates_of, updates, Holding, holding_of, stored}
+use Rattle.am_provider.specs.Journal.{JournalView, until, since}
+use Rattle.am_provider.specs.Stored.{Update, Report, updates_of, first_reports, updates, Holding, holding_of, stored}
 
 -- the alert held, as a list
 abbrev pub alert_of : Option Holding → List Alert
@@ -34,19 +35,22 @@ broadcast_from before [] = []
 broadcast_from before (call ∷ calls) =
     batches_of before call ++ broadcast_from (before ++ updates_of call) calls
 
--- what a journal sent out: one batch for each post with an alert
-abbrev pub broadcast : List Call → List (List Alert)
-broadcast calls = broadcast_from [] calls
+-- what a journal's calls sent out, without those that were dropped: one batch for each post with an
+-- alert
+abbrev pub broadcast : JournalView → List (List Alert)
+broadcast journal = broadcast_from (first_reports journal.store) journal.calls
 
 -- the alerts of batches, one after another
 abbrev pub items_of : List (List Alert) → List Alert
 items_of batches = flat_map (λ batch. batch) batches
 
--- what is due to who subscribed when so many calls were made: what was stored then, and what was
--- sent out since (`provider/mem`'s Subscribe: the alerts there are, then those of its channel)
-abbrev pub due : List Call → ℕ → List Alert
-due calls at =
-    stored (updates (take at calls)) ++ items_of (broadcast_from (updates (take at calls)) (drop at calls))
+-- what is due to who subscribed when so many calls had been made, none of which was dropped since:
+-- what was stored then, and what was sent out since (`provider/mem`'s Subscribe: the alerts there are,
+-- then those of its channel)
+abbrev pub due : JournalView → ℕ → List Alert
+due journal at =
+    stored (updates (until journal at))
+    ++ items_of (broadcast_from (updates (until journal at)) (since journal at))
 
 -- the first list begins the second
 abbrev pub IsFront : {A : Type 0} → List A → List A → Type 0

@@ -1,13 +1,14 @@
--- What stays as the journal grows, and what the stored list holds.
-use Rattle.std.specs.Prelude.{◌≡◌, ℕ, ◌≤◌, true, List, [], ◌∷◌, ◌++◌, map, length}
+-- What stays as the journal grows or is trimmed, and what the stored list holds.
+use Rattle.std.specs.Prelude.{◌≡◌, ◌↔◌, ℕ, ◌+◌, ◌-◌, ◌≤◌, true, List, [], ◌∷◌, ◌++◌, map, length, drop}
 use Rattle.std.specs.Option.{option_map}
 use Rattle.am_alert.specs.declared.alert.Alert.{Alert}
 use Rattle.am_labels.specs.LabelSets.{Labels}
 use Rattle.am_provider.specs.declared.call.Call.{Call}
 use Rattle.am_provider.specs.declared.call.Call.TheVariants.{Posted, Collected, Subscribed, Left, Closed}
-use Rattle.am_provider.specs.Journal.{open_after}
-use Rattle.am_provider.specs.Stored.{Update, Holding, holding_of, stored}
+use Rattle.am_provider.specs.Journal.{JournalView, with_call, call_count, is_closed, posts_of, open_after, is_open, IsOpenSubscription, MayFollow}
+use Rattle.am_provider.specs.Stored.{Update, Holding, holding_of, first_reports, updates, stored}
 use Rattle.am_provider.specs.Broadcast.{broadcast, due, IsFront}
+use Rattle.am_provider.specs.Trims.{AreBeforeOpen, IsTrimmed}
 use Rattle.am_provider.specs.AlertList.{lookup, AreDistinct}
 use Rattle.am_provider.specs.BookView.{BookView, IsFaithful, SubscriptionView, taken, BelongsTo}
 
@@ -17,21 +18,29 @@ abbrev pub StaysGiven : Type 0
 StaysGiven =
     (old new : BookView) (subscription : SubscriptionView) (call : Call)
     → IsFaithful old → IsFaithful new → BelongsTo old subscription
-    → new.journal ≡ old.journal ++ call ∷ [] → open_after subscription.lane true call ≡ true
+    → new.journal ≡ with_call old.journal call → open_after subscription.lane true call ≡ true
     → BelongsTo new subscription × (taken new subscription ≡ taken old subscription)
+
+-- the lane of an open subscription is open
+abbrev pub OpenLanesAreOpen : Type 0
+OpenLanesAreOpen =
+    (journal : JournalView) (lane at : ℕ) → IsOpenSubscription journal lane at
+    → is_open journal lane ≡ true
 
 -- a subscription whose lane is left belongs to the Book no more, whoever takes the lane later
 abbrev pub LeavingEnds : Type 0
 LeavingEnds =
     (old new : BookView) (subscription : SubscriptionView) (later : List Call)
-    → BelongsTo old subscription → new.journal ≡ old.journal ++ Left subscription.lane ∷ later
+    → BelongsTo old subscription
+    → new.journal
+    ≡ record old.journal { calls = old.journal.calls ++ Left subscription.lane ∷ later }
     → BelongsTo new subscription → ⊥
 
 -- what begins what is due still does when a call comes
 abbrev pub StaysFront : Type 0
 StaysFront =
-    (calls : List Call) (call : Call) (at : ℕ) (front : List Alert) → at ≤ length calls
-    → IsFront front (due calls at) → IsFront front (due (calls ++ call ∷ []) at)
+    (journal : JournalView) (call : Call) (at : ℕ) (front : List Alert) → at ≤ call_count journal
+    → IsFront front (due journal at) → IsFront front (due (with_call journal call) at)
 
 -- the label sets of a batch
 abbrev pub labels_of_batch : List Alert → List Labels
@@ -51,7 +60,8 @@ posted_labels (Closed ∷ calls) = posted_labels calls
 -- each post with an alert is answered by one batch, in order, which has one alert for each of the
 -- post, in order, of its label set
 abbrev pub BatchesAnswerPosts : Type 0
-BatchesAnswerPosts = (calls : List Call) → map labels_of_batch (broadcast calls) ≡ posted_labels calls
+BatchesAnswerPosts =
+    (journal : JournalView) → map labels_of_batch (broadcast journal) ≡ posted_labels journal.calls
 
 -- of each label set the stored list has exactly the alert that its own fold holds
 abbrev pub StoredIsOfEach : Type 0
@@ -62,3 +72,43 @@ StoredIsOfEach =
 -- no two stored alerts have one label set
 abbrev pub StoredIsDistinct : Type 0
 StoredIsDistinct = (all : List Update) → AreDistinct (stored all)
+
+-- a journal without calls gives the stored list that the dropped ones left, in its order
+abbrev pub StartsWithBase : Type 0
+StartsWithBase = (alerts : List Alert) → AreDistinct alerts → stored (first_reports alerts) ≡ alerts
+
+-- what a journal and a trimmed one have in common
+pub record GiveTheSame (whole trimmed : JournalView) : Type 0 where
+  pub stored : stored (updates trimmed) ≡ stored (updates whole)
+  pub lanes : (lane : ℕ) → is_open trimmed lane ≡ is_open whole lane
+  pub closed : is_closed trimmed ≡ is_closed whole
+  pub posts : posts_of trimmed ≡ posts_of whole
+  pub sent : broadcast trimmed ≡ drop (trimmed.places - whole.places) (broadcast whole)
+  pub due : (at : ℕ) → trimmed.before ≤ at → due trimmed at ≡ due whole at
+  pub follow : (call : Call) → MayFollow trimmed call ↔ MayFollow whole call
+
+-- a trimmed journal stores the same, has the same lanes open and owes each subscription that may still
+-- be open the same
+abbrev pub TrimmedGivesTheSame : Type 0
+TrimmedGivesTheSame =
+    (whole trimmed : JournalView) (count : ℕ) → count ≤ length whole.calls
+    → IsTrimmed whole count trimmed → GiveTheSame whole trimmed
+
+-- a trimmed journal that grows is the grown one trimmed
+abbrev pub TrimmedGrows : Type 0
+TrimmedGrows =
+    (whole trimmed : JournalView) (count : ℕ) (call : Call) → count ≤ length whole.calls
+    → IsTrimmed whole count trimmed → IsTrimmed (with_call whole call) count (with_call trimmed call)
+
+-- two trims are one of all that both drop
+abbrev pub TrimmedTwice : Type 0
+TrimmedTwice =
+    (whole once twice : JournalView) (first more : ℕ)
+    → first ≤ length whole.calls → more ≤ length once.calls
+    → IsTrimmed whole first once → IsTrimmed once more twice → IsTrimmed whole (first + more) twice
+
+-- how many calls there are before the earliest open subscription is one number
+abbrev pub OneTrim : Type 0
+OneTrim =
+    (journal : JournalView) (count other : ℕ)
+    → AreBeforeOpen journal count → AreBeforeOpen journal other → count ≡ other

@@ -9,6 +9,7 @@ pub mod Shared
 pub mod Journal
 pub mod Stored
 pub mod Broadcast
+pub mod Trims
 pub mod AlertList
 pub mod BookView
 pub mod Showings

@@ -8,6 +8,7 @@ use Rattle.am_labels.specs.LabelSets.{Labels, same_labels}
 use Rattle.am_alert.specs.Merging.{absorbed, is_resolved_at}
 use Rattle.am_provider.specs.declared.call.Call.{Call}
 use Rattle.am_provider.specs.declared.call.Call.TheVariants.{Posted, Collected, Subscribed, Left, Closed}
+use Rattle.am_provider.specs.Journal.{JournalView}
 
 -- what the store is told, one thing at a time: one report (`provider/mem`'s Put, one turn of its
 -- loop), or to drop what is resolved (its garbage collection)
@@ -23,9 +24,17 @@ updates_of (Subscribed lane) = []
 updates_of (Left lane) = []
 updates_of Closed = []
 
--- the updates of a journal
-abbrev pub updates : List Call → List Update
-updates calls = flat_map updates_of calls
+-- the updates of some calls
+abbrev pub call_updates : List Call → List Update
+call_updates calls = flat_map updates_of calls
+
+-- stored alerts, each told as the first report of its label set
+abbrev pub first_reports : List Alert → List Update
+first_reports alerts = map (Report 0) alerts
+
+-- the updates of a journal: what the dropped calls left stored, then those of its calls
+abbrev pub updates : JournalView → List Update
+updates journal = first_reports journal.store ++ call_updates journal.calls
 
 -- what one label set holds: its alert, and the index of the update that reported it first since it
 -- last held nothing

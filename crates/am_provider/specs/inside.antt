@@ -3,6 +3,7 @@ pub mod Shared
 pub mod Undone
 pub mod Cuts
 pub mod Batches
+pub mod Journals
 pub mod Lanes
 pub mod BookLimits
 pub mod BookInside

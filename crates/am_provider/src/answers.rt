@@ -27,7 +27,7 @@ pub enum Step<'a> {
 /// What a subscription that was given back came to.
 #[derive(Clone, Copy, Debug, PartialEq, Eq)]
 pub struct Ended {
-    /// How many calls the journal had before the subscription.
+    /// How many calls there were before the subscription, those that were dropped since too.
     pub at: u64,
     /// How many alerts it took.
     pub taken: u64,

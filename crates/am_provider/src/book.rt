@@ -16,33 +16,33 @@
 //! order. Where it was told that no more will come, it was shown them all. A refused call changes
 //! nothing.
 
-ghost use Rattle.std.specs.Prelude.{◌≡◌, ◌↔◌, ◌≤◌, ◌<◌, [], ◌∷◌, ◌++◌, IsTrue, IfSome, IfNone};
-ghost use Rattle.std.specs.Prelude.{IfOk, OnOk, OnErr, IsErr, IsErrOf};
-ghost use Rattle.std.specs.Prelude.{None, Some, false, true, length, nat_eq, if◌then◌else◌, ℕ, slice_index_or};
-ghost use Rattle.std.specs.Prelude.{not, filter, count_by};
+ghost use Rattle.std.specs.Prelude.{◌≡◌, ◌↔◌, ◌≤◌, ◌<◌, IsTrue, IfOk, OnOk, OnErr, IsErr, IsErrOf};
+ghost use Rattle.std.specs.Prelude.{ℕ, ◌-◌, None, Some, false, length, nat_eq, if◌then◌else◌, not, filter, count_by};
 ghost use Rattle.std.specs.List.{range_with_len};
 ghost use Rattle.am_alert.specs.Merging.{is_resolved_at};
-ghost use Rattle.am_provider.specs.Journal.{is_closed, posts_of, AreAllOpen};
+ghost use Rattle.am_provider.specs.Journal.{with_call, call_count, first_calls, is_closed};
+ghost use Rattle.am_provider.specs.Journal.{posts_of, AreAllOpen};
 ghost use Rattle.am_provider.specs.Broadcast.{due, IsFront};
+ghost use Rattle.am_provider.specs.Trims.{AreBeforeOpen, Drops, IsTrimmed};
+ghost use Rattle.am_provider.specs.Stored.{updates, stored};
 ghost use Rattle.am_provider.specs.inside.Batches.{batches_in, AreEnds};
 ghost use Rattle.am_provider.specs.inside.BookLimits.{IsWithinLogLimits};
-ghost use Rattle.am_provider.specs.inside.Lanes.{IsLowestFalse};
-ghost use Rattle.am_provider.specs.BookView.{BookView, IsFaithful, BelongsTo, taken};
+ghost use Rattle.am_provider.specs.BookView.{BookView, SubscriptionView, new_book};
+ghost use Rattle.am_provider.specs.BookView.{IsFaithful, BelongsTo, taken};
 
 use crate::answers::{Counts, Ended, Posted};
 use crate::call::Call;
 use crate::faults::{AlreadyClosed, PutFault, SubFault};
+use crate::journal::{Journal, MAX_BEFORE};
+use crate::lanes::{LANES, Lanes, OpenLane, earliest, idle_lane};
 use crate::log::Log;
 use crate::pass::Pass;
-use crate::shared_alerts::SharedAlerts;
+use crate::shared_alerts::{SharedAlerts, StoredAlerts};
 use crate::store::Store;
 use crate::subscription::Subscription;
 use am_alert::{Moment, Post};
 use std::alloc::{AllocError, Global};
 use std::marker::Model;
-
-// How many lanes there are.
-const LANES: usize = 8;
 
 // An entry of the journal, one to end each lane, and one to end the log.
 const ENTRIES: usize = LANES + 2;
@@ -55,13 +55,12 @@ pub const LOG_END: usize = 2_251_799_813_685_248;
 #[derive(Drop)]
 pub struct Book {
     stored: Store,
-    // It has room for a Left of each open lane and, until the log is ended, for a Closed.
-    journal: Vec<Call>,
+    // Its calls have room for a Left of each open lane and, until the log is ended, for a Closed.
+    journal: Journal,
     log: Log,
     // How many posts the journal has.
     posts: u64,
-    // Which lanes are open.
-    lanes: [bool; LANES],
+    lanes: Lanes,
     closed: bool,
 }
 
@@ -86,13 +85,12 @@ impl Book {
     pub fn begin(alloc: Global, places: u32, posters: u32) -> Result<(Book, Vec<Pass>), AllocError>
         requires places { (1 ≤ places) × (places ≤ 256) }
         requires posters { (1 ≤ posters) × (posters ≤ 64) }
-        ensures empty { IfOk result
-            (λ made. made.0 ≡ record { stored = []; journal = []; log = [] }) }
+        ensures empty { IfOk result (λ made. made.0 ≡ new_book) }
         ensures kept { IfOk result (λ made. IsFaithful made.0) }
         ensures passes { IfOk result (λ made. made.1.items ≡ range_with_len 0 posters) }
     {
-        let mut journal = Vec::new(alloc);
-        journal.reserve(ENTRIES)?;
+        let mut journal = Journal::new(alloc)?;
+        journal.calls.reserve(ENTRIES)?;
         let mut passes = Vec::with_capacity(alloc, posters as usize)?;
         for poster in 0..posters {
             passes.push(Pass::new(poster))?;
@@ -102,7 +100,7 @@ impl Book {
             journal,
             log: Log::new(alloc),
             posts: 0,
-            lanes: [false; LANES],
+            lanes: [None, None, None, None, None, None, None, None],
             closed: false,
         };
         Ok((book, passes))
@@ -112,11 +110,12 @@ impl Book {
     /// they became as one batch. A post with no valid alert is accepted and sends nothing out.
     pub fn post(&mut self, pass: &mut Pass, post: Post, now: Moment) -> Result<Posted, PutFault>
         ensures journal { OnOk result
-            (self.new.journal ≡ self.old.journal ++ Call.Posted now post.valid ∷ []) }
+            (self.new.journal ≡ with_call self.old.journal (Call.Posted now post.valid)) }
         ensures valid { IfOk result (λ posted. posted.valid ≡ length post.valid) }
         ensures faults { IfOk result (λ posted. posted.faults ≡ post.faults) }
         ensures place { IfOk result (λ posted. posted.place
             ≡ (if nat_eq (length post.valid) 0 then None else Some (length self.old.log))) }
+        ensures log { IsFront self.old.log self.new.log }
         ensures kept { IsFaithful self.new }
         ensures pass { pass.new ≡ pass.old }
 
@@ -135,12 +134,14 @@ impl Book {
         if count > 0 && self.log.places() >= LOG_END {
             return Err(PutFault::LogEnd);
         }
-        self.journal.reserve(ENTRIES)?;
+        self.journal.calls.reserve(ENTRIES)?;
         self.log.reserve(count)?;
-        let alerts = SharedAlerts::new(*self.journal.allocator(), valid)?;
+        let alerts = SharedAlerts::new(*self.journal.calls.allocator(), valid)?;
         let absorbed = self.stored.absorb(alerts.as_slice(), now)?;
         let place = self.log.push_reserved(absorbed.batch);
-        self.journal.push_reserved(Call::Posted { now, alerts });
+        self.journal
+            .calls
+            .push_back_reserved(Call::Posted { now, alerts });
         self.posts += 1;
         Ok(Posted {
             valid: count as u32,
@@ -153,11 +154,12 @@ impl Book {
     /// now on.
     pub fn subscribe(&mut self) -> Result<Subscription, SubFault>
         ensures journal { IfOk result
-            (λ made. self.new.journal ≡ self.old.journal ++ Call.Subscribed made.lane ∷ []) }
-        ensures at { IfOk result (λ made. made.at ≡ length self.old.journal) }
+            (λ made. self.new.journal ≡ with_call self.old.journal (Call.Subscribed made.lane)) }
+        ensures at { IfOk result (λ made. made.at ≡ call_count self.old.journal) }
         ensures opening { IfOk result (λ made. made.opening ≡ self.old.stored) }
         ensures fresh { IfOk result (λ made. (made.count ≡ 0) × (made.closed_told ≡ false)) }
         ensures given { IfOk result (BelongsTo self.new) }
+        ensures log { self.new.log ≡ self.old.log }
         ensures kept { IsFaithful self.new }
 
         ensures closed { IsErrOf result SubFault.Closed ↔ IsTrue (is_closed self.old.journal) }
@@ -172,19 +174,23 @@ impl Book {
             return Err(SubFault::NoLane);
         };
         let opening = self.stored.share()?;
-        self.journal.reserve(ENTRIES)?;
-        let at = self.journal.len() as u64;
+        let kept = opening.share()?;
+        self.journal.calls.reserve(ENTRIES)?;
+        let at = self.journal.call_count();
         let start = self.log.places();
-        self.lanes[lane] = true;
+        self.lanes[lane] = Some(OpenLane { at, opening: kept });
         let lane = lane as u32;
-        self.journal.push_reserved(Call::Subscribed(lane));
+        self.journal
+            .calls
+            .push_back_reserved(Call::Subscribed(lane));
         Ok(Subscription::begin(lane, at, start, opening))
     }
 
     /// Takes a subscription back, and answers what it came to.
     pub fn leave(&mut self, subscription: Subscription) -> Ended
         requires given { BelongsTo self.old subscription }
-        ensures journal { self.new.journal ≡ self.old.journal ++ Call.Left subscription.lane ∷ [] }
+        ensures journal { self.new.journal
+            ≡ with_call self.old.journal (Call.Left subscription.lane) }
         ensures at { result.at ≡ subscription.at }
         ensures taken { result.taken ≡ length (taken self.old subscription) }
         ensures closed { result.closed ≡ subscription.closed_told }
@@ -194,11 +200,12 @@ impl Book {
             (due self.old.journal subscription.at) }
         ensures complete { IsTrue subscription.closed_told
             → taken self.old subscription ≡ due self.old.journal subscription.at }
+        ensures log { self.new.log ≡ self.old.log }
         ensures kept { IsFaithful self.new }
     {
         let lane = subscription.lane();
-        self.lanes[lane as usize] = false;
-        self.journal.push_reserved(Call::Left(lane));
+        self.lanes[lane as usize] = None;
+        self.journal.calls.push_back_reserved(Call::Left(lane));
         subscription.into_ended()
     }
 
@@ -206,18 +213,66 @@ impl Book {
     /// It is accepted after the log's end too.
     pub fn collect_resolved(&mut self, now: Moment) -> Result<u64, AllocError>
         ensures journal { OnOk result
-            (self.new.journal ≡ self.old.journal ++ Call.Collected now ∷ []) }
+            (self.new.journal ≡ with_call self.old.journal (Call.Collected now)) }
         ensures removed { IfOk result
             (λ removed. removed ≡ count_by (is_resolved_at now) self.old.stored) }
         ensures stored { OnOk result
             (self.new.stored ≡ filter (λ alert. not (is_resolved_at now alert)) self.old.stored) }
+        ensures log { self.new.log ≡ self.old.log }
         ensures kept { IsFaithful self.new }
         ensures err { OnErr result (self.new ≡ self.old) }
     {
-        self.journal.reserve(ENTRIES)?;
+        self.journal.calls.reserve(ENTRIES)?;
         let removed = self.stored.remove_resolved(now);
-        self.journal.push_reserved(Call::Collected(now));
+        self.journal.calls.push_back_reserved(Call::Collected(now));
         Ok(removed)
+    }
+
+    /// Drops the calls before the earliest open subscription from the journal, or all where none is
+    /// open, and answers how many. Nothing else changes, so that nobody can tell a trimmed Book
+    /// (`trimming_laws`). It is no call of the journal, and is allowed after the log's end.
+    pub fn trim(&mut self) -> Result<u64, AllocError>
+        ensures dropped { IfOk result (Drops self.old.journal) }
+        ensures journal { IfOk result (λ dropped.
+            IsTrimmed self.old.journal dropped self.new.journal) }
+        ensures stored { self.new.stored ≡ self.old.stored }
+        ensures log { self.new.log ≡ self.old.log }
+        ensures given { (subscription : SubscriptionView)
+            → BelongsTo self.old subscription ↔ BelongsTo self.new subscription }
+
+        ensures kept { IsFaithful self.new }
+        ensures err { OnErr result (self.new ≡ self.old) }
+    {
+        let count = self.owed_from() - self.journal.before;
+        if count == 0 || count > MAX_BEFORE - self.journal.before {
+            return Ok(0);
+        }
+        let store = self.stored_then()?;
+        self.journal.drop_first(count as usize, store);
+        Ok(count)
+    }
+
+    // How many calls there had been before the earliest open subscription, or in all where none is
+    // open.
+    fn owed_from(&self) -> u64
+        ensures within { self.now.journal.before ≤ result }
+        ensures before { AreBeforeOpen self.now.journal (result - self.now.journal.before) }
+    {
+        match earliest(&self.lanes) {
+            Some(open) => open.at,
+            None => self.journal.call_count(),
+        }
+    }
+
+    // What was stored then.
+    fn stored_then(&self) -> Result<StoredAlerts, AllocError>
+        ensures { IfOk result (λ store. (count : ℕ) → AreBeforeOpen self.now.journal count
+            → store ≡ stored (updates (first_calls count self.now.journal))) }
+    {
+        match earliest(&self.lanes) {
+            Some(open) => open.opening.share(),
+            None => self.stored.share(),
+        }
     }
 
     /// How many places, posts and stored alerts there are. Whatever Book it is asked of, what is
@@ -237,7 +292,8 @@ impl Book {
 
     /// Ends the log: no post and no subscription is accepted from now on.
     pub fn close(&mut self) -> Result<(), AlreadyClosed>
-        ensures journal { OnOk result (self.new.journal ≡ self.old.journal ++ Call.Closed ∷ []) }
+        ensures journal { OnOk result (self.new.journal ≡ with_call self.old.journal Call.Closed) }
+        ensures log { self.new.log ≡ self.old.log }
         ensures kept { IsFaithful self.new }
         ensures closed { IsErr result ↔ IsTrue (is_closed self.old.journal) }
         ensures err { OnErr result (self.new ≡ self.old) }
@@ -246,7 +302,7 @@ impl Book {
             return Err(AlreadyClosed);
         }
         self.closed = true;
-        self.journal.push_reserved(Call::Closed);
+        self.journal.calls.push_back_reserved(Call::Closed);
         Ok(())
     }
 
@@ -266,18 +322,4 @@ impl Book {
     {
         self.closed
     }
-}
-
-// The lowest lane that isn't open.
-fn idle_lane(lanes: &[bool; LANES]) -> Option<usize>
-    ensures some { IfSome result (IsLowestFalse lanes.now) }
-    ensures none { IfNone result
-        ((lane : ℕ) → lane < 8 → slice_index_or lanes.now lane false ≡ true) }
-{
-    for (lane, is_open) in lanes.iter().enumerate() {
-        if !*is_open {
-            return Some(lane);
-        }
-    }
-    None
 }

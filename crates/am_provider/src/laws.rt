@@ -1,7 +1,9 @@
 //! Laws over journals that callers may cite.
 
-ghost use Rattle.am_provider.specs.Laws.{BatchesAnswerPosts, LeavingEnds, StaysFront, StaysGiven};
-ghost use Rattle.am_provider.specs.Laws.{StoredIsDistinct, StoredIsOfEach};
+ghost use Rattle.am_provider.specs.Laws.{BatchesAnswerPosts, LeavingEnds, OpenLanesAreOpen};
+ghost use Rattle.am_provider.specs.Laws.{StaysFront, StaysGiven};
+ghost use Rattle.am_provider.specs.Laws.{StartsWithBase, StoredIsDistinct, StoredIsOfEach};
+ghost use Rattle.am_provider.specs.Laws.{OneTrim, TrimmedGivesTheSame, TrimmedGrows, TrimmedTwice};
 
 /// A subscription stays its Book's as calls come, until it is left, and what begins what is due
 /// still does. Each post with an alert sends out one batch, with one alert for each of its own, of
@@ -9,9 +11,22 @@ ghost use Rattle.am_provider.specs.Laws.{StoredIsDistinct, StoredIsOfEach};
 /// set's own reports and collections made of it, once.
 pub fn journal_laws()
     ensures given { StaysGiven }
+    ensures lanes { OpenLanesAreOpen }
     ensures ended { LeavingEnds }
     ensures front { StaysFront }
     ensures batches { BatchesAnswerPosts }
     ensures of_each { StoredIsOfEach }
     ensures distinct { StoredIsDistinct }
+{}
+
+/// Nobody can tell a trimmed journal from the whole one: it gives the same stored list, the same
+/// open lanes, the same calls may follow, and each subscription that may still be open is owed the
+/// same. As both grow, and as it is trimmed again, it stays the whole one trimmed. How much a trim
+/// drops is one number.
+pub fn trimming_laws()
+    ensures base { StartsWithBase }
+    ensures same { TrimmedGivesTheSame }
+    ensures grows { TrimmedGrows }
+    ensures twice { TrimmedTwice }
+    ensures one { OneTrim }
 {}

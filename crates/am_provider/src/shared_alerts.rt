@@ -1,7 +1,7 @@
 //! Alerts that the journal, the store, the log and openings have in common, so that none of them
 //! copies one.
 
-ghost use Rattle.std.specs.Prelude.{◌≡◌, IfOk, length};
+ghost use Rattle.std.specs.Prelude.{◌≡◌, ◌<◌, ◌^◌, IfOk, length};
 ghost use Rattle.am_provider.specs.Shared.{alerts_in};
 
 use am_alert::{Alert, Alerts};
@@ -47,6 +47,53 @@ impl SharedAlerts {
 
     pub(crate) fn as_slice(&self) -> &[SharedAlert]
         ensures { alerts_in result.now ≡ self.now }
+    {
+        &self.alerts
+    }
+}
+
+/// What was stored at one moment, seen by contracts as the list of the alerts. It is shared as a
+/// whole, so that a subscription, its Book and the journal have one list in common.
+#[derive(Debug, Drop)]
+pub struct StoredAlerts {
+    alerts: Arc<Vec<SharedAlert>, Global>,
+}
+
+impl Model for StoredAlerts {
+    ghost use Rattle.std.specs.Prelude.{List};
+    ghost use Rattle.std.specs.Arc.{arc_value};
+    ghost use Rattle.std.specs.Coded.{coded_list};
+    ghost use Rattle.am_alert.specs.declared.alert.Alert.{Alert};
+    ghost use Rattle.am_alert.specs.Alerts.{coded_alert};
+    ghost use Rattle.am_provider.specs.Shared.{alerts_in};
+
+    ghost Value = { List Alert };
+
+    ghost coded = { coded_list coded_alert };
+
+    ghost view = { λ a. alerts_in (arc_value a.alerts).items };
+}
+
+impl StoredAlerts {
+    pub(crate) fn new(alloc: Global, alerts: Vec<SharedAlert>) -> Result<StoredAlerts, AllocError>
+        ensures { IfOk result (λ stored. stored ≡ alerts_in alerts.items) }
+    {
+        let alerts = Arc::new(alloc, alerts)?;
+        Ok(StoredAlerts { alerts })
+    }
+
+    /// The same list once more.
+    pub(crate) fn share(&self) -> Result<StoredAlerts, AllocError>
+        ensures { IfOk result (λ shared. shared ≡ self.now) }
+    {
+        let alerts = Arc::try_clone(&self.alerts)?;
+        Ok(StoredAlerts { alerts })
+    }
+
+    /// The alerts in order.
+    pub fn as_slice(&self) -> &[SharedAlert]
+        ensures alerts { alerts_in result.now ≡ self.now }
+        ensures few { length self.now < 2 ^ 63 }
     {
         &self.alerts
     }

@@ -9,7 +9,7 @@ ghost use Rattle.am_provider.specs.inside.Undone.{all_undone};
 
 mod absorb;
 
-use crate::shared_alerts::SharedAlert;
+use crate::shared_alerts::{SharedAlert, StoredAlerts};
 use crate::store::absorb::{Absorbed, absorb_each};
 use am_alert::Moment;
 use am_labels::LabelSet;
@@ -59,14 +59,15 @@ impl Store {
     }
 
     /// All alerts, in order. None is copied.
-    pub(crate) fn share(&self) -> Result<Vec<SharedAlert>, AllocError>
-        ensures { IfOk result (λ shared. alerts_in shared.items ≡ self.now) }
+    pub(crate) fn share(&self) -> Result<StoredAlerts, AllocError>
+        ensures { IfOk result (λ shared. shared ≡ self.now) }
     {
-        let mut shared = Vec::with_capacity(*self.alerts.allocator(), self.alerts.len())?;
+        let alloc = *self.alerts.allocator();
+        let mut shared = Vec::with_capacity(alloc, self.alerts.len())?;
         for alert in self.alerts.values() {
             shared.push(Arc::try_clone(alert)?)?;
         }
-        Ok(shared)
+        StoredAlerts::new(alloc, shared)
     }
 
     /// Absorbs reports one after another, and answers what each became with what takes it all back.

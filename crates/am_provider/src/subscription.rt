@@ -9,7 +9,7 @@ ghost use Rattle.am_provider.specs.inside.Batches.{batches_in, AreEnds};
 use crate::answers::{Ended, Step};
 use crate::book::Book;
 use crate::log::Log;
-use crate::shared_alerts::SharedAlert;
+use crate::shared_alerts::{SharedAlert, StoredAlerts};
 use am_alert::Alert;
 use std::marker::Model;
 
@@ -19,16 +19,14 @@ pub struct Subscription {
     at: u64,
     // The first batch of the log that it is owed.
     start: usize,
-    opening: Vec<SharedAlert>,
+    opening: StoredAlerts,
     // How many alerts it has shown.
     count: usize,
     closed_told: bool,
 }
 
 impl Model for Subscription {
-    ghost use Rattle.std.specs.Prelude.{◌<◌, ◌^◌, length};
     ghost use Rattle.am_provider.specs.BookView.{SubscriptionView, coded_subscription};
-    ghost use Rattle.am_provider.specs.Shared.{alerts_in};
 
     ghost Value = { SubscriptionView };
 
@@ -38,13 +36,10 @@ impl Model for Subscription {
       lane = a.lane;
       at = a.at;
       start = a.start;
-      opening = alerts_in a.opening.items;
+      opening = a.opening;
       count = a.count;
       closed_told = a.closed_told;
     } };
-
-    // What is stored fits in memory.
-    ghost invariant = { λ a. length a.opening.items < 2 ^ 63 };
 }
 
 impl Subscription {
@@ -57,12 +52,12 @@ impl Subscription {
     ghost use Rattle.am_provider.specs.inside.Advances.{Advances};
 
     /// A subscription that has shown nothing yet.
-    pub(crate) fn begin(lane: u32, at: u64, start: usize, opening: Vec<SharedAlert>) -> Subscription
+    pub(crate) fn begin(lane: u32, at: u64, start: usize, opening: StoredAlerts) -> Subscription
         ensures { result ≡ record {
           lane = lane;
           at = at;
           start = start;
-          opening = alerts_in opening.items;
+          opening = opening;
           count = 0;
           closed_told = false;
         } }
@@ -107,7 +102,7 @@ impl Subscription {
     pub fn opening(&self) -> u64
         ensures { result ≡ length self.now.opening }
     {
-        self.opening.len() as u64
+        self.opening.as_slice().len() as u64
     }
 
     /// Shows the next alert: first those that were stored at the subscription, then those of the
@@ -148,7 +143,7 @@ impl Subscription {
         ensures countable { length (all_of book.now self.now) < 2 ^ 64 }
         ensures kept { IsFaithful book.now }
     {
-        ahead(&self.opening, book.log(), self.start, self.count).is_some()
+        ahead(self.opening.as_slice(), book.log(), self.start, self.count).is_some()
     }
 
     // The alert that was taken last.
@@ -157,7 +152,12 @@ impl Subscription {
         requires some { 0 < self.now.count }
         ensures { slice_get (all_of book.now self.now) (self.now.count - 1) ≡ Some result.now }
     {
-        match ahead(&self.opening, book.log(), self.start, self.count - 1) {
+        match ahead(
+            self.opening.as_slice(),
+            book.log(),
+            self.start,
+            self.count - 1,
+        ) {
             Some(alert) => alert,
             None => unreachable!(),
         }

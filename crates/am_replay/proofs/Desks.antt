@@ -1,5 +1,5 @@
 -- A sound session stays sound as the Book's calls come.
-use Rattle.std.proofs.Common.{◌≡◌, ◌≢◌, ◌⊎◌, ℕ, ◌+◌, ◌<◌, ◌≤◌, true, false, cond, nat_eq, List, [], ◌∷◌, ◌++◌, length, get_or, Some, inl, inr, refl, ap, sym, subst, ◌∙◌, arith, rules, slice_get}
+use Rattle.std.proofs.Common.{◌≡◌, ◌≢◌, ◌↔◌, ◌⊎◌, ℕ, ◌+◌, ◌<◌, ◌≤◌, true, false, cond, nat_eq, List, [], ◌∷◌, ◌++◌, length, get_or, Some, inl, inr, refl, ap, sym, subst, ◌∙◌, arith, rules, slice_get}
 use Rattle.std.specs.List.{All, AllPairs, remove, slice_set}
 use Rattle.std.proofs.lemmas.Bool.{cases_lt, false≢true}
 use Rattle.std.proofs.lemmas.Bool.Decides.{nat_tests}
@@ -9,9 +9,9 @@ use Rattle.std.proofs.lemmas.List.Elements.{All-push, All-set}
 use Rattle.std.proofs.lemmas.List.Quantifiers.{all_pairs_push, all_pairs_remove}
 use Rattle.std.proofs.lemmas.Option.{get_or_from_slice_get, slice_get-get_or}
 use Rattle.std.proofs.Math.Seq.{get_or-append_seam, take-append_seam}
-use Rattle.am_provider.specs.BookView.{BookView, IsFaithful, BelongsTo}
-use Rattle.am_provider.specs.Journal.{IsLegal, is_open, open_after}
-use Rattle.am_provider.specs.Laws.{StaysGiven}
+use Rattle.am_provider.specs.BookView.{BookView, IsFaithful, SubscriptionView, BelongsTo}
+use Rattle.am_provider.specs.Journal.{with_call, IsLegal, is_open, open_after}
+use Rattle.am_provider.specs.Laws.{OpenLanesAreOpen, StaysGiven}
 use Rattle.am_provider.specs.declared.call.Call.{Call}
 use Rattle.am_provider.specs.declared.call.Call.TheVariants.{Subscribed, Left}
 use Rattle.am_replay.specs.Runs.{SessionView, IsReadySession}
@@ -28,7 +28,7 @@ Belong book opened = All (λ one. BelongsTo book one.subscription) opened
 
 module _ (stays : StaysGiven) (old : SessionView) (book : BookView) (sound : IsReadySession old) (faithful : IsFaithful book) where
   -- a call that leaves no lane
-  pub grown : (call : Call) → book.journal ≡ old.book.journal ++ call ∷ [] → ((lane : ℕ) → open_after lane true call ≡ true) → (opened : List OpenSubscription) → opened ≡ old.opened → IsReadySession (record { book = book; opened = opened })
+  pub grown : (call : Call) → book.journal ≡ with_call old.book.journal call → ((lane : ℕ) → open_after lane true call ≡ true) → (opened : List OpenSubscription) → opened ≡ old.opened → IsReadySession (record { book = book; opened = opened })
   grown call journal unchanged opened same = record {
     faithful = faithful;
     belong = subst (Belong book) (sym same) (λ k d h. (stays old.book book (get_or old.opened k d).subscription call sound.faithful faithful (sound.belong k d h) journal (unchanged (get_or old.opened k d).subscription.lane)).0);
@@ -36,25 +36,34 @@ module _ (stays : StaysGiven) (old : SessionView) (book : BookView) (sound : IsR
   }
 
   -- a new subscription's lane was idle
-  idle : (lane : ℕ) → book.journal ≡ old.book.journal ++ Subscribed lane ∷ [] → is_open old.book.journal lane ≡ false
+  idle : (lane : ℕ) → book.journal ≡ with_call old.book.journal (Subscribed lane) → is_open old.book.journal lane ≡ false
   idle lane journal =
-      let legal = subst IsLegal journal faithful.legal in
-      let at = length old.book.journal in
-      let calls = old.book.journal ++ Subscribed lane ∷ [] in
-      let last = slice_get-get_or calls at (Subscribed lane) (omega (arith, length-append old.book.journal (Subscribed lane ∷ []))) ∙ ap Some (get_or-append_seam old.book.journal (Subscribed lane) [] (Subscribed lane)) in
-      let follows = (legal at (Subscribed lane) last).1.idle in
-      subst (λ (before : List Call). is_open before lane ≡ false) (take-append_seam old.book.journal (Subscribed lane ∷ [])) follows
+      let legal : IsLegal (with_call old.book.journal (Subscribed lane)) = subst IsLegal journal faithful.legal in
+      let calls = old.book.journal.calls in
+      let last = slice_get-get_or (calls ++ Subscribed lane ∷ []) (length calls) (Subscribed lane) (omega (arith, length-append calls (Subscribed lane ∷ []))) ∙ ap Some (get_or-append_seam calls (Subscribed lane) [] (Subscribed lane)) in
+      subst (λ (before : List Call). is_open (record old.book.journal { calls = before }) lane ≡ false) (take-append_seam calls (Subscribed lane ∷ [])) (legal (length calls) (Subscribed lane) last).1.idle
 
-  pub joined : (one : OpenSubscription) → book.journal ≡ old.book.journal ++ Subscribed one.subscription.lane ∷ [] → BelongsTo book one.subscription → IsReadySession (record { book = book; opened = old.opened ++ one ∷ [] })
-  joined one journal given = record {
+  open_of : OpenLanesAreOpen → (sub : SubscriptionView) → BelongsTo old.book sub → is_open old.book.journal sub.lane ≡ true
+  open_of lanes sub of = lanes old.book.journal sub.lane sub.at of.given
+
+  pub joined : OpenLanesAreOpen → (one : OpenSubscription) → book.journal ≡ with_call old.book.journal (Subscribed one.subscription.lane) → BelongsTo book one.subscription → IsReadySession (record { book = book; opened = old.opened ++ one ∷ [] })
+  joined lanes one journal given = record {
     faithful = faithful;
     belong = All-push (λ o. BelongsTo book o.subscription) old.opened one
         (λ k d h. (stays old.book book (get_or old.opened k d).subscription (Subscribed one.subscription.lane) sound.faithful faithful (sound.belong k d h) journal refl).0) given;
     apart = all_pairs_push (λ o p. o.subscription.lane ≢ p.subscription.lane) old.opened one sound.apart
-        (λ k d h same. false≢true (sym (idle one.subscription.lane journal) ∙ (ap (is_open old.book.journal) (sym same) ∙ (sound.belong k d h).still)));
+        (λ k d h same. false≢true (sym (idle one.subscription.lane journal) ∙ (ap (is_open old.book.journal) (sym same) ∙ open_of lanes (get_or old.opened k d).subscription (sound.belong k d h))));
   }
 
-  module _ (place : ℕ) (one : OpenSubscription) (there : slice_get old.opened place ≡ Some one) (within : place < length old.opened) (journal : book.journal ≡ old.book.journal ++ Left one.subscription.lane ∷ []) where
+  -- a trim
+  pub trimmed_session : ((sub : SubscriptionView) → BelongsTo old.book sub ↔ BelongsTo book sub) → IsReadySession (record { book = book; opened = old.opened })
+  trimmed_session same = record {
+    faithful = faithful;
+    belong = λ k d h. (same (get_or old.opened k d).subscription).0 (sound.belong k d h);
+    apart = sound.apart;
+  }
+
+  module _ (place : ℕ) (one : OpenSubscription) (there : slice_get old.opened place ≡ Some one) (within : place < length old.opened) (journal : book.journal ≡ with_call old.book.journal (Left one.subscription.lane)) where
     other_stays : (i : ℕ) (d : OpenSubscription) → i < length old.opened → one.subscription.lane ≢ (get_or old.opened i d).subscription.lane → BelongsTo book (get_or old.opened i d).subscription
     other_stays i d h other =
         (stays old.book book (get_or old.opened i d).subscription (Left one.subscription.lane) sound.faithful faithful (sound.belong i d h) journal

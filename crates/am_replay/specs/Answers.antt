@@ -12,6 +12,7 @@ is_out_of_memory (answer.Unread post_fault.NoMemory) = true
 is_out_of_memory (answer.PostRefused put_fault.NoMemory) = true
 is_out_of_memory (answer.SubscribeRefused sub_fault.NoMemory) = true
 is_out_of_memory answer.CollectRefused = true
+is_out_of_memory answer.TrimRefused = true
 is_out_of_memory _ = false
 
 -- whether the answer is an item, after which a subscription may show more

@@ -42,6 +42,8 @@ answer_text (answer.Collected removed) = codes "collect removed " ++ decimal rem
 answer_text answer.CollectRefused = codes "collect refused E0 NoMemory"
 answer_text answer.CloseAccepted = codes "close"
 answer_text answer.CloseRefused = codes "close refused " ++ closed_text
+answer_text (answer.Trimmed dropped) = codes "trim dropped " ++ decimal dropped
+answer_text answer.TrimRefused = codes "trim refused E0 NoMemory"
 answer_text (answer.NotOpen word) = verb_text word ++ codes " none"
 
 -- an answer's line, without its line feed

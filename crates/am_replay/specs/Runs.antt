@@ -7,9 +7,10 @@ use Rattle.am_alert.specs.declared.post.Post.{Post as Posting}
 use Rattle.am_alert.specs.declared.post.PostFault.{PostFault}
 use Rattle.am_alert.specs.Merging.{is_resolved_at}
 use Rattle.am_alert.specs.Posts.{IsPostOf}
-use Rattle.am_provider.specs.BookView.{BookView, SubscriptionView, IsFaithful, BelongsTo, taken}
+use Rattle.am_provider.specs.BookView.{BookView, new_book, SubscriptionView, IsFaithful, BelongsTo, taken}
 use Rattle.am_provider.specs.Broadcast.{due}
-use Rattle.am_provider.specs.Journal.{AreAllOpen, is_closed, posts_of}
+use Rattle.am_provider.specs.Journal.{with_call, call_count, AreAllOpen, is_closed, posts_of}
+use Rattle.am_provider.specs.Trims.{Drops, IsTrimmed}
 use Rattle.am_provider.specs.declared.book.TheConstants.{LOG_END}
 use Rattle.am_provider.specs.declared.call.Call.TheVariants as call
 use Rattle.am_provider.specs.declared.answers.Counts.{Counts}
@@ -22,7 +23,7 @@ use Rattle.am_replay.specs.declared.answers.Answer.{Answer}
 use Rattle.am_replay.specs.declared.answers.Answer.TheVariants as answer
 use Rattle.am_replay.specs.declared.answers.Answered.{Answered}
 use Rattle.am_script.specs.declared.command.Command.{Command}
-use Rattle.am_script.specs.declared.command.Command.TheVariants.{Post, Subscribe, Read, Leave, Collect, Close}
+use Rattle.am_script.specs.declared.command.Command.TheVariants.{Post, Subscribe, Read, Leave, Collect, Close, Trim}
 use Rattle.am_script.specs.declared.command.Line.{Line}
 use Rattle.am_script.specs.declared.command.Verb.TheVariants as verb
 use Rattle.am_replay.specs.declared.open_subscription.OpenSubscription.{OpenSubscription}
@@ -33,7 +34,7 @@ pub record SessionView : Type 0 where
   pub opened : List OpenSubscription
 
 abbrev pub empty_session : SessionView
-empty_session = record { book = record { stored = []; journal = []; log = [] }; opened = [] }
+empty_session = record { book = new_book; opened = [] }
 
 -- the resolve timeout, 5 minutes in nanoseconds
 abbrev pub resolve_timeout : ℕ
@@ -108,16 +109,16 @@ pub data Does : SessionView → ℕ → Command → SessionView → List Answer 
       → Does session thread (Post at body) session (answer.Unread why ∷ [])
   posted : {old new : SessionView} {thread at : ℕ} {body : List ℕ} (post : Posting)
       → IsPostOf at resolve_timeout body (Ok post)
-      → new.book.journal ≡ old.book.journal ++ call.Posted at post.valid ∷ []
+      → new.book.journal ≡ with_call old.book.journal (call.Posted at post.valid)
       → new.opened ≡ old.opened
       → Does old thread (Post at body) new (posted_answers (posted_of post old.book.log))
   post_refused : {session : SessionView} {thread at : ℕ} {body : List ℕ} {why : PutFault} (post : Posting)
       → IsPostOf at resolve_timeout body (Ok post) → IsPutCause why post.valid session.book
       → Does session thread (Post at body) session (answer.PostRefused why ∷ [])
   subscribed : {old new : SessionView} {thread : ℕ} {name : List ℕ} (one : OpenSubscription)
-      → new.book.journal ≡ old.book.journal ++ call.Subscribed one.subscription.lane ∷ []
+      → new.book.journal ≡ with_call old.book.journal (call.Subscribed one.subscription.lane)
       → one.thread ≡ thread → one.name ≡ name → IsFresh new.book one.subscription
-      → one.subscription.at ≡ length old.book.journal → one.subscription.opening ≡ old.book.stored
+      → one.subscription.at ≡ call_count old.book.journal → one.subscription.opening ≡ old.book.stored
       → new.opened ≡ old.opened ++ one ∷ []
       → Does old thread (Subscribe name) new (answer.Subscribed one.subscription.lane (length old.book.stored) ∷ [])
   subscribe_refused : {session : SessionView} {thread : ℕ} {name : List ℕ} {why : SubFault}
@@ -133,7 +134,7 @@ pub data Does : SessionView → ℕ → Command → SessionView → List Answer 
   left : {old new : SessionView} {thread : ℕ} {name : List ℕ} {place : ℕ} (one : OpenSubscription)
       → position (is_named thread name) old.opened ≡ Some place
       → slice_get old.opened place ≡ Some one
-      → new.book.journal ≡ old.book.journal ++ call.Left one.subscription.lane ∷ []
+      → new.book.journal ≡ with_call old.book.journal (call.Left one.subscription.lane)
       → new.opened ≡ remove old.opened place
       → Does old thread (Leave name) new (answer.Left (length (taken old.book one.subscription)) one.subscription.closed_told ∷ [])
   nothing_to_read : {session : SessionView} {thread : ℕ} {name : List ℕ} {max : ℕ}
@@ -143,16 +144,21 @@ pub data Does : SessionView → ℕ → Command → SessionView → List Answer 
       → position (is_named thread name) session.opened ≡ None
       → Does session thread (Leave name) session (answer.NotOpen verb.Leave ∷ [])
   collected : {old new : SessionView} {thread at : ℕ}
-      → new.book.journal ≡ old.book.journal ++ call.Collected at ∷ [] → new.opened ≡ old.opened
+      → new.book.journal ≡ with_call old.book.journal (call.Collected at) → new.opened ≡ old.opened
       → Does old thread (Collect at) new (answer.Collected (count_by (is_resolved_at at) old.book.stored) ∷ [])
   collect_refused : {session : SessionView} {thread at : ℕ}
       → Does session thread (Collect at) session (answer.CollectRefused ∷ [])
   closed : {old new : SessionView} {thread : ℕ}
-      → new.book.journal ≡ old.book.journal ++ call.Closed ∷ [] → new.opened ≡ old.opened
+      → new.book.journal ≡ with_call old.book.journal call.Closed → new.opened ≡ old.opened
       → Does old thread Close new (answer.CloseAccepted ∷ [])
   close_refused : {session : SessionView} {thread : ℕ}
       → IsTrue (is_closed session.book.journal)
       → Does session thread Close session (answer.CloseRefused ∷ [])
+  trimmed : {old new : SessionView} {thread dropped : ℕ} → Drops old.book.journal dropped
+      → IsTrimmed old.book.journal dropped new.book.journal → new.opened ≡ old.opened
+      → Does old thread Trim new (answer.Trimmed dropped ∷ [])
+  trim_refused : {session : SessionView} {thread : ℕ}
+      → Does session thread Trim session (answer.TrimRefused ∷ [])
 
 -- the answers of a line, each with the line's number
 abbrev pub numbered : ℕ → List Answer → List Answered

@@ -1,6 +1,7 @@
 -- What contracts see of a session, and how its subscriptions are left at its end.
-use Rattle.std.specs.Prelude.{◌≡◌, ℕ, ◌<◌, ◌≤◌, List, slice_index_or, [], ◌∷◌, ◌++◌, length, remove, slice_get, Some, vec_len}
+use Rattle.std.specs.Prelude.{◌≡◌, ℕ, ◌<◌, ◌≤◌, List, slice_index_or, [], length, remove, slice_get, Some, vec_len}
 use Rattle.am_provider.specs.BookView.{taken}
+use Rattle.am_provider.specs.Journal.{with_call}
 use Rattle.am_provider.specs.declared.call.Call.TheVariants as call
 use Rattle.am_replay.specs.Runs.{SessionView, IsReadySession}
 use Rattle.am_replay.specs.declared.answers.Answer.{Answer}
@@ -20,7 +21,7 @@ pub record IsReady (session : Session) : Type 0 where
 pub record Leaves (old : SessionView) (at : ℕ) (new : SessionView) (given : Answer) : Type 0 where
   pub one : OpenSubscription
   pub there : slice_get old.opened at ≡ Some one
-  pub journal : new.book.journal ≡ old.book.journal ++ call.Left one.subscription.lane ∷ []
+  pub journal : new.book.journal ≡ with_call old.book.journal (call.Left one.subscription.lane)
   pub opened : new.opened ≡ remove old.opened at
   pub answer : given ≡ answer.Left (length (taken old.book one.subscription)) one.subscription.closed_told
 

@@ -30,6 +30,9 @@ pub enum Answer {
     CollectRefused,
     CloseAccepted,
     CloseRefused,
+    /// So many calls were dropped from the journal.
+    Trimmed(u64),
+    TrimRefused,
     /// The command's subscription isn't open, since its subscribe was refused.
     NotOpen(Verb),
 }
@@ -49,7 +52,8 @@ impl Answer {
             Answer::Unread(PostFault::NoMemory)
             | Answer::PostRefused(PutFault::NoMemory)
             | Answer::SubscribeRefused(SubFault::NoMemory)
-            | Answer::CollectRefused => true,
+            | Answer::CollectRefused
+            | Answer::TrimRefused => true,
             _ => false,
         }
     }
@@ -76,6 +80,8 @@ impl fmt::Display for Answer {
             Answer::CollectRefused => f.write_str("collect refused E0 NoMemory"),
             Answer::CloseAccepted => f.write_str("close"),
             Answer::CloseRefused => f.write_str("close refused E14 Closed"),
+            Answer::Trimmed(dropped) => write!(f, "trim dropped {dropped}"),
+            Answer::TrimRefused => f.write_str("trim refused E0 NoMemory"),
             Answer::NotOpen(verb) => write!(f, "{verb} none"),
         }
     }

@@ -74,5 +74,6 @@ fn run_line(alloc: Global, session: &mut Session, line: &Line) -> Result<Vec<Ans
         Command::Leave { name } => one(alloc, session.leave(thread, name)),
         Command::Collect { at } => one(alloc, session.collect(*at)),
         Command::Close => one(alloc, session.close()),
+        Command::Trim => one(alloc, session.trim()),
     }
 }

@@ -168,6 +168,19 @@ impl Session {
         }
     }
 
+    pub fn trim(&mut self) -> Answer
+        requires { IsReady self.old }
+        ensures ready { IsReady self.new }
+        ensures does { (thread : ℕ)
+            → Does (view_of self.old) thread Command.Trim (view_of self.new) (result ∷ []) }
+    {
+        journal_laws();
+        match self.book.trim() {
+            Ok(dropped) => Answer::Trimmed(dropped),
+            Err(_) => Answer::TrimRefused,
+        }
+    }
+
     /// The Book's counts, and the Book. After the count the open subscriptions are left.
     pub fn end(mut self) -> (Counts, Book)
         requires { IsReady self }

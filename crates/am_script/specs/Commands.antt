@@ -7,7 +7,7 @@ use Rattle.serde_json.specs.Read.{read, max_depth}
 use Rattle.serde_json.specs.Written.{compact_text, has_float, IsInOrder}
 use Rattle.am_alert.specs.TimeTexts.{time_of}
 use Rattle.am_script.specs.declared.command.Command.{Command}
-use Rattle.am_script.specs.declared.command.Command.TheVariants.{Post, Subscribe, Read, Leave, Collect, Close}
+use Rattle.am_script.specs.declared.command.Command.TheVariants.{Post, Subscribe, Read, Leave, Collect, Close, Trim}
 use Rattle.am_script.specs.declared.command.Line.{Line}
 use Rattle.am_script.specs.declared.command.LineFault.{LineFault}
 use Rattle.am_script.specs.declared.command.LineFault.TheVariants.{BadLine, NoMemory}
@@ -68,7 +68,8 @@ verb_of text =
     else (if bytes_eq text (codes "leave") then Some verb.Leave
     else (if bytes_eq text (codes "collect") then Some verb.Collect
     else (if bytes_eq text (codes "close") then Some verb.Close
-    else None)))))
+    else (if bytes_eq text (codes "trim") then Some verb.Trim
+    else None))))))
 
 -- the word in `do`
 abbrev pub verb_at : Data → Option Verb
@@ -90,6 +91,7 @@ command_for body d verb.Read = do
 command_for body d verb.Leave = option_map Leave (name_of d)
 command_for body d verb.Collect = option_map Collect (moment_of d)
 command_for body d verb.Close = Some Close
+command_for body d verb.Trim = Some Trim
 
 -- the line of this number, where a post's body is posted as this text
 unfoldable pub line_of : ℕ → List ℕ → Data → Option Line
@@ -117,6 +119,7 @@ body_text (Read name max) = []
 body_text (Leave name) = []
 body_text (Collect at) = []
 body_text Close = []
+body_text Trim = []
 
 -- a post's text is that of the line's body
 abbrev pub HasItsBody : Data → Command → Type 0
@@ -126,6 +129,7 @@ HasItsBody d (Read name max) = ⊤
 HasItsBody d (Leave name) = ⊤
 HasItsBody d (Collect at) = ⊤
 HasItsBody d Close = ⊤
+HasItsBody d Trim = ⊤
 
 -- what a reader returned is what the definition gives, unless memory ran out
 abbrev pub IsReadAs : {X : Type 0} → Result X LineFault → Option X → Type 0

@@ -6,7 +6,7 @@ use Rattle.std.specs.List.{onto_first}
 use Rattle.std.specs.Str.{bytes_eq}
 use Rattle.am_script.specs.Commands.{IsLineOf}
 use Rattle.am_script.specs.declared.command.Command.{Command}
-use Rattle.am_script.specs.declared.command.Command.TheVariants.{Post, Subscribe, Read, Leave, Collect, Close}
+use Rattle.am_script.specs.declared.command.Command.TheVariants.{Post, Subscribe, Read, Leave, Collect, Close, Trim}
 use Rattle.am_script.specs.declared.command.Line.{Line}
 use Rattle.am_script.specs.declared.command.LineFault.TheVariants as line_fault
 use Rattle.am_script.specs.declared.script.Fault.TheVariants.{BadLine, BadName, TooLarge}
@@ -34,6 +34,7 @@ subscribed_after here name before (Post at body) = before
 subscribed_after here name before (Read other max) = before
 subscribed_after here name before (Collect at) = before
 subscribed_after here name before Close = before
+subscribed_after here name before Trim = before
 
 -- whether a name is subscribed in a thread by some lines, and not left again
 abbrev pub is_subscribed : List Line → ℕ → List ℕ → Bool
@@ -48,6 +49,7 @@ is_named_well is_there (Read name max) = is_there name
 is_named_well is_there (Post at body) = true
 is_named_well is_there (Collect at) = true
 is_named_well is_there Close = true
+is_named_well is_there Trim = true
 
 -- whether a line's name is the right one after the lines before it
 abbrev pub is_well_named : List Line → Line → Bool

@@ -15,6 +15,7 @@ verb_text verb.Read = codes "read"
 verb_text verb.Leave = codes "leave"
 verb_text verb.Collect = codes "collect"
 verb_text verb.Close = codes "close"
+verb_text verb.Trim = codes "trim"
 
 -- what is wrong with a line of a script
 abbrev pub fault_text : Fault → List ℕ

@@ -20,6 +20,7 @@ pub enum Command {
     Leave { name: Text },
     Collect { at: Moment },
     Close,
+    Trim,
 }
 
 /// A command, with the thread that gives it and the number of its line.
@@ -56,6 +57,7 @@ pub enum Verb {
     Leave,
     Collect,
     Close,
+    Trim,
 }
 
 impl fmt::Display for Verb {
@@ -69,6 +71,7 @@ impl fmt::Display for Verb {
             Verb::Leave => "leave",
             Verb::Collect => "collect",
             Verb::Close => "close",
+            Verb::Trim => "trim",
         })
     }
 }

@@ -48,6 +48,7 @@ fn command_for(alloc: Global, value: &Value, verb: Verb) -> Result<Command, Line
         Verb::Leave => leave_of(alloc, value),
         Verb::Collect => collect_of(value),
         Verb::Close => Ok(Command::Close),
+        Verb::Trim => Ok(Command::Trim),
     }
 }
 

@@ -55,6 +55,8 @@ fn verb_of(text: &str) -> Option<Verb>
         Some(Verb::Collect)
     } else if text == "close" {
         Some(Verb::Close)
+    } else if text == "trim" {
+        Some(Verb::Trim)
     } else {
         None
     }

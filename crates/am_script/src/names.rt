@@ -23,6 +23,6 @@ pub(crate) fn follow(names: &mut BTreeSet<(Thread, Text)>, line: &Line) -> Resul
         Command::Subscribe { name } => Ok(names.insert((thread, name.copy()?))?),
         Command::Leave { name } => Ok(names.remove(&(thread, name.copy()?))),
         Command::Read { name, max: _ } => Ok(names.contains(&(thread, name.copy()?))),
-        Command::Post { .. } | Command::Collect { .. } | Command::Close => Ok(true),
+        Command::Post { .. } | Command::Collect { .. } | Command::Close | Command::Trim => Ok(true),
     }
 }

@@ -1,5 +1,5 @@
-//! Tests of what no contract says, across the crates: that a call succeeds where memory is there,
-//! and the limits of a post. Worked examples of what is printed are data, in the folder `rows`.
+//! Tests of what no contract says, of label sets, matchers and posts: that a call succeeds where
+//! memory is there, and the limits of a post.
 #![tactic(auto)]
 
 #[cfg(test)]
@@ -11,10 +11,6 @@ mod matchers;
 #[cfg(test)]
 mod patterns;
 #[cfg(test)]
-mod plain_store;
-#[cfg(test)]
 mod posts;
-#[cfg(test)]
-mod provider;
 #[cfg(test)]
 mod sizes;

@@ -1,10 +1,12 @@
 -- The fields of a Book, and what always holds of them.
-use Rattle.std.specs.Prelude.{◌≡◌, ℕ, ◌<◌, ◌≤◌, ◌+◌, false, if◌then◌else◌, length, slice_index_or}
-use Rattle.std.specs.Vec.{vec_len, vec_capacity}
+use Rattle.std.specs.Prelude.{◌≡◌, ℕ, ◌<◌, ◌≤◌, ◌+◌, if◌then◌else◌, length}
+use Rattle.std.specs.Option.{is_some, IfSome}
+use Rattle.std.specs.VecDeque.{deque_len, deque_capacity}
 use Rattle.am_provider.specs.declared.book.Book.TheInside.{Inside}
-use Rattle.am_provider.specs.inside.Lanes.{open_count}
 use Rattle.am_provider.specs.Journal.{is_closed, is_open, posts_of}
 use Rattle.am_provider.specs.BookView.{BookView, IsFaithful}
+use Rattle.am_provider.specs.inside.Journals.{journal_of, AreCounted}
+use Rattle.am_provider.specs.inside.Lanes.{lane_at, IsItsOpening, open_count}
 use Rattle.am_provider.specs.inside.Batches.{batches_in, AreEnds}
 use Rattle.am_provider.specs.inside.BookLimits.{IsWithinLogLimits}
 
@@ -12,7 +14,7 @@ use Rattle.am_provider.specs.inside.BookLimits.{IsWithinLogLimits}
 abbrev pub view_of : Inside → BookView
 view_of fields = record {
   stored = fields.stored;
-  journal = fields.journal.items;
+  journal = journal_of fields.journal;
   log = batches_in fields.log;
 }
 
@@ -21,11 +23,14 @@ view_of fields = record {
 pub record AgreesWithJournal (fields : Inside) : Type 0 where
   pub kept : IsFaithful (view_of fields)
   pub eight : length fields.lanes ≡ 8
-  pub closed : fields.closed ≡ is_closed fields.journal.items
+  pub closed : fields.closed ≡ is_closed (journal_of fields.journal)
   pub lanes : (lane : ℕ) → lane < 8
-      → slice_index_or fields.lanes lane false ≡ is_open fields.journal.items lane
-  pub posts : fields.posts ≡ posts_of fields.journal.items
+      → is_some (lane_at fields.lanes lane) ≡ is_open (journal_of fields.journal) lane
+  pub openings : (lane : ℕ)
+      → IfSome (lane_at fields.lanes lane) (IsItsOpening (journal_of fields.journal) lane)
+  pub posts : fields.posts ≡ posts_of (journal_of fields.journal)
+  pub dropped : AreCounted fields.journal
   pub ends : AreEnds fields.log
   pub limits : IsWithinLogLimits (batches_in fields.log)
-  pub room : vec_len fields.journal + open_count fields.lanes + (if fields.closed then 0 else 1)
-      ≤ vec_capacity fields.journal
+  pub room : deque_len fields.journal.calls + open_count fields.lanes
+      + (if fields.closed then 0 else 1) ≤ deque_capacity fields.journal.calls

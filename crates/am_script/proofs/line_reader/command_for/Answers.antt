@@ -6,3 +6,7 @@ use Rattle.am_script.proofs.line_reader.command_for.Goals as goal
 pub returns-in-Close : goal.returns-in-Close
 unfolding command_for
 returns-in-Close c = (tt, ap (λ v. command_for [] (view c.args.value.now) v) c.in-Close.is)
+
+pub returns-in-Trim : goal.returns-in-Trim
+unfolding command_for
+returns-in-Trim c = (tt, ap (λ v. command_for [] (view c.args.value.now) v) c.in-Trim.is)

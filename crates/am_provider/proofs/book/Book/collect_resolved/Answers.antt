@@ -1,13 +1,19 @@
-use Rattle.std.proofs.Common.{◌≡◌, ◌+◌, ◌≤◌, ◌++◌, ◌∷◌, [], refl, arith, rules, vec_len, vec_capacity}
+use Rattle.std.proofs.Common.{◌≡◌, ◌+◌, ◌≤◌, ◌++◌, ◌∷◌, [], List, refl, ap, arith, rules}
+use Rattle.std.specs.VecDeque.{deque_len, deque_capacity}
+use Rattle.am_provider.specs.declared.call.Call.{Call}
 use Rattle.am_provider.specs.declared.call.Call.TheVariants.{Collected}
+use Rattle.am_provider.specs.Journal.{with_call}
+use Rattle.am_provider.specs.inside.Journals.{journal_of}
 use Rattle.am_provider.proofs.Kept.{sound_collected}
 use Rattle.am_provider.proofs.book.Book.collect_resolved.Goals as goal
 
 pub invariant_of-self-2 : goal.invariant_of-self-2
 invariant_of-self-2 c =
-    let room : vec_len c.push_reserved.new.self + 9 ≤ vec_capacity c.push_reserved.new.self = omega (arith, c.in_ok-reserve.ensures.ok, c.push_reserved.ensures.len, c.push_reserved.ensures.capacity) in
-    let journal : c.push_reserved.new.self.items ≡ c.self.inside.journal.items ++ Collected c.args.now ∷ [] = search rules in
-    sound_collected c.self.inside (record { stored = c.remove_resolved-removed.new.self; journal = c.push_reserved.new.self; log = c.self.inside.log; posts = c.self.inside.posts; lanes = c.self.inside.lanes; closed = c.self.inside.closed })
+    let room : deque_len c.push_back_reserved.new.self + 9 ≤ deque_capacity c.push_back_reserved.new.self = omega (arith, c.in_ok-reserve.ensures.ok, c.push_back_reserved.ensures.len, c.push_back_reserved.ensures.capacity) in
+    let calls : c.push_back_reserved.new.self.items ≡ c.self.inside.journal.calls.items ++ Collected c.args.now ∷ [] = search rules in
+    let journal : journal_of (record c.self.inside.journal { calls = c.push_back_reserved.new.self }) ≡ with_call (journal_of c.self.inside.journal) (Collected c.args.now) =
+    ap (λ (calls : List Call). record (journal_of c.self.inside.journal) { calls = calls }) calls in
+    sound_collected c.self.inside (record c.self.inside { stored = c.remove_resolved-removed.new.self; journal = record c.self.inside.journal { calls = c.push_back_reserved.new.self } })
     c.args.now c.self.invariant journal c.remove_resolved-removed.ensures.store refl refl refl refl room
 
 pub returns-clause-kept : goal.returns-clause-kept

@@ -1,5 +1,11 @@
-use Rattle.std.proofs.Common.{◌≡◌, ◌+◌, ◌<◌, ◌≤◌, nat_eq, cond, length, None, Some, ◌++◌, ◌∷◌, [], ap, sym, refl, ◌∙◌, arith, rules, vec_len, vec_capacity}
-use Rattle.std.proofs.lemmas.List.{length-map}
+use Rattle.std.proofs.Common.{◌≡◌, ◌+◌, ◌<◌, ◌≤◌, nat_eq, cond, length, None, Some, ◌++◌, ◌∷◌, [], ap, sym, refl, subst, Bool, true, false, ◌∙◌, arith, rules, List}
+use Rattle.std.specs.VecDeque.{deque_len, deque_capacity}
+use Rattle.am_provider.specs.declared.call.Call.{Call}
+use Rattle.am_provider.specs.Journal.{with_call}
+use Rattle.am_provider.specs.inside.Journals.{journal_of}
+use Rattle.std.proofs.lemmas.List.{length-map, append-nil}
+use Rattle.am_alert.specs.declared.alert.Alert.{Alert}
+use Rattle.am_provider.specs.Broadcast.{IsFront}
 use Rattle.std.specs.Arc.{arc_value}
 use Rattle.am_alert.specs.declared.post.TheConstants.{MAX_ALERTS}
 use Rattle.am_provider.specs.declared.book.TheConstants.{LOG_END}
@@ -40,7 +46,7 @@ invariant_of-self-2 c =
     ∙ (ap (λ n. cond (nat_eq n 0) (batches_in c.reserve-2.new.self) (batches_in c.reserve-2.new.self ++ batch ∷ [])) (sym same)
     ∙ ap (λ batches. cond (nat_eq (length batch) 0) batches (batches ++ batch ∷ [])) c.in_ok-reserve-2.ensures.batches) in
     let ends : AreEnds c.push_reserved-place.new.self = search rules in
-    let room : vec_len c.push_reserved.new.self + 9 ≤ vec_capacity c.push_reserved.new.self = omega (arith, c.in_ok-reserve.ensures.ok, c.push_reserved.ensures.len, c.push_reserved.ensures.capacity) in
+    let room : deque_len c.push_back_reserved.new.self + 9 ≤ deque_capacity c.push_back_reserved.new.self = omega (arith, c.in_ok-reserve.ensures.ok, c.push_back_reserved.ensures.len, c.push_back_reserved.ensures.capacity) in
     let few : length c.args.post.valid ≤ MAX_ALERTS = omega (arith, c.args.post.few) in
     let long : length c.as_slice-count.result.now ≡ length c.args.post.valid = search rules in
     let fits : 0 < length c.args.post.valid → length (batches_in c.self.inside.log) < LOG_END =
@@ -48,10 +54,24 @@ invariant_of-self-2 c =
       | else-count-gt0-via-then-count-gt0+else-places-ge-LOG_END w ↦ λ h. omega (arith, w.if-places-ge-LOG_END.false, w.places.ensures)
       | else-count-gt0-via-else-count-gt0 w ↦ λ h. absurd (omega (arith, w.if-count-gt0.false, long))
     ] in
-    let journal : c.push_reserved.new.self.items ≡ c.self.inside.journal.items ++ Posted c.args.now c.args.post.valid ∷ [] = search rules in
+    let calls : c.push_back_reserved.new.self.items ≡ c.self.inside.journal.calls.items ++ Posted c.args.now c.args.post.valid ∷ [] = search rules in
+    let journal : journal_of (record c.self.inside.journal { calls = c.push_back_reserved.new.self }) ≡ with_call (journal_of c.self.inside.journal) (Posted c.args.now c.args.post.valid) =
+    ap (λ (calls : List Call). record (journal_of c.self.inside.journal) { calls = calls }) calls in
     let count : length batch ≡ length c.args.post.valid = ap length sent ∙ length_batch c.args.now c.args.post.valid c.self.inside.stored in
-    sound_posted c.self.inside (record { stored = c.absorb.new.self; journal = c.push_reserved.new.self; log = c.push_reserved-place.new.self; posts = c.self.inside.posts + 1; lanes = c.self.inside.lanes; closed = c.self.inside.closed })
+    sound_posted c.self.inside (record c.self.inside { stored = c.absorb.new.self; journal = record c.self.inside.journal { calls = c.push_back_reserved.new.self }; log = c.push_reserved-place.new.self; posts = c.self.inside.posts + 1 })
     c.args.now c.args.post.valid batch c.self.invariant c.if-self.false journal store log ends sent count few fits refl refl refl room
 
 pub returns-clause-kept : goal.returns-clause-kept
 returns-clause-kept c = (invariant_of-self-2 c).kept
+
+front_cond : (b : Bool) (xs : List (List Alert)) (y : List Alert) → IsFront xs (cond b xs (xs ++ y ∷ []))
+front_cond true xs y = ([], append-nil xs)
+front_cond false xs y = (y ∷ [], refl)
+
+pub returns-clause-log : goal.returns-clause-log
+returns-clause-log c =
+    let batch = c.in_ok-absorbed.absorbed.batch.items in
+    let log : batches_in c.reserve-2.new.self ≡ c.args.self.now.log = c.in_ok-reserve-2.ensures.batches ∙ ap (λ (s : BookView). s.log) c.self.view_is in
+    subst (λ old. IsFront old (batches_in c.push_reserved-place.new.self)) log
+    (subst (IsFront (batches_in c.reserve-2.new.self)) (sym c.push_reserved-place.ensures.batches)
+    (front_cond (nat_eq (length batch) 0) (batches_in c.reserve-2.new.self) (alerts_in batch)))

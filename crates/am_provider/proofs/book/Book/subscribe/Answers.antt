@@ -1,30 +1,38 @@
-use Rattle.std.proofs.Common.{◌≡◌, ◌+◌, ◌≤◌, length, set, ◌++◌, ◌∷◌, [], refl, sym, subst, arith, rules, vec_len, vec_capacity, true}
+use Rattle.std.proofs.Common.{◌≡◌, ◌+◌, ◌≤◌, ◌∙◌, length, ◌++◌, ◌∷◌, [], List, refl, sym, ap, subst, arith, rules}
+use Rattle.std.specs.VecDeque.{deque_len, deque_capacity}
+use Rattle.am_provider.specs.declared.call.Call.{Call}
 use Rattle.am_provider.specs.declared.call.Call.TheVariants.{Subscribed}
-use Rattle.am_provider.specs.Shared.{alerts_in}
-use Rattle.am_provider.specs.inside.Batches.{batches_in}
+use Rattle.am_provider.specs.Journal.{with_call, call_count}
 use Rattle.am_provider.specs.BookView.{BelongsTo}
+use Rattle.am_provider.specs.inside.Batches.{batches_in}
 use Rattle.am_provider.specs.inside.BookInside.{view_of}
-use Rattle.am_provider.specs.inside.Lanes.{IsLowestFalse}
+use Rattle.am_provider.specs.inside.Journals.{journal_of}
+use Rattle.am_provider.specs.inside.Lanes.{IsLowestFree}
 use Rattle.am_provider.proofs.Flags.{sound_subscribed, given_subscribed}
 use Rattle.am_provider.proofs.book.Book.subscribe.Goals as goal
 
+grown : (c : goal.After-begin) → journal_of (record c.self.inside.journal { calls = c.push_back_reserved.new.self }) ≡ with_call (journal_of c.self.inside.journal) (Subscribed c.in-Some.lane)
+grown c =
+    let calls : c.push_back_reserved.new.self.items ≡ c.self.inside.journal.calls.items ++ Subscribed c.in-Some.lane ∷ [] = search rules in
+    ap (λ (calls : List Call). record (journal_of c.self.inside.journal) { calls = calls }) calls
+
+at_end : (c : goal.After-begin) → c.call_count-at.result ≡ call_count (journal_of c.self.inside.journal)
+at_end c = c.call_count-at.ensures ∙ ap (λ (calls : List Call). c.self.inside.journal.before + length calls) c.in_ok-reserve.ensures.items
+
 pub invariant_of-self-2 : goal.invariant_of-self-2
 invariant_of-self-2 c =
-    let low : IsLowestFalse c.self.inside.lanes c.in-Some.lane = search rules in
-    let room : vec_len c.push_reserved.new.self + 9 ≤ vec_capacity c.push_reserved.new.self = omega (arith, c.in_ok-reserve.ensures.ok, c.push_reserved.ensures.len, c.push_reserved.ensures.capacity) in
-    let journal : c.push_reserved.new.self.items ≡ c.self.inside.journal.items ++ Subscribed c.in-Some.lane ∷ [] = search rules in
-    sound_subscribed c.self.inside (record { stored = c.self.inside.stored; journal = c.push_reserved.new.self; log = c.self.inside.log; posts = c.self.inside.posts; lanes = set c.self.inside.lanes c.in-Some.lane true; closed = c.self.inside.closed })
-    c.in-Some.lane c.self.invariant c.if-self.false low journal refl refl refl refl refl room
+    let low : IsLowestFree c.self.inside.lanes c.in-Some.lane = search rules in
+    let room : deque_len c.push_back_reserved.new.self + 9 ≤ deque_capacity c.push_back_reserved.new.self = omega (arith, c.in_ok-reserve.ensures.ok, c.push_back_reserved.ensures.len, c.push_back_reserved.ensures.capacity) in
+    let opening : c.in_ok-kept.kept ≡ c.self.inside.stored = search rules in
+    sound_subscribed c.self.inside _ c.in-Some.lane (record { at = c.call_count-at.result; opening = c.in_ok-kept.kept })
+    c.self.invariant c.if-self.false low (grown c) (at_end c) opening refl refl refl refl refl room
 
 pub returns-clause-kept : goal.returns-clause-kept
 returns-clause-kept c = (invariant_of-self-2 c).kept
 
 pub returns-clause-given : goal.returns-clause-given
 returns-clause-given c =
-    let journal : c.push_reserved.new.self.items ≡ c.self.inside.journal.items ++ Subscribed c.in-Some.lane ∷ [] = search rules in
-    let at : c.len-at.result ≡ length c.self.inside.journal.items = search rules in
     let start : c.places-start.result ≡ length (batches_in c.self.inside.log) = search rules in
-    let opening : alerts_in c.in_ok-opening.opening.items ≡ c.self.inside.stored = search rules in
-    let begun = c.begin.ensures in
-    subst (BelongsTo _) (sym begun)
-    (given_subscribed (view_of c.self.inside) _ _ c.self.invariant.kept journal at start opening refl refl)
+    let opening : c.in_ok-opening.opening ≡ c.self.inside.stored = search rules in
+    subst (BelongsTo _) (sym c.begin.ensures)
+    (given_subscribed (view_of c.self.inside) _ _ c.self.invariant.kept (grown c) (at_end c) start opening refl refl)

@@ -1,6 +1,4 @@
-use Rattle.std.proofs.Common.{◌≡◌, length, ap, sym, arith, ◌∙◌}
-use Rattle.std.specs.Arc.{arc_value}
-use Rattle.std.proofs.lemmas.List.{length-map}
+use Rattle.std.proofs.Common.{◌≡◌, length, ap, sym, arith}
 use Rattle.am_provider.specs.BookView.{SubscriptionView}
 use Rattle.am_provider.specs.inside.Batches.{batches_in}
 use Rattle.am_provider.proofs.Items.{all_small, start_within}
@@ -15,5 +13,5 @@ ahead-requires-clause-start c =
 
 pub returns-clause-countable : goal.returns-clause-countable
 returns-clause-countable c =
-    all_small c.args.book.now c.args.self.now c.log.ensures.limits
-    (let same : length c.args.self.now.opening ≡ length c.self.inside.opening.items = ap (λ (p : SubscriptionView). length p.opening) (sym c.self.view_is) ∙ length-map c.self.inside.opening.items arc_value in omega (arith, same, c.self.invariant))
+    let same : length c.args.self.now.opening ≡ length c.self.inside.opening = ap (λ (p : SubscriptionView). length p.opening) (sym c.self.view_is) in
+    all_small c.args.book.now c.args.self.now c.log.ensures.limits (omega (arith, same, c.as_slice.ensures.few))

@@ -16,7 +16,7 @@ returns-in-Ok-clause-ready c =
     let grew = c.push_reserved.ensures.items ∙ ap (λ (opened : List OpenSubscription). opened ++ one ∷ []) c.reserve.ensures.items in
     record {
       sound = subst (λ (opened : List OpenSubscription). IsReadySession (record { book = c.subscribe.new.self; opened = opened })) (sym grew)
-          (joined c.journal_laws.ensures.given old c.subscribe.new.self c.requires.sound c.in-Ok.ensures.kept one c.in-Ok.ensures.journal c.in-Ok.ensures.given);
+          (joined c.journal_laws.ensures.given old c.subscribe.new.self c.requires.sound c.in-Ok.ensures.kept c.journal_laws.ensures.lanes one c.in-Ok.ensures.journal c.in-Ok.ensures.given);
       passes = c.requires.passes;
     }
 
