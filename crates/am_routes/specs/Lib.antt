@@ -1,0 +1,4 @@
+pub use Rattle.am_labels.specs.Matchers
+pub mod Routes
+pub mod RouteLists
+pub mod inside
