@@ -1,4 +1,6 @@
 pub use Rattle.am_labels.specs.Matchers
 pub mod Routes
 pub mod RouteLists
+pub mod Paths
+pub mod FaultTexts
 pub mod inside

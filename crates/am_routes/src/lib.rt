@@ -12,6 +12,7 @@
 //! This crate knows of no provider: it is handed labels and alerts, and says where they belong.
 #![tactic(auto)]
 
+mod config;
 mod group_by;
 mod inhibit_rule;
 mod names;
@@ -19,6 +20,7 @@ mod route;
 mod route_id;
 mod tree;
 
+pub use config::{ConfigFault, Path};
 pub use group_by::GroupBy;
 pub use inhibit_rule::{InhibitRule, InhibitRules};
 pub use names::Names;
