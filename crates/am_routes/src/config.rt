@@ -1,7 +1,10 @@
 //! The configuration: what it holds, and how its JSON is read.
 
 mod fault;
+mod members;
 mod path;
+mod route_head;
+mod texts;
 
 pub use fault::ConfigFault;
 pub use path::Path;

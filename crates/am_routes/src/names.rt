@@ -1,6 +1,7 @@
 //! Names of labels in a configuration.
 
 use am_labels::Text;
+use std::alloc::{AllocError, Global};
 use std::marker::Model;
 
 /// Names in order, seen by contracts as their list.
@@ -18,11 +19,22 @@ impl Model for Names {
 }
 
 impl Names {
-    ghost use Rattle.std.specs.Prelude.{◌≡◌};
+    ghost use Rattle.std.specs.Prelude.{◌≡◌, IfOk};
 
     pub fn as_slice(&self) -> &[Text]
         ensures { result.now ≡ self.now }
     {
         &self.names
+    }
+
+    /// The same names once more.
+    pub fn copy(&self, alloc: Global) -> Result<Names, AllocError>
+        ensures { IfOk result (λ copy. copy ≡ self.now) }
+    {
+        let mut names = Vec::with_capacity(alloc, self.names.len())?;
+        for name in self.as_slice() {
+            names.push(name.copy()?)?;
+        }
+        Ok(Names { names })
     }
 }

@@ -38,6 +38,14 @@ impl Path {
         self.path.as_str()
     }
 
+    pub(crate) fn copy(&self) -> Result<Path, AllocError>
+        ensures { IfOk result (λ copy. copy ≡ self.now) }
+    {
+        Ok(Path {
+            path: self.path.clone()?,
+        })
+    }
+
     /// The path of a member of what stands here.
     pub(crate) fn member(&self, alloc: Global, name: &str) -> Result<Path, AllocError>
         ensures { IfOk result (λ member. member ≡ member_path self.now name.now) }
