@@ -1,8 +1,15 @@
+pub use Rattle.am_labels.specs.LabelSets
 pub use Rattle.am_labels.specs.Matchers
+pub use Rattle.am_alert.specs.Alerts
+pub use Rattle.am_alert.specs.Merging
 pub mod Routes
 pub mod RouteLists
 pub mod Paths
 pub mod Members
 pub mod RouteHeads
 pub mod FaultTexts
+pub mod RouteAnswers
+pub mod InOrder
+pub mod GroupLabels
+pub mod Groups
 pub mod inside

@@ -1,3 +1,4 @@
 -- Definitions that only code of this crate cites.
 pub mod RouteCodes
 pub mod RouteSizes
+pub mod GroupLists
