@@ -3,3 +3,8 @@ pub mod Distinct
 pub mod Cases
 pub mod InOrder
 pub mod Groups
+pub mod Readings
+pub mod Elements
+pub mod RouteReadings
+pub mod ArrayReadings
+pub mod RuleReadings

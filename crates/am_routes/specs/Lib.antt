@@ -7,6 +7,9 @@ pub mod RouteLists
 pub mod Paths
 pub mod Members
 pub mod RouteHeads
+pub mod Readings
+pub mod MatcherReadings
+pub mod RouteReadings
 pub mod FaultTexts
 pub mod RouteAnswers
 pub mod InOrder

@@ -1,9 +1,11 @@
 //! The configuration: what it holds, and how its JSON is read.
 
 mod fault;
+mod matcher_reader;
 mod members;
 mod path;
 mod route_head;
+mod route_reader;
 mod texts;
 
 pub use fault::ConfigFault;

@@ -22,6 +22,12 @@ impl Texts {
     ghost use Rattle.std.specs.List.{list_any};
     ghost use Rattle.am_labels.specs.Texts.{same_text};
 
+    pub(crate) fn as_slice(&self) -> &[Text]
+        ensures { result.now ≡ self.now }
+    {
+        &self.texts
+    }
+
     pub(crate) fn is_empty(&self) -> bool
         ensures { IsTrue result ↔ (self.now ≡ []) }
     {
