@@ -10,6 +10,8 @@ pub mod RouteHeads
 pub mod Readings
 pub mod MatcherReadings
 pub mod RouteReadings
+pub mod RuleForms
+pub mod RuleReadings
 pub mod FaultTexts
 pub mod RouteAnswers
 pub mod InOrder

@@ -6,6 +6,7 @@ mod members;
 mod path;
 mod route_head;
 mod route_reader;
+mod rule_reader;
 mod texts;
 
 pub use fault::ConfigFault;

@@ -15,4 +15,4 @@ returns-in_err-texts c =
 pub returns : goal.returns
 returns c =
     matchers_read c.args.at.now c.args.name.now (view c.args.value.now) c.in_ok-texts.texts c.in_ok-texts.ensures
-    c.in_ok-member.field-0 c.in_ok-member.ensures _ ?
+    c.in_ok-member.field-0 c.in_ok-member.ensures _ c.read_matchers-2.ensures

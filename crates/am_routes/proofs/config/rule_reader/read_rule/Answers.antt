@@ -1,4 +1,4 @@
-use Rattle.std.proofs.Common.{◌∙◌, Err, ap, sym, subst}
+use Rattle.std.proofs.Common.{◌∙◌, Err, Ok, ap, sym, subst}
 use Rattle.std.proofs.lemmas.Result.{err_from_is_err_and}
 use Rattle.serde_json.specs.View.{view}
 use Rattle.am_routes.specs.Readings.{IsAnswerOf}
@@ -33,4 +33,6 @@ returns-in_err-equal c =
     c.in_ok-target.target c.in_ok-target.ensures c.in_err-equal.field-0.0 c.in_err-equal.ensures)
 
 pub returns : goal.returns
-returns c = ?
+returns c =
+    rule_read c.args.at.now (view c.args.value.now) _ c.in_ok-check_form.ensures c.in_ok-source.source c.in_ok-source.ensures
+    c.in_ok-target.target c.in_ok-target.ensures c.equal.inside.texts.items (c.in_ok-equal.ensures ∙ ap Ok (sym c.equal.view_is))
