@@ -8,3 +8,4 @@ pub mod Elements
 pub mod RouteReadings
 pub mod ArrayReadings
 pub mod RuleReadings
+pub mod Durations

@@ -12,6 +12,9 @@ pub mod MatcherReadings
 pub mod RouteReadings
 pub mod RuleForms
 pub mod RuleReadings
+pub mod Durations
+pub mod Timeouts
+pub mod Configs
 pub mod FaultTexts
 pub mod RouteAnswers
 pub mod InOrder

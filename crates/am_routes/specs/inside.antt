@@ -3,3 +3,4 @@ pub mod RouteCodes
 pub mod RouteSizes
 pub mod GroupLists
 pub mod MatchFaults
+pub mod DurationParts

@@ -20,7 +20,7 @@ mod route;
 mod route_id;
 mod tree;
 
-pub use config::{ConfigFault, Path};
+pub use config::{Config, ConfigFault, DEFAULT_MILLISECONDS, MAX_DEPTH, MAX_MILLISECONDS, Path};
 pub use group_by::GroupBy;
 pub use inhibit_rule::{InhibitRule, InhibitRules};
 pub use names::Names;
