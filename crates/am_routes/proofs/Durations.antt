@@ -131,14 +131,17 @@ first_part from text (part ∷ parts) are some =
     let rest = flat_map written parts in
     let number = are.in_order.0 in
     let stop = parts_begin (rank_of part.unit + 1) parts are.in_order.2 in
-    let digits = digits_of-part part rest text number stop are.whole in
-    (part.unit, parts, record {
-      some = subst (λ (ds : List ℕ). 0 < length ds) (sym digits) number.0;
-      is_unit = ap unit_of (symbol_in-part part rest text number stop are.whole) ∙ unit_of-symbol_of part.unit;
-      in_order = are.in_order.1;
-      later = record { in_order = are.in_order.2; whole = rest_of-part part rest text number stop are.whole };
-      sum = sum_by-cons worth part parts ∙ ap (λ (ds : List ℕ). digits_value 10 ds * milliseconds_of part.unit + sum_by worth parts) (sym digits);
-    })
+    let digits = digits_of-part part rest text number stop are.whole in (
+      part.unit,
+      parts,
+      record {
+        some = subst (λ (ds : List ℕ). 0 < length ds) (sym digits) number.0;
+        is_unit = ap unit_of (symbol_in-part part rest text number stop are.whole) ∙ unit_of-symbol_of part.unit;
+        in_order = are.in_order.1;
+        later = record { in_order = are.in_order.2; whole = rest_of-part part rest text number stop are.whole };
+        sum = sum_by-cons worth part parts ∙ ap (λ (ds : List ℕ). digits_value 10 ds * milliseconds_of part.unit + sum_by worth parts) (sym digits);
+      },
+    )
 
 unit_step : (symbol other : List ℕ) (u unit : Unit) (rest : Option Unit) (b : Bool) → same_text symbol other ≡ b → other ≡ symbol_of u
     → (rest ≡ Some unit → symbol ≡ symbol_of unit) → cond b (Some u) rest ≡ Some unit → symbol ≡ symbol_of unit
@@ -163,10 +166,10 @@ with_first from text unit more some digits is_unit order later =
     record {
       in_order = ((some, digits), order, later.in_order);
       whole =
-        cuts_join text
-        ∙ (ap (λ (symbol : List ℕ). digits_of text ++ (symbol ++ rest_of text)) (symbol_of-unit_of (symbol_in text) unit is_unit)
-        ∙ (ap (λ (rest : List ℕ). digits_of text ++ (symbol_of unit ++ rest)) later.whole
-        ∙ sym (append_assoc (digits_of text) (symbol_of unit) (flat_map written more))));
+          cuts_join text
+          ∙ (ap (λ (symbol : List ℕ). digits_of text ++ (symbol ++ rest_of text)) (symbol_of-unit_of (symbol_in text) unit is_unit)
+          ∙ (ap (λ (rest : List ℕ). digits_of text ++ (symbol_of unit ++ rest)) later.whole
+          ∙ sym (append_assoc (digits_of text) (symbol_of unit) (flat_map written more))));
     }
 
 -- the same, where the unit is known
@@ -271,14 +274,13 @@ number_so_far digits n i inside whole =
 pub next_digit : (digits : List ℕ) (i : ℕ) → list_all is_ascii_digit digits ≡ true → i < length digits → digit_value (get_or digits i 0) ≡ get_or digits i 0 - 48
 next_digit digits i all inside = digit_value_is (get_or digits i 0) (digit_at is_ascii_digit digits i all inside)
 
-
 -- the sum of a text's first part and the others, unless it is too large
 pub sum_read : (most from : ℕ) (text : List ℕ) (unit : Unit) (product others : ℕ) (more : List Part) (total : Option ℕ)
     → 0 < length text → 0 < length (digits_of text) → list_all is_ascii_digit (digits_of text) ≡ true → unit_of (symbol_in text) ≡ Some unit → from ≤ rank_of unit
     → ArePartsOf (rank_of unit + 1) (rest_of text) more → others ≡ sum_by worth more → product ≡ digits_value 10 (digits_of text) * milliseconds_of unit
     → SomeIff total (product + others < most) (product + others)
     → MatchOption total ((parts : List Part) → ArePartsOf from text parts → most ≤ sum_by worth parts)
-      (λ total. (parts : List Part) × ArePartsOf from text parts × (total ≡ sum_by worth parts))
+    (λ total. (parts : List Part) × ArePartsOf from text parts × (total ≡ sum_by worth parts))
 sum_read most from text unit product others more None some digits all is_unit order are_more is_others is_product none =
     λ parts are. large_sum most from text some parts are unit is_unit more are_more (omega arith)
 sum_read most from text unit product others more (Some total) some digits all is_unit order are_more is_others is_product is =

@@ -9,3 +9,4 @@ pub mod RouteReadings
 pub mod ArrayReadings
 pub mod RuleReadings
 pub mod Durations
+pub mod Configs

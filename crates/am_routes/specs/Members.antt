@@ -6,7 +6,7 @@ use Rattle.serde_json.specs.Find.{as_str, as_bool, as_array}
 use Rattle.am_alert.specs.Postables.{given}
 use Rattle.am_routes.specs.Paths.{member_path, item_path}
 use Rattle.am_routes.specs.declared.config.fault.ConfigFault.{ConfigFault}
-use Rattle.am_routes.specs.declared.config.fault.ConfigFault.TheVariants.{NoMemory, Deprecated, WrongKind}
+use Rattle.am_routes.specs.declared.config.fault.ConfigFault.TheVariants.{NoMemory, NotJson, Deprecated, WrongKind}
 
 -- one check after another: the first fault decides
 infixl 10 ◌>>=◌
@@ -52,8 +52,10 @@ abbrev pub deprecated_member : List ℕ → List ℕ → Data → Result ⊤ Con
 deprecated_member at name d =
     if is_some (given name d) then Err (Deprecated (member_path at name)) else Ok tt
 
--- what a reader returned, as it is seen, is what the definition gives, unless memory ran out
+-- what a reader returned, as it is seen, is what the definition gives, unless memory ran out; what is
+-- read here is JSON
 abbrev pub Reads : {X Y : Type 0} → (X → Y) → Result X ConfigFault → Result Y ConfigFault → Type 0
 Reads seen (Ok x) read = read ≡ Ok (seen x)
 Reads seen (Err NoMemory) read = ⊤
+Reads seen (Err NotJson) read = ⊥
 Reads seen (Err fault) read = read ≡ Err fault

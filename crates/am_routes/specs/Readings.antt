@@ -2,7 +2,7 @@
 -- large. A reading says which results it allows.
 use Rattle.std.specs.Prelude.{◌≡◌, ℕ, ◌+◌, List, [], ◌∷◌, Result, Ok, Err, ⊤}
 use Rattle.am_routes.specs.declared.config.fault.ConfigFault.{ConfigFault}
-use Rattle.am_routes.specs.declared.config.fault.ConfigFault.TheVariants.{NoMemory}
+use Rattle.am_routes.specs.declared.config.fault.ConfigFault.TheVariants.{NoMemory, NotJson}
 
 abbrev pub Reading : Type 0 → Type 1
 Reading A = Result A ConfigFault → Type 0
@@ -29,8 +29,9 @@ each reads i (x ∷ xs) = do
   others ← each reads (i + 1) xs
   Is (Ok (first ∷ others))
 
--- the reading allows the result, unless memory ran out
+-- the reading allows the result, unless memory ran out; what is read here is JSON
 abbrev pub IsAnswerOf : {A : Type 0} → Reading A → Result A ConfigFault → Type 0
 IsAnswerOf reading (Ok x) = reading (Ok x)
 IsAnswerOf reading (Err NoMemory) = ⊤
+IsAnswerOf reading (Err NotJson) = ⊥
 IsAnswerOf reading (Err fault) = reading (Err fault)

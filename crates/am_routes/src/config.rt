@@ -11,16 +11,15 @@ mod rule_reader;
 mod texts;
 mod timeout;
 
-pub use duration::MAX_MILLISECONDS;
-pub use fault::ConfigFault;
-pub use path::Path;
-pub use route_reader::MAX_DEPTH;
-
 use crate::config::route_reader::read_root;
 use crate::config::rule_reader::read_rules;
 use crate::config::timeout::read_timeout;
 use crate::inhibit_rule::InhibitRules;
 use crate::tree::RouteTree;
+pub use duration::MAX_MILLISECONDS;
+pub use fault::ConfigFault;
+pub use path::Path;
+pub use route_reader::MAX_DEPTH;
 use serde_json::Value;
 use std::alloc::Global;
 use std::time::Duration;

@@ -112,7 +112,9 @@ fn digits_len(text: &[u8]) -> usize
 fn symbol_len(text: &[u8]) -> usize
     ensures { result ≡ prefix_len is_no_digit text.now }
 {
-    text.iter().take_while(|byte| !byte.is_ascii_digit()).count()
+    text.iter()
+        .take_while(|byte| !byte.is_ascii_digit())
+        .count()
 }
 
 fn unit_of(symbol: &[u8]) -> Option<Unit>
@@ -138,7 +140,9 @@ fn number_of(digits: &[u8]) -> Option<u64>
 {
     let mut number = 0u64;
     for digit in digits {
-        number = number.checked_mul(10)?.checked_add(u64::from(*digit - b'0'))?;
+        number = number
+            .checked_mul(10)?
+            .checked_add(u64::from(*digit - b'0'))?;
     }
     Some(number)
 }

@@ -7,7 +7,9 @@ ghost use Rattle.am_routes.specs.Members.{Reads};
 ghost use Rattle.am_routes.specs.RouteHeads.{distinct, grouped_by, grouping_of, head_of, matcher_texts_of, receiver_of, tail_of};
 
 use crate::config::fault::ConfigFault;
-use crate::config::members::{array_member, flag_member, refuse_deprecated, text_member, texts_member};
+use crate::config::members::{
+    array_member, flag_member, refuse_deprecated, text_member, texts_member,
+};
 use crate::config::path::Path;
 use crate::config::texts::Texts;
 use crate::group_by::GroupBy;

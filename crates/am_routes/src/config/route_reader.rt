@@ -46,7 +46,13 @@ fn read_route(
     let head = read_head(alloc, above, at, value)?;
     let matchers = read_matchers(alloc, &at.member(alloc, "matchers")?, &head.matcher_texts)?;
     let (continues, below) = read_tail(alloc, at, value)?;
-    let children = read_routes(alloc, levels - 1, &head, &at.member(alloc, "routes")?, below)?;
+    let children = read_routes(
+        alloc,
+        levels - 1,
+        &head,
+        &at.member(alloc, "routes")?,
+        below,
+    )?;
     Ok(Route {
         receiver: head.receiver,
         group_by: head.group_by,

@@ -22,12 +22,12 @@ returns-then-is_empty-2 t c parts are =
     let digits = ap length c.split_part.ensures.digits in
     elim c.then-is_empty-2.branch [
       | then-is_empty-2-via-then-is_empty-2 w ↦
-        let none : length (digits_of c.args.text.now) ≡ 0 = grind (arith, nat_tests) in
-        no_digits (2 ^ 64) c.args.from c.args.text.now some parts are none
+          let none : length (digits_of c.args.text.now) ≡ 0 = grind (arith, nat_tests) in
+          no_digits (2 ^ 64) c.args.from c.args.text.now some parts are none
       | then-is_empty-2-via-else-is_empty-2+then-rank-from w ↦
-        let before = w.if-rank-from.true in
-        let rank = w.rank.ensures in
-        out_of_order (2 ^ 64) c.args.from c.args.text.now some parts are c.in_ok-unit.unit unit (omega arith)
+          let before = w.if-rank-from.true in
+          let rank = w.rank.ensures in
+          out_of_order (2 ^ 64) c.args.from c.args.text.now some parts are c.in_ok-unit.unit unit (omega arith)
     ]
 
 pub returns-in_err-count : goal.returns-in_err-count
@@ -42,21 +42,21 @@ pub returns-in_err-others : goal.returns-in_err-others
 returns-in_err-others t c =
     let some : 0 < length c.args.text.now = grind (arith, nat_tests) in
     let unit = ap unit_of (sym c.split_part.ensures.symbol) ∙ sym c.in_ok-unit.ensures in
-    rw c.from_residual-in_err-others.ensures (λ parts are. large_others (2 ^ 64) c.args.from c.args.text.now some parts are c.in_ok-unit.unit unit 
-      (λ more later. c.in_err-others.ensures more
-        (subst (λ n. ArePartsOf (n + 1) c.split_part.result.2.now more) (sym c.rank-2.ensures)
-        (subst (λ (rest : List ℕ). ArePartsOf (rank_of c.in_ok-unit.unit + 1) rest more) (sym c.split_part.ensures.rest) later))))
+    rw c.from_residual-in_err-others.ensures (λ parts are. large_others (2 ^ 64) c.args.from c.args.text.now some parts are c.in_ok-unit.unit unit
+    (λ more later. c.in_err-others.ensures more
+    (subst (λ n. ArePartsOf (n + 1) c.split_part.result.2.now more) (sym c.rank-2.ensures)
+    (subst (λ (rest : List ℕ). ArePartsOf (rank_of c.in_ok-unit.unit + 1) rest more) (sym c.split_part.ensures.rest) later))))
 
 pub returns-in_err-checked_mul : goal.returns-in_err-checked_mul
 returns-in_err-checked_mul t c =
     let some : 0 < length c.args.text.now = grind (arith, nat_tests) in
     let unit = ap unit_of (sym c.split_part.ensures.symbol) ∙ sym c.in_ok-unit.ensures in
-    rw c.from_residual-in_err-checked_mul.ensures (λ parts are. large_worth (2 ^ 64) c.args.from c.args.text.now some parts are c.in_ok-unit.unit unit 
-      (let same : c.in_ok-count.count * c.milliseconds.result ≡ digits_value 10 (digits_of c.args.text.now) * milliseconds_of c.in_ok-unit.unit =
-        ap (λ n. n * c.milliseconds.result) (c.in_ok-count.ensures ∙ ap (digits_value 10) c.split_part.ensures.digits)
-        ∙ ap (λ n. digits_value 10 (digits_of c.args.text.now) * n) c.milliseconds.ensures in
-      let large = c.in_err-checked_mul.ensures in
-      omega arith))
+    rw c.from_residual-in_err-checked_mul.ensures (λ parts are. large_worth (2 ^ 64) c.args.from c.args.text.now some parts are c.in_ok-unit.unit unit
+    (let same : c.in_ok-count.count * c.milliseconds.result ≡ digits_value 10 (digits_of c.args.text.now) * milliseconds_of c.in_ok-unit.unit =
+    ap (λ n. n * c.milliseconds.result) (c.in_ok-count.ensures ∙ ap (digits_value 10) c.split_part.ensures.digits)
+    ∙ ap (λ n. digits_value 10 (digits_of c.args.text.now) * n) c.milliseconds.ensures in
+    let large = c.in_err-checked_mul.ensures in
+    omega arith))
 
 pub returns : goal.returns
 returns t c =
@@ -70,9 +70,9 @@ returns t c =
     let order : c.args.from ≤ rank_of c.in_ok-unit.unit = omega arith in
     let others = c.in_ok-others.ensures in
     let later = subst (λ n. ArePartsOf (n + 1) (rest_of text) others.0) c.rank-2.ensures
-        (subst (λ (rest : List ℕ). ArePartsOf (c.rank-2.result + 1) rest others.0) c.split_part.ensures.rest others.1) in
+    (subst (λ (rest : List ℕ). ArePartsOf (c.rank-2.result + 1) rest others.0) c.split_part.ensures.rest others.1) in
     let product = c.in_ok-checked_mul.ensures.1
-        ∙ (ap (λ n. n * c.milliseconds.result) (c.in_ok-count.ensures ∙ ap (digits_value 10) c.split_part.ensures.digits)
-        ∙ ap (λ n. digits_value 10 (digits_of text) * n) c.milliseconds.ensures) in
+    ∙ (ap (λ n. n * c.milliseconds.result) (c.in_ok-count.ensures ∙ ap (digits_value 10) c.split_part.ensures.digits)
+    ∙ ap (λ n. digits_value 10 (digits_of text) * n) c.milliseconds.ensures) in
     sum_read (2 ^ 64) c.args.from text c.in_ok-unit.unit c.in_ok-checked_mul.field-0 c.in_ok-others.others others.0 c.checked_add.result
     some digits all unit order later others.2 product c.checked_add.ensures

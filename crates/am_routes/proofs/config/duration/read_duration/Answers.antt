@@ -10,5 +10,5 @@ returns-then-total-gt-MAX_MILLISECONDS c =
     let parts = c.in_ok-total.ensures in
     let are = subst (λ (text : List ℕ). ArePartsOf 0 text parts.0) c.as_bytes.ensures.value parts.1 in
     let no_zero : c.args.text.now ≡ codes "0" → ⊥ =
-      λ e. true≢false (sym ((bytes_eq-Decides c.args.text.now (codes "0")).1 e) ∙ (sym c.eq.ensures ∙ c.if-eq.false)) in
+    λ e. true≢false (sym ((bytes_eq-Decides c.args.text.now (codes "0")).1 e) ∙ (sym c.eq.ensures ∙ c.if-eq.false)) in
     too_long c.args.text.now parts.0 c.in_ok-total.total no_zero are parts.2 c.if-total-gt-MAX_MILLISECONDS.true

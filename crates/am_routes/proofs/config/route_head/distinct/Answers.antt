@@ -11,4 +11,4 @@ pub loop-name-preserved-in-Continue-branch-2 : goal.loop-name-preserved-in-Conti
 loop-name-preserved-in-Continue-branch-2 c =
     c.in_ok-push.ensures.items
     ∙ distinct-new c.loop-name.yielded c.loop-name.kept.items c.in-Some.name c.loop-name.invariant
-      (ap (has c.in-Some.name) (sym c.deref.ensures.value) ∙ sym c.contains.ensures.value ∙ c.if-not-contains.true)
+    (ap (has c.in-Some.name) (sym c.deref.ensures.value) ∙ sym c.contains.ensures.value ∙ c.if-not-contains.true)
