@@ -19,7 +19,6 @@ use Rattle.am_routes.specs.inside.GroupLists.{with_alert, is_group, with_member,
 use Rattle.am_routes.proofs.Cases.{by_bool, by_option}
 use Rattle.am_routes.proofs.InOrder.{GoesByKeys, put, in_order-each, in_order-own, AllHold, in_order_hold}
 
-
 -- ---- tests
 
 group_decides : (a b : GroupKey) → Decides (same_group a b) (a ≡ b)
@@ -165,7 +164,7 @@ values_put key all alert update [] hold = refl
 values_put key all alert update (entry ∷ entries) hold =
     let own : entry.1.labels ≡ hold.0.0 = held_own key hold.0.0 all entry.1 hold.0.2 in
     let test : is_of key alert.labels entry.0 ≡ same_labels alert.labels entry.1.labels =
-      ap (λ o. option_map_or (λ own. same_labels alert.labels own) o false) hold.0.1 ∙ ap (same_labels alert.labels) (sym own) in
+    ap (λ o. option_map_or (λ own. same_labels alert.labels own) o false) hold.0.1 ∙ ap (same_labels alert.labels) (sym own) in
     let rest = put (is_of key alert.labels) (λ (held : Option Alert). alert) update entries in
     elim (is_of key alert.labels entry.0) as (λ b. map (λ (entry : Update × Alert). entry.1) (cond b ((entry.0, alert) ∷ entries) (entry ∷ rest)) ≡ cond b (alert ∷ map (λ (entry : Update × Alert). entry.1) entries) (entry.1 ∷ map (λ (entry : Update × Alert). entry.1) rest)) [ true ↦ refl | false ↦ refl ]
     ∙ (ap (λ rest. cond (is_of key alert.labels entry.0) (alert ∷ map (λ (entry : Update × Alert). entry.1) entries) (entry.1 ∷ rest)) (values_put key all alert update entries hold.1)
@@ -178,9 +177,9 @@ alerts_own key all node labels alert own =
     let is : label_set key update ≡ Some alert.labels = ap (λ b. cond b (Some alert.labels) None) own in
     let here : GroupKey = record { route = node.number; labels = labels } in
     let held : held_in key alert.labels (all ++ update ∷ []) ≡ Some alert =
-      held_last key alert.labels all update
-      ∙ (ap (λ b. cond (b && same_labels alert.labels alert.labels) (Some alert) (held_in key alert.labels all)) own
-      ∙ ap (λ b. cond b (Some alert) (held_in key alert.labels all)) ((labels_decide alert.labels alert.labels).1 refl)) in
+    held_last key alert.labels all update
+    ∙ (ap (λ b. cond (b && same_labels alert.labels alert.labels) (Some alert) (held_in key alert.labels all)) own
+    ∙ ap (λ b. cond b (Some alert) (held_in key alert.labels all)) ((labels_decide alert.labels alert.labels).1 refl)) in
     ap (map (λ (entry : Update × Alert). entry.1))
     (in_order-own (label_set key) (held_in key) no_more (label_sets key) same_labels labels_decide (is_of key alert.labels) alert.labels (is_of_own key alert.labels) (λ held. alert) all update is held (own_is_of key alert.labels))
     ∙ values_put key all alert update (in_order (label_set key) (held_in key) all) (in_order_hold (label_set key) (held_in key) all)
@@ -200,7 +199,7 @@ other_members key one all (Join node labels alert) is apart =
     let here : GroupKey = record { route = node.number; labels = labels } in
     let same : here ≡ one = (cc) in
     ap some_of (alerts_other key all node labels alert
-      (by_bool (same_group key here) (λ t. absurd (apart ((group_decides key here).0 t ∙ same))) (λ f. f)))
+    (by_bool (same_group key here) (λ t. absurd (apart ((group_decides key here).0 t ∙ same))) (λ f. f)))
 other_members key one all (Resolve now) is apart = absurd (let no : None ≡ Some one = is in (cc))
 
 each_members : (key : GroupKey) (all : List Update) (update : Update) → group_key update ≡ None → members key (all ++ update ∷ []) ≡ option_and_then (left_of update) (members key all)
@@ -254,7 +253,7 @@ groups-join all node labels alert =
     let here : GroupKey = record { route = node.number; labels = labels } in
     let update = Join node labels alert in
     let made : members here (all ++ update ∷ []) ≡ Some (with_one alert (members here all)) =
-      ap some_of (alerts_own here all node labels alert ((group_decides here here).1 refl)) ∙ some_with alert (alerts_in here all) in
+    ap some_of (alerts_own here all node labels alert ((group_decides here here).1 refl)) ∙ some_with alert (alerts_in here all) in
     ap (filter_map group_of)
     (in_order-own group_key members left_of group_sets same_group group_decides (is_in here) here (is_in_own here) (with_one alert) all update refl made (own_is_in here))
     ∙ groups_put node labels alert (in_order group_key members all)

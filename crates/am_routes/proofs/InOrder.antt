@@ -46,9 +46,9 @@ module _ {U V : Type 0} (held : List U → Option V) where
       let more = all ++ u ∷ [] in
       ap (last_passing (λ n. is_none (held (take n more)))) (grown all u)
       ∙ (last_passing-before (λ n. is_none (held (take n more))) (length all)
-          (ap (λ us. is_none (held us)) (take_all (suc (length all)) more (omega (arith, grown all u))) ∙ ap is_none some)
+      (ap (λ us. is_none (held us)) (take_all (suc (length all)) more (omega (arith, grown all u))) ∙ ap is_none some)
       ∙ last_passing-same (λ n. is_none (held (take n more))) (λ n. is_none (held (take n all))) (length all)
-          (λ m h. ap (λ us. is_none (held us)) (take-append-le m all (u ∷ []) h)))
+      (λ m h. ap (λ us. is_none (held us)) (take-append-le m all (u ∷ []) h)))
 
   since_nothing : (at : ℕ) (all : List U) → held all ≡ None → held_since at held all ≡ None
   since_nothing at all none =
@@ -70,7 +70,7 @@ module _ {U V : Type 0} (held : List U → Option V) where
       by_option (held (all ++ u ∷ []))
       (λ gone. since_nothing at (all ++ u ∷ []) gone)
       (λ v some. since_elsewhere at (all ++ u ∷ [])
-        (λ e. let s : last_without held (all ++ u ∷ []) ≡ length all = without_stays all u v some ∙ without_now all none in omega arith))
+      (λ e. let s : last_without held (all ++ u ∷ []) ≡ length all = without_stays all u v some ∙ without_now all none in omega arith))
 
   since_grown : (at : ℕ) (all : List U) (u : U) (v : V) → held (all ++ u ∷ []) ≡ Some v
       → held_since at held (all ++ u ∷ []) ≡ cond (nat_eq (last_without held all) at) (Some v) None
@@ -149,11 +149,11 @@ since_each {U} {V} held effect at all u early each =
     let now : held (all ++ u ∷ []) ≡ effect v = each ∙ ap (option_and_then effect) some in
     by_option (effect v)
     (λ gone. since_nothing held at (all ++ u ∷ []) (now ∙ gone)
-      ∙ (elim (nat_eq (last_without held all) at) as (λ b. None ≡ option_and_then effect (cond b (Some v) None)) [ true ↦ sym gone | false ↦ refl ]
-      ∙ ap (option_and_then effect) (sym (since_now held at all v some))))
+    ∙ (elim (nat_eq (last_without held all) at) as (λ b. None ≡ option_and_then effect (cond b (Some v) None)) [ true ↦ sym gone | false ↦ refl ]
+    ∙ ap (option_and_then effect) (sym (since_now held at all v some))))
     (λ w left. since_grown held at all u w (now ∙ left)
-      ∙ (elim (nat_eq (last_without held all) at) as (λ b. cond b (Some w) None ≡ option_and_then effect (cond b (Some v) None)) [ true ↦ sym left | false ↦ refl ]
-      ∙ ap (option_and_then effect) (sym (since_now held at all v some)))))
+    ∙ (elim (nat_eq (last_without held all) at) as (λ b. cond b (Some w) None ≡ option_and_then effect (cond b (Some v) None)) [ true ↦ sym left | false ↦ refl ]
+    ∙ ap (option_and_then effect) (sym (since_now held at all v some)))))
 
 module _ {U K V : Type 0} (key_of : U → Option K) (held : K → List U → Option V) (effect : U → V → Option V) (laws : GoesByKeys key_of held effect) where
   value_at : List U → ℕ → U → Option V
@@ -170,15 +170,15 @@ module _ {U K V : Type 0} (key_of : U → Option K) (held : K → List U → Opt
       ∙ (ap (λ rest. gathered f 0 all ++ rest) last
       ∙ (append-nil (gathered f 0 all)
       ∙ gathered_kept (λ entry. option_map {U = U × V} (λ value. (entry.0, value)) (effect u entry.1)) f (begun_at key_of held all) (length all)
-        (λ at x early.
-          ap (option_map {U = U × V} (λ (value : V). (x, value)))
-          (by_option {P = option_and_then (λ key. held_since at (held key) more) (key_of x) ≡ option_and_then (effect u) (option_and_then (λ key. held_since at (held key) all) (key_of x))} (key_of x)
-            (λ e. ap (option_and_then (λ key. held_since at (held key) more)) e ∙ ap (λ o. option_and_then (effect u) (option_and_then (λ key. held_since at (held key) all) o)) (sym e))
-            (λ key e. ap (option_and_then (λ key. held_since at (held key) more)) e
-              ∙ (since_each (held key) (effect u) at all u early (laws.each all u key none)
-              ∙ ap (λ o. option_and_then (effect u) (option_and_then (λ key. held_since at (held key) all) o)) (sym e))))
-          ∙ pair_kept (effect u) x (option_and_then (λ key. held_since at (held key) all) (key_of x)))
-        0 all (omega arith)))
+      (λ at x early.
+      ap (option_map {U = U × V} (λ (value : V). (x, value)))
+      (by_option {P = option_and_then (λ key. held_since at (held key) more) (key_of x) ≡ option_and_then (effect u) (option_and_then (λ key. held_since at (held key) all) (key_of x))} (key_of x)
+      (λ e. ap (option_and_then (λ key. held_since at (held key) more)) e ∙ ap (λ o. option_and_then (effect u) (option_and_then (λ key. held_since at (held key) all) o)) (sym e))
+      (λ key e. ap (option_and_then (λ key. held_since at (held key) more)) e
+      ∙ (since_each (held key) (effect u) at all u early (laws.each all u key none)
+      ∙ ap (λ o. option_and_then (effect u) (option_and_then (λ key. held_since at (held key) all) o)) (sym e))))
+      ∙ pair_kept (effect u) x (option_and_then (λ key. held_since at (held key) all) (key_of x)))
+      0 all (omega arith)))
 
 apart : {K : Type 0} (same : K → K → Bool) (decide : (a b : K) → Decides (same a b) (a ≡ b)) (a b : K) → same a b ≡ false → a ≢ b
 apart same decide a b differ e = let t : true ≡ false = sym ((decide a b).1 e) ∙ differ in (cc)
@@ -187,7 +187,6 @@ apart same decide a b differ e = let t : true ≡ false = sym ((decide a b).1 e)
 
 module _ {U K V : Type 0} (key_of : U → Option K) (held : K → List U → Option V) (effect : U → V → Option V) (laws : GoesByKeys key_of held effect)
     (same : K → K → Bool) (decide : (a b : K) → Decides (same a b) (a ≡ b)) where
-
   step_is : (all : List U) (u : U) (n : ℕ) (key : K) → held key (take n all) ≡ None → n < length all → (v : V) → held key (take (n + 1) all) ≡ Some v → key_of (get_or all n u) ≡ Some key
   step_is all u n key none early v some =
       let x = get_or all n u in
@@ -223,10 +222,10 @@ module _ {U K V : Type 0} (key_of : U → Option K) (held : K → List U → Opt
       let more = all ++ u ∷ [] in
       ap (option_map {U = U × V} (λ (value : V). (x, value)))
       (by_option {P = option_and_then (λ key. held_since at (held key) more) (key_of x) ≡ option_and_then (λ key. held_since at (held key) all) (key_of x)} (key_of x)
-        (λ e. ap (option_and_then (λ key. held_since at (held key) more)) e ∙ ap (option_and_then (λ key. held_since at (held key) all)) (sym e))
-        (λ key e. ap (option_and_then (λ key. held_since at (held key) more)) e
-          ∙ (by_bool (same key q) (own key e) (λ no. since_same (held key) at all u early (laws.other all u key q is (apart same decide key q no)))
-          ∙ ap (option_and_then (λ key. held_since at (held key) all)) (sym e))))
+      (λ e. ap (option_and_then (λ key. held_since at (held key) more)) e ∙ ap (option_and_then (λ key. held_since at (held key) all)) (sym e))
+      (λ key e. ap (option_and_then (λ key. held_since at (held key) more)) e
+      ∙ (by_bool (same key q) (own key e) (λ no. since_same (held key) at all u early (laws.other all u key q is (apart same decide key q no)))
+      ∙ ap (option_and_then (λ key. held_since at (held key) all)) (sym e))))
 
   value_of_key : (all : List U) (at : ℕ) (x : U) (key : K) → key_of x ≡ Some key → begun_at key_of held all at x ≡ option_map {U = U × V} (λ value. (x, value)) (held_since at (held key) all)
   value_of_key all at x key e = ap (λ o. option_map {U = U × V} (λ (value : V). (x, value)) (option_and_then (λ key. held_since at (held key) all) o)) e
@@ -270,13 +269,13 @@ module _ {U K V : Type 0} (key_of : U → Option K) (held : K → List U → Opt
         let zero_on : 0 + length all ≡ length all = omega arith in
         let since : held_since (length all) (held q) more ≡ Some v = since_there (held q) (length all) more (without_stays (held q) all u v some ∙ without_now (held q) all none) ∙ some in
         let last : gathered f (0 + length all) (u ∷ []) ≡ (u, v) ∷ [] =
-          ap (λ n. gathered f n (u ∷ [])) zero_on ∙ (last_piece all u is (length all) ∙ ap (λ o. cons_option (option_map {U = U × V} (λ (value : V). (u, value)) o) []) since) in
+        ap (λ n. gathered f n (u ∷ [])) zero_on ∙ (last_piece all u is (length all) ∙ ap (λ o. cons_option (option_map {U = U × V} (λ (value : V). (u, value)) o) []) since) in
         let before : gathered f 0 all ≡ gathered g 0 all = gathered_same f g 0 (length all)
-          (λ at x low early. value_other all u q is at x early
-            (λ key e yes. let t = (decide key q).0 yes in
-              let gone : held key all ≡ None = ap (λ k. held k all) t ∙ none in
-              since_grown_empty (held key) at all u early gone ∙ sym (since_nothing (held key) at all gone)))
-          0 all (omega arith) (omega arith) in
+        (λ at x low early. value_other all u q is at x early
+        (λ key e yes. let t = (decide key q).0 yes in
+        let gone : held key all ≡ None = ap (λ k. held k all) t ∙ none in
+        since_grown_empty (held key) at all u early gone ∙ sym (since_nothing (held key) at all gone)))
+        0 all (omega arith) (omega arith) in
         let past : put is_its make u (gathered g 0 all ++ []) ≡ gathered g 0 all ++ put is_its make u [] = put_past all make u (length all) (λ at early. since_nothing (held q) at all none) 0 all [] (omega arith) in
         gathered_append f 0 all (u ∷ [])
         ∙ (ap (λ rest. gathered f 0 all ++ rest) last
@@ -306,24 +305,24 @@ module _ {U K V : Type 0} (key_of : U → Option K) (held : K → List U → Opt
         let rest_long : s + suc (length b) ≡ length all = omega (arith, length-drop (suc s) all, early) in
         let stays : last_without (held q) more ≡ s = without_stays (held q) all u v some in
         let same_at : (at : ℕ) (y : U) → at < length all → at ≢ s → f at y ≡ g at y = λ at y e n.
-            value_other all u q is at y e (λ key k yes. let t = (decide key q).0 yes in
-              ap (λ k. held_since at (held k) more) t
-              ∙ (since_elsewhere (held q) at more (λ m. n (sym m ∙ stays))
-              ∙ (sym (since_elsewhere (held q) at all (λ m. n (sym m)))
-              ∙ ap (λ k. held_since at (held k) all) (sym t)))) in
+        value_other all u q is at y e (λ key k yes. let t = (decide key q).0 yes in
+        ap (λ k. held_since at (held k) more) t
+        ∙ (since_elsewhere (held q) at more (λ m. n (sym m ∙ stays))
+        ∙ (sym (since_elsewhere (held q) at all (λ m. n (sym m)))
+        ∙ ap (λ k. held_since at (held k) all) (sym t)))) in
         let front : gathered f 0 a ≡ gathered g 0 a = gathered_same f g 0 s (λ at y low e. same_at at y (omega arith) (λ m. omega arith)) 0 a (omega arith) (omega arith) in
         let back : gathered f (s + 1) b ≡ gathered g (s + 1) b = gathered_same f g (s + 1) (length all) (λ at y low e. same_at at y e (λ m. omega arith)) (s + 1) b (omega arith) (omega arith) in
         let mid_f : f s x ≡ Some (x, v) = value_of_key more s x q there.1 ∙ ap (option_map {U = U × V} (λ (value : V). (x, value))) (since_there (held q) s more stays ∙ some) in
         let mid_g : g s x ≡ Some (x, w) = value_of_key all s x q there.1 ∙ ap (option_map {U = U × V} (λ (value : V). (x, value))) (since_there (held q) s all refl ∙ old) in
         let tail = gathered g (s + 1) b in
         let cut_f : gathered f 0 all ≡ gathered g 0 a ++ (x, v) ∷ tail =
-            ap (gathered f 0) cut ∙ (gathered_append f 0 a (x ∷ b) ∙ (ap (λ n. gathered f 0 a ++ gathered f n (x ∷ b)) on
-            ∙ (ap (λ o. gathered f 0 a ++ cons_option o (gathered f (s + 1) b)) mid_f ∙ (ap (λ h. h ++ (x, v) ∷ gathered f (s + 1) b) front ∙ ap (λ t. gathered g 0 a ++ (x, v) ∷ t) back)))) in
+        ap (gathered f 0) cut ∙ (gathered_append f 0 a (x ∷ b) ∙ (ap (λ n. gathered f 0 a ++ gathered f n (x ∷ b)) on
+        ∙ (ap (λ o. gathered f 0 a ++ cons_option o (gathered f (s + 1) b)) mid_f ∙ (ap (λ h. h ++ (x, v) ∷ gathered f (s + 1) b) front ∙ ap (λ t. gathered g 0 a ++ (x, v) ∷ t) back)))) in
         let cut_g : gathered g 0 all ≡ gathered g 0 a ++ (x, w) ∷ tail =
-            ap (gathered g 0) cut ∙ (gathered_append g 0 a (x ∷ b) ∙ (ap (λ n. gathered g 0 a ++ gathered g n (x ∷ b)) on
-            ∙ ap (λ o. gathered g 0 a ++ cons_option o tail) mid_g)) in
+        ap (gathered g 0) cut ∙ (gathered_append g 0 a (x ∷ b) ∙ (ap (λ n. gathered g 0 a ++ gathered g n (x ∷ b)) on
+        ∙ ap (λ o. gathered g 0 a ++ cons_option o tail) mid_g)) in
         let last : gathered f (0 + length all) (u ∷ []) ≡ [] =
-            last_piece all u is (0 + length all) ∙ ap (λ o. cons_option (option_map {U = U × V} (λ (value : V). (u, value)) o) []) (since_elsewhere (held q) (0 + length all) more (λ m. omega (arith, stays))) in
+        last_piece all u is (0 + length all) ∙ ap (λ o. cons_option (option_map {U = U × V} (λ (value : V). (u, value)) o) []) (since_elsewhere (held q) (0 + length all) more (λ m. omega (arith, stays))) in
         let hit : put is_its make u ((x, w) ∷ tail) ≡ (x, v) ∷ tail = ap (λ b. cond b ((x, v) ∷ tail) ((x, w) ∷ put is_its make u tail)) (own x there.1) in
         let past = put_past all make u s (λ at e. since_elsewhere (held q) at all (λ m. omega arith)) 0 a ((x, w) ∷ tail) (omega arith) in
         gathered_append f 0 all (u ∷ [])

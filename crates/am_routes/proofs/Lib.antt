@@ -10,3 +10,8 @@ pub mod ArrayReadings
 pub mod RuleReadings
 pub mod Durations
 pub mod Configs
+pub mod Searching
+pub mod RouteAnswers
+pub mod GroupLabels
+pub mod GroupEntries
+pub mod GroupMaps

@@ -1,12 +1,14 @@
 -- The groups of the alerts that a dispatcher took (Alertmanager's `dispatch.Dispatcher.Groups`), by the
 -- list of what it took and when it swept: one fold for each label set in each group, and the order in
 -- which they began.
-use Rattle.std.specs.Prelude.{ℕ, Bool, ◌&&◌, if◌then◌else◌, nat_eq, List, [], ◌∷◌, map, fold, Option, Some, None}
+use Rattle.std.specs.Prelude.{◌≡◌, ℕ, Bool, true, false, ◌++◌, ◌&&◌, if◌then◌else◌, nat_eq, List, [], ◌∷◌, map, fold, Option, Some, None, refl}
+use Rattle.std.specs.Coded.{Coded, code_by, coded×, coded_ℕ, coded_list}
 use Rattle.std.specs.Option.{option_and_then}
-use Rattle.std.specs.List.{flat_map, filter_map}
+use Rattle.std.specs.List.{count_by, flat_map, filter_map, list_all, sum_by}
 use Rattle.am_alert.specs.declared.alert.Alert.{Alert}
+use Rattle.am_alert.specs.Alerts.{coded_alert}
 use Rattle.am_alert.specs.Merging.{is_resolved_at}
-use Rattle.am_labels.specs.LabelSets.{Labels, same_labels}
+use Rattle.am_labels.specs.LabelSets.{Labels, same_labels, coded_labels}
 use Rattle.am_routes.specs.Routes.{Forest}
 use Rattle.am_routes.specs.RouteAnswers.{Node, answer_of}
 use Rattle.am_routes.specs.GroupLabels.{group_labels}
@@ -89,6 +91,15 @@ pub record GroupView : Type 0 where
   pub labels : Labels
   pub alerts : List Alert
 
+-- it is stored as the tuple of its fields
+abbrev pub coded_group : Coded GroupView
+coded_group =
+    code_by (ℕ × (List ℕ × (Labels × List Alert)))
+    (coded× coded_ℕ (coded× (coded_list coded_ℕ) (coded× coded_labels (coded_list coded_alert))))
+    (λ g. (g.route, (g.receiver, (g.labels, g.alerts))))
+    (λ p. record { route = p.0; receiver = p.1.0; labels = p.1.1.0; alerts = p.1.1.1 })
+    (λ _. refl)
+
 -- the group that an update began, with the alerts that it has
 abbrev pub group_of : Update × List Alert → Option GroupView
 group_of (Join node labels alert, alerts) = Some (record {
@@ -106,3 +117,29 @@ groups_after all = filter_map group_of (in_order group_key members all)
 -- the groups of a tree after what a dispatcher was told
 abbrev pub groups_of : Forest → List Event → List GroupView
 groups_of tree events = groups_after (updates tree events)
+
+-- a dispatcher, as contracts see it: its tree, and its groups
+pub record DispatcherView : Type 0 where
+  pub tree : Forest
+  pub groups : List GroupView
+
+-- a dispatcher was told one thing more: for each list of which it has the groups, it then has those of
+-- that list followed by the event
+abbrev pub Follows : Event → DispatcherView → DispatcherView → Type 0
+Follows event old new =
+    (new.tree ≡ old.tree)
+    × ((events : List Event) → old.groups ≡ groups_of old.tree events
+    → new.groups ≡ groups_of new.tree (events ++ event ∷ []))
+
+-- no alert
+abbrev pub is_empty : List Alert → Bool
+is_empty [] = true
+is_empty (alert ∷ alerts) = false
+
+-- how many alerts a sweep removes: one that stands in two groups counts twice
+abbrev pub removed_alerts : ℕ → List GroupView → ℕ
+removed_alerts now groups = sum_by (λ group. count_by (is_resolved_at now) group.alerts) groups
+
+-- how many groups a sweep removes: those whose alerts are all resolved
+abbrev pub removed_groups : ℕ → List GroupView → ℕ
+removed_groups now groups = count_by (λ group. list_all (is_resolved_at now) group.alerts) groups

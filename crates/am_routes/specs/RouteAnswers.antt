@@ -1,19 +1,14 @@
 -- To which routes a label set comes (Alertmanager's `dispatch.Route.Match`).
-use Rattle.std.specs.Prelude.{◌≡◌, ℕ, ◌+◌, Bool, true, false, not, ◌&&◌, if◌then◌else◌, List, [], ◌∷◌, ◌++◌}
+use Rattle.std.specs.Prelude.{◌≡◌, ℕ, ◌+◌, Bool, true, false, if◌then◌else◌, List, [], ◌∷◌, ◌++◌, map}
 use Rattle.am_labels.specs.LabelSets.{Labels}
 use Rattle.am_labels.specs.Matchers.{all_admitted}
-use Rattle.am_routes.specs.declared.tree.RouteTree.{RouteTree}
-use Rattle.am_routes.specs.RouteLists.{forest_of}
+use Rattle.am_routes.specs.declared.route_id.RouteId.{RouteId}
 use Rattle.am_routes.specs.Routes.{RouteView, Forest, no_routes, route, count_of}
 
 -- a route of a tree, with its number in pre-order
 pub record Node : Type 0 where
   pub number : ℕ
   pub route : RouteView
-
--- a tree as the list of its root alone
-abbrev pub root_of : RouteTree → Forest
-root_of tree = forest_of (tree.root ∷ [])
 
 module _ (labels : Labels) where
   mutual
@@ -43,6 +38,12 @@ module _ (labels : Labels) where
           → RouteAnswer number first below own → first.continues ≡ true
           → RoutesAnswer (number + 1 + count_of below) others rest
           → RoutesAnswer number (route first below others) (own ++ rest)
+
+-- the numbers of the routes that a label set comes to
+abbrev pub IsAnswerOf : Labels → Forest → List RouteId → Type 0
+IsAnswerOf labels tree ids =
+    (nodes : List Node) × RoutesAnswer labels 0 tree nodes
+    × (ids ≡ map (λ node. record { 0 = node.number }) nodes)
 
 -- what a route answers, by what the routes below it answer
 abbrev pub own_answer : Labels → ℕ → RouteView → List Node → List Node

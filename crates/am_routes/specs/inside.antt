@@ -4,3 +4,7 @@ pub mod RouteSizes
 pub mod GroupLists
 pub mod MatchFaults
 pub mod DurationParts
+pub mod Searches
+pub mod GroupChanges
+pub mod GroupMaps
+pub mod DispatcherCodes

@@ -13,16 +13,22 @@
 #![tactic(auto)]
 
 mod config;
+mod dispatcher;
+mod group;
 mod group_by;
 mod inhibit_rule;
+mod matching;
 mod names;
 mod route;
 mod route_id;
 mod tree;
 
 pub use config::{Config, ConfigFault, DEFAULT_MILLISECONDS, MAX_DEPTH, MAX_MILLISECONDS, Path};
+pub use dispatcher::{Dispatcher, Swept};
+pub use group::Group;
 pub use group_by::GroupBy;
 pub use inhibit_rule::{InhibitRule, InhibitRules};
+pub use matching::PreparedTree;
 pub use names::Names;
 pub use route::{Route, Routes};
 pub use route_id::RouteId;

@@ -20,11 +20,20 @@ impl Model for Names {
 
 impl Names {
     ghost use Rattle.std.specs.Prelude.{◌≡◌, IfOk};
+    ghost use Rattle.std.specs.List.{list_any};
+    ghost use Rattle.am_labels.specs.Texts.{same_text};
 
     pub fn as_slice(&self) -> &[Text]
         ensures { result.now ≡ self.now }
     {
         &self.names
+    }
+
+    /// Whether a name is one of them.
+    pub fn contains(&self, name: &str) -> bool
+        ensures { result ≡ list_any (same_text name.now) self.now }
+    {
+        self.as_slice().iter().any(|own| name == own.as_str())
     }
 
     /// The same names once more.

@@ -28,11 +28,15 @@ with_member node labels alert (group ∷ groups) =
     then record group { alerts = with_alert alert group.alerts } ∷ groups
     else group ∷ with_member node labels alert groups
 
+-- groups with an alert put into one of a route
+abbrev pub joined : Node → Alert → List GroupView → List GroupView
+joined node alert groups =
+    with_member node (group_labels node.route.group_by alert.labels) alert groups
+
 -- groups with an alert put into one of each route
 abbrev pub with_members : List Node → Alert → List GroupView → List GroupView
 with_members [] alert groups = groups
-with_members (node ∷ nodes) alert groups =
-    with_members nodes alert (with_member node (group_labels node.route.group_by alert.labels) alert groups)
+with_members (node ∷ nodes) alert groups = with_members nodes alert (joined node alert groups)
 
 -- what isn't resolved
 abbrev pub unresolved : ℕ → List Alert → List Alert
@@ -46,3 +50,7 @@ swept_group now group =
 -- groups without what is resolved, and without those that are left empty
 abbrev pub swept : ℕ → List GroupView → List GroupView
 swept now groups = filter_map (swept_group now) groups
+
+-- a group without what is resolved
+abbrev pub without_resolved : ℕ → GroupView → GroupView
+without_resolved now group = record group { alerts = unresolved now group.alerts }
