@@ -1,9 +1,11 @@
 -- The answers of reading a configuration, by how far it was read.
-use Rattle.std.proofs.Common.{◌≡◌, ℕ, true, false, List, [], Option, Some, None, Result, Ok, Err, refl, sym, ap, ◌∙◌, subst}
+use Rattle.std.proofs.Common.{◌≡◌, ◌<◌, ℕ, true, false, List, [], ◌∷◌, length, arith, Option, Some, None, Result, Ok, Err, refl, sym, ap, ◌∙◌, subst}
 use Rattle.std.specs.Prelude.{ok_or, is_some}
 use Rattle.std.specs.declared.time.Duration.{Duration}
 use Rattle.serde_json.specs.Data.{Data, Members}
 use Rattle.serde_json.specs.Find.{as_object}
+use Rattle.serde_json.specs.Read.{read}
+use Rattle.serde_json.proofs.OnLiterals.{serde_json_on_literals}
 use Rattle.am_routes.specs.Members.{Reads, of_kind}
 use Rattle.am_routes.specs.Readings.{Is, refused, goes_on, IsAnswerOf}
 use Rattle.am_routes.specs.Timeouts.{timeout_text_of}
@@ -56,10 +58,17 @@ module _ (d : Data) where
         unfolding config_of
         config_read rules are_rules = goes_on object (goes_on is_timeout (goes_on is_root (goes_on are_rules refl)))
 
+-- bytes that are JSON are some
+some_bytes : (bytes : List ℕ) (d : Data) → read bytes ≡ Some d → 0 < length bytes
+unfolding serde_json_on_literals
+some_bytes [] d e =
+    let none : read [] ≡ None = refl in absurd (let no : None ≡ Some d = sym none ∙ e in cc)
+some_bytes (b ∷ bytes) d e = omega arith
+
 -- the answer of a value is that of its bytes
 pub of_json : (bytes : List ℕ) (d : Data) (result : Result Config ConfigFault) → IsJsonOf bytes d → IsAnswerOf (config_of d) result → IsConfigOf bytes result
 of_json bytes d (Ok config) json h = (d, json, h)
-of_json bytes d (Err NoMemory) json h = tt
+of_json bytes d (Err NoMemory) json h = some_bytes bytes d json.1
 of_json bytes d (Err (NoOperator at)) json h = (d, json, h)
 of_json bytes d (Err (BadName at)) json h = (d, json, h)
 of_json bytes d (Err (BadQuote at)) json h = (d, json, h)

@@ -1,5 +1,5 @@
 -- A configuration (Alertmanager's configuration documentation), over the value that its JSON is.
-use Rattle.std.specs.Prelude.{◌≡◌, ℕ, ◌*◌, List, [], codes, Option, Some, None, Result, Ok, Err, ⊤, IsUtf8}
+use Rattle.std.specs.Prelude.{◌≡◌, ◌<◌, ℕ, ◌*◌, List, [], length, Option, Some, None, Result, Ok, Err, IsUtf8}
 use Rattle.std.specs.Duration.{as_nanos}
 use Rattle.std.specs.declared.time.Duration.{Duration}
 use Rattle.serde_json.specs.Data.{Data}
@@ -47,9 +47,9 @@ config_of d = do
 abbrev pub IsJsonOf : List ℕ → Data → Type 0
 IsJsonOf bytes d = IsUtf8 bytes × (read bytes ≡ Some d)
 
--- what reading a configuration answers
+-- what reading a configuration answers; memory can run out only where there are bytes
 abbrev pub IsConfigOf : List ℕ → Result Config ConfigFault → Type 0
 IsConfigOf bytes (Ok config) = (d : Data) × IsJsonOf bytes d × config_of d (Ok config)
-IsConfigOf bytes (Err NoMemory) = ⊤
+IsConfigOf bytes (Err NoMemory) = 0 < length bytes
 IsConfigOf bytes (Err NotJson) = IsUtf8 bytes → read bytes ≡ None
 IsConfigOf bytes (Err fault) = (d : Data) × IsJsonOf bytes d × config_of d (Err fault)

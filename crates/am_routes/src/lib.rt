@@ -1,8 +1,8 @@
 //! Who is told of an alert: the configuration, its routing tree and its inhibition rules.
 //!
-//! A configuration is read once and never changes. Its tree is the routes that the text states, each
-//! with the receiver and the grouping that it has from its parents where it states none, and with its
-//! own matchers alone.
+//! A configuration is read once and never changes. Its tree is the routes that the text states,
+//! each with the receiver and the grouping that it has from the routes above it where it states
+//! none, and with its own matchers alone.
 //!
 //! ```text
 //! let config = Config::read(alloc, bytes)?;           // {"route":{"receiver":"ops", ..}}

@@ -292,27 +292,33 @@ fn refused_matchers_and_rules(rt: HostRuntime) -> Result<(), Fail> {
             "E22 WrongKind inhibit_rules",
         ),
         (
-            "{\"route\":{\"receiver\":\"a\"},\"inhibit_rules\":[{\"target_match_re\":1,\"target_match\":1}]}",
+            "{\"route\":{\"receiver\":\"a\"},\
+             \"inhibit_rules\":[{\"target_match_re\":1,\"target_match\":1}]}",
             "E18 Deprecated inhibit_rules[0].target_match",
         ),
         (
-            "{\"route\":{\"receiver\":\"a\"},\"inhibit_rules\":[{\"source_match_re\":1,\"source_match\":1}]}",
+            "{\"route\":{\"receiver\":\"a\"},\
+             \"inhibit_rules\":[{\"source_match_re\":1,\"source_match\":1}]}",
             "E18 Deprecated inhibit_rules[0].source_match",
         ),
         (
-            "{\"route\":{\"receiver\":\"a\"},\"inhibit_rules\":[{\"source_match_re\":1,\"target_match\":1}]}",
+            "{\"route\":{\"receiver\":\"a\"},\
+             \"inhibit_rules\":[{\"source_match_re\":1,\"target_match\":1}]}",
             "E18 Deprecated inhibit_rules[0].source_match_re",
         ),
         (
-            "{\"route\":{\"receiver\":\"a\"},\"inhibit_rules\":[{\"target_match_re\":1,\"source_matchers\":1}]}",
+            "{\"route\":{\"receiver\":\"a\"},\
+             \"inhibit_rules\":[{\"target_match_re\":1,\"source_matchers\":1}]}",
             "E18 Deprecated inhibit_rules[0].target_match_re",
         ),
         (
-            "{\"route\":{\"receiver\":\"a\"},\"inhibit_rules\":[{\"source_matchers\":[\"a=b\",\"c\"]}]}",
+            "{\"route\":{\"receiver\":\"a\"},\
+             \"inhibit_rules\":[{\"source_matchers\":[\"a=b\",\"c\"]}]}",
             "E1 NoOperator inhibit_rules[0].source_matchers[1]",
         ),
         (
-            "{\"route\":{\"receiver\":\"a\"},\"inhibit_rules\":[{},{\"target_matchers\":[\"\"],\"equal\":1}]}",
+            "{\"route\":{\"receiver\":\"a\"},\
+             \"inhibit_rules\":[{},{\"target_matchers\":[\"\"],\"equal\":1}]}",
             "E2 BadName inhibit_rules[1].target_matchers[0]",
         ),
     ] {
@@ -407,7 +413,8 @@ fn groupings(rt: HostRuntime) -> Result<(), Fail> {
     let config = accepted(
         alloc,
         "{\"route\":{\"receiver\":\"a\",\"group_by\":[\"b\",\"a\",\"b\",\"\"],\"routes\":[\
-         {\"group_by\":[]},{\"group_by\":[\"x\",\"...\"],\"routes\":[{}]},{\"group_by\":[\"c\"]}]}}",
+         {\"group_by\":[]},{\"group_by\":[\"x\",\"...\"],\"routes\":[{}]},\
+         {\"group_by\":[\"c\"]}]}}",
     )?;
     let root = &config.tree.root;
     assert!(rt; has_names(&root.group_by, &["b", "a", ""]));

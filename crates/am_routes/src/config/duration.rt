@@ -4,8 +4,10 @@ ghost use Rattle.std.specs.Prelude.{◌≡◌, ◌^◌, ◌<◌, ◌≤◌, true
 ghost use Rattle.std.specs.List.{list_all, prefix_len};
 ghost use Rattle.std.specs.Char.{is_ascii_digit};
 ghost use Rattle.std.specs.Str.Parse.{digits_value};
-ghost use Rattle.am_routes.specs.Durations.{milliseconds_of, rank_of, worth, ArePartsOf, IsDuration};
-ghost use Rattle.am_routes.specs.inside.DurationParts.{digits_of, is_no_digit, rest_of, symbol_in, unit_of};
+ghost use Rattle.am_routes.specs.Durations.{milliseconds_of, rank_of, worth};
+ghost use Rattle.am_routes.specs.Durations.{ArePartsOf, IsDuration};
+ghost use Rattle.am_routes.specs.inside.DurationParts.{digits_of, is_no_digit, rest_of};
+ghost use Rattle.am_routes.specs.inside.DurationParts.{symbol_in, unit_of};
 
 /// The longest duration, in milliseconds.
 pub const MAX_MILLISECONDS: u64 = 9_223_372_036_854;

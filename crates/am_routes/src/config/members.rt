@@ -3,7 +3,8 @@
 ghost use Rattle.std.specs.Prelude.{◌≡◌, option_map};
 ghost use Rattle.serde_json.specs.View.{view, items_view};
 ghost use Rattle.am_alert.specs.Postables.{given};
-ghost use Rattle.am_routes.specs.Members.{array_member, deprecated_member, flag_member, texts_from, texts_member, text_member, Reads};
+ghost use Rattle.am_routes.specs.Members.{array_member, deprecated_member, flag_member};
+ghost use Rattle.am_routes.specs.Members.{text_member, texts_from, texts_member, Reads};
 
 use crate::config::fault::ConfigFault;
 use crate::config::path::Path;

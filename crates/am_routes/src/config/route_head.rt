@@ -4,7 +4,8 @@ ghost use Rattle.std.specs.Prelude.{◌≡◌, option_copied, IfOk};
 ghost use Rattle.std.specs.List.{list_any};
 ghost use Rattle.serde_json.specs.View.{view, items_view};
 ghost use Rattle.am_routes.specs.Members.{Reads};
-ghost use Rattle.am_routes.specs.RouteHeads.{distinct, grouped_by, grouping_of, head_of, matcher_texts_of, receiver_of, tail_of};
+ghost use Rattle.am_routes.specs.RouteHeads.{distinct, grouped_by, grouping_of, head_of};
+ghost use Rattle.am_routes.specs.RouteHeads.{matcher_texts_of, receiver_of, tail_of};
 
 use crate::config::fault::ConfigFault;
 use crate::config::members::{
