@@ -305,3 +305,8 @@ groups-take tree events alert = ap groups_after (updates_last tree events (Take 
 
 pub groups-sweep : (tree : Forest) (events : List Event) (now : ℕ) → groups_of tree (events ++ Sweep now ∷ []) ≡ swept now (groups_of tree events)
 groups-sweep tree events now = ap groups_after (updates_last tree events (Sweep now)) ∙ groups-resolve (updates tree events) now
+
+pub groups-go-on : (tree : Forest) (one other : List Event) (event : Event) → groups_of tree one ≡ groups_of tree other → groups_of tree (one ++ event ∷ []) ≡ groups_of tree (other ++ event ∷ [])
+groups-go-on tree one other (Take alert) same =
+    groups-take tree one alert ∙ (ap (with_members (answer_of alert.labels 0 tree) alert) same ∙ sym (groups-take tree other alert))
+groups-go-on tree one other (Sweep now) same = groups-sweep tree one now ∙ (ap (swept now) same ∙ sym (groups-sweep tree other now))

@@ -33,3 +33,34 @@ module _ (labels : Labels) where
       joined_meets number first below others (own_answer labels number first (answer_of labels (number + 1) below)) (answer_of labels (number + 1 + count_of below) others)
       (own_meets number first below (answer_of labels (number + 1) below) (answer-meets (number + 1) below))
       (answer-meets (number + 1 + count_of below) others)
+
+module _ (labels : Labels) where
+  mutual
+    only_own : {number : ℕ} {first : RouteView} {below : Forest} {found : List Node} → RouteAnswer labels number first below found → found ≡ own_answer labels number first (answer_of labels (number + 1) below)
+    only_own {number} {first} {below} (fails refused) = none (answer_of labels (number + 1) below)
+      where
+        none : (nodes : List Node) → [] ≡ own_answer labels number first nodes
+        none [] = sym (ap (λ b. cond b (record { number = number; route = first } ∷ []) []) refused)
+        none (node ∷ nodes) = sym (ap (λ b. cond b (node ∷ nodes) []) refused)
+    only_own {number} {first} {below} (from_below {node = node} {nodes = nodes} admits given) =
+        sym (ap (λ b. cond b (node ∷ nodes) []) admits) ∙ ap (own_answer labels number first) (answer-only given)
+    only_own {number} {first} {below} (itself admits given) =
+        sym (ap (λ b. cond b (record { number = number; route = first } ∷ []) []) admits) ∙ ap (own_answer labels number first) (answer-only given)
+
+    -- an answer is the one answer
+    pub answer-only : {number : ℕ} {routes : Forest} {found : List Node} → RoutesAnswer labels number routes found → found ≡ answer_of labels number routes
+    answer-only none_left = refl
+    answer-only {number} (stops {first = first} {below = below} {others = others} {node = node} {nodes = nodes} given last) =
+        let rest = answer_of labels (number + 1 + count_of below) others in
+        sym (append-nil (node ∷ nodes))
+        ∙ (sym (ap (λ b. node ∷ nodes ++ cond b rest []) last)
+        ∙ ap (λ own. joined_with own first.continues rest) (only_own given))
+    answer-only {number} (gives_nothing {first = first} {below = below} {others = others} given behind) =
+        answer-only behind ∙ ap (λ own. joined_with own first.continues (answer_of labels (number + 1 + count_of below) others)) (only_own given)
+    answer-only {number} (goes_on {first = first} {below = below} {others = others} {own = own} given continues behind) =
+        ap (λ rest. own ++ rest) (answer-only behind)
+        ∙ (on own ∙ ap (λ own. joined_with own first.continues (answer_of labels (number + 1 + count_of below) others)) (only_own given))
+      where
+        on : (own : List Node) → own ++ answer_of labels (number + 1 + count_of below) others ≡ joined_with own first.continues (answer_of labels (number + 1 + count_of below) others)
+        on [] = refl
+        on (node ∷ nodes) = sym (ap (λ b. node ∷ nodes ++ cond b (answer_of labels (number + 1 + count_of below) others) []) continues)

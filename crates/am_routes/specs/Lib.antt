@@ -20,4 +20,5 @@ pub mod RouteAnswers
 pub mod InOrder
 pub mod GroupLabels
 pub mod Groups
+pub mod DispatchLaws
 pub mod inside

@@ -4,3 +4,5 @@
 
 #[cfg(test)]
 mod configurations;
+#[cfg(test)]
+mod dispatching;
