@@ -34,7 +34,10 @@ fn labels(alloc: Global, text: &str) -> Result<LabelSet, AllocError> {
     let mut pairs = Vec::new(alloc);
     for pair in text.split(' ') {
         if let Some((name, value)) = pair.split_once('=') {
-            pairs.push((String::from_str(alloc, name)?, String::from_str(alloc, value)?))?;
+            pairs.push((
+                String::from_str(alloc, name)?,
+                String::from_str(alloc, value)?,
+            ))?;
         }
     }
     LabelSet::from_pairs(alloc, pairs)
@@ -69,7 +72,10 @@ fn shown(alloc: Global, dispatcher: &Dispatcher) -> Result<String, AllocError> {
         let receiver = group.receiver();
         let labels = group.labels();
         let count = group.alerts().len();
-        writeln!(text, "group route {route} receiver {receiver} labels {labels} alerts {count}")?;
+        writeln!(
+            text,
+            "group route {route} receiver {receiver} labels {labels} alerts {count}"
+        )?;
         for alert in group.alerts() {
             writeln!(text, "member {alert}")?;
         }
@@ -91,8 +97,14 @@ fn routes_and_groups(rt: HostRuntime) -> Result<(), Fail> {
     let config = config(rt.alloc(), TEAMS)?;
     let mut dispatcher = Dispatcher::new(rt.alloc(), &config.tree)?;
     assert_eq!(rt; dispatcher.groups().len(), 0);
-    take(&mut dispatcher, &alert(rt.alloc(), "alertname=X sev=page team=db", 0, 5)?)?;
-    take(&mut dispatcher, &alert(rt.alloc(), "alertname=Y team=db", 0, 5)?)?;
+    take(
+        &mut dispatcher,
+        &alert(rt.alloc(), "alertname=X sev=page team=db", 0, 5)?,
+    )?;
+    take(
+        &mut dispatcher,
+        &alert(rt.alloc(), "alertname=Y team=db", 0, 5)?,
+    )?;
     take(&mut dispatcher, &alert(rt.alloc(), "alertname=Z", 0, 5)?)?;
     let text = shown(rt.alloc(), &dispatcher)?;
     let x = r#"{alertname="X",sev="page",team="db"}"#;
@@ -104,7 +116,8 @@ fn routes_and_groups(rt: HostRuntime) -> Result<(), Fail> {
          group route 2 receiver pg labels {{}} alerts 1\nmember {x} {times}\n\
          group route 1 receiver db labels {y} alerts 1\nmember {y} {times}\n\
          group route 3 receiver never labels {{alertname=\"Y\"}} alerts 1\nmember {y} {times}\n\
-         group route 0 receiver root labels {z} alerts 1\nmember {z} {times}\n")?;
+         group route 0 receiver root labels {z} alerts 1\nmember {z} {times}\n"
+    )?;
     assert_eq!(rt; text.as_str(), expected.as_str());
     dispatch_laws();
     Ok(())
@@ -121,16 +134,20 @@ fn sweep(rt: HostRuntime) -> Result<(), Fail> {
     take(&mut dispatcher, &alert(rt.alloc(), "a=2", 0, 20)?)?;
     let swept = dispatcher.sweep(minute(5));
     assert!(rt; swept.alerts == 1 && swept.groups == 0);
-    assert_eq!(rt; shown(rt.alloc(), &dispatcher)?.as_str(),
+    assert_eq!(rt;
+        shown(rt.alloc(), &dispatcher)?.as_str(),
         "group route 0 receiver ops labels {} alerts 1\n\
-         member {a=\"2\"} 2024-01-01T10:00:00Z 2024-01-01T10:20:00Z given {}\n");
+         member {a=\"2\"} 2024-01-01T10:00:00Z 2024-01-01T10:20:00Z given {}\n"
+    );
     let swept = dispatcher.sweep(minute(20));
     assert!(rt; swept.alerts == 1 && swept.groups == 1);
     assert_eq!(rt; dispatcher.groups().len(), 0);
     take(&mut dispatcher, &alert(rt.alloc(), "a=1", 21, 30)?)?;
-    assert_eq!(rt; shown(rt.alloc(), &dispatcher)?.as_str(),
+    assert_eq!(rt;
+        shown(rt.alloc(), &dispatcher)?.as_str(),
         "group route 0 receiver ops labels {} alerts 1\n\
-         member {a=\"1\"} 2024-01-01T10:21:00Z 2024-01-01T10:30:00Z given {}\n");
+         member {a=\"1\"} 2024-01-01T10:21:00Z 2024-01-01T10:30:00Z given {}\n"
+    );
     Ok(())
 }
 
@@ -142,17 +159,21 @@ fn order_of_alerts(rt: HostRuntime) -> Result<(), Fail> {
     take(&mut dispatcher, &alert(rt.alloc(), "a=1", 0, 5)?)?;
     take(&mut dispatcher, &alert(rt.alloc(), "a=2", 0, 20)?)?;
     take(&mut dispatcher, &alert(rt.alloc(), "a=1", 1, 6)?)?;
-    assert_eq!(rt; shown(rt.alloc(), &dispatcher)?.as_str(),
+    assert_eq!(rt;
+        shown(rt.alloc(), &dispatcher)?.as_str(),
         "group route 0 receiver ops labels {} alerts 2\n\
          member {a=\"1\"} 2024-01-01T10:01:00Z 2024-01-01T10:06:00Z given {}\n\
-         member {a=\"2\"} 2024-01-01T10:00:00Z 2024-01-01T10:20:00Z given {}\n");
+         member {a=\"2\"} 2024-01-01T10:00:00Z 2024-01-01T10:20:00Z given {}\n"
+    );
     let swept = dispatcher.sweep(minute(6));
     assert!(rt; swept.alerts == 1 && swept.groups == 0);
     take(&mut dispatcher, &alert(rt.alloc(), "a=1", 7, 8)?)?;
-    assert_eq!(rt; shown(rt.alloc(), &dispatcher)?.as_str(),
+    assert_eq!(rt;
+        shown(rt.alloc(), &dispatcher)?.as_str(),
         "group route 0 receiver ops labels {} alerts 2\n\
          member {a=\"2\"} 2024-01-01T10:00:00Z 2024-01-01T10:20:00Z given {}\n\
-         member {a=\"1\"} 2024-01-01T10:07:00Z 2024-01-01T10:08:00Z given {}\n");
+         member {a=\"1\"} 2024-01-01T10:07:00Z 2024-01-01T10:08:00Z given {}\n"
+    );
     Ok(())
 }
 
@@ -216,7 +237,10 @@ fn routes(rt: HostRuntime) -> Result<(), Fail> {
 // Ten thousand groups, each of which is found again.
 #[test]
 fn many_groups(rt: HostRuntime) -> Result<(), Fail> {
-    let config = config(rt.alloc(), r#"{"route":{"receiver":"ops","group_by":["job"]}}"#)?;
+    let config = config(
+        rt.alloc(),
+        r#"{"route":{"receiver":"ops","group_by":["job"]}}"#,
+    )?;
     let mut dispatcher = Dispatcher::new(rt.alloc(), &config.tree)?;
     for job in 0..10_000u32 {
         let text = format!(in rt.alloc(); "job={job} x=1")?;
