@@ -87,7 +87,10 @@ fn durations(rt: HostRuntime) -> Result<(), Fail> {
         ("0000000000000000000000000000001ms", 1),
     ] {
         let found = timeout(alloc, text)?;
-        assert!(rt; found == Some(Duration::from_millis(milliseconds)), "{text}");
+        assert!(rt;
+            found == Some(Duration::from_millis(milliseconds)),
+            "{text}"
+        );
     }
     Ok(())
 }
@@ -134,8 +137,14 @@ fn refused_configurations(rt: HostRuntime) -> Result<(), Fail> {
         ("{\"route\":null}", "E17 Missing route"),
         ("{\"route\":[]}", "E22 WrongKind route"),
         ("{\"route\":{}}", "E17 Missing route.receiver"),
-        ("{\"route\":{\"receiver\":\"\"}}", "E17 Missing route.receiver"),
-        ("{\"route\":{\"receiver\":null}}", "E17 Missing route.receiver"),
+        (
+            "{\"route\":{\"receiver\":\"\"}}",
+            "E17 Missing route.receiver",
+        ),
+        (
+            "{\"route\":{\"receiver\":null}}",
+            "E17 Missing route.receiver",
+        ),
         (
             "{\"route\":{\"receiver\":\"a\",\"matchers\":[\"a=b\"]}}",
             "E19 RootMatchers",
@@ -254,7 +263,10 @@ fn matchers_of_the_root(rt: HostRuntime) -> Result<(), Fail> {
             "{\"route\":{\"receiver\":\"a\",\"matchers\":[\"(\",1]}}",
             "E22 WrongKind route.matchers[1]",
         ),
-        ("{\"route\":{\"receiver\":\"a\",\"matchers\":[\"(\"]}}", "E19 RootMatchers"),
+        (
+            "{\"route\":{\"receiver\":\"a\",\"matchers\":[\"(\"]}}",
+            "E19 RootMatchers",
+        ),
         (
             "{\"route\":{\"receiver\":\"a\",\"matchers\":[\"a=b\"],\"continue\":1}}",
             "E19 RootMatchers",
@@ -373,7 +385,11 @@ fn has_names(grouping: &GroupBy, names: &[&str]) -> bool {
         GroupBy::All => false,
         GroupBy::Names(found) => {
             found.as_slice().len() == names.len()
-                && found.as_slice().iter().zip(names).all(|(f, n)| f.as_str() == *n)
+                && found
+                    .as_slice()
+                    .iter()
+                    .zip(names)
+                    .all(|(f, n)| f.as_str() == *n)
         }
     }
 }
@@ -397,7 +413,10 @@ fn child(route: &Route, at: usize) -> Result<&Route, Fail> {
 #[test]
 fn smallest_configuration(rt: HostRuntime) -> Result<(), Fail> {
     let alloc = rt.alloc();
-    let config = accepted(alloc, "{\"route\":{\"receiver\":\"a\",\"group_wait\":\"30s\"}}")?;
+    let config = accepted(
+        alloc,
+        "{\"route\":{\"receiver\":\"a\",\"group_wait\":\"30s\"}}",
+    )?;
     assert!(rt; config.resolve_timeout == Duration::from_secs(300));
     assert_eq!(rt; config.tree.root.receiver.as_str(), "a");
     assert!(rt; has_names(&config.tree.root.group_by, &[]));
@@ -466,7 +485,15 @@ fn routes_as_an_operator_writes_them(rt: HostRuntime) -> Result<(), Fail> {
     assert_eq!(rt; pager.receiver.as_str(), "db-pager");
     assert!(rt; !pager.continues);
     assert_eq!(rt; pager.matchers.as_slice().len(), 2);
-    assert!(rt; is_matcher(&pager.matchers, 0, "severity", Operator::MatchRegexp, "page|crit"));
+    assert!(rt;
+        is_matcher(
+            &pager.matchers,
+            0,
+            "severity",
+            Operator::MatchRegexp,
+            "page|crit"
+        )
+    );
     assert!(rt; is_matcher(&pager.matchers, 1, "dc", Operator::NotEqual, "lab"));
     let all = child(db, 1)?;
     assert_eq!(rt; all.receiver.as_str(), "db");
@@ -477,7 +504,13 @@ fn routes_as_an_operator_writes_them(rt: HostRuntime) -> Result<(), Fail> {
     let web_pager = child(web, 0)?;
     assert_eq!(rt; web_pager.receiver.as_str(), "web-pager");
     assert!(rt;
-        is_matcher(&web_pager.matchers, 0, "severity", Operator::MatchNotRegexp, "info|none")
+        is_matcher(
+            &web_pager.matchers,
+            0,
+            "severity",
+            Operator::MatchNotRegexp,
+            "info|none"
+        )
     );
     let rest = child(root, 2)?;
     assert_eq!(rt; rest.receiver.as_str(), "rest");
@@ -493,7 +526,15 @@ fn rules_as_an_operator_writes_them(rt: HostRuntime) -> Result<(), Fail> {
         return Err(Fail::from("not three rules"));
     };
     assert!(rt; is_matcher(&first.source, 0, "severity", Operator::Equal, "crit"));
-    assert!(rt; is_matcher(&first.target, 0, "severity", Operator::MatchRegexp, "warn|info"));
+    assert!(rt;
+        is_matcher(
+            &first.target,
+            0,
+            "severity",
+            Operator::MatchRegexp,
+            "warn|info"
+        )
+    );
     assert_eq!(rt; first.source.as_slice().len(), 1);
     assert_eq!(rt; first.equal.as_slice().len(), 3);
     assert_eq!(rt; second.source.as_slice().len(), 2);
