@@ -5,7 +5,8 @@ ghost use Rattle.std.specs.List.{count_by};
 ghost use Rattle.am_routes.specs.Groups.{Take, Sweep, is_empty, removed_alerts};
 ghost use Rattle.am_routes.specs.inside.Searches.{node_of, nodes_in};
 ghost use Rattle.am_routes.specs.inside.GroupLists.{joined, with_members, without_resolved};
-ghost use Rattle.am_routes.specs.inside.GroupMaps.{all_before, groups_before, groups_in, AreKeptByKeys};
+ghost use Rattle.am_routes.specs.inside.GroupMaps.{all_before, groups_before};
+ghost use Rattle.am_routes.specs.inside.GroupMaps.{groups_in, AreKeptByKeys};
 
 use crate::group::{AlertChange, Group};
 use crate::matching::{FoundRoute, PreparedTree};
@@ -39,7 +40,8 @@ pub(crate) enum GroupChange {
 /// How much a sweep removed.
 #[derive(Clone, Copy, Debug, PartialEq, Eq)]
 pub struct Swept {
-    /// The resolved alerts; one that stands in two groups counts twice. It stops at the greatest u64.
+    /// The resolved alerts; one that stands in two groups counts twice. It stops at the greatest
+    /// u64.
     pub alerts: u64,
     /// The groups that were left empty.
     pub groups: u64,

@@ -13,8 +13,8 @@ use std::alloc::{AllocError, Global};
 use std::marker::Model;
 use std::slice;
 
-/// A routing tree made ready to be asked many times: its matchers' searches are kept, so that asking
-/// compiles no pattern. Contracts see it as the tree's routes.
+/// A routing tree made ready to be asked many times: its matchers' searches are kept, so that
+/// asking compiles no pattern. Contracts see it as the tree's routes.
 #[derive(Drop)]
 pub struct PreparedTree<'t> {
     tree: &'t RouteTree,
@@ -113,7 +113,8 @@ fn prepare_each<'t>(
     Ok(())
 }
 
-// Asks routes in order, the first of which has the number, and adds those that a label set comes to.
+// Asks routes in order, the first of which has the number, and adds those that a label set comes
+// to.
 fn ask<'t>(
     searches: &mut [RouteSearch<'t>],
     routes: &'t [Route],

@@ -18,17 +18,18 @@ impl RouteTree {
     ghost use Rattle.am_routes.specs.RouteLists.{root_of};
     ghost use Rattle.am_routes.specs.RouteAnswers.{IsAnswerOf};
 
-    /// The tree made ready to be asked many times. It borrows the tree's patterns and compiles none.
+    /// The tree made ready to be asked many times. It borrows the tree's patterns and compiles
+    /// none.
     pub fn prepare(&self, alloc: Global) -> Result<PreparedTree<'_>, AllocError>
         ensures { IfOk result (λ prepared. prepared ≡ root_of self.now) }
     {
         PreparedTree::new(alloc, self)
     }
 
-    /// The routes that a label set comes to, in pre-order: a route whose matchers fail gives nothing.
-    /// The routes below one are asked in order; where one gave something and doesn't continue no more
-    /// are asked. Where none gave anything the route itself is the answer. `prepare` is for who asks
-    /// often.
+    /// The routes that a label set comes to, in pre-order. A route whose matchers fail gives
+    /// nothing. The routes below one are asked in order; after one that gave something and doesn't
+    /// continue no more are asked. Where none gave anything the route itself is the answer.
+    /// `prepare` is for who asks often.
     pub fn matches(&self, alloc: Global, labels: &LabelSet) -> Result<Vec<RouteId>, AllocError>
         ensures { IfOk result (λ ids. IsAnswerOf labels.now (root_of self.now) ids.items) }
     {
