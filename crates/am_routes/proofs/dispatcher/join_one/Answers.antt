@@ -1,0 +1,102 @@
+use Rattle.std.proofs.Common.{rules, ◌≡◌, [], ◌∷◌, ◌++◌, ◌-◌, ◌+◌, ◌<◌, ◌≤◌, ℕ, Some, None, is_some, true, false, not, length, take, drop, filter, map, min, List, refl, sym, ap, subst, ◌∙◌, arith}
+use Rattle.std.specs.List.{slice_get, position, count_by, sum_by}
+use Rattle.std.specs.Map.{keys_of, values_of}
+use Rattle.std.specs.Map as map_of
+use Rattle.std.proofs.lemmas.List.Sums.{length-filter}
+use Rattle.std.proofs.lemmas.List.Filters.{length-filter_both}
+use Rattle.std.proofs.lemmas.List.{length-map, take-map, map-append}
+use Rattle.indexmap.specs.IndexMap.{get, insert_entry, set_value_at}
+use Rattle.indexmap.proofs.CallerLemmas.{insert_entry-new, filter-RetainsPairs}
+use Rattle.am_labels.specs.LabelSets.{Labels, same_labels}
+use Rattle.am_alert.specs.declared.alert.Alert.{Alert}
+use Rattle.am_alert.specs.Merging.{is_resolved_at}
+use Rattle.am_routes.specs.declared.dispatcher.GroupKey.{GroupKey}
+use Rattle.am_routes.specs.RouteAnswers.{Node}
+use Rattle.am_routes.specs.GroupLabels.{group_labels}
+use Rattle.am_routes.specs.Groups.{GroupView, is_empty, removed_alerts}
+use Rattle.am_routes.specs.inside.Searches.{node_of, nodes_in}
+use Rattle.am_routes.specs.inside.GroupLists.{with_alert, joined, with_member, with_members, without_resolved}
+use Rattle.am_routes.specs.inside.GroupMaps.{groups_in, AreKeptByKeys, groups_before, all_before, changed_back}
+use Rattle.am_routes.proofs.GroupEntries.{take_last}
+use Rattle.am_routes.proofs.GroupMaps.{same_key, IsKeyOf, member_begins, member_joins, keys_kept, group_written, written_same, written_kept, change_undone, change_back, change_nowhere, groups_set, keys_taken, groups_filtered, keys_filtered, resolved_more, nothing, err_holds}
+use Rattle.am_routes.specs.inside.GroupChanges.{alerts_before}
+use Rattle.am_routes.proofs.dispatcher.join_one.Goals as goal
+
+begun : Node → Alert → Labels → GroupView
+begun node alert labels = record { route = node.number; receiver = node.route.receiver; labels = labels; alerts = alert ∷ [] }
+
+pub returns-in_err-change-in-Some-clause-kept : goal.returns-in_err-change-in-Some-clause-kept
+returns-in_err-change-in-Some-clause-kept c =
+    let entries = c.args.groups.now.entries in
+    subst AreKeptByKeys (sym (ap (set_value_at entries c.in-Some.at) c.in_err-change-in-Some.ensures.err ∙ written_same entries c.in-Some.at c.index_mut.result.now c.index_mut.ensures.value)) c.requires
+
+pub returns-in_err-change-in-Some-clause-err : goal.returns-in_err-change-in-Some-clause-err
+returns-in_err-change-in-Some-clause-err c =
+    let entries = c.args.groups.now.entries in
+    err_holds c.from_residual-in_err-change-in-Some.result (groups_in (set_value_at entries c.in-Some.at c.put.new.self) ≡ groups_in entries)
+    (ap groups_in (ap (set_value_at entries c.in-Some.at) c.in_err-change-in-Some.ensures.err ∙ written_same entries c.in-Some.at c.index_mut.result.now c.index_mut.ensures.value))
+
+pub returns-in_ok-change-in-Some-clause-joined : goal.returns-in_ok-change-in-Some-clause-joined
+returns-in_ok-change-in-Some-clause-joined c =
+    let entries = c.args.groups.now.entries in
+    let node = node_of c.args.found.now in
+    let alert = c.args.alert.now in
+    let group = c.index_mut.result.now in
+    let labels = group_labels node.route.group_by alert.labels in
+    let key : GroupKey = record { route = c.args.found.now.id; labels = c.in_ok-labels.labels } in
+    let of : IsKeyOf node labels key = record { route = refl; labels_are = c.in_ok-labels.ensures } in
+    let found : position (same_key key) (keys_of entries) ≡ Some c.in-Some.at = sym c.in-Some.ensures.index in
+    let there : map_of.lookup (same_key key) entries ≡ Some group = sym c.in-Some.ensures.value ∙ c.index_mut.ensures.value in
+    ap (λ g. groups_in (set_value_at entries c.in-Some.at g)) c.in_ok-change-in-Some.ensures.put
+    ∙ (ap groups_in (group_written entries key (record group { alerts = with_alert alert group.alerts }) c.in-Some.at found)
+    ∙ member_joins node labels alert key group entries of c.requires there)
+
+pub returns-in_ok-change-in-Some-clause-undo : goal.returns-in_ok-change-in-Some-clause-undo
+returns-in_ok-change-in-Some-clause-undo c =
+    let entries = c.args.groups.now.entries in
+    let alert = c.args.alert.now in
+    let group = c.index_mut.result.now in
+    let change = c.in_ok-change-in-Some.change in
+    let put = c.in_ok-change-in-Some.ensures.put in
+    ap (λ g. changed_back c.in-Some.at change (groups_in (set_value_at entries c.in-Some.at g))) put
+    ∙ change_undone entries c.in-Some.at group (with_alert alert group.alerts) change c.index_mut.ensures.value
+    (ap (λ (g : GroupView). alerts_before change g.alerts) (sym put) ∙ c.in_ok-change-in-Some.ensures.undo)
+
+pub returns-in_ok-change-in-Some-clause-kept : goal.returns-in_ok-change-in-Some-clause-kept
+returns-in_ok-change-in-Some-clause-kept c =
+    let put = c.in_ok-change-in-Some.ensures.put in
+    written_kept c.args.groups.now.entries c.in-Some.at c.index_mut.result.now c.put.new.self c.index_mut.ensures.value
+    (ap (λ (g : GroupView). g.route) put) (ap (λ (g : GroupView). g.labels) put) c.requires
+
+pub returns-in_ok-insert-in-None-clause-joined : goal.returns-in_ok-insert-in-None-clause-joined
+unfolding begun
+returns-in_ok-insert-in-None-clause-joined c =
+    let entries = c.args.groups.now.entries in
+    let node = node_of c.args.found.now in
+    let alert = c.args.alert.now in
+    let labels = group_labels node.route.group_by alert.labels in
+    let key : GroupKey = record { route = c.args.found.now.id; labels = c.in_ok-labels.labels } in
+    let of : IsKeyOf node labels key = record { route = refl; labels_are = c.in_ok-labels.ensures } in
+    let put : c.insert.new.self.entries ≡ insert_entry same_key entries key c.in_ok-group-in-None.group = c.in_ok-insert-in-None.ensures.entries in
+    let none : map_of.lookup (same_key key) entries ≡ None = nothing (map_of.lookup (same_key key) entries) c.in-None.ensures.found in
+    let new = begun node alert in
+    let group : c.in_ok-group-in-None.group ≡ new labels = c.in_ok-group-in-None.ensures ∙ ap new (c.in_ok-copy-in-None.ensures ∙ c.in_ok-labels.ensures) in
+    ap groups_in (put ∙ ap (insert_entry same_key entries key) group) ∙ member_begins node labels alert key entries of c.requires none
+
+pub returns-in_ok-insert-in-None-clause-undo : goal.returns-in_ok-insert-in-None-clause-undo
+returns-in_ok-insert-in-None-clause-undo c =
+    let groups = c.args.groups.now in
+    let key : GroupKey = record { route = c.args.found.now.id; labels = c.in_ok-labels.labels } in
+    let put : c.insert.new.self.entries ≡ insert_entry same_key groups.entries key c.in_ok-group-in-None.group = c.in_ok-insert-in-None.ensures.entries in
+    let none : get same_key groups key ≡ None = nothing (get same_key groups key) c.in-None.ensures.found in
+    let last = put ∙ insert_entry-new same_key groups key c.in_ok-group-in-None.group none in
+    let shown : groups_in c.insert.new.self.entries ≡ groups_in groups.entries ++ c.in_ok-group-in-None.group ∷ [] = ap groups_in last ∙ map-append (λ (entry : GroupKey × GroupView). entry.1) groups.entries ((key, c.in_ok-group-in-None.group) ∷ []) in
+    ap (λ l. take (length l - 1) l) shown ∙ take_last (groups_in groups.entries) c.in_ok-group-in-None.group
+
+pub returns-in_ok-insert-in-None-clause-kept : goal.returns-in_ok-insert-in-None-clause-kept
+returns-in_ok-insert-in-None-clause-kept c =
+    let entries = c.args.groups.now.entries in
+    let key : GroupKey = record { route = c.args.found.now.id; labels = c.in_ok-labels.labels } in
+    let put : c.insert.new.self.entries ≡ insert_entry same_key entries key c.in_ok-group-in-None.group = c.in_ok-insert-in-None.ensures.entries in
+    let group = c.in_ok-group-in-None.ensures in
+    subst AreKeptByKeys (sym put) (keys_kept key c.in_ok-group-in-None.group entries (sym (ap (λ (g : GroupView). g.route) group)) (sym (ap (λ (g : GroupView). g.labels) group ∙ c.in_ok-copy-in-None.ensures)) c.requires)

@@ -1,0 +1,42 @@
+use Rattle.std.proofs.Common.{rules, ◌≡◌, [], ◌∷◌, ◌++◌, ◌-◌, ◌+◌, ◌<◌, ◌≤◌, ℕ, Some, None, is_some, true, false, not, length, take, drop, filter, map, min, List, refl, sym, ap, subst, ◌∙◌, arith}
+use Rattle.std.specs.List.{slice_get, position, count_by, sum_by}
+use Rattle.std.specs.Map.{keys_of, values_of}
+use Rattle.std.specs.Map as map_of
+use Rattle.std.proofs.lemmas.List.Sums.{length-filter}
+use Rattle.std.proofs.lemmas.List.Filters.{length-filter_both}
+use Rattle.std.proofs.lemmas.List.{length-map, take-map, map-append}
+use Rattle.indexmap.specs.IndexMap.{get, insert_entry, set_value_at}
+use Rattle.indexmap.proofs.CallerLemmas.{insert_entry-new, filter-RetainsPairs}
+use Rattle.am_labels.specs.LabelSets.{Labels, same_labels}
+use Rattle.am_alert.specs.declared.alert.Alert.{Alert}
+use Rattle.am_alert.specs.Merging.{is_resolved_at}
+use Rattle.am_routes.specs.declared.dispatcher.GroupKey.{GroupKey}
+use Rattle.am_routes.specs.RouteAnswers.{Node}
+use Rattle.am_routes.specs.GroupLabels.{group_labels}
+use Rattle.am_routes.specs.Groups.{GroupView, is_empty, removed_alerts}
+use Rattle.am_routes.specs.inside.Searches.{node_of, nodes_in}
+use Rattle.am_routes.specs.inside.GroupLists.{with_alert, joined, with_member, with_members, without_resolved}
+use Rattle.am_routes.specs.inside.GroupMaps.{groups_in, AreKeptByKeys, groups_before, all_before, changed_back}
+use Rattle.am_routes.proofs.GroupEntries.{take_last}
+use Rattle.am_routes.proofs.GroupMaps.{same_key, IsKeyOf, member_begins, member_joins, keys_kept, group_written, written_same, written_kept, change_undone, change_back, change_nowhere, groups_set, keys_taken, groups_filtered, keys_filtered, resolved_more}
+use Rattle.am_routes.proofs.dispatcher.remove_empty.Goals as goal
+
+left : (c : goal.After-len) → c.retain.new.self.entries ≡ filter (λ (entry : GroupKey × GroupView). not (is_empty entry.1.alerts)) c.args.groups.now.entries
+left c = filter-RetainsPairs _ _ _ (λ k v b w g call. search rules) _ _ c.retain.ensures.filtered
+
+pub returns-clause-left : goal.returns-clause-left
+returns-clause-left c = ap groups_in (left c) ∙ groups_filtered (λ group. not (is_empty group.alerts)) c.args.groups.now.entries
+
+pub returns-clause-kept : goal.returns-clause-kept
+returns-clause-kept c = subst AreKeptByKeys (sym (left c)) (keys_filtered (λ group. not (is_empty group.alerts)) c.args.groups.now.entries c.requires)
+
+pub returns-clause-removed : goal.returns-clause-removed
+returns-clause-removed c =
+    let olds = groups_in c.args.groups.now.entries in
+    let none = λ (group : GroupView). is_empty group.alerts in
+    let both = length-filter_both none (λ group. not (none group)) (λ group. refl) olds in
+    let gone : length (filter none olds) ≡ count_by none olds = length-filter none olds in
+    let rest : length (groups_in c.retain.new.self.entries) ≡ length (filter (λ group. not (none group)) olds) = ap length (returns-clause-left c) in
+    let before : length olds ≡ length c.args.groups.now.entries = length-map c.args.groups.now.entries (λ (entry : GroupKey × GroupView). entry.1) in
+    let after : length (groups_in c.retain.new.self.entries) ≡ length c.retain.new.self.entries = length-map c.retain.new.self.entries (λ (entry : GroupKey × GroupView). entry.1) in
+    omega (arith, both, gone, rest, before, after, c.len-before.ensures.len, c.len.ensures.len)

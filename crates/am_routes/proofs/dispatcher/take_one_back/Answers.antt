@@ -1,0 +1,53 @@
+use Rattle.std.proofs.Common.{rules, ◌≡◌, [], ◌∷◌, ◌++◌, ◌-◌, ◌+◌, ◌<◌, ◌≤◌, ℕ, Some, None, is_some, true, false, not, length, take, drop, filter, map, min, List, refl, sym, ap, subst, ◌∙◌, arith}
+use Rattle.std.specs.List.{slice_get, position, count_by, sum_by}
+use Rattle.std.specs.Map.{keys_of, values_of}
+use Rattle.std.specs.Map as map_of
+use Rattle.std.proofs.lemmas.List.Sums.{length-filter}
+use Rattle.std.proofs.lemmas.List.Filters.{length-filter_both}
+use Rattle.std.proofs.lemmas.List.{length-map, take-map, map-append}
+use Rattle.indexmap.specs.IndexMap.{get, insert_entry, set_value_at}
+use Rattle.indexmap.proofs.CallerLemmas.{insert_entry-new, filter-RetainsPairs}
+use Rattle.am_labels.specs.LabelSets.{Labels, same_labels}
+use Rattle.am_alert.specs.declared.alert.Alert.{Alert}
+use Rattle.am_alert.specs.Merging.{is_resolved_at}
+use Rattle.am_routes.specs.declared.dispatcher.GroupKey.{GroupKey}
+use Rattle.am_routes.specs.RouteAnswers.{Node}
+use Rattle.am_routes.specs.GroupLabels.{group_labels}
+use Rattle.am_routes.specs.Groups.{GroupView, is_empty, removed_alerts}
+use Rattle.am_routes.specs.inside.Searches.{node_of, nodes_in}
+use Rattle.am_routes.specs.inside.GroupLists.{with_alert, joined, with_member, with_members, without_resolved}
+use Rattle.am_routes.specs.inside.GroupMaps.{groups_in, AreKeptByKeys, groups_before, all_before, changed_back}
+use Rattle.am_routes.proofs.GroupEntries.{take_last}
+use Rattle.am_routes.proofs.GroupMaps.{same_key, IsKeyOf, member_begins, member_joins, keys_kept, group_written, written_same, written_kept, change_undone, change_back, change_nowhere, groups_set, keys_taken, groups_filtered, keys_filtered, resolved_more}
+use Rattle.am_routes.proofs.dispatcher.take_one_back.Goals as goal
+
+pub returns-in-Begun-clause-before : goal.returns-in-Begun-clause-before
+returns-in-Begun-clause-before c =
+    let entries = c.args.groups.now.entries in
+    let count : c.saturating_sub.result ≡ length entries - 1 = c.saturating_sub.ensures ∙ ap (λ n. n - 1) c.len.ensures.len in
+    ap groups_in (c.truncate.ensures.entries ∙ ap (λ n. take n entries) count)
+    ∙ (sym (take-map (λ (entry : GroupKey × GroupView). entry.1) (length entries - 1) entries)
+    ∙ (ap (λ n. take (n - 1) (groups_in entries)) (sym (length-map entries (λ (entry : GroupKey × GroupView). entry.1)))
+    ∙ ap (λ change. groups_before change (groups_in entries)) (sym c.in-Begun.is)))
+
+pub returns-in-Begun-clause-kept : goal.returns-in-Begun-clause-kept
+returns-in-Begun-clause-kept c = subst AreKeptByKeys (sym c.truncate.ensures.entries) (keys_taken c.saturating_sub.result c.args.groups.now.entries c.requires)
+
+pub returns-in-Some-clause-before : goal.returns-in-Some-clause-before
+returns-in-Some-clause-before c =
+    let entries = c.args.groups.now.entries in
+    let at = c.in-Changed.at in
+    ap (λ g. groups_in (set_value_at entries at g)) c.take_back.ensures
+    ∙ (change_back entries at c.in-Some.group.now c.in-Changed.change (sym c.in-Some.ensures.value)
+    ∙ ap (λ change. groups_before change (groups_in entries)) (sym c.in-Changed.is))
+
+pub returns-in-Some-clause-kept : goal.returns-in-Some-clause-kept
+returns-in-Some-clause-kept c =
+    written_kept c.args.groups.now.entries c.in-Changed.at c.in-Some.group.now c.take_back.new.self (sym c.in-Some.ensures.value)
+    (ap (λ (g : GroupView). g.route) c.take_back.ensures) (ap (λ (g : GroupView). g.labels) c.take_back.ensures) c.requires
+
+pub returns-in_default-clause-before : goal.returns-in_default-clause-before
+returns-in_default-clause-before c =
+    let entries = c.args.groups.now.entries in
+    change_nowhere (groups_in entries) c.in-Changed.at c.in-Changed.change c.in_default.ensures.value
+    ∙ ap (λ change. groups_before change (groups_in entries)) (sym c.in-Changed.is)

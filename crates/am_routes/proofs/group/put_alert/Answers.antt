@@ -1,0 +1,72 @@
+use Rattle.std.proofs.Common.{rules, ◌≡◌, [], ◌∷◌, ◌++◌, ◌-◌, Some, None, is_some, true, false, not, length, take, filter, List, refl, sym, ap, subst, ◌∙◌, arith}
+use Rattle.std.specs.List.{slice_get, position, count_by}
+use Rattle.std.specs.Map.{keys_of, values_of}
+use Rattle.std.specs.Map as map
+use Rattle.std.proofs.lemmas.List.Sums.{length-filter}
+use Rattle.std.proofs.lemmas.List.Filters.{length-filter_both}
+use Rattle.std.proofs.lemmas.List.{length-map, take-map, map-append}
+use Rattle.indexmap.specs.IndexMap.{get, insert_entry, set_value_at}
+use Rattle.indexmap.proofs.CallerLemmas.{insert_entry-new, filter-RetainsPairs}
+use Rattle.am_labels.specs.LabelSets.{Labels, same_labels}
+use Rattle.am_alert.specs.declared.alert.Alert.{Alert}
+use Rattle.am_alert.specs.Merging.{is_resolved_at}
+use Rattle.am_routes.specs.inside.GroupLists.{with_alert, unresolved}
+use Rattle.am_routes.specs.inside.GroupChanges.{alerts_before, kept_in, AreKeptByLabels, with_old}
+use Rattle.am_routes.proofs.GroupEntries.{kept_inserted, still_kept, written_at, take_last, has, looked_up, old_back, none_back, replaced_back, kept_filtered, still_filtered, still_taken}
+use Rattle.am_routes.proofs.group.put_alert.Goals as goal
+
+pub returns-in-Some-clause-put : goal.returns-in-Some-clause-put
+returns-in-Some-clause-put c =
+    let entries = c.args.alerts.now.entries in
+    let labels = c.in_ok-labels.labels in
+    let own : c.in_ok-copy.copy.labels ≡ labels = ap (λ (a : Alert). a.labels) c.in_ok-copy.ensures ∙ sym c.in_ok-labels.ensures in
+    let found : position (same_labels labels) (keys_of entries) ≡ Some c.in-Some.at = search rules in
+    let after : c.replace-before.new.dest ≡ c.in_ok-copy.copy = c.replace-before.ensures.after in
+    ap kept_in (ap (set_value_at entries c.in-Some.at) after ∙ written_at entries labels c.in_ok-copy.copy c.in-Some.at found)
+    ∙ (kept_inserted entries labels c.in_ok-copy.copy c.requires own ∙ ap (λ a. with_alert a (kept_in entries)) c.in_ok-copy.ensures)
+
+pub returns-in-Some-clause-undo : goal.returns-in-Some-clause-undo
+returns-in-Some-clause-undo c =
+    let entries = c.args.alerts.now.entries in
+    let labels = c.in_ok-labels.labels in
+    let alert = c.args.alert.now in
+    let now : labels ≡ alert.labels = c.in_ok-labels.ensures in
+    let found : map.lookup (same_labels labels) entries ≡ Some c.replace-before.result =
+    sym (c.in-Some.ensures.value) ∙ (c.index_mut.ensures.value ∙ ap Some (sym c.replace-before.ensures.value)) in
+    ap (with_old c.replace-before.result) (returns-in-Some-clause-put c)
+    ∙ replaced_back alert c.replace-before.result entries c.requires (ap (λ l. map.lookup (same_labels l) entries) (sym now) ∙ found)
+
+pub returns-in-Some-clause-kept : goal.returns-in-Some-clause-kept
+returns-in-Some-clause-kept c =
+    let entries = c.args.alerts.now.entries in
+    let labels = c.in_ok-labels.labels in
+    let own : c.in_ok-copy.copy.labels ≡ labels = ap (λ (a : Alert). a.labels) c.in_ok-copy.ensures ∙ sym c.in_ok-labels.ensures in
+    let found : position (same_labels labels) (keys_of entries) ≡ Some c.in-Some.at = search rules in
+    let after : c.replace-before.new.dest ≡ c.in_ok-copy.copy = c.replace-before.ensures.after in
+    subst AreKeptByLabels (sym (ap (set_value_at entries c.in-Some.at) after ∙ written_at entries labels c.in_ok-copy.copy c.in-Some.at found)) (still_kept entries labels c.in_ok-copy.copy c.requires own)
+
+pub returns-in_ok-insert-in-None-clause-put : goal.returns-in_ok-insert-in-None-clause-put
+returns-in_ok-insert-in-None-clause-put c =
+    let entries = c.args.alerts.now.entries in
+    let labels = c.in_ok-labels.labels in
+    let own : c.in_ok-copy.copy.labels ≡ labels = ap (λ (a : Alert). a.labels) c.in_ok-copy.ensures ∙ sym c.in_ok-labels.ensures in
+    let put : c.insert.new.self.entries ≡ insert_entry same_labels entries labels c.in_ok-copy.copy = search rules in
+    ap kept_in put ∙ (kept_inserted entries labels c.in_ok-copy.copy c.requires own ∙ ap (λ a. with_alert a (kept_in entries)) c.in_ok-copy.ensures)
+
+pub returns-in_ok-insert-in-None-clause-undo : goal.returns-in_ok-insert-in-None-clause-undo
+returns-in_ok-insert-in-None-clause-undo c =
+    let alerts = c.args.alerts.now in
+    let labels = c.in_ok-labels.labels in
+    let put : c.insert.new.self.entries ≡ insert_entry same_labels alerts.entries labels c.in_ok-copy.copy = search rules in
+    let none : get same_labels alerts labels ≡ None = search rules in
+    let last = put ∙ insert_entry-new same_labels alerts labels c.in_ok-copy.copy none in
+    let shown : kept_in c.insert.new.self.entries ≡ kept_in alerts.entries ++ c.in_ok-copy.copy ∷ [] = ap kept_in last ∙ map-append (λ (entry : Labels × Alert). entry.1) alerts.entries ((labels, c.in_ok-copy.copy) ∷ []) in
+    ap (λ l. take (length l - 1) l) shown ∙ take_last (kept_in alerts.entries) c.in_ok-copy.copy
+
+pub returns-in_ok-insert-in-None-clause-kept : goal.returns-in_ok-insert-in-None-clause-kept
+returns-in_ok-insert-in-None-clause-kept c =
+    let entries = c.args.alerts.now.entries in
+    let labels = c.in_ok-labels.labels in
+    let own : c.in_ok-copy.copy.labels ≡ labels = ap (λ (a : Alert). a.labels) c.in_ok-copy.ensures ∙ sym c.in_ok-labels.ensures in
+    let put : c.insert.new.self.entries ≡ insert_entry same_labels entries labels c.in_ok-copy.copy = search rules in
+    subst AreKeptByLabels (sym put) (still_kept entries labels c.in_ok-copy.copy c.requires own)

@@ -1,0 +1,52 @@
+use Rattle.std.proofs.Common.{rules, ◌≡◌, [], ◌∷◌, ◌++◌, ◌-◌, Some, None, is_some, true, false, not, length, take, filter, List, refl, sym, ap, subst, ◌∙◌, arith}
+use Rattle.std.specs.List.{slice_get, position, count_by}
+use Rattle.std.specs.Map.{keys_of, values_of}
+use Rattle.std.specs.Map as map
+use Rattle.std.proofs.lemmas.List.Sums.{length-filter}
+use Rattle.std.proofs.lemmas.List.Filters.{length-filter_both}
+use Rattle.std.proofs.lemmas.List.{length-map, take-map}
+use Rattle.indexmap.specs.IndexMap.{get, insert_entry, set_value_at}
+use Rattle.indexmap.proofs.CallerLemmas.{insert_entry-new, filter-RetainsPairs}
+use Rattle.am_labels.specs.LabelSets.{Labels, same_labels}
+use Rattle.am_alert.specs.declared.alert.Alert.{Alert}
+use Rattle.am_alert.specs.Merging.{is_resolved_at}
+use Rattle.am_routes.specs.inside.GroupLists.{with_alert, unresolved}
+use Rattle.am_routes.specs.inside.GroupChanges.{alerts_before, kept_in, AreKeptByLabels, with_old}
+use Rattle.am_routes.proofs.GroupEntries.{kept_inserted, still_kept, written_at, take_last, has, looked_up, old_back, none_back, replaced_back, kept_filtered, still_filtered, still_taken}
+use Rattle.am_routes.proofs.group.put_back.Goals as goal
+
+pub returns-in-Added-clause-before : goal.returns-in-Added-clause-before
+returns-in-Added-clause-before c =
+    let entries = c.args.alerts.now.entries in
+    let count : c.saturating_sub.result ≡ length entries - 1 = c.saturating_sub.ensures ∙ ap (λ n. n - 1) c.len.ensures.len in
+    ap kept_in (c.truncate.ensures.entries ∙ ap (λ n. take n entries) count)
+    ∙ (sym (take-map (λ (entry : Labels × Alert). entry.1) (length entries - 1) entries)
+    ∙ (ap (λ n. take (n - 1) (kept_in entries)) (sym (length-map entries (λ (entry : Labels × Alert). entry.1)))
+    ∙ ap (λ change. alerts_before change (kept_in entries)) (sym c.in-Added.is)))
+
+pub returns-in-Added-clause-kept : goal.returns-in-Added-clause-kept
+returns-in-Added-clause-kept c = subst AreKeptByLabels (sym c.truncate.ensures.entries) (still_taken c.saturating_sub.result c.args.alerts.now.entries c.requires)
+
+pub returns-in-Some-clause-before : goal.returns-in-Some-clause-before
+returns-in-Some-clause-before c =
+    let entries = c.args.alerts.now.entries in
+    let before = c.in-Replaced.before in
+    let found : position (same_labels before.labels) (keys_of entries) ≡ Some c.in-Some.at = search rules in
+    let there : has before.labels (kept_in entries) ≡ true = sym (looked_up before.labels entries c.requires) ∙ sym c.in-Some.ensures.found in
+    ap kept_in (ap (set_value_at entries c.in-Some.at) c.replace-newer.ensures.after ∙ written_at entries before.labels before c.in-Some.at found)
+    ∙ (kept_inserted entries before.labels before c.requires refl
+    ∙ (old_back before (kept_in entries) there ∙ ap (λ change. alerts_before change (kept_in entries)) (sym c.in-Replaced.is)))
+
+pub returns-in-Some-clause-kept : goal.returns-in-Some-clause-kept
+returns-in-Some-clause-kept c =
+    let entries = c.args.alerts.now.entries in
+    let before = c.in-Replaced.before in
+    let found : position (same_labels before.labels) (keys_of entries) ≡ Some c.in-Some.at = search rules in
+    subst AreKeptByLabels (sym (ap (set_value_at entries c.in-Some.at) c.replace-newer.ensures.after ∙ written_at entries before.labels before c.in-Some.at found)) (still_kept entries before.labels before c.requires refl)
+
+pub returns-in_default-clause-before : goal.returns-in_default-clause-before
+returns-in_default-clause-before c =
+    let entries = c.args.alerts.now.entries in
+    let before = c.in-Replaced.before in
+    let absent : has before.labels (kept_in entries) ≡ false = sym (looked_up before.labels entries c.requires) ∙ sym c.in_default.ensures.found in
+    none_back before (kept_in entries) absent ∙ ap (λ change. alerts_before change (kept_in entries)) (sym c.in-Replaced.is)

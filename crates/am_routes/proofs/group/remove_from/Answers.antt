@@ -1,0 +1,37 @@
+use Rattle.std.proofs.Common.{rules, ◌≡◌, [], ◌∷◌, ◌++◌, ◌-◌, Some, None, is_some, true, false, not, length, take, filter, List, refl, sym, ap, subst, ◌∙◌, arith}
+use Rattle.std.specs.List.{slice_get, position, count_by}
+use Rattle.std.specs.Map.{keys_of, values_of}
+use Rattle.std.specs.Map as map
+use Rattle.std.proofs.lemmas.List.Sums.{length-filter}
+use Rattle.std.proofs.lemmas.List.Filters.{length-filter_both}
+use Rattle.std.proofs.lemmas.List.{length-map, take-map}
+use Rattle.indexmap.specs.IndexMap.{get, insert_entry, set_value_at}
+use Rattle.indexmap.proofs.CallerLemmas.{insert_entry-new, filter-RetainsPairs}
+use Rattle.am_labels.specs.LabelSets.{Labels, same_labels}
+use Rattle.am_alert.specs.declared.alert.Alert.{Alert}
+use Rattle.am_alert.specs.Merging.{is_resolved_at}
+use Rattle.am_routes.specs.inside.GroupLists.{with_alert, unresolved}
+use Rattle.am_routes.specs.inside.GroupChanges.{alerts_before, kept_in, AreKeptByLabels, with_old}
+use Rattle.am_routes.proofs.GroupEntries.{kept_inserted, still_kept, written_at, take_last, has, looked_up, old_back, none_back, replaced_back, kept_filtered, still_filtered, still_taken}
+use Rattle.am_routes.proofs.group.remove_from.Goals as goal
+
+pub left : (c : goal.After-len) → c.retain.new.self.entries ≡ filter (λ (entry : Labels × Alert). not (is_resolved_at c.args.now entry.1)) c.args.alerts.now.entries
+left c = filter-RetainsPairs _ _ _ (λ k v b w g call. search rules) _ _ c.retain.ensures.filtered
+
+pub returns-clause-left : goal.returns-clause-left
+returns-clause-left c = ap kept_in (left c) ∙ kept_filtered (λ alert. not (is_resolved_at c.args.now alert)) c.args.alerts.now.entries
+
+pub returns-clause-kept : goal.returns-clause-kept
+returns-clause-kept c = subst AreKeptByLabels (sym (left c)) (still_filtered (λ alert. not (is_resolved_at c.args.now alert)) c.args.alerts.now.entries c.requires)
+
+pub returns-clause-removed : goal.returns-clause-removed
+returns-clause-removed c =
+    let olds = kept_in c.args.alerts.now.entries in
+    let resolved = count_by (is_resolved_at c.args.now) in
+    let both = length-filter_both (is_resolved_at c.args.now) (λ alert. not (is_resolved_at c.args.now alert)) (λ alert. refl) olds in
+    let gone : length (filter (is_resolved_at c.args.now) olds) ≡ resolved olds = length-filter (is_resolved_at c.args.now) olds in
+    let rest : length (kept_in c.retain.new.self.entries) ≡ length (filter (λ alert. not (is_resolved_at c.args.now alert)) olds) =
+    ap length (ap kept_in (left c) ∙ kept_filtered (λ alert. not (is_resolved_at c.args.now alert)) c.args.alerts.now.entries) in
+    let before : length olds ≡ length c.args.alerts.now.entries = length-map c.args.alerts.now.entries (λ (entry : Labels × Alert). entry.1) in
+    let after : length (kept_in c.retain.new.self.entries) ≡ length c.retain.new.self.entries = length-map c.retain.new.self.entries (λ (entry : Labels × Alert). entry.1) in
+    omega (arith, both, gone, rest, before, after, c.len-before.ensures.len, c.len.ensures.len)

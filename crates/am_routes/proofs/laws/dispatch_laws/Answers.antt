@@ -1,0 +1,12 @@
+use Rattle.am_routes.proofs.RouteAnswers.{answer-meets, answer-only}
+use Rattle.am_routes.proofs.Groups.{groups-go-on}
+use Rattle.am_routes.proofs.laws.dispatch_laws.Goals as goal
+
+pub returns-clause-each : goal.returns-clause-each
+returns-clause-each c = λ labels number routes. answer-meets labels number routes
+
+pub returns-clause-once : goal.returns-clause-once
+returns-clause-once c = λ labels number routes found given. answer-only labels given
+
+pub returns-clause-groups : goal.returns-clause-groups
+returns-clause-groups c = λ tree one other event same. groups-go-on tree one other event same

@@ -1,0 +1,145 @@
+-- The groups of the alerts that a dispatcher took (Alertmanager's `dispatch.Dispatcher.Groups`), by the
+-- list of what it took and when it swept: one fold for each label set in each group, and the order in
+-- which they began.
+use Rattle.std.specs.Prelude.{◌≡◌, ℕ, Bool, true, false, ◌++◌, ◌&&◌, if◌then◌else◌, nat_eq, List, [], ◌∷◌, map, fold, Option, Some, None, refl}
+use Rattle.std.specs.Coded.{Coded, code_by, coded×, coded_ℕ, coded_list}
+use Rattle.std.specs.Option.{option_and_then}
+use Rattle.std.specs.List.{count_by, flat_map, filter_map, list_all, sum_by}
+use Rattle.am_alert.specs.declared.alert.Alert.{Alert}
+use Rattle.am_alert.specs.Alerts.{coded_alert}
+use Rattle.am_alert.specs.Merging.{is_resolved_at}
+use Rattle.am_labels.specs.LabelSets.{Labels, same_labels, coded_labels}
+use Rattle.am_routes.specs.Routes.{Forest}
+use Rattle.am_routes.specs.RouteAnswers.{Node, answer_of}
+use Rattle.am_routes.specs.GroupLabels.{group_labels}
+use Rattle.am_routes.specs.InOrder.{in_order}
+
+-- what a dispatcher is told: an alert, or to drop what is resolved at a moment
+pub data Event : Type 0 where
+  Take : (alert : Alert) → Event
+  Sweep : (now : ℕ) → Event
+
+-- what becomes of groups: an alert comes to a route under its group labels, or what is resolved goes
+pub data Update : Type 0 where
+  Join : (node : Node) (labels : Labels) (alert : Alert) → Update
+  Resolve : (now : ℕ) → Update
+
+-- an alert joins one group of each route that its label set comes to
+abbrev pub joins : List Node → Alert → List Update
+joins nodes alert = map (λ node. Join node (group_labels node.route.group_by alert.labels) alert) nodes
+
+abbrev pub updates_of : Forest → Event → List Update
+updates_of tree (Take alert) = joins (answer_of alert.labels 0 tree) alert
+updates_of tree (Sweep now) = Resolve now ∷ []
+
+abbrev pub updates : Forest → List Event → List Update
+updates tree events = flat_map (updates_of tree) events
+
+-- a group is known by its route and its labels
+pub record GroupKey : Type 0 where
+  pub route : ℕ
+  pub labels : Labels
+
+abbrev pub same_group : GroupKey → GroupKey → Bool
+same_group a b = nat_eq a.route b.route && same_labels a.labels b.labels
+
+-- the group of an update
+abbrev pub group_key : Update → Option GroupKey
+group_key (Join node labels alert) = Some (record { route = node.number; labels = labels })
+group_key (Resolve now) = None
+
+-- the label set of an update of a group
+abbrev pub label_set : GroupKey → Update → Option Labels
+label_set key (Join node labels alert) =
+    if same_group key (record { route = node.number; labels = labels })
+    then Some alert.labels else None
+label_set key (Resolve now) = None
+
+-- an alert, unless it is resolved
+abbrev pub unless_resolved : ℕ → Alert → Option Alert
+unless_resolved now alert = if is_resolved_at now alert then None else Some alert
+
+-- what one label set holds in one group after an update: the alert that joins, or nothing where it is
+-- resolved
+abbrev pub after_update : GroupKey → Labels → Option Alert → Update → Option Alert
+after_update key labels held (Join node group alert) =
+    if same_group key (record { route = node.number; labels = group }) && same_labels labels alert.labels
+    then Some alert else held
+after_update key labels held (Resolve now) = option_and_then (unless_resolved now) held
+
+-- what it holds after all updates
+abbrev pub held_in : GroupKey → Labels → List Update → Option Alert
+held_in key labels all = fold (after_update key labels) None all
+
+-- a group's alerts, in the order in which their label sets began
+abbrev pub alerts_in : GroupKey → List Update → List Alert
+alerts_in key all = map (λ entry. entry.1) (in_order (label_set key) (held_in key) all)
+
+-- some alerts, or nothing
+abbrev pub some_of : List Alert → Option (List Alert)
+some_of [] = None
+some_of (alert ∷ alerts) = Some (alert ∷ alerts)
+
+-- what a group holds: its alerts, where there is one
+abbrev pub members : GroupKey → List Update → Option (List Alert)
+members key all = some_of (alerts_in key all)
+
+-- a group, as contracts see it
+pub record GroupView : Type 0 where
+  pub route : ℕ
+  pub receiver : List ℕ
+  pub labels : Labels
+  pub alerts : List Alert
+
+-- it is stored as the tuple of its fields
+abbrev pub coded_group : Coded GroupView
+coded_group =
+    code_by (ℕ × (List ℕ × (Labels × List Alert)))
+    (coded× coded_ℕ (coded× (coded_list coded_ℕ) (coded× coded_labels (coded_list coded_alert))))
+    (λ g. (g.route, (g.receiver, (g.labels, g.alerts))))
+    (λ p. record { route = p.0; receiver = p.1.0; labels = p.1.1.0; alerts = p.1.1.1 })
+    (λ _. refl)
+
+-- the group that an update began, with the alerts that it has
+abbrev pub group_of : Update × List Alert → Option GroupView
+group_of (Join node labels alert, alerts) = Some (record {
+  route = node.number;
+  receiver = node.route.receiver;
+  labels = labels;
+  alerts = alerts;
+})
+group_of (Resolve now, alerts) = None
+
+-- the groups that hold an alert, in the order in which they began
+abbrev pub groups_after : List Update → List GroupView
+groups_after all = filter_map group_of (in_order group_key members all)
+
+-- the groups of a tree after what a dispatcher was told
+abbrev pub groups_of : Forest → List Event → List GroupView
+groups_of tree events = groups_after (updates tree events)
+
+-- a dispatcher, as contracts see it: its tree, and its groups
+pub record DispatcherView : Type 0 where
+  pub tree : Forest
+  pub groups : List GroupView
+
+-- a dispatcher was told one thing more: for each list of which it has the groups, it then has those of
+-- that list followed by the event
+abbrev pub Follows : Event → DispatcherView → DispatcherView → Type 0
+Follows event old new =
+    (new.tree ≡ old.tree)
+    × ((events : List Event) → old.groups ≡ groups_of old.tree events
+    → new.groups ≡ groups_of new.tree (events ++ event ∷ []))
+
+-- no alert
+abbrev pub is_empty : List Alert → Bool
+is_empty [] = true
+is_empty (alert ∷ alerts) = false
+
+-- how many alerts a sweep removes: one that stands in two groups counts twice
+abbrev pub removed_alerts : ℕ → List GroupView → ℕ
+removed_alerts now groups = sum_by (λ group. count_by (is_resolved_at now) group.alerts) groups
+
+-- how many groups a sweep removes: those whose alerts are all resolved
+abbrev pub removed_groups : ℕ → List GroupView → ℕ
+removed_groups now groups = count_by (λ group. list_all (is_resolved_at now) group.alerts) groups

@@ -1,0 +1,56 @@
+-- Groups as a list that alerts are put into, one after another. Only code of this crate cites it.
+use Rattle.std.specs.Prelude.{ℕ, Bool, not, ◌&&◌, if◌then◌else◌, nat_eq, List, [], ◌∷◌, filter, Option}
+use Rattle.std.specs.Option.{option_map}
+use Rattle.std.specs.List.{filter_map}
+use Rattle.am_alert.specs.declared.alert.Alert.{Alert}
+use Rattle.am_alert.specs.Merging.{is_resolved_at}
+use Rattle.am_labels.specs.LabelSets.{Labels, same_labels}
+use Rattle.am_routes.specs.RouteAnswers.{Node}
+use Rattle.am_routes.specs.GroupLabels.{group_labels}
+use Rattle.am_routes.specs.Groups.{GroupView, some_of}
+
+-- alerts with one set: in its label set's place, else at the end
+abbrev pub with_alert : Alert → List Alert → List Alert
+with_alert alert [] = alert ∷ []
+with_alert alert (old ∷ olds) =
+    if same_labels alert.labels old.labels then alert ∷ olds else old ∷ with_alert alert olds
+
+-- the group of a route and labels
+abbrev pub is_group : Node → Labels → GroupView → Bool
+is_group node labels group = nat_eq node.number group.route && same_labels labels group.labels
+
+-- groups with an alert put into one: into the one of its route and labels, else into a new one at the end
+abbrev pub with_member : Node → Labels → Alert → List GroupView → List GroupView
+with_member node labels alert [] =
+    record { route = node.number; receiver = node.route.receiver; labels = labels; alerts = alert ∷ [] } ∷ []
+with_member node labels alert (group ∷ groups) =
+    if is_group node labels group
+    then record group { alerts = with_alert alert group.alerts } ∷ groups
+    else group ∷ with_member node labels alert groups
+
+-- groups with an alert put into one of a route
+abbrev pub joined : Node → Alert → List GroupView → List GroupView
+joined node alert groups =
+    with_member node (group_labels node.route.group_by alert.labels) alert groups
+
+-- groups with an alert put into one of each route
+abbrev pub with_members : List Node → Alert → List GroupView → List GroupView
+with_members [] alert groups = groups
+with_members (node ∷ nodes) alert groups = with_members nodes alert (joined node alert groups)
+
+-- what isn't resolved
+abbrev pub unresolved : ℕ → List Alert → List Alert
+unresolved now alerts = filter (λ alert. not (is_resolved_at now alert)) alerts
+
+-- a group without what is resolved, where an alert is left
+abbrev pub swept_group : ℕ → GroupView → Option GroupView
+swept_group now group =
+    option_map (λ alerts. record group { alerts = alerts }) (some_of (unresolved now group.alerts))
+
+-- groups without what is resolved, and without those that are left empty
+abbrev pub swept : ℕ → List GroupView → List GroupView
+swept now groups = filter_map (swept_group now) groups
+
+-- a group without what is resolved
+abbrev pub without_resolved : ℕ → GroupView → GroupView
+without_resolved now group = record group { alerts = unresolved now group.alerts }

@@ -1,0 +1,10 @@
+//! Laws of routes and groups that callers may cite.
+
+ghost use Rattle.am_routes.specs.DispatchLaws.{GroupsGoOn, RoutesAnswerEach, RoutesAnswerOnce};
+
+/// Routes have one answer for each label set, and groups go on from what they are.
+pub fn dispatch_laws()
+    ensures each { RoutesAnswerEach }
+    ensures once { RoutesAnswerOnce }
+    ensures groups { GroupsGoOn }
+{}

@@ -1,0 +1,37 @@
+//! Who is told of an alert: the configuration, its routing tree and its inhibition rules.
+//!
+//! A configuration is read once and never changes. Its tree is the routes that the text states,
+//! each with the receiver and the grouping that it has from the routes above it where it states
+//! none, and with its own matchers alone.
+//!
+//! ```text
+//! let config = Config::read(alloc, bytes)?;           // {"route":{"receiver":"ops", ..}}
+//! println!(rt; "{}", config.tree.root.receiver)?;     // ops
+//! ```
+//!
+//! This crate knows of no provider: it is handed labels and alerts, and says where they belong.
+#![tactic(auto)]
+
+mod config;
+mod dispatcher;
+mod group;
+mod group_by;
+mod inhibit_rule;
+mod laws;
+mod matching;
+mod names;
+mod route;
+mod route_id;
+mod tree;
+
+pub use config::{Config, ConfigFault, DEFAULT_MILLISECONDS, MAX_DEPTH, MAX_MILLISECONDS, Path};
+pub use dispatcher::{Dispatcher, Swept};
+pub use group::Group;
+pub use group_by::GroupBy;
+pub use inhibit_rule::{InhibitRule, InhibitRules};
+pub use laws::dispatch_laws;
+pub use matching::PreparedTree;
+pub use names::Names;
+pub use route::{Route, Routes};
+pub use route_id::RouteId;
+pub use tree::RouteTree;
