@@ -1,4 +1,5 @@
 //! The writer's steps, one lane at a time.
+ghost use mathlib.Core.List.{IsPrefix};
 ghost use Rattle.std.specs.Prelude.{◌↔◌, IsTrue, ◌≡◌, ◌≢◌, ◌+◌, ◌*◌, ◌/◌, ◌%◌, ◌<◌, ◌≤◌, true, false, length, None, Some, [], ℕ, suc, IfSome, IfNone, IfOk, ◌++◌, ◌∷◌, slice_index_or};
 ghost use Rattle.am_cast.specs.declared.name.Name.{Name};
 ghost use Rattle.am_cast.specs.Rule.{idle, live, cut, vacated, gone, most, bit, Sound};
@@ -61,6 +62,14 @@ impl<T: Drop, P, A, N: Feed> Bench<T, P, A, N> {
         ensures no { result ≡ false → (account_of self.now.desk lane).stand ≢ live }
     {
         self.stand[lane] == 1
+    }
+
+    pub(crate) fn is_cut(&self, lane: usize) -> bool
+        requires { lane < 8 }
+        ensures yes { result ≡ true → (account_of self.now.desk lane).stand ≡ cut }
+        ensures no { result ≡ false → (account_of self.now.desk lane).stand ≢ cut }
+    {
+        self.stand[lane] == 2
     }
 
     /// Loads the lane's word, and answers it.
@@ -441,6 +450,7 @@ impl<T: Drop, P, A, N: Feed> Bench<T, P, A, N> {
             × (v.number ≡ lane) × (v.here ≡ false) }
         ensures writer { OnlyAccount self.old self.new lane (record (retired (account_of self.old.desk lane)) { cleared = (retired (account_of self.old.desk lane)).stop }) }
         ensures sound { Sound self.old.desk.tail (account_of self.old.desk lane) (lane_of other.me.0) lane }
+        ensures given { (account_of self.old.desk lane).stand ≢ idle }
     {
         if self.is_away(lane) {
             let place = self.known_of(lane);
@@ -449,6 +459,19 @@ impl<T: Drop, P, A, N: Feed> Bench<T, P, A, N> {
             return;
         }
         self.take_home(cast, lane, other);
+    }
+
+    /// What another seat has noted of the log begins it.
+    pub(crate) fn hear(&mut self, cast: &Cast<T, P, A, N>, other: &mut LogSeat<T, P, A>)
+        requires { (other.old.table_id ≡ N.table) × (other.old.me.0.writer ≡ None)
+            × (other.old.me.0.lane ≡ None) }
+        ensures same { self.new ≡ self.old }
+        ensures other { (other.new.table_id ≡ other.old.table_id) × (other.new.me ≡ other.old.me) }
+        ensures begins { IsPrefix other.old.me.0.noted self.old.desk.tail.log }
+    {
+        let top = &cast.board.shared;
+        board::tell_seat(top, other, &mut self.seat);
+        board::weigh_view(top, &mut self.seat);
     }
 
     pub(crate) fn len(&self) -> u64

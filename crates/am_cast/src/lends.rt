@@ -25,8 +25,10 @@ pub enum Step<'s, T> {
     Cut,
 }
 
-#[derive(Clone, Copy, Drop)]
-pub(crate) enum Moved {
+/// What `advance` came to: the answer of `next` without the item.
+#[derive(Clone, Copy, Debug, PartialEq, Eq, Drop)]
+pub enum Moved {
+    /// One item more was shown; `in_hand` lends it.
     One,
     Pending,
     Closed,
@@ -34,8 +36,8 @@ pub(crate) enum Moved {
 }
 
 impl<'a, T, P, A, N: Feed> Cursor<'a, T, P, A, N> {
-    // The item that was shown last.
-    fn in_hand(&self) -> &T
+    /// The item that was shown last, while the place that it is of is in hand.
+    pub fn in_hand(&self) -> &T
         requires { self.now.lane.held ≡ true }
         ensures { IsInHand self.now result.now }
     {
@@ -109,8 +111,9 @@ impl<'a, T, P, A, N: Feed> Cursor<'a, T, P, A, N> {
         self.reach_found()
     }
 
-    // One item more is in hand, or the answer says why not.
-    fn advance(&mut self) -> Moved
+    /// `next` in two halves, for a caller that moves on before it lends: one item more is in hand, or
+    /// the answer says why not.
+    pub fn advance(&mut self) -> Moved
         ensures on { GoesOn self.old self.new }
         ensures moves { Moves self.old self.new result }
     {
@@ -151,8 +154,8 @@ impl<'a, T, P, A, N: Feed> Cursor<'a, T, P, A, N> {
         self.reach_found()
     }
 
-    // As `advance`, but a look comes after what the pass knows.
-    fn advance_past(&mut self, pass: &mut Pass<T, P, A, N>) -> Moved
+    /// As `advance`, but a look comes after what the pass knows.
+    pub fn advance_past(&mut self, pass: &mut Pass<T, P, A, N>) -> Moved
         ensures on { GoesOn self.old self.new }
         ensures moves { Moves self.old self.new result }
         ensures past { MovesPast pass.old.noted self.new result }

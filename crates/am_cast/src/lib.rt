@@ -76,7 +76,7 @@ mod writer;
 pub use cursor::{Cast, Cursor};
 pub use faults::{AdmitFault, AlreadyClosed, PublishFault, Refused};
 pub use feed::Feed;
-pub use lends::Step;
+pub use lends::{Moved, Step};
 pub use name::{Name, SegmentKeys};
 pub use parts::{Begun, Parts, begin, end};
 pub use pass::Pass;

@@ -6,6 +6,7 @@ ghost use lib.ListN.{get_elem?};
 ghost use Rattle.am_cast.specs.declared.views.Own.{Own};
 ghost use Rattle.am_cast.specs.declared.name.Name.{Name};
 ghost use Rattle.am_cast.specs.Changes.{Stand};
+ghost use Rattle.am_cast.specs.Rule.{Once};
 
 use crate::board;
 use crate::cursor::{Cast, Cursor};
@@ -52,5 +53,20 @@ impl<T, P, A, N: Feed> Pass<T, P, A, N> {
         board::tell_seat(top, &mut cursor.seat, &mut self.seat);
         board::weigh_view(top, &mut self.seat);
         board::note_log(top, &mut self.seat);
+    }
+
+    /// All that another pass has posted is this one's too.
+    pub fn merge(&mut self, cast: &Cast<T, P, A, N>, other: Pass<T, P, A, N>)
+        ensures { (self.new.own ≡ self.old.own ++ other.own) × (self.new.noted ≡ self.old.noted) }
+    {
+        board::take_in(&cast.board.shared, &mut self.seat, other.seat);
+    }
+
+    // No place is its own twice.
+    pub(crate) fn weigh(&mut self, cast: &Cast<T, P, A, N>)
+        ensures same { self.new ≡ self.old }
+        ensures once { Once self.old.own }
+    {
+        board::weigh_view(&cast.board.shared, &mut self.seat);
     }
 }

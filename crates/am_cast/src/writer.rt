@@ -3,7 +3,7 @@ ghost use Rattle.std.specs.Prelude.{◌↔◌, IsTrue, ◌≡◌, ◌≢◌, ◌
 ghost use mathlib.Core.List.{IsPrefix};
 ghost use Rattle.std.specs.Prelude.{drop};
 ghost use Rattle.am_cast.specs.declared.name.Name.{Name};
-ghost use Rattle.am_cast.specs.Rule.{idle, live, cut, most, Sound};
+ghost use Rattle.am_cast.specs.Rule.{idle, live, cut, most, Once, Sound};
 ghost use Rattle.am_cast.specs.Changes.{Stand, longer_tail, shut_tail, own_at, opened, new_lane, left};
 ghost use Rattle.am_cast.specs.Seats.{account_of};
 ghost use Rattle.am_cast.specs.Keys.{items_of, all_items};
@@ -76,6 +76,15 @@ impl<T: Drop, P, A, N: Feed> Writer<T, P, A, N> {
         ensures no { result ≡ false → (l : ℕ) × (l < 8) × ((account_of self.now l).stand ≢ idle) }
     {
         self.bench.is_idle()
+    }
+
+    /// Whether the lane was cut since it was given out.
+    pub fn is_cut(&self, lane: usize) -> bool
+        requires { lane < 8 }
+        ensures yes { result ≡ true → (account_of self.now lane).stand ≡ cut }
+        ensures no { result ≡ false → (account_of self.now lane).stand ≢ cut }
+    {
+        self.bench.is_cut(lane)
     }
 
     /// Loads each live lane's word, and ends the segments that all lanes have passed. Answers the
@@ -202,6 +211,18 @@ impl<T: Drop, P, A, N: Feed> Writer<T, P, A, N> {
         Ok(Published { place, cut })
     }
 
+    /// What a pass has posted stands in the log, each once.
+    pub fn confirm(&mut self, cast: &Cast<T, P, A, N>, pass: &mut Pass<T, P, A, N>)
+        ensures same { self.new ≡ self.old }
+        ensures own { pass.new.own ≡ pass.old.own }
+        ensures stand { Stand pass.new.own self.new.tail.log }
+        ensures once { Once pass.new.own }
+    {
+        pass.note(cast);
+        pass.weigh(cast);
+        self.bench.hear(cast, &mut pass.seat);
+    }
+
     /// No place comes after it, and no lane.
     pub fn close(&mut self, cast: &Cast<T, P, A, N>) -> Result<(), AlreadyClosed>
         ensures ok { OnOk result (self.new ≡ record self.old { tail = shut_tail self.old.tail }) }
@@ -253,6 +274,7 @@ impl<T: Drop, P, A, N: Feed> Writer<T, P, A, N> {
             × ((account_of self.new cursor.entry.lane.number).stand ≡ idle) }
         ensures others { (m : ℕ) → m ≢ cursor.entry.lane.number
             → account_of self.new m ≡ account_of self.old m }
+        ensures given { (account_of self.old cursor.entry.lane.number).stand ≢ idle }
         ensures sound { Sound self.old.tail (account_of self.old cursor.entry.lane.number) (left cursor.entry.lane) cursor.entry.lane.number }
         ensures taken { IsPrefix (taken cursor.entry) (all_items (drop cursor.entry.lane.start self.old.tail.log)) }
         ensures ended { HasEnded cursor.entry
