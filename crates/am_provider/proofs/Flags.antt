@@ -7,15 +7,13 @@ use Rattle.std.proofs.lemmas.Bool.Decides.{eqb_tells}
 use Rattle.std.proofs.Math.Seq.{drop-append_seam}
 use Rattle.am_provider.specs.declared.call.Call.TheVariants.{Subscribed, Left}
 use Rattle.am_provider.specs.declared.lanes.OpenLane.{OpenLane}
-use Rattle.am_provider.specs.declared.book.Book.TheInside.{Inside}
 use Rattle.am_provider.specs.Stored.{updates, stored}
 use Rattle.am_provider.specs.Broadcast.{broadcast, broadcast_from, items_of, due, IsFront}
 use Rattle.am_provider.specs.Journal.{JournalView, with_call, call_count, until, since, IsOpenSubscription}
 use Rattle.am_provider.specs.BookView.{BookView, IsFaithful, SubscriptionView, all_of, taken, BelongsTo}
 use Rattle.am_provider.specs.inside.Journals.{journal_of}
 use Rattle.am_provider.specs.inside.Lanes.{lane_at, IsLowestFree, open_count, IsItsOpening}
-use Rattle.am_provider.specs.inside.Batches.{batches_in, AreEnds}
-use Rattle.am_provider.specs.inside.BookInside.{view_of, AgreesWithJournal}
+use Rattle.am_provider.specs.inside.BookInside.{Pages, book_of, AgreesWithJournal}
 use Rattle.am_provider.proofs.Journals.{drop_twice, broadcast_parts}
 use Rattle.am_provider.proofs.Opens.{is_still_open, lane_low, until_end, open_begins}
 use Rattle.am_provider.proofs.Kept.{sound_grown, or_false, enough, limits_same, if_some, opening_stays}
@@ -47,7 +45,7 @@ complete_of book sub kept of told =
 
 -- ---- lanes
 
-open_count_cleared : (lanes : List (Option OpenLane)) (lane : ℕ) → lane < length lanes → is_some (lane_at lanes lane) ≡ true → open_count (set lanes lane None) + 1 ≡ open_count lanes
+pub open_count_cleared : (lanes : List (Option OpenLane)) (lane : ℕ) → lane < length lanes → is_some (lane_at lanes lane) ≡ true → open_count (set lanes lane None) + 1 ≡ open_count lanes
 open_count_cleared [] lane h t = absurd (omega arith)
 open_count_cleared (None ∷ lanes) zero h t = (cc)
 open_count_cleared (Some one ∷ lanes) zero h t = omega arith
@@ -97,10 +95,10 @@ some_true : {A : Type 0} (o : Option A) → IsSome o → is_some o ≡ true
 some_true None h = h
 some_true (Some x) h = refl
 
-pub sound_subscribed : (a b : Inside) (lane : ℕ) (one : OpenLane) → AgreesWithJournal a → a.closed ≡ false → IsLowestFree a.lanes lane
+pub sound_subscribed : (a b : Pages) (lane : ℕ) (one : OpenLane) → AgreesWithJournal a → a.closed ≡ false → IsLowestFree a.lanes lane
     → journal_of b.journal ≡ with_call (journal_of a.journal) (Subscribed lane)
     → one.at ≡ call_count (journal_of a.journal) → one.opening ≡ a.stored
-    → b.stored ≡ a.stored → b.log ≡ a.log → b.lanes ≡ set a.lanes lane (Some one) → b.closed ≡ a.closed → b.posts ≡ a.posts
+    → b.stored ≡ a.stored → b.sent ≡ a.sent → b.lanes ≡ set a.lanes lane (Some one) → b.closed ≡ a.closed → b.posts ≡ a.posts
     → deque_len b.journal.calls + 9 ≤ deque_capacity b.journal.calls → AgreesWithJournal b
 sound_subscribed a b lane one sound still low journal at opening store log lanes closed posts room =
     let within : lane < length a.lanes = omega (arith, low.within, sound.eight) in
@@ -118,14 +116,13 @@ sound_subscribed a b lane one sound still low journal at opening store log lanes
     (record {
       journal = journal;
       stored = store ∙ (sound.kept.stored ∙ ap stored (sym (append-nil (updates (journal_of a.journal)))));
-      log = ap batches_in log ∙ sym (append-nil (batches_in a.log));
+      log = log ∙ sym (append-nil a.sent);
       closed = closed ∙ sym (or_false a.closed);
       eight = eight;
       lanes = λ other h. ap is_some (set_at other) ∙ opened_flag (nat_eq lane other) one (lane_at a.lanes other);
       openings = λ other. subst (λ o. IfSome o (IsItsOpening (with_call (journal_of a.journal) (Subscribed lane)) other)) (sym (set_at other))
           (opening_begins (journal_of a.journal) lane other one (lane_at a.lanes other) at (opening ∙ sound.kept.stored) (sound.openings other));
       posts = omega (arith, posts);
-      ends = subst AreEnds (sym log) sound.ends;
       limits = limits_same a b sound log;
       room = enough b (eight ∙ sound.eight) room;
     })
@@ -147,12 +144,12 @@ given_subscribed old new sub kept journal at start opening count untold =
 
 -- ---- a lane is left
 
-pub flag_of : (a : Inside) (sub : SubscriptionView) → AgreesWithJournal a → BelongsTo (view_of a) sub → is_some (lane_at a.lanes sub.lane) ≡ true
-flag_of a sub sound of = sound.lanes sub.lane (lane_of (view_of a) sub sound.kept of) ∙ is_still_open (journal_of a.journal) sub.lane sub.at of.given
+pub flag_of : (a : Pages) (sub : SubscriptionView) → AgreesWithJournal a → BelongsTo (book_of a) sub → is_some (lane_at a.lanes sub.lane) ≡ true
+flag_of a sub sound of = sound.lanes sub.lane (lane_of (book_of a) sub sound.kept of) ∙ is_still_open (journal_of a.journal) sub.lane sub.at of.given
 
-pub room_to_leave : (a : Inside) (sub : SubscriptionView) → AgreesWithJournal a → BelongsTo (view_of a) sub → deque_len a.journal.calls < deque_capacity a.journal.calls
+pub room_to_leave : (a : Pages) (sub : SubscriptionView) → AgreesWithJournal a → BelongsTo (book_of a) sub → deque_len a.journal.calls < deque_capacity a.journal.calls
 room_to_leave a sub sound of =
-    let low = lane_of (view_of a) sub sound.kept of in
+    let low = lane_of (book_of a) sub sound.kept of in
     let within : sub.lane < length a.lanes = omega (arith, low, sound.eight) in
     let e : open_count (set a.lanes sub.lane None) + 1 ≡ open_count a.lanes = open_count_cleared a.lanes sub.lane within (flag_of a sub sound of) in
     omega (arith, sound.room)
@@ -166,12 +163,12 @@ opening_left journal lane other was its =
           (if_some was (λ x same own. opening_stays journal (Left lane) other x (ap (λ t. cond t false true) e.0) own) its)
     ]
 
-pub sound_left : (a b : Inside) (sub : SubscriptionView) → AgreesWithJournal a → BelongsTo (view_of a) sub
+pub sound_left : (a b : Pages) (sub : SubscriptionView) → AgreesWithJournal a → BelongsTo (book_of a) sub
     → journal_of b.journal ≡ with_call (journal_of a.journal) (Left sub.lane)
-    → b.stored ≡ a.stored → b.log ≡ a.log → b.lanes ≡ set a.lanes sub.lane None → b.closed ≡ a.closed → b.posts ≡ a.posts
+    → b.stored ≡ a.stored → b.sent ≡ a.sent → b.lanes ≡ set a.lanes sub.lane None → b.closed ≡ a.closed → b.posts ≡ a.posts
     → (deque_len b.journal.calls ≡ deque_len a.journal.calls + 1) × (deque_capacity a.journal.calls ≤ deque_capacity b.journal.calls) → AgreesWithJournal b
 sound_left a b sub sound of journal store log lanes closed posts room =
-    let low = lane_of (view_of a) sub sound.kept of in
+    let low = lane_of (book_of a) sub sound.kept of in
     let within : sub.lane < length a.lanes = omega (arith, low, sound.eight) in
     let eight : length b.lanes ≡ length a.lanes = ap length lanes ∙ length-set a.lanes sub.lane None in
     let fewer : open_count b.lanes + 1 ≡ open_count a.lanes = ap (λ lanes. open_count lanes + 1) lanes ∙ open_count_cleared a.lanes sub.lane within (flag_of a sub sound of) in
@@ -182,14 +179,13 @@ sound_left a b sub sound of journal store log lanes closed posts room =
     (record {
       journal = journal;
       stored = store ∙ (sound.kept.stored ∙ ap stored (sym (append-nil (updates (journal_of a.journal)))));
-      log = ap batches_in log ∙ sym (append-nil (batches_in a.log));
+      log = log ∙ sym (append-nil a.sent);
       closed = closed ∙ sym (or_false a.closed);
       eight = eight;
       lanes = λ other h. ap is_some (set_at other) ∙ left_flag (nat_eq sub.lane other) (lane_at a.lanes other);
       openings = λ other. subst (λ o. IfSome o (IsItsOpening (with_call (journal_of a.journal) (Left sub.lane)) other)) (sym (set_at other))
           (opening_left (journal_of a.journal) sub.lane other (lane_at a.lanes other) (sound.openings other));
       posts = omega (arith, posts);
-      ends = subst AreEnds (sym log) sound.ends;
       limits = limits_same a b sound log;
       room = omega (arith, sound.room, room.0, room.1);
     })

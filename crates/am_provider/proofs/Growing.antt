@@ -17,7 +17,7 @@ All-at P [] y ys h = h 0 y (omega arith)
 All-at P (x ∷ xs) y ys h = All-at P xs y ys (λ k d short. h (suc k) d (omega arith))
 
 -- once the log is closed nothing is sent out
-silent : (before : List Update) (journal : JournalView) (call : Call) → is_closed journal ≡ true → MayFollow journal call → batches_of before call ≡ []
+pub silent : (before : List Update) (journal : JournalView) (call : Call) → is_closed journal ≡ true → MayFollow journal call → batches_of before call ≡ []
 silent before journal (Posted now news) ended may = absurd (let no : false ≡ true = sym may ∙ ended in (cc))
 silent before journal (Collected now) ended may = refl
 silent before journal (Subscribed lane) ended may = refl

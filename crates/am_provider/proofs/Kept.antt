@@ -16,48 +16,45 @@ use Rattle.am_provider.specs.declared.call.Call.{Call}
 use Rattle.am_provider.specs.declared.call.Call.TheVariants.{Posted, Collected, Closed}
 use Rattle.am_alert.specs.declared.post.TheConstants.{MAX_ALERTS}
 use Rattle.am_provider.specs.declared.book.TheConstants.{LOG_END}
-use Rattle.am_provider.specs.declared.book.Book.TheInside.{Inside}
 use Rattle.am_provider.specs.Stored.{Update, updates_of, updates, stored}
 use Rattle.am_provider.specs.Broadcast.{batch_of, batches_of}
 use Rattle.am_provider.specs.Journal.{JournalView, with_call, closes, is_closed, is_post, posts_of, open_after, is_open, MayFollow}
 use Rattle.am_provider.specs.AlertList.{with_alerts, batch_by_list}
-use Rattle.am_provider.specs.inside.Batches.{batches_in, AreEnds}
 use Rattle.am_provider.specs.inside.BookLimits.{IsWithinLogLimits}
 use Rattle.am_provider.specs.BookView.{IsFaithful}
-use Rattle.am_provider.specs.inside.BookInside.{AgreesWithJournal}
+use Rattle.am_provider.specs.inside.BookInside.{Pages, AgreesWithJournal}
 use Rattle.am_provider.proofs.Stored.{stored_post, batch_of_post, stored_collect}
 use Rattle.am_provider.proofs.Journals.{drop_front, updates_last, broadcast_last, posts_last, closed_last, open_last, legal_last}
 use Rattle.am_provider.proofs.Opens.{until_stays, open_stays}
 
-pub record Grows (a b : Inside) (c : Call) : Type 0 where
+pub record Grows (a b : Pages) (c : Call) : Type 0 where
   pub journal : journal_of b.journal ≡ with_call (journal_of a.journal) c
   pub stored : b.stored ≡ stored (updates (journal_of a.journal) ++ updates_of c)
-  pub log : batches_in b.log ≡ batches_in a.log ++ batches_of (updates (journal_of a.journal)) c
+  pub log : b.sent ≡ a.sent ++ batches_of (updates (journal_of a.journal)) c
   pub closed : b.closed ≡ (a.closed || closes c)
   pub eight : length b.lanes ≡ length a.lanes
   pub lanes : (lane : ℕ) → lane < 8 → is_some (lane_at b.lanes lane) ≡ open_after lane (is_some (lane_at a.lanes lane)) c
   pub openings : (lane : ℕ) → IfSome (lane_at b.lanes lane) (IsItsOpening (with_call (journal_of a.journal) c) lane)
   pub posts : b.posts ≡ a.posts + count_by is_post (c ∷ [])
-  pub ends : AreEnds b.log
-  pub limits : IsWithinLogLimits (batches_in b.log)
+  pub limits : IsWithinLogLimits b.sent
   pub room : deque_len b.journal.calls + open_count b.lanes + cond b.closed 0 1 ≤ deque_capacity b.journal.calls
 
-faithful_grown : (a b : Inside) (c : Call) → AgreesWithJournal a → MayFollow (journal_of a.journal) c → Grows a b c
-    → IsFaithful (record { stored = b.stored; journal = with_call (journal_of a.journal) c; log = batches_in b.log })
+faithful_grown : (a b : Pages) (c : Call) → AgreesWithJournal a → MayFollow (journal_of a.journal) c → Grows a b c
+    → IsFaithful (record { stored = b.stored; journal = with_call (journal_of a.journal) c; log = b.sent })
 faithful_grown a b c sound may grows =
     let journal = journal_of a.journal in
     let sent = batches_of (updates journal) c in
     record {
       stored = grows.stored ∙ sym (ap stored (updates_last journal c));
       log = ap (drop journal.places) grows.log
-          ∙ (drop_front (batches_in a.log) sent journal.places sound.kept.places
+          ∙ (drop_front a.sent sent journal.places sound.kept.places
           ∙ (ap (λ batches. batches ++ sent) sound.kept.log ∙ sym (broadcast_last journal c)));
-      places = omega (arith, sound.kept.places, ap length grows.log, length-append (batches_in a.log) sent);
+      places = omega (arith, sound.kept.places, ap length grows.log, length-append a.sent sent);
       base = sound.kept.base;
       legal = legal_last journal c sound.kept.legal may;
     }
 
-pub sound_grown : (a b : Inside) (c : Call) → AgreesWithJournal a → MayFollow (journal_of a.journal) c → Grows a b c → AgreesWithJournal b
+pub sound_grown : (a b : Pages) (c : Call) → AgreesWithJournal a → MayFollow (journal_of a.journal) c → Grows a b c → AgreesWithJournal b
 sound_grown a b c sound may grows =
     let journal = journal_of a.journal in
     let places : b.journal.places ≡ a.journal.places = ap (λ (j : JournalView). j.places) grows.journal in
@@ -65,7 +62,7 @@ sound_grown a b c sound may grows =
     let posts : b.journal.posts ≡ a.journal.posts = ap (λ (j : JournalView). j.posts) grows.journal in
     let before : b.journal.before ≡ a.journal.before = ap (λ (j : JournalView). j.before) grows.journal in
     record {
-      kept = subst (λ j. IsFaithful (record { stored = b.stored; journal = j; log = batches_in b.log })) (sym grows.journal) (faithful_grown a b c sound may grows);
+      kept = subst (λ j. IsFaithful (record { stored = b.stored; journal = j; log = b.sent })) (sym grows.journal) (faithful_grown a b c sound may grows);
       eight = grows.eight ∙ sound.eight;
       closed = grows.closed ∙ (ap (λ b. b || closes c) sound.closed ∙ sym (ap is_closed grows.journal ∙ closed_last journal c));
       lanes = λ lane h. grows.lanes lane h ∙ (ap (λ was. open_after lane was c) (sound.lanes lane h) ∙ sym (ap (λ j. is_open j lane) grows.journal ∙ open_last journal c lane));
@@ -77,7 +74,6 @@ sound_grown a b c sound may grows =
         before = omega (arith, before, sound.dropped.before);
         lanes = omega (arith, bits, sound.dropped.lanes);
       };
-      ends = grows.ends;
       limits = grows.limits;
       room = grows.room;
     }
@@ -94,7 +90,7 @@ opening_stays journal c lane one goes its = record {
   opening = its.opening ∙ ap (λ j. stored (updates j)) (sym (until_stays journal c lane one.at its.given));
 }
 
-pub openings_stay : (a b : Inside) (c : Call) → AgreesWithJournal a → ((lane : ℕ) → open_after lane true c ≡ true) → b.lanes ≡ a.lanes
+pub openings_stay : (a b : Pages) (c : Call) → AgreesWithJournal a → ((lane : ℕ) → open_after lane true c ≡ true) → b.lanes ≡ a.lanes
     → (lane : ℕ) → IfSome (lane_at b.lanes lane) (IsItsOpening (with_call (journal_of a.journal) c) lane)
 openings_stay a b c sound goes lanes lane =
     subst (λ lanes. IfSome (lane_at lanes lane) (IsItsOpening (with_call (journal_of a.journal) c) lane)) (sym lanes)
@@ -112,7 +108,7 @@ cond_append : (b : Bool) (xs : List (List Alert)) (y : List Alert) → cond b xs
 cond_append true xs y = sym (append-nil xs)
 cond_append false xs y = refl
 
-few : (lanes : List (Option OpenLane)) → open_count lanes ≤ length lanes
+pub few : (lanes : List (Option OpenLane)) → open_count lanes ≤ length lanes
 few [] = omega arith
 few (None ∷ lanes) = let h = few lanes in omega arith
 few (Some one ∷ lanes) = let h = few lanes in omega arith
@@ -121,7 +117,7 @@ at_most_one : (b : Bool) → cond b 0 1 ≤ 1
 at_most_one true = omega arith
 at_most_one false = omega arith
 
-pub enough : (b : Inside) → length b.lanes ≡ 8 → deque_len b.journal.calls + 9 ≤ deque_capacity b.journal.calls
+pub enough : (b : Pages) → length b.lanes ≡ 8 → deque_len b.journal.calls + 9 ≤ deque_capacity b.journal.calls
     → deque_len b.journal.calls + open_count b.lanes + cond b.closed 0 1 ≤ deque_capacity b.journal.calls
 enough b eight room =
     let x : open_count b.lanes ≤ length b.lanes = few b.lanes in
@@ -145,10 +141,10 @@ limits_grown log (x ∷ xs) limits few fits =
     } in
     subst (λ b. IsWithinLogLimits (cond b log (log ++ (x ∷ xs) ∷ []))) (sym (Rattle.std.proofs.Math.Dec.eqb-suc-zero (length xs))) grown
 
-pub limits_same : (a b : Inside) → AgreesWithJournal a → b.log ≡ a.log → IsWithinLogLimits (batches_in b.log)
-limits_same a b sound log = subst (λ log. IsWithinLogLimits (batches_in log)) (sym log) sound.limits
+pub limits_same : (a b : Pages) → AgreesWithJournal a → b.sent ≡ a.sent → IsWithinLogLimits b.sent
+limits_same a b sound log = subst IsWithinLogLimits (sym log) sound.limits
 
-pub posts_small : (a : Inside) → AgreesWithJournal a → a.posts + 1 < 2 ^ 64
+pub posts_small : (a : Pages) → AgreesWithJournal a → a.posts + 1 < 2 ^ 64
 posts_small a sound =
     let le : count_by is_post a.journal.calls.items ≤ length a.journal.calls.items = count_by-le-length is_post a.journal.calls.items in
     let long : deque_len a.journal.calls ≡ length a.journal.calls.items = a.journal.calls.ok.0 in
@@ -158,51 +154,48 @@ posts_small a sound =
 
 -- ---- a post
 
-pub sound_posted : (a b : Inside) (now : ℕ) (news batch : List Alert) → AgreesWithJournal a → a.closed ≡ false
+pub sound_posted : (a b : Pages) (now : ℕ) (news batch : List Alert) → AgreesWithJournal a → a.closed ≡ false
     → journal_of b.journal ≡ with_call (journal_of a.journal) (Posted now news)
     → b.stored ≡ with_alerts batch a.stored
-    → batches_in b.log ≡ cond (nat_eq (length batch) 0) (batches_in a.log) (batches_in a.log ++ batch ∷ [])
-    → AreEnds b.log
+    → b.sent ≡ cond (nat_eq (length batch) 0) a.sent (a.sent ++ batch ∷ [])
     → batch ≡ batch_by_list now news a.stored
-    → length batch ≡ length news → length news ≤ MAX_ALERTS → (0 < length news → length (batches_in a.log) < LOG_END)
+    → length batch ≡ length news → length news ≤ MAX_ALERTS → (0 < length news → length a.sent < LOG_END)
     → b.closed ≡ a.closed → b.lanes ≡ a.lanes → b.posts ≡ a.posts + 1 → deque_len b.journal.calls + 9 ≤ deque_capacity b.journal.calls → AgreesWithJournal b
-sound_posted a b now news batch sound still journal store log ends sent long few fits closed lanes posts room =
+sound_posted a b now news batch sound still journal store log sent long few fits closed lanes posts room =
     let same = batch_of_post (updates (journal_of a.journal)) now news ∙ ap (batch_by_list now news) (sym sound.kept.stored) in
     let short : length batch ≤ MAX_ALERTS = omega arith in
-    let below : 0 < length batch → length (batches_in a.log) < LOG_END = λ h. fits (omega arith) in
+    let below : 0 < length batch → length a.sent < LOG_END = λ h. fits (omega arith) in
     sound_grown a b (Posted now news) sound (sym sound.closed ∙ still) (record {
       journal = journal;
       stored = store ∙ (ap (λ batch. with_alerts batch a.stored) sent ∙ sym (stored_post (updates (journal_of a.journal)) now news ∙ ap (λ olds. with_alerts (batch_by_list now news olds) olds) (sym sound.kept.stored)));
-      log = log ∙ (ap (λ n. cond (nat_eq n 0) (batches_in a.log) (batches_in a.log ++ batch ∷ [])) long
-          ∙ (cond_append (nat_eq (length news) 0) (batches_in a.log) batch
-          ∙ ap (λ sent. batches_in a.log ++ sent) (ap (λ x. cond (nat_eq (length news) 0) [] (x ∷ [])) (sent ∙ sym same) ∙ sym (batches_posted (updates (journal_of a.journal)) now news))));
+      log = log ∙ (ap (λ n. cond (nat_eq n 0) a.sent (a.sent ++ batch ∷ [])) long
+          ∙ (cond_append (nat_eq (length news) 0) a.sent batch
+          ∙ ap (λ sent. a.sent ++ sent) (ap (λ x. cond (nat_eq (length news) 0) [] (x ∷ [])) (sent ∙ sym same) ∙ sym (batches_posted (updates (journal_of a.journal)) now news))));
       closed = closed ∙ sym (or_false a.closed);
       eight = ap length lanes;
       lanes = λ lane h. ap (λ lanes. is_some (lane_at lanes lane)) lanes;
       openings = openings_stay a b (Posted now news) sound (λ lane. refl) lanes;
       posts = posts;
-      ends = ends;
-      limits = subst IsWithinLogLimits (sym log) (limits_grown (batches_in a.log) batch sound.limits short below);
+      limits = subst IsWithinLogLimits (sym log) (limits_grown a.sent batch sound.limits short below);
       room = enough b (ap length lanes ∙ sound.eight) room;
     })
 
 -- ---- a collection
 
-pub sound_collected : (a b : Inside) (now : ℕ) → AgreesWithJournal a
+pub sound_collected : (a b : Pages) (now : ℕ) → AgreesWithJournal a
     → journal_of b.journal ≡ with_call (journal_of a.journal) (Collected now)
     → b.stored ≡ filter (λ alert. not (is_resolved_at now alert)) a.stored
-    → b.log ≡ a.log → b.closed ≡ a.closed → b.lanes ≡ a.lanes → b.posts ≡ a.posts → deque_len b.journal.calls + 9 ≤ deque_capacity b.journal.calls → AgreesWithJournal b
+    → b.sent ≡ a.sent → b.closed ≡ a.closed → b.lanes ≡ a.lanes → b.posts ≡ a.posts → deque_len b.journal.calls + 9 ≤ deque_capacity b.journal.calls → AgreesWithJournal b
 sound_collected a b now sound journal store log closed lanes posts room =
     sound_grown a b (Collected now) sound tt (record {
       journal = journal;
       stored = store ∙ sym (stored_collect (updates (journal_of a.journal)) now ∙ ap (filter (λ alert. not (is_resolved_at now alert))) (sym sound.kept.stored));
-      log = ap batches_in log ∙ sym (append-nil (batches_in a.log));
+      log = log ∙ sym (append-nil a.sent);
       closed = closed ∙ sym (or_false a.closed);
       eight = ap length lanes;
       lanes = λ lane h. ap (λ lanes. is_some (lane_at lanes lane)) lanes;
       openings = openings_stay a b (Collected now) sound (λ lane. refl) lanes;
       posts = omega (arith, posts);
-      ends = subst AreEnds (sym log) sound.ends;
       limits = limits_same a b sound log;
       room = enough b (ap length lanes ∙ sound.eight) room;
     })
@@ -213,7 +206,7 @@ or_true : (b : Bool) → (b || true) ≡ true
 or_true true = refl
 or_true false = refl
 
-closed_room : (a b : Inside) → deque_len a.journal.calls + open_count a.lanes + cond a.closed 0 1 ≤ deque_capacity a.journal.calls → a.closed ≡ false → b.closed ≡ true → b.lanes ≡ a.lanes
+closed_room : (a b : Pages) → deque_len a.journal.calls + open_count a.lanes + cond a.closed 0 1 ≤ deque_capacity a.journal.calls → a.closed ≡ false → b.closed ≡ true → b.lanes ≡ a.lanes
     → (deque_len b.journal.calls ≡ deque_len a.journal.calls + 1) × (deque_capacity a.journal.calls ≤ deque_capacity b.journal.calls) → deque_len b.journal.calls + open_count b.lanes + cond b.closed 0 1 ≤ deque_capacity b.journal.calls
 closed_room a b old still closed lanes room =
     let x : cond {A = ℕ} a.closed 0 1 ≡ 1 = ap (λ (b : Bool). cond {A = ℕ} b 0 1) still in
@@ -221,21 +214,20 @@ closed_room a b old still closed lanes room =
     let z : open_count b.lanes ≡ open_count a.lanes = ap open_count lanes in
     omega arith
 
-pub sound_closed : (a b : Inside) → AgreesWithJournal a → a.closed ≡ false
+pub sound_closed : (a b : Pages) → AgreesWithJournal a → a.closed ≡ false
     → journal_of b.journal ≡ with_call (journal_of a.journal) Closed
-    → b.stored ≡ a.stored → b.log ≡ a.log → b.lanes ≡ a.lanes → b.posts ≡ a.posts → b.closed ≡ true
+    → b.stored ≡ a.stored → b.sent ≡ a.sent → b.lanes ≡ a.lanes → b.posts ≡ a.posts → b.closed ≡ true
     → (deque_len b.journal.calls ≡ deque_len a.journal.calls + 1) × (deque_capacity a.journal.calls ≤ deque_capacity b.journal.calls) → AgreesWithJournal b
 sound_closed a b sound still journal store log lanes posts closed room =
     sound_grown a b Closed sound (sym sound.closed ∙ still) (record {
       journal = journal;
       stored = store ∙ (sound.kept.stored ∙ ap stored (sym (append-nil (updates (journal_of a.journal)))));
-      log = ap batches_in log ∙ sym (append-nil (batches_in a.log));
+      log = log ∙ sym (append-nil a.sent);
       closed = closed ∙ sym (or_true a.closed);
       eight = ap length lanes;
       lanes = λ lane h. ap (λ lanes. is_some (lane_at lanes lane)) lanes;
       openings = openings_stay a b Closed sound (λ lane. refl) lanes;
       posts = omega (arith, posts);
-      ends = subst AreEnds (sym log) sound.ends;
       limits = limits_same a b sound log;
       room = closed_room a b sound.room still closed lanes room;
     })

@@ -4,17 +4,15 @@ use borrow.Author.Tests.{le-leb, lt-leb}
 use Rattle.std.specs.Option.{is_some, IfSome}
 use Rattle.std.specs.VecDeque.{deque_len, deque_capacity}
 use Rattle.am_provider.specs.declared.lanes.OpenLane.{OpenLane}
-use Rattle.am_provider.specs.declared.book.Book.TheInside.{Inside}
 use Rattle.am_provider.specs.declared.journal.TheConstants.{MAX_BEFORE}
 use Rattle.am_provider.specs.Journal.{JournalView, first_calls, IsOpenSubscription}
 use Rattle.am_provider.specs.Stored.{updates, stored}
 use Rattle.am_provider.specs.Trims.{AreBeforeOpen, Drops, IsTrimmed}
 use Rattle.am_provider.specs.BookView.{BookView, SubscriptionView, BelongsTo}
-use Rattle.am_provider.specs.inside.Batches.{batches_in, AreEnds}
 use Rattle.am_provider.specs.inside.BookLimits.{IsWithinLogLimits}
 use Rattle.am_provider.specs.inside.Journals.{journal_of, AreCounted}
 use Rattle.am_provider.specs.inside.Lanes.{lane_at, open_count, IsEarliest, IsItsOpening}
-use Rattle.am_provider.specs.inside.BookInside.{view_of, AgreesWithJournal}
+use Rattle.am_provider.specs.inside.BookInside.{Pages, book_of, AgreesWithJournal}
 use Rattle.am_provider.proofs.Journals.{first_all}
 use Rattle.am_provider.proofs.Opens.{is_still_open, lane_low, one_open, open_within}
 use Rattle.am_provider.proofs.Kept.{if_some}
@@ -26,21 +24,21 @@ found None e p = (cc)
 found (Some one) e p = (one, (refl, p))
 
 -- what the Book keeps for an open subscription
-pub kept_for : (a : Inside) (lane at : ℕ) → AgreesWithJournal a → IsOpenSubscription (journal_of a.journal) lane at → (one : OpenLane) × ((lane_at a.lanes lane ≡ Some one) × (one.at ≡ at))
+pub kept_for : (a : Pages) (lane at : ℕ) → AgreesWithJournal a → IsOpenSubscription (journal_of a.journal) lane at → (one : OpenLane) × ((lane_at a.lanes lane ≡ Some one) × (one.at ≡ at))
 kept_for a lane at sound of =
     let journal = journal_of a.journal in
     let low = lane_low journal lane at sound.kept.legal of in
     let one = found (lane_at a.lanes lane) (sound.lanes lane low ∙ is_still_open journal lane at of) (sound.openings lane) in
     (one.0, (one.1.0, one_open journal lane one.0.at at sound.kept.legal one.1.1.given of))
 
-opening_of : (a : Inside) (lane : ℕ) (one : OpenLane) → AgreesWithJournal a → lane_at a.lanes lane ≡ Some one → IsItsOpening (journal_of a.journal) lane one
+opening_of : (a : Pages) (lane : ℕ) (one : OpenLane) → AgreesWithJournal a → lane_at a.lanes lane ≡ Some one → IsItsOpening (journal_of a.journal) lane one
 opening_of a lane one sound here = subst (λ o. IfSome o (IsItsOpening (journal_of a.journal) lane)) here (sound.openings lane)
 
 if_here : (P : OpenLane → Type 0) (o : Option OpenLane) (one : OpenLane) → o ≡ Some one → IfSome o P → P one
 if_here P o one e p = subst (λ o. IfSome o P) e p
 
 -- the calls before the earliest open lane
-pub before_earliest : (a : Inside) (one : OpenLane) → AgreesWithJournal a → IsEarliest a.lanes one → AreBeforeOpen (journal_of a.journal) (one.at - a.journal.before)
+pub before_earliest : (a : Pages) (one : OpenLane) → AgreesWithJournal a → IsEarliest a.lanes one → AreBeforeOpen (journal_of a.journal) (one.at - a.journal.before)
 before_earliest a one sound first =
     let its = opening_of a first.there.0 one sound first.there.1 in
     let within = open_within (journal_of a.journal) first.there.0 one.at its.given in
@@ -55,7 +53,7 @@ before_earliest a one sound first =
     }
 
 -- all calls, where no lane is open
-pub before_none : (a : Inside) → AgreesWithJournal a → ((lane : ℕ) → lane_at a.lanes lane ≡ None) → AreBeforeOpen (journal_of a.journal) (length a.journal.calls.items)
+pub before_none : (a : Pages) → AgreesWithJournal a → ((lane : ℕ) → lane_at a.lanes lane ≡ None) → AreBeforeOpen (journal_of a.journal) (length a.journal.calls.items)
 before_none a sound none = record {
   within = omega arith;
   kept = λ lane at of.
@@ -65,7 +63,7 @@ before_none a sound none = record {
 }
 
 -- what was stored when the earliest open lane was subscribed
-pub store_then : (a : Inside) (one : OpenLane) → AgreesWithJournal a → IsEarliest a.lanes one
+pub store_then : (a : Pages) (one : OpenLane) → AgreesWithJournal a → IsEarliest a.lanes one
     → (count : ℕ) → AreBeforeOpen (journal_of a.journal) count → one.opening ≡ stored (updates (first_calls count (journal_of a.journal)))
 store_then a one sound first count before =
     (opening_of a first.there.0 one sound first.there.1).opening
@@ -73,7 +71,7 @@ store_then a one sound first count before =
     (one_trim (journal_of a.journal) (one.at - a.journal.before) count (before_earliest a one sound first) before)
 
 -- what is stored now, where no lane is open
-pub store_now : (a : Inside) → AgreesWithJournal a → ((lane : ℕ) → lane_at a.lanes lane ≡ None)
+pub store_now : (a : Pages) → AgreesWithJournal a → ((lane : ℕ) → lane_at a.lanes lane ≡ None)
     → (count : ℕ) → AreBeforeOpen (journal_of a.journal) count → a.stored ≡ stored (updates (first_calls count (journal_of a.journal)))
 store_now a sound none count before =
     sound.kept.stored
@@ -86,8 +84,8 @@ if_ok P Q (Ok x) f p = f x p
 if_ok P Q (Err e) f p = tt
 
 -- a trim keeps the Book sound
-pub sound_trimmed : (a b : Inside) (count : ℕ) → AgreesWithJournal a → AreBeforeOpen (journal_of a.journal) count → IsTrimmed (journal_of a.journal) count (journal_of b.journal) → AreCounted b.journal
-    → b.stored ≡ a.stored → b.log ≡ a.log → b.lanes ≡ a.lanes → b.closed ≡ a.closed → b.posts ≡ a.posts → deque_capacity b.journal.calls ≡ deque_capacity a.journal.calls → AgreesWithJournal b
+pub sound_trimmed : (a b : Pages) (count : ℕ) → AgreesWithJournal a → AreBeforeOpen (journal_of a.journal) count → IsTrimmed (journal_of a.journal) count (journal_of b.journal) → AreCounted b.journal
+    → b.stored ≡ a.stored → b.sent ≡ a.sent → b.lanes ≡ a.lanes → b.closed ≡ a.closed → b.posts ≡ a.posts → deque_capacity b.journal.calls ≡ deque_capacity a.journal.calls → AgreesWithJournal b
 sound_trimmed a b count sound fits of counted store log lanes closed posts capacity =
     let old = journal_of a.journal in
     let new = journal_of b.journal in
@@ -97,7 +95,7 @@ sound_trimmed a b count sound fits of counted store log lanes closed posts capac
     let count_same : open_count b.lanes ≡ open_count a.lanes = ap open_count lanes in
     let flag_same : cond {A = ℕ} b.closed 0 1 ≡ cond {A = ℕ} a.closed 0 1 = ap (λ (b : Bool). cond {A = ℕ} b 0 1) closed in
     record {
-      kept = faithful_trimmed (view_of a) (view_of b) count of (ap batches_in log) store sound.kept;
+      kept = faithful_trimmed (book_of a) (book_of b) count of log store sound.kept;
       eight = ap length lanes ∙ sound.eight;
       closed = closed ∙ (sound.closed ∙ sym (trimmed_closed old new count of));
       lanes = λ lane h. ap (λ lanes. is_some (lane_at lanes lane)) lanes ∙ (sound.lanes lane h ∙ sym (trimmed_open old new count of lane));
@@ -111,8 +109,7 @@ sound_trimmed a b count sound fits of counted store log lanes closed posts capac
           }) (sound.openings lane));
       posts = posts ∙ (sound.posts ∙ sym (trimmed_posts old new count of));
       dropped = counted;
-      ends = subst AreEnds (sym log) sound.ends;
-      limits = subst (λ log. IsWithinLogLimits (batches_in log)) (sym log) sound.limits;
+      limits = subst IsWithinLogLimits (sym log) sound.limits;
       room = omega (arith, sound.room, was, is, fewer, count_same, flag_same, capacity);
     }
 

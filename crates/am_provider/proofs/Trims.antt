@@ -297,7 +297,7 @@ open_whole whole trimmed count lane at of opened =
     }
 
 -- how many batches there were by a call is the same in both
-sent_until : (whole trimmed : JournalView) (count at : ℕ) → IsTrimmed whole count trimmed → trimmed.before ≤ at
+pub sent_until : (whole trimmed : JournalView) (count at : ℕ) → IsTrimmed whole count trimmed → trimmed.before ≤ at
     → trimmed.places + length (broadcast (until trimmed at)) ≡ whole.places + length (broadcast (until whole at))
 sent_until whole trimmed count at of h =
     let k = at - trimmed.before in

@@ -72,11 +72,11 @@ impl Model for Book {
 
     ghost coded = { coded_book call.the_row.coded };
 
-    ghost use Rattle.am_provider.specs.inside.BookInside.{view_of, AgreesWithJournal};
+    ghost use Rattle.am_provider.specs.inside.BookInside.{view_of, IsKeptBook};
 
     ghost view = { view_of };
 
-    ghost invariant = { AgreesWithJournal };
+    ghost invariant = { IsKeptBook };
 }
 
 impl Book {

@@ -36,7 +36,8 @@ pub struct Journal {
 }
 
 impl Journal {
-    pub(crate) fn new(alloc: Global) -> Result<Journal, AllocError>
+    /// A journal without a call.
+    pub fn new(alloc: Global) -> Result<Journal, AllocError>
         ensures { IfOk result (λ journal. journal_of journal ≡ new_journal) }
     {
         Ok(Journal {
@@ -51,7 +52,7 @@ impl Journal {
     }
 
     /// How many calls there were, those that were dropped too.
-    pub(crate) fn call_count(&self) -> u64
+    pub fn call_count(&self) -> u64
         requires { self.now.before ≤ MAX_BEFORE }
         ensures { result ≡ call_count (journal_of self.now) }
     {
@@ -59,7 +60,7 @@ impl Journal {
     }
 
     /// Drops so many of the calls that are left. What was stored after them is given.
-    pub(crate) fn drop_first(&mut self, count: usize, store: StoredAlerts)
+    pub fn drop_first(&mut self, count: usize, store: StoredAlerts)
         requires within { count ≤ length self.old.calls.items }
         requires countable { self.old.before + count ≤ MAX_BEFORE }
         requires counted { AreCounted self.old }

@@ -6,22 +6,22 @@ ghost use Rattle.am_provider.specs.inside.Lanes.{lane_at, IsLowestFree, IsEarlie
 use crate::shared_alerts::StoredAlerts;
 
 /// How many lanes there are.
-pub(crate) const LANES: usize = 8;
+pub const LANES: usize = 8;
 
 /// A lane that has a subscription.
 #[derive(Drop)]
-pub(crate) struct OpenLane {
+pub struct OpenLane {
     /// How many calls there had been before the subscription.
-    pub(crate) at: u64,
+    pub at: u64,
     /// What was stored then.
-    pub(crate) opening: StoredAlerts,
+    pub opening: StoredAlerts,
 }
 
 /// Each lane, where it has a subscription.
-pub(crate) type Lanes = [Option<OpenLane>; LANES];
+pub type Lanes = [Option<OpenLane>; LANES];
 
 /// The lowest lane that isn't open.
-pub(crate) fn idle_lane(lanes: &Lanes) -> Option<usize>
+pub fn idle_lane(lanes: &Lanes) -> Option<usize>
     ensures some { IfSome result (IsLowestFree lanes.now) }
     ensures none { IfNone result
         ((lane : ℕ) → lane < 8 → IsSome (lane_at lanes.now lane)) }
@@ -35,7 +35,7 @@ pub(crate) fn idle_lane(lanes: &Lanes) -> Option<usize>
 }
 
 /// The open lane that was subscribed first.
-pub(crate) fn earliest(lanes: &Lanes) -> Option<&OpenLane>
+pub fn earliest(lanes: &Lanes) -> Option<&OpenLane>
     ensures some { IfSome result (λ one. IsEarliest lanes.now one.now) }
     ensures none { IfNone result ((lane : ℕ) → lane_at lanes.now lane ≡ None) }
 {

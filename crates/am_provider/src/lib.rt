@@ -22,12 +22,12 @@ mod book;
 mod call;
 mod faults;
 mod journal;
-mod lanes;
+pub mod lanes;
 mod laws;
 mod log;
 mod pass;
 mod shared_alerts;
-mod store;
+pub mod store;
 mod subscription;
 
 pub use answers::{Counts, Ended, Posted, Step};

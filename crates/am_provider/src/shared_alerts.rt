@@ -34,7 +34,7 @@ impl Model for SharedAlerts {
 
 impl SharedAlerts {
     /// The alerts, each on its own to be shared.
-    pub(crate) fn new(alloc: Global, alerts: Alerts) -> Result<SharedAlerts, AllocError>
+    pub fn new(alloc: Global, alerts: Alerts) -> Result<SharedAlerts, AllocError>
         ensures { IfOk result (λ shared. shared ≡ alerts) }
     {
         let Alerts { alerts } = alerts;
@@ -45,7 +45,8 @@ impl SharedAlerts {
         Ok(SharedAlerts { alerts: shared })
     }
 
-    pub(crate) fn as_slice(&self) -> &[SharedAlert]
+    /// The alerts in order.
+    pub fn as_slice(&self) -> &[SharedAlert]
         ensures { alerts_in result.now ≡ self.now }
     {
         &self.alerts
@@ -75,7 +76,8 @@ impl Model for StoredAlerts {
 }
 
 impl StoredAlerts {
-    pub(crate) fn new(alloc: Global, alerts: Vec<SharedAlert>) -> Result<StoredAlerts, AllocError>
+    /// These alerts, as one list.
+    pub fn new(alloc: Global, alerts: Vec<SharedAlert>) -> Result<StoredAlerts, AllocError>
         ensures { IfOk result (λ stored. stored ≡ alerts_in alerts.items) }
     {
         let alerts = Arc::new(alloc, alerts)?;
@@ -83,7 +85,7 @@ impl StoredAlerts {
     }
 
     /// The same list once more.
-    pub(crate) fn share(&self) -> Result<StoredAlerts, AllocError>
+    pub fn share(&self) -> Result<StoredAlerts, AllocError>
         ensures { IfOk result (λ shared. shared ≡ self.now) }
     {
         let alerts = Arc::try_clone(&self.alerts)?;

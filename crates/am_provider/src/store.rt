@@ -6,8 +6,9 @@ ghost use Rattle.am_alert.specs.Merging.{is_resolved_at};
 ghost use Rattle.am_provider.specs.AlertList.{with_alerts, batch_by_list};
 ghost use Rattle.am_provider.specs.Shared.{alerts_in};
 ghost use Rattle.am_provider.specs.inside.Undone.{all_undone};
+ghost use Rattle.am_provider.specs.inside.Shared.{stored_in, AreKeptByLabels};
 
-mod absorb;
+pub mod absorb;
 
 use crate::shared_alerts::{SharedAlert, StoredAlerts};
 use crate::store::absorb::{Absorbed, absorb_each};
@@ -19,7 +20,7 @@ use std::marker::Model;
 use std::sync::Arc;
 
 /// Alerts by their label sets, in the order in which those began.
-pub(crate) type AlertMap = IndexMap<LabelSet, SharedAlert>;
+pub type AlertMap = IndexMap<LabelSet, SharedAlert>;
 
 /// The stored alerts, seen as their list. A report costs the same however many there are.
 #[derive(Drop)]
@@ -62,12 +63,7 @@ impl Store {
     pub(crate) fn share(&self) -> Result<StoredAlerts, AllocError>
         ensures { IfOk result (λ shared. shared ≡ self.now) }
     {
-        let alloc = *self.alerts.allocator();
-        let mut shared = Vec::with_capacity(alloc, self.alerts.len())?;
-        for alert in self.alerts.values() {
-            shared.push(Arc::try_clone(alert)?)?;
-        }
-        StoredAlerts::new(alloc, shared)
+        share_all(&self.alerts)
     }
 
     /// Absorbs reports one after another, and answers what each became with what takes it all back.
@@ -92,13 +88,36 @@ impl Store {
         ensures store { self.new ≡ filter (λ alert. not (is_resolved_at now alert)) self.old }
         ensures removed { result ≡ count_by (is_resolved_at now) self.old }
     {
-        let before = self.alerts.len();
-        self.alerts.retain(
-            |_labels: &LabelSet, alert: &mut SharedAlert| -> bool
-                ensures { (result ≡ not (is_resolved_at now (arc_value alert.old)))
-                    × (alert.new ≡ alert.old) }
-            { !alert.resolved_at(now) },
-        );
-        (before - self.alerts.len()) as u64
+        remove_resolved(&mut self.alerts, now)
     }
+}
+
+/// All alerts, in order. None is copied.
+pub fn share_all(alerts: &AlertMap) -> Result<StoredAlerts, AllocError>
+    ensures { IfOk result (λ shared. shared ≡ stored_in alerts.now.entries) }
+{
+    let alloc = *alerts.allocator();
+    let mut shared = Vec::with_capacity(alloc, alerts.len())?;
+    for alert in alerts.values() {
+        shared.push(Arc::try_clone(alert)?)?;
+    }
+    StoredAlerts::new(alloc, shared)
+}
+
+/// Removes what is resolved, and answers how many alerts that were.
+pub fn remove_resolved(alerts: &mut AlertMap, now: Moment) -> u64
+    requires { AreKeptByLabels alerts.old.entries }
+    ensures kept { AreKeptByLabels alerts.new.entries }
+    ensures store { stored_in alerts.new.entries
+        ≡ filter (λ alert. not (is_resolved_at now alert)) (stored_in alerts.old.entries) }
+    ensures removed { result ≡ count_by (is_resolved_at now) (stored_in alerts.old.entries) }
+{
+    let before = alerts.len();
+    alerts.retain(
+        |_labels: &LabelSet, alert: &mut SharedAlert| -> bool
+            ensures { (result ≡ not (is_resolved_at now (arc_value alert.old)))
+                × (alert.new ≡ alert.old) }
+        { !alert.resolved_at(now) },
+    );
+    (before - alerts.len()) as u64
 }

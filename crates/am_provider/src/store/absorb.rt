@@ -19,25 +19,26 @@ use std::alloc::{AllocError, Global};
 use std::mem;
 use std::sync::Arc;
 
-// What one report changed, kept to take it back.
+/// What one report changed, kept to take it back.
 #[derive(Drop)]
-pub(crate) enum Change {
-    // The report began its label set, which stands last.
+pub enum Change {
+    /// The report began its label set, which stands last.
     Added,
-    // Its label set held this alert, at this index.
+    /// Its label set held this alert, at this index.
     Replaced(usize, SharedAlert),
 }
 
 /// What the reports of a post became, and what they changed.
 #[derive(Drop)]
-pub(crate) struct Absorbed {
-    pub(crate) batch: Vec<SharedAlert>,
+pub struct Absorbed {
+    /// What each became.
+    pub batch: Vec<SharedAlert>,
     /// The changes in their order: taken back, the last first, they lead to the store before.
-    pub(crate) undo: Vec<Change>,
+    pub undo: Vec<Change>,
 }
 
 /// Absorbs reports one after another, and answers what each became.
-pub(crate) fn absorb_each(
+pub fn absorb_each(
     alerts: &mut AlertMap,
     news: &[SharedAlert],
     now: Moment,
@@ -48,6 +49,8 @@ pub(crate) fn absorb_each(
         ≡ batch_by_list now (alerts_in news.now) (stored_in alerts.old.entries)) }
     ensures undo { IfOk result (λ done. all_undone done.undo.items (stored_in alerts.new.entries)
         ≡ stored_in alerts.old.entries) }
+    ensures back { IfOk result (λ done.
+        all_taken_back done.undo.items alerts.new.entries ≡ alerts.old.entries) }
     ensures stored { OnOk result (stored_in alerts.new.entries
         ≡ with_alerts (batch_by_list now (alerts_in news.now) (stored_in alerts.old.entries))
         (stored_in alerts.old.entries)) }
@@ -133,8 +136,8 @@ fn stored_alert<'a>(alerts: &'a AlertMap, labels: &LabelSet) -> Option<&'a Alert
     }
 }
 
-// Takes changes back, the last one first.
-fn take_back(alerts: &mut AlertMap, changes: Vec<Change>)
+/// Takes changes back, the last one first.
+pub fn take_back(alerts: &mut AlertMap, changes: Vec<Change>)
     ensures { alerts.new.entries ≡ all_taken_back changes.items alerts.old.entries }
 {
     let mut left = changes;

@@ -3,15 +3,16 @@ use Rattle.am_provider.specs.Trims.{AreBeforeOpen}
 use Rattle.am_provider.specs.BookView.{BookView}
 use Rattle.am_provider.specs.inside.Journals.{journal_of}
 use Rattle.am_provider.proofs.Trimming.{before_earliest, before_none}
+use Rattle.am_provider.specs.inside.BookInside.{pages_of}
 use Rattle.am_provider.proofs.book.Book.owed_from.Goals as goal
 
 pub returns-in-Some-clause-before : goal.returns-in-Some-clause-before
 returns-in-Some-clause-before c =
     subst (λ (s : BookView). AreBeforeOpen s.journal (c.in-Some.open.now.at - s.journal.before)) c.self.view_is
-    (before_earliest c.self.inside c.in-Some.open.now c.self.invariant c.in-Some.ensures.some)
+    (before_earliest (pages_of c.self.inside) c.in-Some.open.now c.self.invariant.pages c.in-Some.ensures.some)
 
 pub returns-in-None-clause-before : goal.returns-in-None-clause-before
 returns-in-None-clause-before c =
     let all : length c.self.inside.journal.calls.items ≡ c.call_count.result - c.self.inside.journal.before = omega (arith, c.call_count.ensures) in
     subst (λ (s : BookView). AreBeforeOpen s.journal (c.call_count.result - s.journal.before)) c.self.view_is
-    (subst (AreBeforeOpen (journal_of c.self.inside.journal)) all (before_none c.self.inside c.self.invariant c.in-None.ensures.none))
+    (subst (AreBeforeOpen (journal_of c.self.inside.journal)) all (before_none (pages_of c.self.inside) c.self.invariant.pages c.in-None.ensures.none))

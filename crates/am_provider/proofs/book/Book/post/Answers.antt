@@ -16,6 +16,7 @@ use Rattle.am_provider.specs.BookView.{BookView}
 use Rattle.am_provider.specs.inside.Batches.{batches_in, AreEnds}
 use Rattle.am_provider.proofs.Entries.{length_batch, length_became}
 use Rattle.am_provider.proofs.Kept.{sound_posted}
+use Rattle.am_provider.specs.inside.BookInside.{pages_of}
 use Rattle.am_provider.proofs.book.Book.post.Goals.{else-count-gt0-via-then-count-gt0+else-places-ge-LOG_END, else-count-gt0-via-else-count-gt0}
 use Rattle.am_provider.proofs.book.Book.post.Goals as goal
 
@@ -58,11 +59,14 @@ invariant_of-self-2 c =
     let journal : journal_of (record c.self.inside.journal { calls = c.push_back_reserved.new.self }) ≡ with_call (journal_of c.self.inside.journal) (Posted c.args.now c.args.post.valid) =
     ap (λ (calls : List Call). record (journal_of c.self.inside.journal) { calls = calls }) calls in
     let count : length batch ≡ length c.args.post.valid = ap length sent ∙ length_batch c.args.now c.args.post.valid c.self.inside.stored in
-    sound_posted c.self.inside (record c.self.inside { stored = c.absorb.new.self; journal = record c.self.inside.journal { calls = c.push_back_reserved.new.self }; log = c.push_reserved-place.new.self; posts = c.self.inside.posts + 1 })
-    c.args.now c.args.post.valid batch c.self.invariant c.if-self.false journal store log ends sent count few fits refl refl refl room
+    record {
+      pages = sound_posted (pages_of c.self.inside) (pages_of (record c.self.inside { stored = c.absorb.new.self; journal = record c.self.inside.journal { calls = c.push_back_reserved.new.self }; log = c.push_reserved-place.new.self; posts = c.self.inside.posts + 1 }))
+          c.args.now c.args.post.valid batch c.self.invariant.pages c.if-self.false journal store log sent count few fits refl refl refl room;
+      ends = ends;
+    }
 
 pub returns-clause-kept : goal.returns-clause-kept
-returns-clause-kept c = (invariant_of-self-2 c).kept
+returns-clause-kept c = (invariant_of-self-2 c).pages.kept
 
 front_cond : (b : Bool) (xs : List (List Alert)) (y : List Alert) → IsFront xs (cond b xs (xs ++ y ∷ []))
 front_cond true xs y = ([], append-nil xs)

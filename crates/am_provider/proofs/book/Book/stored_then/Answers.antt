@@ -5,6 +5,7 @@ use Rattle.am_provider.specs.Stored.{updates, stored}
 use Rattle.am_provider.specs.Trims.{AreBeforeOpen}
 use Rattle.am_provider.specs.BookView.{BookView}
 use Rattle.am_provider.proofs.Trimming.{store_then, store_now, if_ok}
+use Rattle.am_provider.specs.inside.BookInside.{pages_of}
 use Rattle.am_provider.proofs.book.Book.stored_then.Goals as goal
 
 -- what is asked of the answer
@@ -16,11 +17,11 @@ unfolding IsThat
 returns-in-Some c =
     subst (λ (s : BookView). IfOk c.share.result (IsThat s)) c.self.view_is
     (if_ok (λ shared. shared ≡ c.in-Some.open.now.opening) _ c.share.result
-    (λ store same count before. same ∙ store_then c.self.inside c.in-Some.open.now c.self.invariant c.in-Some.ensures.some count before) c.share.ensures)
+    (λ store same count before. same ∙ store_then (pages_of c.self.inside) c.in-Some.open.now c.self.invariant.pages c.in-Some.ensures.some count before) c.share.ensures)
 
 pub returns-in-None : goal.returns-in-None
 unfolding IsThat
 returns-in-None c =
     subst (λ (s : BookView). IfOk c.share-in-None.result (IsThat s)) c.self.view_is
     (if_ok (λ shared. shared ≡ c.self.inside.stored) _ c.share-in-None.result
-    (λ store same count before. same ∙ store_now c.self.inside c.self.invariant c.in-None.ensures.none count before) c.share-in-None.ensures)
+    (λ store same count before. same ∙ store_now (pages_of c.self.inside) c.self.invariant.pages c.in-None.ensures.none count before) c.share-in-None.ensures)

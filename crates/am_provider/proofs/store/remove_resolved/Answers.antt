@@ -8,28 +8,26 @@ use Rattle.indexmap.proofs.CallerLemmas.{filter-RetainsPairs}
 use Rattle.am_alert.specs.Merging.{is_resolved_at}
 use Rattle.am_provider.specs.inside.Shared.{stored_in, AreKeptByLabels}
 use Rattle.am_provider.proofs.Entries.{stored_filtered, kept_filtered}
-use Rattle.am_provider.proofs.store.Store.remove_resolved.Goals as goal
+use Rattle.am_provider.proofs.store.remove_resolved.Goals as goal
 
-pub left : (c : goal.After-len) → c.retain.new.self.entries ≡ filter (λ entry. not (is_resolved_at c.args.now (arc_value entry.1))) c.self.inside.alerts.entries
+pub left : (c : goal.After-len) → c.retain.new.self.entries ≡ filter (λ entry. not (is_resolved_at c.args.now (arc_value entry.1))) c.args.alerts.now.entries
 left c = filter-RetainsPairs _ _ _ (λ k v b w g call. search rules) _ _ c.retain.ensures.filtered
 
-pub invariant_of-self : goal.invariant_of-self
-invariant_of-self c = subst AreKeptByLabels (sym (left c)) (kept_filtered (λ alert. not (is_resolved_at c.args.now alert)) c.self.inside.alerts.entries c.self.invariant)
+pub returns-clause-kept : goal.returns-clause-kept
+returns-clause-kept c = subst AreKeptByLabels (sym (left c)) (kept_filtered (λ alert. not (is_resolved_at c.args.now alert)) c.args.alerts.now.entries c.requires)
 
 pub returns-clause-store : goal.returns-clause-store
 returns-clause-store c =
-    ap stored_in (left c) ∙ (stored_filtered (λ alert. not (is_resolved_at c.args.now alert)) c.self.inside.alerts.entries
-    ∙ ap (filter (λ alert. not (is_resolved_at c.args.now alert))) c.self.view_is)
+    ap stored_in (left c) ∙ stored_filtered (λ alert. not (is_resolved_at c.args.now alert)) c.args.alerts.now.entries
 
 pub returns-clause-removed : goal.returns-clause-removed
 returns-clause-removed c =
-    let olds = stored_in c.self.inside.alerts.entries in
+    let olds = stored_in c.args.alerts.now.entries in
     let resolved = count_by (is_resolved_at c.args.now) in
     let both = length-filter_both (is_resolved_at c.args.now) (λ alert. not (is_resolved_at c.args.now alert)) (λ alert. refl) olds in
     let gone : length (filter (is_resolved_at c.args.now) olds) ≡ resolved olds = length-filter (is_resolved_at c.args.now) olds in
     let rest : length (stored_in c.retain.new.self.entries) ≡ length (filter (λ alert. not (is_resolved_at c.args.now alert)) olds) =
-    ap length (ap stored_in (left c) ∙ stored_filtered (λ alert. not (is_resolved_at c.args.now alert)) c.self.inside.alerts.entries) in
-    let before : length olds ≡ length c.self.inside.alerts.entries = length-map c.self.inside.alerts.entries (λ entry. arc_value entry.1) in
+    ap length (ap stored_in (left c) ∙ stored_filtered (λ alert. not (is_resolved_at c.args.now alert)) c.args.alerts.now.entries) in
+    let before : length olds ≡ length c.args.alerts.now.entries = length-map c.args.alerts.now.entries (λ entry. arc_value entry.1) in
     let after : length (stored_in c.retain.new.self.entries) ≡ length c.retain.new.self.entries = length-map c.retain.new.self.entries (λ entry. arc_value entry.1) in
-    let all : resolved olds ≡ resolved c.args.self.now = ap resolved c.self.view_is in
-    omega (arith, both, gone, rest, before, after, all, c.len-before.ensures.len, c.len.ensures.len)
+    omega (arith, both, gone, rest, before, after, c.len-before.ensures.len, c.len.ensures.len)
