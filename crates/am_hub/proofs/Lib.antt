@@ -1,0 +1,6 @@
+pub mod Subscribing
+pub mod Uncut
+pub mod Shelves
+pub mod Calls
+pub mod Settling
+pub mod Trimming

@@ -1,0 +1,118 @@
+-- A Book's fields as its journal is trimmed.
+use Rattle.std.proofs.Common.{◌≡◌, ◌≢◌, ℕ, zero, suc, ◌+◌, ◌-◌, ◌<◌, ◌≤◌, Bool, true, false, cond, nat_le, List, [], ◌∷◌, ◌++◌, length, take, drop, filter, Option, None, Some, All, get_or, refl, sym, ap, subst, ◌∙◌, arith, length-append, length-drop, inl, inr}
+use Rattle.std.specs.Option.{IfSome}
+use Rattle.std.specs.VecDeque.{deque_capacity}
+use Rattle.std.proofs.lemmas.List.{take-append-drop}
+use Rattle.std.proofs.lemmas.List.Elements.{filter-append}
+use Rattle.std.proofs.Math.Seq.{drop-append_seam}
+use borrow.Author.Tests.{le-leb, lt-leb}
+use Rattle.am_alert.specs.declared.alert.Alert.{Alert}
+use Rattle.am_segment.specs.Segments.{KeyView}
+use Rattle.am_cast.specs.declared.views.Account.{Account}
+use Rattle.am_cast.specs.Seats.{account_of}
+use Rattle.am_provider.specs.declared.call.Call.{Call}
+use Rattle.am_provider.specs.declared.call.Call.TheVariants.{Posted, Collected, Subscribed, Left, Closed}
+use Rattle.am_provider.specs.declared.lanes.OpenLane.{OpenLane}
+use Rattle.am_provider.specs.Journal.{JournalView, call_count, first_calls, until, is_closed}
+use Rattle.am_provider.specs.Stored.{Update, updates_of, first_reports, updates}
+use Rattle.am_provider.specs.Broadcast.{broadcast, broadcast_from, batches_of, due}
+use Rattle.am_provider.specs.Trims.{AreBeforeOpen, IsTrimmed}
+use Rattle.am_provider.specs.inside.Journals.{journal_of, AreCounted}
+use Rattle.am_provider.specs.inside.Lanes.{lane_at, IsItsOpening}
+use Rattle.std.proofs.lemmas.Bool.{cases_lt}
+use Rattle.am_provider.proofs.Stored.{by_bool}
+use Rattle.am_provider.proofs.Journals.{drop_twice}
+use Rattle.am_provider.proofs.Trims.{sent_until, trimmed_gives_the_same}
+use Rattle.am_provider.proofs.Trimming.{sound_trimmed}
+use Rattle.am_hub.specs.declared.answers.Ended.{Ended}
+use Rattle.am_hub.specs.Batches.{Batch, LogView, posts_in, sent_in}
+use Rattle.am_hub.specs.BookView.{sends, IsEndingOf}
+use Rattle.am_hub.specs.inside.Shelves.{Shelf, pages_of, IsKeptLane, IsKeptBook}
+
+-- as many batches go out as calls send one
+sent_each : (before : List Update) (calls : List Call) → length (broadcast_from before calls) ≡ length (filter sends calls)
+sent_each before [] = refl
+sent_each before (Posted now [] ∷ calls) = sent_each (before ++ updates_of (Posted now [])) calls
+sent_each before (Posted now (alert ∷ alerts) ∷ calls) = ap suc (sent_each (before ++ updates_of (Posted now (alert ∷ alerts))) calls)
+sent_each before (Collected now ∷ calls) = sent_each (before ++ updates_of (Collected now)) calls
+sent_each before (Subscribed lane ∷ calls) = sent_each (before ++ updates_of (Subscribed lane)) calls
+sent_each before (Left lane ∷ calls) = sent_each (before ++ updates_of (Left lane)) calls
+sent_each before (Closed ∷ calls) = sent_each (before ++ updates_of Closed) calls
+
+posts_trimmed : (old new : JournalView) (count : ℕ) (posts : List Call) → IsTrimmed old count new → drop old.places posts ≡ filter sends old.calls → drop new.places posts ≡ filter sends new.calls
+posts_trimmed old new count posts of was =
+    let front = filter sends (take count old.calls) in
+    let rest = filter sends (drop count old.calls) in
+    let parts : filter sends old.calls ≡ front ++ rest = ap (filter sends) (sym (take-append-drop count old.calls)) ∙ filter-append sends (take count old.calls) (drop count old.calls) in
+    let places : new.places ≡ old.places + length front = of.places ∙ ap (λ n. old.places + n) (sent_each (first_reports old.store) (take count old.calls)) in
+    ap (λ n. drop n posts) places ∙ (sym (drop_twice old.places (length front) posts) ∙ (ap (drop (length front)) (was ∙ parts) ∙ (drop-append_seam front rest ∙ ap (filter sends) (sym of.calls))))
+
+-- ---- what a filter keeps
+
+all_cons : {A : Type 0} (Q : A → Type 0) (x : A) (xs : List A) → Q x → All Q xs → All Q (x ∷ xs)
+all_cons Q x xs own all zero d h = own
+all_cons Q x xs own all (suc k) d h = all k d (omega arith)
+
+filter_all : {A : Type 0} (q : A → Bool) (P Q : A → Type 0) (xs : List A) → ((x : A) → q x ≡ true → P x → Q x) → All P xs → All Q (filter q xs)
+filter_all q P Q [] f all = λ k d h. absurd (omega arith)
+filter_all q P Q (x ∷ xs) f all =
+    let rest = filter_all q P Q xs f (λ k d h. all (suc k) d (omega arith)) in
+    by_bool {P = All Q (filter q (x ∷ xs))} (q x)
+    (λ t. subst (λ b. All Q (cond b (x ∷ filter q xs) (filter q xs))) (sym t) (all_cons Q x (filter q xs) (f x t (all 0 x (omega arith))) rest))
+    (λ n. subst (λ b. All Q (cond b (x ∷ filter q xs) (filter q xs))) (sym n) rest)
+
+pub filter_same : {A : Type 0} (q : A → Bool) (P : A → Type 0) (xs : List A) → ((x : A) → P x → q x ≡ true) → All P xs → filter q xs ≡ xs
+filter_same q P [] f all = refl
+filter_same q P (x ∷ xs) f all =
+    ap (λ b. cond b (x ∷ filter q xs) (filter q xs)) (f x (all 0 x (omega arith)))
+    ∙ ap (λ rest. x ∷ rest) (filter_same q P xs f (λ k d h. all (suc k) d (omega arith)))
+
+le_true : (m n : ℕ) → nat_le m n ≡ true → m ≤ n
+le_true m n t = elim (cases_lt n m) [ inl less ↦ absurd (let no : true ≡ false = sym t ∙ lt-leb m n less in cc) | inr le ↦ le ]
+
+pub none_gone : (journal : JournalView) (endings : List Ended) → All (IsEndingOf journal) endings → filter (λ (e : Ended). nat_le journal.before e.at) endings ≡ endings
+none_gone journal endings all = filter_same (λ (e : Ended). nat_le journal.before e.at) (IsEndingOf journal) endings (λ e of. le-leb journal.before e.at of.low) all
+
+-- ---- a trim
+
+ending_trimmed : (old new : JournalView) (count : ℕ) (e : Ended) → count ≤ length old.calls → IsTrimmed old count new → nat_le new.before e.at ≡ true → IsEndingOf old e → IsEndingOf new e
+ending_trimmed old new count e within of late was =
+    let same = trimmed_gives_the_same old new count within of in
+    let h = le_true new.before e.at late in
+    let owed : length (due new e.at) ≡ length (due old e.at) = ap length (same.due e.at h) in
+    let calls : length new.calls ≡ length old.calls - count = ap length of.calls ∙ length-drop count old.calls in
+    record {
+      within = omega (arith, was.within, owed);
+      complete = λ told. was.complete told ∙ sym owed;
+      closed = λ told. same.closed ∙ was.closed told;
+      low = h;
+      high = omega (arith, was.high, calls, of.before, within);
+    }
+
+lane_trimmed : (old new : JournalView) (count lane : ℕ) (account : Account (KeyView Alert) OpenLane) (o : Option OpenLane) → AreBeforeOpen old count → IsTrimmed old count new → IfSome o (IsItsOpening old lane)
+    → IsKeptLane old account o → IsKeptLane new account o
+lane_trimmed old new count lane account None fits of its kept = kept
+lane_trimmed old new count lane account (Some one) fits of its kept =
+    let h : new.before ≤ one.at = omega (arith, of.before, fits.kept lane one.at its.given) in
+    (kept.0, kept.1, kept.2 ∙ sym (sent_until old new count one.at of h))
+
+pub kept_trimmed : (a b : Shelf) (counted places count : ℕ) → IsKeptBook a counted places → AreBeforeOpen (journal_of a.journal) count → IsTrimmed (journal_of a.journal) count (journal_of b.journal) → AreCounted b.journal
+    → b.stored ≡ a.stored → b.log ≡ a.log → b.lanes ≡ a.lanes → b.posts ≡ a.posts → deque_capacity b.journal.calls ≡ deque_capacity a.journal.calls
+    → b.endings ≡ filter (λ (e : Ended). nat_le b.journal.before e.at) a.endings → length b.endings ≤ length a.endings → IsKeptBook b counted places
+kept_trimmed a b counted places count kept fits of counts stored log lanes posts capacity endings fewer =
+    let old = journal_of a.journal in
+    let new = journal_of b.journal in
+    record {
+      pages = sound_trimmed (pages_of a) (pages_of b) count kept.pages fits of counts stored (ap (λ (q : LogView). sent_in q.tail.log) log) lanes (ap (λ (q : LogView). q.tail.closed) log) posts capacity;
+      posts = ap (λ (q : LogView). drop b.journal.places (posts_in q.tail.log)) log ∙ posts_trimmed old new count (posts_in a.log.tail.log) of kept.posts;
+      lanes = λ lane small.
+          subst (λ (q : LogView). IsKeptLane new (account_of q lane) (lane_at b.lanes lane)) (sym log)
+          (subst (λ ls. IsKeptLane new (account_of a.log lane) (lane_at ls lane)) (sym lanes)
+          (lane_trimmed old new count lane (account_of a.log lane) (lane_at a.lanes lane) fits of (kept.pages.openings lane) (kept.lanes lane small)));
+      endings = subst (All (IsEndingOf new)) (sym endings) (filter_all (λ (e : Ended). nat_le b.journal.before e.at) (IsEndingOf old) (IsEndingOf new) a.endings (λ e late was. ending_trimmed old new count e fits.within of late was) kept.endings);
+      total = kept.total ∙ sym (ap (λ (q : LogView). length q.tail.log) log);
+      room = let r = kept.room in omega (arith, fewer, ap Rattle.am_provider.specs.inside.Lanes.open_count lanes);
+    }
+
+pub kept_room : {a : Shelf} {counted places room : ℕ} → IsKeptBook a counted places → places ≡ room → IsKeptBook a counted room
+kept_room {a} {counted} kept same = subst (IsKeptBook a counted) same kept

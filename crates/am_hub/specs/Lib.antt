@@ -1,0 +1,10 @@
+pub mod FaultTexts
+pub mod Batches
+pub mod Sending
+pub mod Subscriptions
+pub mod Showings
+pub mod BookView
+pub mod Posts
+pub mod Provided
+pub mod Settling
+pub mod inside

@@ -1,0 +1,4 @@
+-- Definitions over private fields, which only code of this crate cites.
+pub mod Subscribed
+pub mod Advances
+pub mod Shelves

@@ -1,0 +1,60 @@
+//! The alert provider for threads: the Book over the log without a lock, and the subscriptions that
+//! read it.
+//!
+//! > Whatever posts, subscriptions, reads, leaves, collections and close come, from whichever
+//! > threads and in whatever interleaving, what a subscription has taken begins the alerts stored at
+//! > its subscription followed by every alert accepted since, merged as stored, each once and in
+//! > journal order; one that was told 'closed' has taken them all; and no segment is freed that an
+//! > open cursor has not passed.
+//!
+//! # What a slow subscriber gets
+//!
+//! All of it, in its own time, as long as it is less than `places` posts behind. One that is as far
+//! behind holds the next post up: under `Policy::Refuse` that post is refused and names the lane;
+//! under `Policy::Cut` the subscriber is cut, is told `Cut` after the alerts that it has in hand,
+//! and everyone else goes on.
+//!
+//! # What closing means
+//!
+//! After `close` no post and no subscriber is taken. Who is there reads on, and is told `Closed`
+//! once it was shown everything.
+//!
+//! # A caller
+//!
+//!     let parts = Parts::make(alloc, 256, 2)?;                  // 256 places, 2 posters
+//!     let Begun { cast, mut book, mut passes } = Book::begin::<Brand>(alloc, parts, Policy::Refuse)?;
+//!     let mut subscription = book.subscribe(&cast)?;
+//!     book.post(&cast, &mut passes[0], post, now)?;
+//!     while let Step::Item(alert) = subscription.next() {       // no lock, no memory, no waiting
+//!         ..
+//!     }
+//!     let ended = book.leave(&cast, subscription);
+#![tactic(auto)]
+
+mod answers;
+mod begin;
+mod book;
+mod faults;
+mod feed;
+mod gate;
+mod item;
+mod lends;
+mod parts;
+mod pass;
+mod provider;
+mod sending;
+mod settled;
+mod subscription;
+
+pub use am_cast::AlreadyClosed;
+pub use answers::{Counts, Ended, Policy, Posted, Step};
+pub use book::Book;
+pub use faults::{PostRefused, PutFault, SubFault};
+pub use feed::{Cast, Origin};
+pub use gate::{Gate, NoGate};
+pub use item::Item;
+pub use parts::{Begun, Parts};
+pub use pass::Pass;
+pub use provider::Provider;
+pub use settled::Settled;
+pub use subscription::Subscription;

@@ -1,0 +1,28 @@
+//! Moments and post bodies for the tests.
+
+use am_alert::Moment;
+use std::alloc::{AllocError, Global};
+
+// 2024-01-01T00:00:00Z, in seconds since 0001-01-01T00:00:00Z.
+const YEAR_2024: u64 = 63_839_664_000;
+
+/// So many seconds after the beginning of 2024.
+pub fn moment(seconds: u32) -> Moment {
+    let since_year_1 = YEAR_2024 + u64::from(seconds);
+    match Moment::try_new(u128::from(since_year_1) * 1_000_000_000) {
+        Some(moment) => moment,
+        None => Moment::MAX,
+    }
+}
+
+/// A body with one alert, whose label and start are of this number.
+pub fn body_of(alloc: Global, number: u32) -> Result<String, AllocError> {
+    let mut body = String::new(alloc);
+    let start = moment(number);
+    let end = moment(4_000_000);
+    write!(
+        body,
+        "[{{\"labels\":{{\"n\":\"{number}\"}},\"startsAt\":\"{start}\",\"endsAt\":\"{end}\"}}]"
+    )?;
+    Ok(body)
+}

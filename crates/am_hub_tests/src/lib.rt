@@ -1,0 +1,12 @@
+//! Tests of the provider for threads, of what no contract says: what whole runs show, in one thread and
+//! in several.
+#![tactic(auto)]
+
+#[cfg(test)]
+mod bodies;
+#[cfg(test)]
+mod locked;
+#[cfg(test)]
+mod one_thread;
+#[cfg(test)]
+mod threads;
