@@ -4,7 +4,7 @@ use Rattle.serde_json.specs.Data.{Data}
 use Rattle.serde_json.specs.View.{view, items_view}
 use Rattle.serde_json.specs.declared.value.Value.{Value}
 use Rattle.am_routes.specs.Paths.{item_path}
-use Rattle.am_routes.specs.Readings.{Reading, each, IsAnswerOf}
+use Rattle.am_routes.specs.Readings.{Reading, each, AllowsResult}
 use Rattle.am_routes.specs.RouteReadings.{elements}
 use Rattle.am_routes.specs.declared.config.fault.ConfigFault.{ConfigFault}
 use Rattle.am_routes.proofs.Readings.{IsReadUpTo, read_at, refused_at, read_all}
@@ -28,11 +28,11 @@ module _ {A : Type 0} (reads : List ℕ → Data → Reading A) (path : List ℕ
         (subst (λ p. reads p (view v) (Ok a)) is_at h) grown so_far
 
     -- an element is refused
-    pub item_refused : (fault : ConfigFault) → IsAnswerOf (reads at (view v)) (Err fault) → Up_to front i
-        → IsAnswerOf (each reads_at 0 (elements (items_view values))) (Err fault)
+    pub item_refused : (fault : ConfigFault) → AllowsResult (reads at (view v)) (Err fault) → Up_to front i
+        → AllowsResult (each reads_at 0 (elements (items_view values))) (Err fault)
     item_refused fault h so_far =
         refused_at reads_at (elements (items_view values)) front i (view v) (view d) fault (Err fault) (inside i within) (element_at values i v d here) so_far
-        (subst (λ p. IsAnswerOf (reads p (view v)) (Err fault)) is_at h) refl
+        (subst (λ p. AllowsResult (reads p (view v)) (Err fault)) is_at h) refl
 
   -- all elements are read
   pub items_read : (front : List A) (i : ℕ) → length values ≤ i → Up_to front i → each reads_at 0 (elements (items_view values)) (Ok front)

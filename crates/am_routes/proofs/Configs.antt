@@ -1,16 +1,16 @@
 -- The answers of reading a configuration, by how far it was read.
-use Rattle.std.proofs.Common.{◌≡◌, ◌<◌, ℕ, true, false, List, [], ◌∷◌, length, arith, Option, Some, None, Result, Ok, Err, refl, sym, ap, ◌∙◌, subst}
+use Rattle.std.proofs.Common.{◌≡◌, ◌<◌, ℕ, true, false, List, [], ◌∷◌, length, arith, Option, Some, None, Result, Ok, Err, refl, sym, ap, ◌∙◌}
 use Rattle.std.specs.Prelude.{ok_or, is_some}
 use Rattle.std.specs.declared.time.Duration.{Duration}
 use Rattle.serde_json.specs.Data.{Data, Members}
 use Rattle.serde_json.specs.Find.{as_object}
 use Rattle.serde_json.specs.Read.{read}
 use Rattle.serde_json.proofs.OnLiterals.{serde_json_on_literals}
-use Rattle.am_routes.specs.Members.{Reads, of_kind}
-use Rattle.am_routes.specs.Readings.{Is, refused, goes_on, IsAnswerOf}
+use Rattle.am_routes.specs.Members.{ReadsMember, of_kind}
+use Rattle.am_routes.specs.Readings.{Is, refused, goes_on, AllowsResult}
 use Rattle.am_routes.specs.Timeouts.{timeout_text_of}
 use Rattle.am_routes.specs.Configs.{timeout_from, timeout_of, config_of, IsJsonOf, IsConfigOf}
-use Rattle.am_routes.specs.RouteReadings.{root_of}
+use Rattle.am_routes.specs.RouteReadings.{root_reading}
 use Rattle.am_routes.specs.RuleReadings.{rules_of}
 use Rattle.am_routes.specs.declared.route.Route.{Route}
 use Rattle.am_routes.specs.declared.inhibit_rule.InhibitRule.{InhibitRule}
@@ -21,7 +21,7 @@ use Rattle.am_routes.proofs.Readings.{err_weaker, reads_err}
 
 module _ (d : Data) where
   -- the text of the timeout is refused
-  pub text_refused : (fault : ConfigFault) → Reads (λ (text : Option (List ℕ)). text) (Err fault) (timeout_text_of d) → IsAnswerOf (timeout_of d) (Err fault)
+  pub text_refused : (fault : ConfigFault) → ReadsMember (λ (text : Option (List ℕ)). text) (Err fault) (timeout_text_of d) → AllowsResult (timeout_of d) (Err fault)
   unfolding timeout_of
   text_refused fault h =
       err_weaker (Is (timeout_text_of d)) (timeout_of d) fault (λ r. refused r) (reads_err (λ (text : Option (List ℕ)). text) (timeout_text_of d) fault h)
@@ -40,17 +40,17 @@ module _ (d : Data) where
     object : of_kind as_object [] d ≡ Ok members
     object = ap (λ o. ok_or o (WrongKind [])) are_members
 
-    pub timeout_refused : (fault : ConfigFault) → IsAnswerOf (timeout_of d) (Err fault) → IsAnswerOf (config_of d) (Err fault)
+    pub timeout_refused : (fault : ConfigFault) → AllowsResult (timeout_of d) (Err fault) → AllowsResult (config_of d) (Err fault)
     unfolding config_of
     timeout_refused fault h = err_weaker (timeout_of d) (config_of d) fault (λ r. goes_on object (refused r)) h
 
     module _ (timeout : Duration) (is_timeout : timeout_of d (Ok timeout)) where
-      pub root_refused : (fault : ConfigFault) → IsAnswerOf (root_of d) (Err fault) → IsAnswerOf (config_of d) (Err fault)
+      pub root_refused : (fault : ConfigFault) → AllowsResult (root_reading d) (Err fault) → AllowsResult (config_of d) (Err fault)
       unfolding config_of
-      root_refused fault h = err_weaker (root_of d) (config_of d) fault (λ r. goes_on object (goes_on is_timeout (refused r))) h
+      root_refused fault h = err_weaker (root_reading d) (config_of d) fault (λ r. goes_on object (goes_on is_timeout (refused r))) h
 
-      module _ (root : Route) (is_root : root_of d (Ok root)) where
-        pub rules_refused : (fault : ConfigFault) → IsAnswerOf (rules_of d) (Err fault) → IsAnswerOf (config_of d) (Err fault)
+      module _ (root : Route) (is_root : root_reading d (Ok root)) where
+        pub rules_refused : (fault : ConfigFault) → AllowsResult (rules_of d) (Err fault) → AllowsResult (config_of d) (Err fault)
         unfolding config_of
         rules_refused fault h = err_weaker (rules_of d) (config_of d) fault (λ r. goes_on object (goes_on is_timeout (goes_on is_root (refused r)))) h
 
@@ -66,7 +66,7 @@ some_bytes [] d e =
 some_bytes (b ∷ bytes) d e = omega arith
 
 -- the answer of a value is that of its bytes
-pub of_json : (bytes : List ℕ) (d : Data) (result : Result Config ConfigFault) → IsJsonOf bytes d → IsAnswerOf (config_of d) result → IsConfigOf bytes result
+pub of_json : (bytes : List ℕ) (d : Data) (result : Result Config ConfigFault) → IsJsonOf bytes d → AllowsResult (config_of d) result → IsConfigOf bytes result
 of_json bytes d (Ok config) json h = (d, json, h)
 of_json bytes d (Err NoMemory) json h = some_bytes bytes d json.1
 of_json bytes d (Err (NoOperator at)) json h = (d, json, h)

@@ -1,5 +1,5 @@
 -- The parts of a duration's text.
-use Rattle.std.proofs.Common.{◌≡◌, ℕ, zero, suc, ◌+◌, ◌-◌, ◌*◌, ◌<◌, ◌≤◌, Bool, true, false, not, cond, ◌&&◌, List, [], ◌∷◌, ◌++◌, length, get_or, take, drop, Option, Some, None, ◌⊎◌, inl, inr, refl, sym, ap, ◌∙◌, subst, append_assoc, one-add, arith, rules}
+use Rattle.std.proofs.Common.{◌≡◌, ℕ, zero, suc, ◌+◌, ◌-◌, ◌*◌, ◌<◌, ◌≤◌, Bool, true, false, not, cond, ◌&&◌, List, [], ◌∷◌, ◌++◌, length, get_or, take, drop, Option, Some, None, inl, inr, refl, sym, ap, ◌∙◌, subst, append_assoc, one-add, arith, rules}
 use Rattle.std.specs.Prelude.{sum_by, codes, MatchOption}
 use Rattle.std.specs.Option.{SomeIff}
 use Rattle.std.specs.List.{prefix_len, list_all, flat_map}
@@ -14,7 +14,7 @@ use Rattle.am_labels.specs.Texts.{same_text}
 use Rattle.am_labels.specs.MatcherTexts.{begins}
 use Rattle.am_routes.specs.declared.config.duration.Unit.{Unit}
 use Rattle.am_routes.specs.declared.config.duration.Unit.TheVariants.{Year, Week, Day, Hour, Minute, Second, Millisecond}
-use Rattle.am_routes.specs.Durations.{symbol_of, milliseconds_of, rank_of, IsNumber, Part, written, worth, AreParts, ArePartsOf, IsDuration}
+use Rattle.am_routes.specs.Durations.{symbol_of, milliseconds_of, rank_of, IsNumber, DurationPart, written, worth, AreParts, ArePartsOf, IsDuration}
 use Rattle.am_routes.specs.declared.config.duration.TheConstants.{MAX_MILLISECONDS}
 use Rattle.am_routes.specs.inside.DurationParts.{is_no_digit, digits_of, behind_digits, symbol_in, rest_of, unit_of}
 
@@ -76,14 +76,14 @@ number_begins (d ∷ ds) rest h = first_digit d (list_all is_ascii_digit ds) (is
     first_digit d more true is h = ap not is
     first_digit d more false is h = (cc)
 
-parts_begin : (from : ℕ) (parts : List Part) → AreParts from parts → begins is_no_digit (flat_map written parts) ≡ false
+parts_begin : (from : ℕ) (parts : List DurationPart) → AreParts from parts → begins is_no_digit (flat_map written parts) ≡ false
 parts_begin from [] h = refl
 parts_begin from (part ∷ parts) h =
     ap (begins is_no_digit) (append_assoc part.digits (symbol_of part.unit) (flat_map written parts))
     ∙ number_begins part.digits (symbol_of part.unit ++ flat_map written parts) h.0
 
 -- a text that begins with a part is cut behind it
-module _ (part : Part) (rest text : List ℕ) (number : IsNumber part.digits) (stop : begins is_no_digit rest ≡ false) (whole : text ≡ written part ++ rest) where
+module _ (part : DurationPart) (rest text : List ℕ) (number : IsNumber part.digits) (stop : begins is_no_digit rest ≡ false) (whole : text ≡ written part ++ rest) where
   parted : text ≡ part.digits ++ (symbol_of part.unit ++ rest)
   parted = whole ∙ append_assoc part.digits (symbol_of part.unit) rest
 
@@ -117,15 +117,15 @@ behind_number n [] = omega arith
 behind_number n (d ∷ ds) = let more = behind_number (n * 10 + digit_value d) ds in omega arith
 
 -- whoever has the parts of a text that isn't empty has its first part as it is cut
-pub record IsFirstPart (from : ℕ) (text : List ℕ) (parts : List Part) (unit : Unit) (more : List Part) : Type 0 where
+pub record IsFirstPart (from : ℕ) (text : List ℕ) (parts : List DurationPart) (unit : Unit) (more : List DurationPart) : Type 0 where
   pub some : 0 < length (digits_of text)
   pub is_unit : unit_of (symbol_in text) ≡ Some unit
   pub in_order : from ≤ rank_of unit
   pub later : ArePartsOf (rank_of unit + 1) (rest_of text) more
   pub sum : sum_by worth parts ≡ digits_value 10 (digits_of text) * milliseconds_of unit + sum_by worth more
 
-pub first_part : (from : ℕ) (text : List ℕ) (parts : List Part) → ArePartsOf from text parts → 0 < length text
-    → (unit : Unit) × (more : List Part) × IsFirstPart from text parts unit more
+pub first_part : (from : ℕ) (text : List ℕ) (parts : List DurationPart) → ArePartsOf from text parts → 0 < length text
+    → (unit : Unit) × (more : List DurationPart) × IsFirstPart from text parts unit more
 first_part from text [] are some = absurd (let e = ap length are.whole in omega arith)
 first_part from text (part ∷ parts) are some =
     let rest = flat_map written parts in
@@ -158,7 +158,7 @@ symbol_of-unit_of symbol unit is =
     (unit_step symbol (codes "ms") Millisecond unit _ _ refl refl (λ h. cc))))))) is
 
 -- a text that is cut into a part and more parts has them all
-pub with_first : (from : ℕ) (text : List ℕ) (unit : Unit) (more : List Part)
+pub with_first : (from : ℕ) (text : List ℕ) (unit : Unit) (more : List DurationPart)
     → 0 < length (digits_of text) → list_all is_ascii_digit (digits_of text) ≡ true → unit_of (symbol_in text) ≡ Some unit → from ≤ rank_of unit
     → ArePartsOf (rank_of unit + 1) (rest_of text) more
     → ArePartsOf from text (record { digits = digits_of text; unit = unit } ∷ more)
@@ -173,22 +173,22 @@ with_first from text unit more some digits is_unit order later =
     }
 
 -- the same, where the unit is known
-pub first_part_at : (from : ℕ) (text : List ℕ) (parts : List Part) (unit : Unit) → unit_of (symbol_in text) ≡ Some unit
-    → ArePartsOf from text parts → 0 < length text → (more : List Part) × IsFirstPart from text parts unit more
+pub first_part_at : (from : ℕ) (text : List ℕ) (parts : List DurationPart) (unit : Unit) → unit_of (symbol_in text) ≡ Some unit
+    → ArePartsOf from text parts → 0 < length text → (more : List DurationPart) × IsFirstPart from text parts unit more
 first_part_at from text parts unit is are some =
     let found = first_part from text parts are some in
     let first = found.2 in
     let same : found.0 ≡ unit = cc (first.is_unit, is) in
     (found.1, subst (λ u. IsFirstPart from text parts u found.1) same first)
 
-part_is_some : (from : ℕ) (text : List ℕ) (part : Part) (parts : List Part) → ArePartsOf from text (part ∷ parts) → 0 < length text
+part_is_some : (from : ℕ) (text : List ℕ) (part : DurationPart) (parts : List DurationPart) → ArePartsOf from text (part ∷ parts) → 0 < length text
 part_is_some from text part parts are =
     let long = ap length are.whole in
     let number : 0 < length part.digits = are.in_order.0.0 in
     omega (arith, long, length-append (written part) (flat_map written parts), length-append part.digits (symbol_of part.unit))
 
 -- the parts of one text have one sum
-pub sums_agree : (from : ℕ) (text : List ℕ) (these those : List Part) → ArePartsOf from text these → ArePartsOf from text those → sum_by worth these ≡ sum_by worth those
+pub sums_agree : (from : ℕ) (text : List ℕ) (these those : List DurationPart) → ArePartsOf from text these → ArePartsOf from text those → sum_by worth these ≡ sum_by worth those
 sums_agree from text [] [] are also = refl
 sums_agree from text [] (part ∷ parts) are also = absurd (let some = part_is_some from text part parts also in let none = ap length are.whole in omega arith)
 sums_agree from text (part ∷ parts) those are also =
@@ -216,7 +216,7 @@ number_le_worth n Millisecond = omega arith
 
 -- ---- why a text has no parts, or too large ones
 
-module _ (most from : ℕ) (text : List ℕ) (some : 0 < length text) (parts : List Part) (are : ArePartsOf from text parts) where
+module _ (most from : ℕ) (text : List ℕ) (some : 0 < length text) (parts : List DurationPart) (are : ArePartsOf from text parts) where
   pub no_unit : unit_of (symbol_in text) ≡ None → most ≤ sum_by worth parts
   no_unit none = absurd (let unit = (first_part from text parts are some).2.is_unit in cc)
 
@@ -234,7 +234,7 @@ module _ (most from : ℕ) (text : List ℕ) (some : 0 < length text) (parts : L
         let at_least : n ≤ n * milliseconds_of unit = number_le_worth n unit in
         omega arith
 
-    pub large_others : ((more : List Part) → ArePartsOf (rank_of unit + 1) (rest_of text) more → most ≤ sum_by worth more) → most ≤ sum_by worth parts
+    pub large_others : ((more : List DurationPart) → ArePartsOf (rank_of unit + 1) (rest_of text) more → most ≤ sum_by worth more) → most ≤ sum_by worth parts
     large_others large =
         let first = first_part_at from text parts unit is_unit are some in
         let sum = first.1.sum in
@@ -244,7 +244,7 @@ module _ (most from : ℕ) (text : List ℕ) (some : 0 < length text) (parts : L
     pub large_worth : most ≤ digits_value 10 (digits_of text) * milliseconds_of unit → most ≤ sum_by worth parts
     large_worth large = let sum = (first_part_at from text parts unit is_unit are some).1.sum in omega arith
 
-    pub large_sum : (more : List Part) → ArePartsOf (rank_of unit + 1) (rest_of text) more
+    pub large_sum : (more : List DurationPart) → ArePartsOf (rank_of unit + 1) (rest_of text) more
         → most ≤ digits_value 10 (digits_of text) * milliseconds_of unit + sum_by worth more → most ≤ sum_by worth parts
     large_sum more are_more large =
         let first = first_part_at from text parts unit is_unit are some in
@@ -275,21 +275,21 @@ pub next_digit : (digits : List ℕ) (i : ℕ) → list_all is_ascii_digit digit
 next_digit digits i all inside = digit_value_is (get_or digits i 0) (digit_at is_ascii_digit digits i all inside)
 
 -- the sum of a text's first part and the others, unless it is too large
-pub sum_read : (most from : ℕ) (text : List ℕ) (unit : Unit) (product others : ℕ) (more : List Part) (total : Option ℕ)
+pub sum_read : (most from : ℕ) (text : List ℕ) (unit : Unit) (product others : ℕ) (more : List DurationPart) (total : Option ℕ)
     → 0 < length text → 0 < length (digits_of text) → list_all is_ascii_digit (digits_of text) ≡ true → unit_of (symbol_in text) ≡ Some unit → from ≤ rank_of unit
     → ArePartsOf (rank_of unit + 1) (rest_of text) more → others ≡ sum_by worth more → product ≡ digits_value 10 (digits_of text) * milliseconds_of unit
     → SomeIff total (product + others < most) (product + others)
-    → MatchOption total ((parts : List Part) → ArePartsOf from text parts → most ≤ sum_by worth parts)
-    (λ total. (parts : List Part) × ArePartsOf from text parts × (total ≡ sum_by worth parts))
+    → MatchOption total ((parts : List DurationPart) → ArePartsOf from text parts → most ≤ sum_by worth parts)
+    (λ total. (parts : List DurationPart) × ArePartsOf from text parts × (total ≡ sum_by worth parts))
 sum_read most from text unit product others more None some digits all is_unit order are_more is_others is_product none =
     λ parts are. large_sum most from text some parts are unit is_unit more are_more (omega arith)
 sum_read most from text unit product others more (Some total) some digits all is_unit order are_more is_others is_product is =
-    let part : Part = record { digits = digits_of text; unit = unit } in
+    let part : DurationPart = record { digits = digits_of text; unit = unit } in
     let sum = sum_by-cons worth part more in
     (part ∷ more, with_first from text unit more digits all is_unit order are_more, omega arith)
 
 -- a text whose parts are above a limit is no duration
-pub too_long : (text : List ℕ) (parts : List Part) (total : ℕ) → (text ≡ codes "0" → ⊥) → ArePartsOf 0 text parts → total ≡ sum_by worth parts → MAX_MILLISECONDS < total
+pub too_long : (text : List ℕ) (parts : List DurationPart) (total : ℕ) → (text ≡ codes "0" → ⊥) → ArePartsOf 0 text parts → total ≡ sum_by worth parts → MAX_MILLISECONDS < total
     → (other : ℕ) → IsDuration text other → ⊥
 too_long text parts total no_zero are is_total long other (short, inl is_zero) = no_zero is_zero.0
 too_long text parts total no_zero are is_total long other (short, inr (some, (those, also, is_other))) =

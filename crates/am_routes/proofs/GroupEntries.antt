@@ -1,20 +1,17 @@
 -- The map of a group's alerts, seen as the list of its alerts.
-use Rattle.std.proofs.Common.{◌≡◌, ℕ, zero, suc, ◌-◌, ◌<◌, ◌≤◌, Bool, true, false, not, ◌||◌, cond, List, [], ◌∷◌, ◌++◌, filter, length, take, Option, Some, None, is_some, refl, sym, ap, subst, ◌∙◌, arith, length-append}
-use Rattle.std.specs.List.{slice_get, position, list_any}
-use Rattle.std.specs.Option.{option_map}
-use Rattle.std.specs.Map.{keys_of, values_of}
+use Rattle.std.proofs.Common.{◌≡◌, ℕ, zero, suc, ◌-◌, Bool, true, false, ◌||◌, cond, List, [], ◌∷◌, ◌++◌, filter, length, take, Some, is_some, refl, sym, ap, subst, ◌∙◌, arith, length-append}
+use Rattle.std.specs.List.{position, list_any}
+use Rattle.std.specs.Map.{keys_of}
 use Rattle.std.specs.Map as map
 use Rattle.std.proofs.Math.Seq.{take-append_seam}
-use Rattle.std.proofs.lemmas.List.{length-map, take-map}
 use Rattle.indexmap.specs.IndexMap.{insert_entry, set_value_at}
 use Rattle.indexmap.proofs.MapLemmas.{Found-position, insert_entry-first}
 use Rattle.am_labels.specs.LabelSets.{Labels, same_labels}
-use Rattle.am_labels.specs.LabelLaws.{labels_decide, labels_equiv}
+use Rattle.am_labels.specs.LabelLaws.{labels_decide}
 use Rattle.am_alert.specs.declared.alert.Alert.{Alert}
-use Rattle.am_alert.specs.Merging.{is_resolved_at}
-use Rattle.am_routes.specs.inside.GroupLists.{with_alert, unresolved}
+use Rattle.am_routes.specs.inside.GroupLists.{with_alert}
 use Rattle.am_routes.specs.inside.GroupChanges.{kept_in, AreKeptByLabels, with_old}
-use Rattle.am_routes.proofs.Cases.{by_bool, by_option}
+use Rattle.am_routes.proofs.Cases.{by_bool}
 
 -- an insertion sets the alert in its label set's place, else at the end
 pub kept_inserted : (entries : List (Labels × Alert)) (labels : Labels) (new : Alert) → AreKeptByLabels entries → new.labels ≡ labels

@@ -1,9 +1,8 @@
 -- The labels of some names, among the pairs of a label set.
 use Rattle.std.proofs.Common.{◌≡◌, ℕ, Bool, cond, List, None, filter, sym, ap, ◌∙◌}
-use Rattle.std.specs.FinMap.{entries, get, retain_keys, entries_sorted, get-entries, get-retain_keys, same_map, slice_cmp-IsAntisymmetric, nat_cmp-IsAntisymmetric}
+use Rattle.std.specs.FinMap.{entries, retain_keys, entries_sorted, get-entries, get-retain_keys, same_map, slice_cmp-IsAntisymmetric, nat_cmp-IsAntisymmetric}
 use Rattle.std.specs.FinMap.Entries.{find, is_sorted-where_key, find-where_key}
 use Rattle.std.proofs.lemmas.Cmp.{nat_list_cmp_total}
-use Rattle.std.specs.declared.cmp.Ordering.{Ordering}
 use Rattle.std.specs.declared.cmp.Ordering.TheVariants.{Equal}
 use Rattle.am_labels.specs.Texts.{text_cmp}
 use Rattle.am_labels.specs.LabelSets.{Labels, last_holds}

@@ -1,13 +1,13 @@
 -- The map of a dispatcher's groups, seen as the list of its groups.
-use Rattle.std.proofs.Common.{◌≡◌, ℕ, zero, suc, ◌+◌, ◌-◌, ◌<◌, ◌≤◌, Bool, true, false, not, ◌&&◌, ◌||◌, cond, nat_eq, List, [], ◌∷◌, ◌++◌, map, filter, length, take, drop, set, get_or, Option, Some, None, is_some, refl, sym, ap, subst, ◌∙◌, arith, eq-eqb, length-append}
+use Rattle.std.proofs.Common.{◌≡◌, ℕ, zero, suc, ◌+◌, ◌<◌, Bool, true, false, not, ◌&&◌, cond, nat_eq, List, [], ◌∷◌, ◌++◌, map, filter, length, take, drop, set, get_or, Option, Some, None, is_some, refl, sym, ap, subst, ◌∙◌, arith}
 use Rattle.std.specs.Option.{option_map}
-use Rattle.std.specs.List.{slice_get, position, list_all, count_by, filter_map, cons_option, sum_by}
+use Rattle.std.specs.List.{slice_get, position, list_all, count_by, cons_option}
 use Rattle.std.specs.Map.{keys_of, values_of}
 use Rattle.std.specs.Map as map_of
 use Rattle.std.proofs.lemmas.Bool.Decides.{Decides-eqb}
 use Rattle.std.specs.Prelude.{Result, Ok, Err, OnErr, OnOk}
 use Rattle.std.proofs.lemmas.List.Sums.{length-filter}
-use Rattle.std.proofs.lemmas.List.{length-map, take-map, drop_more, take_more, set_at, length-take-le, map-append, append_assoc, get_or_at}
+use Rattle.std.proofs.lemmas.List.{length-map, drop_more, take_more, set_at, length-take-le, map-append, append_assoc, get_or_at}
 use Rattle.indexmap.specs.IndexMap.{insert_entry, set_value_at}
 use Rattle.indexmap.proofs.MapLemmas.{Found-position, insert_entry-first}
 use Rattle.am_labels.specs.LabelSets.{Labels, same_labels}
@@ -17,7 +17,7 @@ use Rattle.am_alert.specs.Merging.{is_resolved_at}
 use Rattle.am_routes.specs.declared.dispatcher.GroupKey.{GroupKey}
 use Rattle.am_routes.specs.declared.group.AlertChange.{AlertChange}
 use Rattle.am_routes.specs.RouteAnswers.{Node}
-use Rattle.am_routes.specs.Groups.{GroupView, some_of, is_empty, removed_alerts, removed_groups}
+use Rattle.am_routes.specs.Groups.{GroupView, some_of, is_empty, removed_groups}
 use Rattle.am_routes.specs.inside.GroupLists.{with_alert, joined, with_members, is_group, with_member, unresolved, swept_group, swept, without_resolved}
 use Rattle.am_routes.specs.inside.GroupChanges.{alerts_before}
 use Rattle.am_routes.specs.inside.GroupMaps.{groups_in, AreKeptByKeys, changed_back, groups_before, all_before}

@@ -1,8 +1,8 @@
 -- The groups go on alert by alert and sweep by sweep.
-use Rattle.std.proofs.Common.{◌≡◌, ◌≢◌, ℕ, ◌+◌, Bool, true, false, not, ◌&&◌, cond, nat_eq, List, [], ◌∷◌, ◌++◌, map, fold, filter, Option, Some, None, refl, sym, ap, subst, ◌∙◌, arith}
+use Rattle.std.proofs.Common.{◌≡◌, ◌≢◌, ℕ, Bool, true, false, not, ◌&&◌, cond, nat_eq, List, [], ◌∷◌, ◌++◌, map, fold, Option, Some, None, refl, sym, ap, subst, ◌∙◌}
 use Rattle.std.specs.Option.{option_map, option_and_then, option_map_or, IfSome}
 use Rattle.std.specs.Bool.{Decides}
-use Rattle.std.specs.List.{flat_map, filter_map, cons_option}
+use Rattle.std.specs.List.{filter_map, cons_option}
 use Rattle.std.proofs.lemmas.List.{append_assoc, append-nil}
 use Rattle.std.proofs.lemmas.List.Sums.{fold-append}
 use Rattle.std.proofs.lemmas.Bool.Decides.{Decides-and, Decides-like, Decides-eqb}
@@ -14,26 +14,26 @@ use Rattle.am_routes.specs.Routes.{Forest}
 use Rattle.am_routes.specs.RouteAnswers.{Node, answer_of}
 use Rattle.am_routes.specs.GroupLabels.{group_labels}
 use Rattle.am_routes.specs.InOrder.{in_order}
-use Rattle.am_routes.specs.Groups.{Event, Take, Sweep, Update, Join, Resolve, joins, updates_of, updates, GroupKey, same_group, group_key, label_set, unless_resolved, after_update, held_in, alerts_in, some_of, members, GroupView, group_of, groups_after, groups_of}
-use Rattle.am_routes.specs.inside.GroupLists.{with_alert, is_group, with_member, with_members, unresolved, swept_group, swept}
+use Rattle.am_routes.specs.Groups.{DispatchEvent, Take, Sweep, GroupUpdate, Join, Resolve, joins, updates_of_event, group_updates, GroupIdentity, same_group, group_key, label_set, unless_resolved, after_group_update, held_in, alerts_of_group, some_of, members, GroupView, group_of, groups_after, groups_of}
+use Rattle.am_routes.specs.inside.GroupLists.{with_alert, with_member, with_members, unresolved, swept}
 use Rattle.am_routes.proofs.Cases.{by_bool, by_option}
 use Rattle.am_routes.proofs.InOrder.{GoesByKeys, put, in_order-each, in_order-own, AllHold, in_order_hold}
 
 -- ---- tests
 
-group_decides : (a b : GroupKey) → Decides (same_group a b) (a ≡ b)
+group_decides : (a b : GroupIdentity) → Decides (same_group a b) (a ≡ b)
 group_decides a b =
     Decides-like (same_group a b)
     (λ (both : (a.route ≡ b.route) × (a.labels ≡ b.labels)) i. record { route = both.0 i; labels = both.1 i })
-    (λ e. (ap (λ (k : GroupKey). k.route) e, ap (λ (k : GroupKey). k.labels) e))
+    (λ e. (ap (λ (k : GroupIdentity). k.route) e, ap (λ (k : GroupIdentity). k.labels) e))
     (Decides-and (nat_eq a.route b.route) (same_labels a.labels b.labels) (Decides-eqb a.route b.route) (labels_decide a.labels b.labels))
 
 -- ---- one label set in one group
 
-held_last : (key : GroupKey) (labels : Labels) (all : List Update) (update : Update) → held_in key labels (all ++ update ∷ []) ≡ after_update key labels (held_in key labels all) update
-held_last key labels all update = fold-append (after_update key labels) None all (update ∷ [])
+held_last : (key : GroupIdentity) (labels : Labels) (all : List GroupUpdate) (update : GroupUpdate) → held_in key labels (all ++ update ∷ []) ≡ after_group_update key labels (held_in key labels all) update
+held_last key labels all update = fold-append (after_group_update key labels) None all (update ∷ [])
 
-no_more : Update → Alert → Option Alert
+no_more : GroupUpdate → Alert → Option Alert
 no_more (Join node labels alert) held = Some held
 no_more (Resolve now) held = unless_resolved now held
 
@@ -41,7 +41,7 @@ keep_all : {A : Type 0} (o : Option A) → o ≡ option_and_then (λ (x : A). So
 keep_all None = refl
 keep_all (Some x) = refl
 
-differs : (key group : GroupKey) (labels one : Labels) (alert : Alert) → cond (same_group key group) (Some alert.labels) None ≡ Some one → labels ≢ one → (same_group key group && same_labels labels alert.labels) ≡ false
+differs : (key group : GroupIdentity) (labels one : Labels) (alert : Alert) → cond (same_group key group) (Some alert.labels) None ≡ Some one → labels ≢ one → (same_group key group && same_labels labels alert.labels) ≡ false
 differs key group labels one alert is apart =
     by_bool (same_group key group)
     (λ t.
@@ -52,25 +52,25 @@ differs key group labels one alert is apart =
     (λ f. ap (λ b. b && same_labels labels alert.labels) t ∙ f))
     (λ f. ap (λ b. b && same_labels labels alert.labels) f)
 
-other_set : (key : GroupKey) (labels one : Labels) (held : Option Alert) (update : Update) → label_set key update ≡ Some one → labels ≢ one → after_update key labels held update ≡ held
+other_set : (key : GroupIdentity) (labels one : Labels) (held : Option Alert) (update : GroupUpdate) → label_set key update ≡ Some one → labels ≢ one → after_group_update key labels held update ≡ held
 other_set key labels one held (Join node group alert) is apart =
     ap (λ b. cond b (Some alert) held) (differs key (record { route = node.number; labels = group }) labels one alert is apart)
 other_set key labels one held (Resolve now) is apart = absurd (let no : None ≡ Some one = is in (cc))
 
-is_other : (key group : GroupKey) (labels : Labels) → cond (same_group key group) (Some labels) None ≡ None → same_group key group ≡ false
+is_other : (key group : GroupIdentity) (labels : Labels) → cond (same_group key group) (Some labels) None ≡ None → same_group key group ≡ false
 is_other key group labels none =
     by_bool (same_group key group)
     (λ t. absurd (let no : Some labels ≡ None = sym (ap (λ b. cond b (Some labels) None) t) ∙ none in (cc)))
     (λ f. f)
 
-no_set : (key : GroupKey) (labels : Labels) (held : Option Alert) (update : Update) → label_set key update ≡ None → after_update key labels held update ≡ option_and_then (no_more update) held
+no_set : (key : GroupIdentity) (labels : Labels) (held : Option Alert) (update : GroupUpdate) → label_set key update ≡ None → after_group_update key labels held update ≡ option_and_then (no_more update) held
 unfolding no_more
 no_set key labels held (Join node group alert) none =
     ap (λ b. cond (b && same_labels labels alert.labels) (Some alert) held) (is_other key (record { route = node.number; labels = group }) alert.labels none)
     ∙ keep_all held
 no_set key labels held (Resolve now) none = refl
 
-label_sets : (key : GroupKey) → GoesByKeys (label_set key) (held_in key) no_more
+label_sets : (key : GroupIdentity) → GoesByKeys (label_set key) (held_in key) no_more
 label_sets key = record {
   nothing = λ labels. refl;
   other = λ all update labels one is apart. held_last key labels all update ∙ other_set key labels one (held_in key labels all) update is apart;
@@ -79,14 +79,14 @@ label_sets key = record {
 
 -- ---- the alerts of one group
 
-values_kept : (f : Alert → Option Alert) (entries : List (Update × Alert))
-    → map (λ (entry : Update × Alert). entry.1) (filter_map (λ (entry : Update × Alert). option_map {U = Update × Alert} (λ value. (entry.0, value)) (f entry.1)) entries) ≡ filter_map f (map (λ (entry : Update × Alert). entry.1) entries)
+values_kept : (f : Alert → Option Alert) (entries : List (GroupUpdate × Alert))
+    → map (λ (entry : GroupUpdate × Alert). entry.1) (filter_map (λ (entry : GroupUpdate × Alert). option_map {U = GroupUpdate × Alert} (λ value. (entry.0, value)) (f entry.1)) entries) ≡ filter_map f (map (λ (entry : GroupUpdate × Alert). entry.1) entries)
 values_kept f [] = refl
 values_kept f (entry ∷ entries) =
-    front (f entry.1) (filter_map (λ (entry : Update × Alert). option_map {U = Update × Alert} (λ value. (entry.0, value)) (f entry.1)) entries)
+    front (f entry.1) (filter_map (λ (entry : GroupUpdate × Alert). option_map {U = GroupUpdate × Alert} (λ value. (entry.0, value)) (f entry.1)) entries)
     ∙ ap (cons_option (f entry.1)) (values_kept f entries)
   where
-    front : (o : Option Alert) (rest : List (Update × Alert)) → map (λ (entry : Update × Alert). entry.1) (cons_option (option_map {U = Update × Alert} (λ value. (entry.0, value)) o) rest) ≡ cons_option o (map (λ (entry : Update × Alert). entry.1) rest)
+    front : (o : Option Alert) (rest : List (GroupUpdate × Alert)) → map (λ (entry : GroupUpdate × Alert). entry.1) (cons_option (option_map {U = GroupUpdate × Alert} (λ value. (entry.0, value)) o) rest) ≡ cons_option o (map (λ (entry : GroupUpdate × Alert). entry.1) rest)
     front None rest = refl
     front (Some v) rest = refl
 
@@ -100,30 +100,30 @@ keep_unresolved now (alert ∷ alerts) =
     elim (is_resolved_at now alert) as (λ b. cons_option (cond b None (Some alert)) (filter_map (unless_resolved now) alerts) ≡ cond (not b) (alert ∷ filter_map (unless_resolved now) alerts) (filter_map (unless_resolved now) alerts)) [ true ↦ refl | false ↦ refl ]
     ∙ ap (λ rest. cond (not (is_resolved_at now alert)) (alert ∷ rest) rest) (keep_unresolved now alerts)
 
-alerts_each : (key : GroupKey) (all : List Update) (update : Update) → label_set key update ≡ None → alerts_in key (all ++ update ∷ []) ≡ filter_map (no_more update) (alerts_in key all)
+alerts_each : (key : GroupIdentity) (all : List GroupUpdate) (update : GroupUpdate) → label_set key update ≡ None → alerts_of_group key (all ++ update ∷ []) ≡ filter_map (no_more update) (alerts_of_group key all)
 alerts_each key all update none =
-    ap (map (λ (entry : Update × Alert). entry.1)) (in_order-each (label_set key) (held_in key) no_more (label_sets key) all update none)
+    ap (map (λ (entry : GroupUpdate × Alert). entry.1)) (in_order-each (label_set key) (held_in key) no_more (label_sets key) all update none)
     ∙ values_kept (no_more update) (in_order (label_set key) (held_in key) all)
 
-alerts_other : (key : GroupKey) (all : List Update) (node : Node) (labels : Labels) (alert : Alert) → same_group key (record { route = node.number; labels = labels }) ≡ false
-    → alerts_in key (all ++ Join node labels alert ∷ []) ≡ alerts_in key all
+alerts_other : (key : GroupIdentity) (all : List GroupUpdate) (node : Node) (labels : Labels) (alert : Alert) → same_group key (record { route = node.number; labels = labels }) ≡ false
+    → alerts_of_group key (all ++ Join node labels alert ∷ []) ≡ alerts_of_group key all
 unfolding no_more
 alerts_other key all node labels alert other =
-    alerts_each key all (Join node labels alert) (ap (λ b. cond b (Some alert.labels) None) other) ∙ keep_each (alerts_in key all)
+    alerts_each key all (Join node labels alert) (ap (λ b. cond b (Some alert.labels) None) other) ∙ keep_each (alerts_of_group key all)
 
-alerts_resolve : (key : GroupKey) (all : List Update) (now : ℕ) → alerts_in key (all ++ Resolve now ∷ []) ≡ unresolved now (alerts_in key all)
+alerts_resolve : (key : GroupIdentity) (all : List GroupUpdate) (now : ℕ) → alerts_of_group key (all ++ Resolve now ∷ []) ≡ unresolved now (alerts_of_group key all)
 unfolding no_more
-alerts_resolve key all now = alerts_each key all (Resolve now) refl ∙ keep_unresolved now (alerts_in key all)
+alerts_resolve key all now = alerts_each key all (Resolve now) refl ∙ keep_unresolved now (alerts_of_group key all)
 
 -- what a label set holds has its labels
 Own : Labels → Option Alert → Type 0
 Own labels held = IfSome held (λ alert. alert.labels ≡ labels)
 
-own_after : (key : GroupKey) (labels : Labels) (held : Option Alert) (update : Update) → Own labels held → Own labels (after_update key labels held update)
+own_after : (key : GroupIdentity) (labels : Labels) (held : Option Alert) (update : GroupUpdate) → Own labels held → Own labels (after_group_update key labels held update)
 unfolding Own
 own_after key labels held (Join node group alert) own =
-    let here : GroupKey = record { route = node.number; labels = group } in
-    by_bool {P = Own labels (after_update key labels held (Join node group alert))} (same_labels labels alert.labels)
+    let here : GroupIdentity = record { route = node.number; labels = group } in
+    by_bool {P = Own labels (after_group_update key labels held (Join node group alert))} (same_labels labels alert.labels)
     (λ t. elim (same_group key here && same_labels labels alert.labels) as (λ b. IfSome (cond b (Some alert) held) (λ alert. alert.labels ≡ labels)) [ true ↦ sym ((labels_decide labels alert.labels).0 t) | false ↦ own ])
     (λ f. subst (λ b. IfSome (cond b (Some alert) held) (λ alert. alert.labels ≡ labels)) (sym (both_false (same_group key here) (same_labels labels alert.labels) f)) own)
   where
@@ -134,31 +134,31 @@ own_after key labels None (Resolve now) own = tt
 own_after key labels (Some alert) (Resolve now) own =
     elim (is_resolved_at now alert) as (λ b. IfSome (cond b None (Some alert)) (λ alert. alert.labels ≡ labels)) [ true ↦ tt | false ↦ own ]
 
-own_from : (key : GroupKey) (labels : Labels) (held : Option Alert) (all : List Update) → Own labels held → Own labels (fold (after_update key labels) held all)
+own_from : (key : GroupIdentity) (labels : Labels) (held : Option Alert) (all : List GroupUpdate) → Own labels held → Own labels (fold (after_group_update key labels) held all)
 own_from key labels held [] own = own
-own_from key labels held (update ∷ all) own = own_from key labels (after_update key labels held update) all (own_after key labels held update own)
+own_from key labels held (update ∷ all) own = own_from key labels (after_group_update key labels held update) all (own_after key labels held update own)
 
-held_own : (key : GroupKey) (labels : Labels) (all : List Update) (alert : Alert) → held_in key labels all ≡ Some alert → alert.labels ≡ labels
+held_own : (key : GroupIdentity) (labels : Labels) (all : List GroupUpdate) (alert : Alert) → held_in key labels all ≡ Some alert → alert.labels ≡ labels
 unfolding Own
 held_own key labels all alert e = let own : Own labels (held_in key labels all) = own_from key labels None all tt in subst (λ o. IfSome o (λ alert. alert.labels ≡ labels)) e own
 
 -- whether an update of the group is of the label set
-is_of : GroupKey → Labels → Update → Bool
+is_of : GroupIdentity → Labels → GroupUpdate → Bool
 is_of key labels update = option_map_or (λ own. same_labels labels own) (label_set key update) false
 
-is_of_own : (key : GroupKey) (labels : Labels) (update : Update) → is_of key labels update ≡ true → label_set key update ≡ Some labels
+is_of_own : (key : GroupIdentity) (labels : Labels) (update : GroupUpdate) → is_of key labels update ≡ true → label_set key update ≡ Some labels
 unfolding is_of
 is_of_own key labels update e =
     by_option {P = label_set key update ≡ Some labels} (label_set key update)
     (λ none. absurd (let no : false ≡ true = sym (ap (λ o. option_map_or (λ own. same_labels labels own) o false) none) ∙ e in (cc)))
     (λ own some. some ∙ ap Some (sym ((labels_decide labels own).0 (sym (ap (λ o. option_map_or (λ own. same_labels labels own) o false) some) ∙ e))))
 
-own_is_of : (key : GroupKey) (labels : Labels) (update : Update) → label_set key update ≡ Some labels → is_of key labels update ≡ true
+own_is_of : (key : GroupIdentity) (labels : Labels) (update : GroupUpdate) → label_set key update ≡ Some labels → is_of key labels update ≡ true
 unfolding is_of
 own_is_of key labels update e = ap (λ o. option_map_or (λ own. same_labels labels own) o false) e ∙ (labels_decide labels labels).1 refl
 
-values_put : (key : GroupKey) (all : List Update) (alert : Alert) (update : Update) (entries : List (Update × Alert)) → AllHold (label_set key) (held_in key) all entries
-    → map (λ (entry : Update × Alert). entry.1) (put (is_of key alert.labels) (λ held. alert) update entries) ≡ with_alert alert (map (λ (entry : Update × Alert). entry.1) entries)
+values_put : (key : GroupIdentity) (all : List GroupUpdate) (alert : Alert) (update : GroupUpdate) (entries : List (GroupUpdate × Alert)) → AllHold (label_set key) (held_in key) all entries
+    → map (λ (entry : GroupUpdate × Alert). entry.1) (put (is_of key alert.labels) (λ held. alert) update entries) ≡ with_alert alert (map (λ (entry : GroupUpdate × Alert). entry.1) entries)
 unfolding put AllHold is_of
 values_put key all alert update [] hold = refl
 values_put key all alert update (entry ∷ entries) hold =
@@ -166,27 +166,27 @@ values_put key all alert update (entry ∷ entries) hold =
     let test : is_of key alert.labels entry.0 ≡ same_labels alert.labels entry.1.labels =
     ap (λ o. option_map_or (λ own. same_labels alert.labels own) o false) hold.0.1 ∙ ap (same_labels alert.labels) (sym own) in
     let rest = put (is_of key alert.labels) (λ (held : Option Alert). alert) update entries in
-    elim (is_of key alert.labels entry.0) as (λ b. map (λ (entry : Update × Alert). entry.1) (cond b ((entry.0, alert) ∷ entries) (entry ∷ rest)) ≡ cond b (alert ∷ map (λ (entry : Update × Alert). entry.1) entries) (entry.1 ∷ map (λ (entry : Update × Alert). entry.1) rest)) [ true ↦ refl | false ↦ refl ]
-    ∙ (ap (λ rest. cond (is_of key alert.labels entry.0) (alert ∷ map (λ (entry : Update × Alert). entry.1) entries) (entry.1 ∷ rest)) (values_put key all alert update entries hold.1)
-    ∙ ap (λ b. cond b (alert ∷ map (λ (entry : Update × Alert). entry.1) entries) (entry.1 ∷ with_alert alert (map (λ (entry : Update × Alert). entry.1) entries))) test)
+    elim (is_of key alert.labels entry.0) as (λ b. map (λ (entry : GroupUpdate × Alert). entry.1) (cond b ((entry.0, alert) ∷ entries) (entry ∷ rest)) ≡ cond b (alert ∷ map (λ (entry : GroupUpdate × Alert). entry.1) entries) (entry.1 ∷ map (λ (entry : GroupUpdate × Alert). entry.1) rest)) [ true ↦ refl | false ↦ refl ]
+    ∙ (ap (λ rest. cond (is_of key alert.labels entry.0) (alert ∷ map (λ (entry : GroupUpdate × Alert). entry.1) entries) (entry.1 ∷ rest)) (values_put key all alert update entries hold.1)
+    ∙ ap (λ b. cond b (alert ∷ map (λ (entry : GroupUpdate × Alert). entry.1) entries) (entry.1 ∷ with_alert alert (map (λ (entry : GroupUpdate × Alert). entry.1) entries))) test)
 
-alerts_own : (key : GroupKey) (all : List Update) (node : Node) (labels : Labels) (alert : Alert) → same_group key (record { route = node.number; labels = labels }) ≡ true
-    → alerts_in key (all ++ Join node labels alert ∷ []) ≡ with_alert alert (alerts_in key all)
+alerts_own : (key : GroupIdentity) (all : List GroupUpdate) (node : Node) (labels : Labels) (alert : Alert) → same_group key (record { route = node.number; labels = labels }) ≡ true
+    → alerts_of_group key (all ++ Join node labels alert ∷ []) ≡ with_alert alert (alerts_of_group key all)
 alerts_own key all node labels alert own =
     let update = Join node labels alert in
     let is : label_set key update ≡ Some alert.labels = ap (λ b. cond b (Some alert.labels) None) own in
-    let here : GroupKey = record { route = node.number; labels = labels } in
+    let here : GroupIdentity = record { route = node.number; labels = labels } in
     let held : held_in key alert.labels (all ++ update ∷ []) ≡ Some alert =
     held_last key alert.labels all update
     ∙ (ap (λ b. cond (b && same_labels alert.labels alert.labels) (Some alert) (held_in key alert.labels all)) own
     ∙ ap (λ b. cond b (Some alert) (held_in key alert.labels all)) ((labels_decide alert.labels alert.labels).1 refl)) in
-    ap (map (λ (entry : Update × Alert). entry.1))
+    ap (map (λ (entry : GroupUpdate × Alert). entry.1))
     (in_order-own (label_set key) (held_in key) no_more (label_sets key) same_labels labels_decide (is_of key alert.labels) alert.labels (is_of_own key alert.labels) (λ held. alert) all update is held (own_is_of key alert.labels))
     ∙ values_put key all alert update (in_order (label_set key) (held_in key) all) (in_order_hold (label_set key) (held_in key) all)
 
 -- ---- the groups
 
-left_of : Update → List Alert → Option (List Alert)
+left_of : GroupUpdate → List Alert → Option (List Alert)
 left_of (Join node labels alert) alerts = Some alerts
 left_of (Resolve now) alerts = some_of (unresolved now alerts)
 
@@ -194,18 +194,18 @@ some_left : (now : ℕ) (alerts : List Alert) → some_of (unresolved now alerts
 some_left now [] = refl
 some_left now (alert ∷ alerts) = refl
 
-other_members : (key one : GroupKey) (all : List Update) (update : Update) → group_key update ≡ Some one → key ≢ one → members key (all ++ update ∷ []) ≡ members key all
+other_members : (key one : GroupIdentity) (all : List GroupUpdate) (update : GroupUpdate) → group_key update ≡ Some one → key ≢ one → members key (all ++ update ∷ []) ≡ members key all
 other_members key one all (Join node labels alert) is apart =
-    let here : GroupKey = record { route = node.number; labels = labels } in
+    let here : GroupIdentity = record { route = node.number; labels = labels } in
     let same : here ≡ one = (cc) in
     ap some_of (alerts_other key all node labels alert
     (by_bool (same_group key here) (λ t. absurd (apart ((group_decides key here).0 t ∙ same))) (λ f. f)))
 other_members key one all (Resolve now) is apart = absurd (let no : None ≡ Some one = is in (cc))
 
-each_members : (key : GroupKey) (all : List Update) (update : Update) → group_key update ≡ None → members key (all ++ update ∷ []) ≡ option_and_then (left_of update) (members key all)
+each_members : (key : GroupIdentity) (all : List GroupUpdate) (update : GroupUpdate) → group_key update ≡ None → members key (all ++ update ∷ []) ≡ option_and_then (left_of update) (members key all)
 unfolding left_of
 each_members key all (Join node labels alert) none = absurd (cc)
-each_members key all (Resolve now) none = ap some_of (alerts_resolve key all now) ∙ some_left now (alerts_in key all)
+each_members key all (Resolve now) none = ap some_of (alerts_resolve key all now) ∙ some_left now (alerts_of_group key all)
 
 group_sets : GoesByKeys group_key members left_of
 group_sets = record {
@@ -214,15 +214,15 @@ group_sets = record {
   each = λ all update key none. each_members key all update none;
 }
 
-is_in : GroupKey → Update → Bool
+is_in : GroupIdentity → GroupUpdate → Bool
 is_in key update = option_map_or (λ own. same_group key own) (group_key update) false
 
-is_in_own : (key : GroupKey) (update : Update) → is_in key update ≡ true → group_key update ≡ Some key
+is_in_own : (key : GroupIdentity) (update : GroupUpdate) → is_in key update ≡ true → group_key update ≡ Some key
 unfolding is_in
 is_in_own key (Join node labels alert) e = ap Some (sym ((group_decides key (record { route = node.number; labels = labels })).0 e))
 is_in_own key (Resolve now) e = absurd (cc)
 
-own_is_in : (key : GroupKey) (update : Update) → group_key update ≡ Some key → is_in key update ≡ true
+own_is_in : (key : GroupIdentity) (update : GroupUpdate) → group_key update ≡ Some key → is_in key update ≡ true
 unfolding is_in
 own_is_in key update e = ap (λ o. option_map_or (λ own. same_group key own) o false) e ∙ (group_decides key key).1 refl
 
@@ -235,12 +235,12 @@ unfolding with_one
 some_with alert [] = refl
 some_with alert (old ∷ olds) = elim (same_labels alert.labels old.labels) as (λ b. some_of (cond b (alert ∷ olds) (old ∷ with_alert alert olds)) ≡ Some (cond b (alert ∷ olds) (old ∷ with_alert alert olds))) [ true ↦ refl | false ↦ refl ]
 
-groups_put : (node : Node) (labels : Labels) (alert : Alert) (entries : List (Update × List Alert))
+groups_put : (node : Node) (labels : Labels) (alert : Alert) (entries : List (GroupUpdate × List Alert))
     → filter_map group_of (put (is_in (record { route = node.number; labels = labels })) (with_one alert) (Join node labels alert) entries) ≡ with_member node labels alert (filter_map group_of entries)
 unfolding put is_in with_one
 groups_put node labels alert [] = refl
 groups_put node labels alert ((Join other own first, alerts) ∷ entries) =
-    let here : GroupKey = record { route = node.number; labels = labels } in
+    let here : GroupIdentity = record { route = node.number; labels = labels } in
     let there : GroupView = record { route = other.number; receiver = other.route.receiver; labels = own; alerts = alerts } in
     let rest = put (is_in here) (with_one alert) (Join node labels alert) entries in
     elim (nat_eq node.number other.number && same_labels labels own) as (λ b. filter_map group_of (cond b ((Join other own first, with_alert alert alerts) ∷ entries) ((Join other own first, alerts) ∷ rest)) ≡ cond b (record there { alerts = with_alert alert alerts } ∷ filter_map group_of entries) (there ∷ filter_map group_of rest)) [ true ↦ refl | false ↦ refl ]
@@ -248,44 +248,44 @@ groups_put node labels alert ((Join other own first, alerts) ∷ entries) =
 groups_put node labels alert ((Resolve now, alerts) ∷ entries) = groups_put node labels alert entries
 
 -- an alert that joins a group is put into it
-pub groups-join : (all : List Update) (node : Node) (labels : Labels) (alert : Alert) → groups_after (all ++ Join node labels alert ∷ []) ≡ with_member node labels alert (groups_after all)
+pub groups-join : (all : List GroupUpdate) (node : Node) (labels : Labels) (alert : Alert) → groups_after (all ++ Join node labels alert ∷ []) ≡ with_member node labels alert (groups_after all)
 groups-join all node labels alert =
-    let here : GroupKey = record { route = node.number; labels = labels } in
+    let here : GroupIdentity = record { route = node.number; labels = labels } in
     let update = Join node labels alert in
     let made : members here (all ++ update ∷ []) ≡ Some (with_one alert (members here all)) =
-    ap some_of (alerts_own here all node labels alert ((group_decides here here).1 refl)) ∙ some_with alert (alerts_in here all) in
+    ap some_of (alerts_own here all node labels alert ((group_decides here here).1 refl)) ∙ some_with alert (alerts_of_group here all) in
     ap (filter_map group_of)
     (in_order-own group_key members left_of group_sets same_group group_decides (is_in here) here (is_in_own here) (with_one alert) all update refl made (own_is_in here))
     ∙ groups_put node labels alert (in_order group_key members all)
 
-groups_kept : (now : ℕ) (entries : List (Update × List Alert))
-    → filter_map group_of (filter_map (λ (entry : Update × List Alert). option_map {U = Update × List Alert} (λ value. (entry.0, value)) (some_of (unresolved now entry.1))) entries) ≡ swept now (filter_map group_of entries)
+groups_kept : (now : ℕ) (entries : List (GroupUpdate × List Alert))
+    → filter_map group_of (filter_map (λ (entry : GroupUpdate × List Alert). option_map {U = GroupUpdate × List Alert} (λ value. (entry.0, value)) (some_of (unresolved now entry.1))) entries) ≡ swept now (filter_map group_of entries)
 groups_kept now [] = refl
 groups_kept now ((Join node labels alert, alerts) ∷ entries) =
-    front (some_of (unresolved now alerts)) (filter_map (λ (entry : Update × List Alert). option_map {U = Update × List Alert} (λ value. (entry.0, value)) (some_of (unresolved now entry.1))) entries)
+    front (some_of (unresolved now alerts)) (filter_map (λ (entry : GroupUpdate × List Alert). option_map {U = GroupUpdate × List Alert} (λ value. (entry.0, value)) (some_of (unresolved now entry.1))) entries)
     ∙ ap (cons_option (option_map {U = GroupView} (λ left. record { route = node.number; receiver = node.route.receiver; labels = labels; alerts = left }) (some_of (unresolved now alerts)))) (groups_kept now entries)
   where
-    front : (o : Option (List Alert)) (rest : List (Update × List Alert)) → filter_map group_of (cons_option (option_map {U = Update × List Alert} (λ value. (Join node labels alert, value)) o) rest)
+    front : (o : Option (List Alert)) (rest : List (GroupUpdate × List Alert)) → filter_map group_of (cons_option (option_map {U = GroupUpdate × List Alert} (λ value. (Join node labels alert, value)) o) rest)
         ≡ cons_option (option_map {U = GroupView} (λ left. record { route = node.number; receiver = node.route.receiver; labels = labels; alerts = left }) o) (filter_map group_of rest)
     front None rest = refl
     front (Some left) rest = refl
 groups_kept now ((Resolve then, alerts) ∷ entries) =
-    front (some_of (unresolved now alerts)) (filter_map (λ (entry : Update × List Alert). option_map {U = Update × List Alert} (λ value. (entry.0, value)) (some_of (unresolved now entry.1))) entries)
+    front (some_of (unresolved now alerts)) (filter_map (λ (entry : GroupUpdate × List Alert). option_map {U = GroupUpdate × List Alert} (λ value. (entry.0, value)) (some_of (unresolved now entry.1))) entries)
     ∙ groups_kept now entries
   where
-    front : (o : Option (List Alert)) (rest : List (Update × List Alert)) → filter_map group_of (cons_option (option_map {U = Update × List Alert} (λ value. (Resolve then, value)) o) rest) ≡ filter_map group_of rest
+    front : (o : Option (List Alert)) (rest : List (GroupUpdate × List Alert)) → filter_map group_of (cons_option (option_map {U = GroupUpdate × List Alert} (λ value. (Resolve then, value)) o) rest) ≡ filter_map group_of rest
     front None rest = refl
     front (Some left) rest = refl
 
 -- what is resolved goes, with the groups that are left empty
-pub groups-resolve : (all : List Update) (now : ℕ) → groups_after (all ++ Resolve now ∷ []) ≡ swept now (groups_after all)
+pub groups-resolve : (all : List GroupUpdate) (now : ℕ) → groups_after (all ++ Resolve now ∷ []) ≡ swept now (groups_after all)
 unfolding left_of
 groups-resolve all now =
     ap (filter_map group_of) (in_order-each group_key members left_of group_sets all (Resolve now) refl)
     ∙ groups_kept now (in_order group_key members all)
 
 -- an alert joins a group of each of some routes
-groups_joins : (all : List Update) (nodes : List Node) (alert : Alert) → groups_after (all ++ joins nodes alert) ≡ with_members nodes alert (groups_after all)
+groups_joins : (all : List GroupUpdate) (nodes : List Node) (alert : Alert) → groups_after (all ++ joins nodes alert) ≡ with_members nodes alert (groups_after all)
 groups_joins all [] alert = ap groups_after (append-nil all)
 groups_joins all (node ∷ nodes) alert =
     let labels = group_labels node.route.group_by alert.labels in
@@ -293,20 +293,20 @@ groups_joins all (node ∷ nodes) alert =
     ∙ (groups_joins (all ++ Join node labels alert ∷ []) nodes alert
     ∙ ap (with_members nodes alert) (groups-join all node labels alert))
 
-updates_last : (tree : Forest) (events : List Event) (event : Event) → updates tree (events ++ event ∷ []) ≡ updates tree events ++ updates_of tree event
-updates_last tree [] event = append-nil (updates_of tree event)
+updates_last : (tree : Forest) (events : List DispatchEvent) (event : DispatchEvent) → group_updates tree (events ++ event ∷ []) ≡ group_updates tree events ++ updates_of_event tree event
+updates_last tree [] event = append-nil (updates_of_event tree event)
 updates_last tree (first ∷ events) event =
-    ap (λ rest. updates_of tree first ++ rest) (updates_last tree events event)
-    ∙ sym (append_assoc (updates_of tree first) (updates tree events) (updates_of tree event))
+    ap (λ rest. updates_of_event tree first ++ rest) (updates_last tree events event)
+    ∙ sym (append_assoc (updates_of_event tree first) (group_updates tree events) (updates_of_event tree event))
 
-pub groups-take : (tree : Forest) (events : List Event) (alert : Alert)
+pub groups-take : (tree : Forest) (events : List DispatchEvent) (alert : Alert)
     → groups_of tree (events ++ Take alert ∷ []) ≡ with_members (answer_of alert.labels 0 tree) alert (groups_of tree events)
-groups-take tree events alert = ap groups_after (updates_last tree events (Take alert)) ∙ groups_joins (updates tree events) (answer_of alert.labels 0 tree) alert
+groups-take tree events alert = ap groups_after (updates_last tree events (Take alert)) ∙ groups_joins (group_updates tree events) (answer_of alert.labels 0 tree) alert
 
-pub groups-sweep : (tree : Forest) (events : List Event) (now : ℕ) → groups_of tree (events ++ Sweep now ∷ []) ≡ swept now (groups_of tree events)
-groups-sweep tree events now = ap groups_after (updates_last tree events (Sweep now)) ∙ groups-resolve (updates tree events) now
+pub groups-sweep : (tree : Forest) (events : List DispatchEvent) (now : ℕ) → groups_of tree (events ++ Sweep now ∷ []) ≡ swept now (groups_of tree events)
+groups-sweep tree events now = ap groups_after (updates_last tree events (Sweep now)) ∙ groups-resolve (group_updates tree events) now
 
-pub groups-go-on : (tree : Forest) (one other : List Event) (event : Event) → groups_of tree one ≡ groups_of tree other → groups_of tree (one ++ event ∷ []) ≡ groups_of tree (other ++ event ∷ [])
+pub groups-go-on : (tree : Forest) (one other : List DispatchEvent) (event : DispatchEvent) → groups_of tree one ≡ groups_of tree other → groups_of tree (one ++ event ∷ []) ≡ groups_of tree (other ++ event ∷ [])
 groups-go-on tree one other (Take alert) same =
     groups-take tree one alert ∙ (ap (with_members (answer_of alert.labels 0 tree) alert) same ∙ sym (groups-take tree other alert))
 groups-go-on tree one other (Sweep now) same = groups-sweep tree one now ∙ (ap (swept now) same ∙ sym (groups-sweep tree other now))

@@ -1,12 +1,12 @@
 -- The list of what keys hold goes on update by update.
-use Rattle.std.proofs.Common.{◌≡◌, ◌≢◌, ℕ, zero, suc, ◌+◌, ◌<◌, ◌≤◌, Bool, true, false, not, cond, nat_eq, List, [], ◌∷◌, ◌++◌, map, length, take, drop, get_or, eq-eqb, Option, Some, None, is_none, refl, sym, ap, subst, ◌∙◌, arith, length-append}
+use Rattle.std.proofs.Common.{◌≡◌, ◌≢◌, ℕ, zero, suc, ◌+◌, ◌<◌, ◌≤◌, Bool, true, false, cond, nat_eq, List, [], ◌∷◌, ◌++◌, length, take, drop, get_or, eq-eqb, Option, Some, None, is_none, refl, sym, ap, subst, ◌∙◌, arith, length-append}
 use Rattle.std.specs.Option.{option_map, option_and_then}
 use Rattle.std.specs.List.{cons_option, filter_map}
 use Rattle.std.specs.Bool.{Decides}
 use Rattle.std.proofs.lemmas.List.{append-nil, take_all, take-append-le, take_more, length-take-le, take-append-drop, length-drop}
 use Rattle.std.proofs.Math.Seq.{drop-cons}
 use Rattle.std.proofs.lemmas.Bool.{ne_eqb}
-use Rattle.am_routes.specs.InOrder.{last_passing, last_without, held_since, begun_at, gathered, in_order}
+use Rattle.am_routes.specs.InOrder.{last_passing, last_without, held_since, begun_by, gathered_from, in_order}
 use Rattle.am_routes.proofs.Cases.{by_bool, by_option}
 
 -- ---- the last number that passes
@@ -95,19 +95,19 @@ cons_append None xs ys = refl
 cons_append (Some x) xs ys = refl
 
 module _ {U X : Type 0} where
-  gathered_append : (f : ℕ → U → Option X) (at : ℕ) (before after : List U) → gathered f at (before ++ after) ≡ gathered f at before ++ gathered f (at + length before) after
-  gathered_append f at [] after = let e : at ≡ at + 0 = omega arith in ap (λ n. gathered f n after) e
+  gathered_append : (f : ℕ → U → Option X) (at : ℕ) (before after : List U) → gathered_from f at (before ++ after) ≡ gathered_from f at before ++ gathered_from f (at + length before) after
+  gathered_append f at [] after = let e : at ≡ at + 0 = omega arith in ap (λ n. gathered_from f n after) e
   gathered_append f at (r ∷ before) after =
       let e : (at + 1) + length before ≡ at + suc (length before) = omega arith in
-      ap (λ rest. cons_option (f at r) rest) (gathered_append f (at + 1) before after ∙ ap (λ n. gathered f (at + 1) before ++ gathered f n after) e)
-      ∙ cons_append (f at r) (gathered f (at + 1) before) (gathered f (at + suc (length before)) after)
+      ap (λ rest. cons_option (f at r) rest) (gathered_append f (at + 1) before after ∙ ap (λ n. gathered_from f (at + 1) before ++ gathered_from f n after) e)
+      ∙ cons_append (f at r) (gathered_from f (at + 1) before) (gathered_from f (at + suc (length before)) after)
 
   -- between two indices both find the same
   gathered_same : (f g : ℕ → U → Option X) (low high : ℕ) → ((at : ℕ) (u : U) → low ≤ at → at < high → f at u ≡ g at u)
-      → (at : ℕ) (all : List U) → low ≤ at → at + length all ≤ high → gathered f at all ≡ gathered g at all
+      → (at : ℕ) (all : List U) → low ≤ at → at + length all ≤ high → gathered_from f at all ≡ gathered_from g at all
   gathered_same f g low high same at [] l h = refl
   gathered_same f g low high same at (u ∷ all) l h =
-      ap (λ o. cons_option o (gathered f (at + 1) all)) (same at u l (omega arith))
+      ap (λ o. cons_option o (gathered_from f (at + 1) all)) (same at u l (omega arith))
       ∙ ap (λ rest. cons_option (g at u) rest) (gathered_same f g low high same (at + 1) all (omega arith) (omega arith))
 
 kept_front : {X Y : Type 0} (keep : X → Option Y) (o : Option X) (rest : List X) → cons_option (option_and_then keep o) (filter_map keep rest) ≡ filter_map keep (cons_option o rest)
@@ -115,12 +115,12 @@ kept_front keep None rest = refl
 kept_front keep (Some x) rest = refl
 
 gathered_kept : {U X Y : Type 0} (keep : X → Option Y) (f : ℕ → U → Option Y) (g : ℕ → U → Option X) (n : ℕ) → ((at : ℕ) (u : U) → at < n → f at u ≡ option_and_then keep (g at u))
-    → (at : ℕ) (all : List U) → at + length all ≤ n → gathered f at all ≡ filter_map keep (gathered g at all)
+    → (at : ℕ) (all : List U) → at + length all ≤ n → gathered_from f at all ≡ filter_map keep (gathered_from g at all)
 gathered_kept keep f g n same at [] h = refl
 gathered_kept keep f g n same at (u ∷ all) h =
-    ap (λ o. cons_option o (gathered f (at + 1) all)) (same at u (omega arith))
+    ap (λ o. cons_option o (gathered_from f (at + 1) all)) (same at u (omega arith))
     ∙ (ap (λ rest. cons_option (option_and_then keep (g at u)) rest) (gathered_kept keep f g n same (at + 1) all (omega arith))
-    ∙ kept_front keep (g at u) (gathered g (at + 1) all))
+    ∙ kept_front keep (g at u) (gathered_from g (at + 1) all))
 
 -- ---- what each update does to the keys
 
@@ -164,12 +164,12 @@ module _ {U K V : Type 0} (key_of : U → Option K) (held : K → List U → Opt
       → in_order key_of held (all ++ u ∷ []) ≡ filter_map (λ entry. option_map {U = U × V} (λ value. (entry.0, value)) (effect u entry.1)) (in_order key_of held all)
   in_order-each all u none =
       let more = all ++ u ∷ [] in
-      let f = begun_at key_of held more in
-      let last : gathered f (0 + length all) (u ∷ []) ≡ [] = ap (λ o. cons_option (option_map {U = U × V} (λ (value : V). (u, value)) (option_and_then (λ key. held_since (0 + length all) (held key) more) o)) []) none in
+      let f = begun_by key_of held more in
+      let last : gathered_from f (0 + length all) (u ∷ []) ≡ [] = ap (λ o. cons_option (option_map {U = U × V} (λ (value : V). (u, value)) (option_and_then (λ key. held_since (0 + length all) (held key) more) o)) []) none in
       gathered_append f 0 all (u ∷ [])
-      ∙ (ap (λ rest. gathered f 0 all ++ rest) last
-      ∙ (append-nil (gathered f 0 all)
-      ∙ gathered_kept (λ entry. option_map {U = U × V} (λ value. (entry.0, value)) (effect u entry.1)) f (begun_at key_of held all) (length all)
+      ∙ (ap (λ rest. gathered_from f 0 all ++ rest) last
+      ∙ (append-nil (gathered_from f 0 all)
+      ∙ gathered_kept (λ entry. option_map {U = U × V} (λ value. (entry.0, value)) (effect u entry.1)) f (begun_by key_of held all) (length all)
       (λ at x early.
       ap (option_map {U = U × V} (λ (value : V). (x, value)))
       (by_option {P = option_and_then (λ key. held_since at (held key) more) (key_of x) ≡ option_and_then (effect u) (option_and_then (λ key. held_since at (held key) all) (key_of x))} (key_of x)
@@ -217,7 +217,7 @@ module _ {U K V : Type 0} (key_of : U → Option K) (held : K → List U → Opt
   -- where another key's update comes, what began at an index is the same
   value_other : (all : List U) (u : U) (q : K) → key_of u ≡ Some q → (at : ℕ) (x : U) → at < length all
       → ((key : K) → key_of x ≡ Some key → same key q ≡ true → held_since at (held key) (all ++ u ∷ []) ≡ held_since at (held key) all)
-      → begun_at key_of held (all ++ u ∷ []) at x ≡ begun_at key_of held all at x
+      → begun_by key_of held (all ++ u ∷ []) at x ≡ begun_by key_of held all at x
   value_other all u q is at x early own =
       let more = all ++ u ∷ [] in
       ap (option_map {U = U × V} (λ (value : V). (x, value)))
@@ -227,7 +227,7 @@ module _ {U K V : Type 0} (key_of : U → Option K) (held : K → List U → Opt
       ∙ (by_bool (same key q) (own key e) (λ no. since_same (held key) at all u early (laws.other all u key q is (apart same decide key q no)))
       ∙ ap (option_and_then (λ key. held_since at (held key) all)) (sym e))))
 
-  value_of_key : (all : List U) (at : ℕ) (x : U) (key : K) → key_of x ≡ Some key → begun_at key_of held all at x ≡ option_map {U = U × V} (λ value. (x, value)) (held_since at (held key) all)
+  value_of_key : (all : List U) (at : ℕ) (x : U) (key : K) → key_of x ≡ Some key → begun_by key_of held all at x ≡ option_map {U = U × V} (λ value. (x, value)) (held_since at (held key) all)
   value_of_key all at x key e = ap (λ o. option_map {U = U × V} (λ (value : V). (x, value)) (option_and_then (λ key. held_since at (held key) all) o)) e
 
   module _ (is_its : U → Bool) (q : K) (its : (x : U) → is_its x ≡ true → key_of x ≡ Some q) where
@@ -243,17 +243,17 @@ module _ {U K V : Type 0} (key_of : U → Option K) (held : K → List U → Opt
     -- what has no entry of the key is passed over
     put_past : (all : List U) (make : Option V → V) (new : U) (high : ℕ) → ((at : ℕ) → at < high → held_since at (held q) all ≡ None)
         → (at : ℕ) (us : List U) (rest : List (U × V)) → at + length us ≤ high
-        → put is_its make new (gathered (begun_at key_of held all) at us ++ rest) ≡ gathered (begun_at key_of held all) at us ++ put is_its make new rest
+        → put is_its make new (gathered_from (begun_by key_of held all) at us ++ rest) ≡ gathered_from (begun_by key_of held all) at us ++ put is_its make new rest
     put_past all make new high none at [] rest h = refl
     put_past all make new high none at (x ∷ us) rest h =
         let o = option_and_then (λ key. held_since at (held key) all) (key_of x) in
-        let f = begun_at key_of held all in
-        ap (put is_its make new) (sym (cons_append (f at x) (gathered f (at + 1) us) rest))
-        ∙ (passes make new x o (gathered f (at + 1) us ++ rest) (λ yes. ap (option_and_then (λ key. held_since at (held key) all)) (its x yes) ∙ none at (omega arith))
+        let f = begun_by key_of held all in
+        ap (put is_its make new) (sym (cons_append (f at x) (gathered_from f (at + 1) us) rest))
+        ∙ (passes make new x o (gathered_from f (at + 1) us ++ rest) (λ yes. ap (option_and_then (λ key. held_since at (held key) all)) (its x yes) ∙ none at (omega arith))
         ∙ (ap (cons_option (f at x)) (put_past all make new high none (at + 1) us rest (omega arith))
-        ∙ cons_append (f at x) (gathered f (at + 1) us) (put is_its make new rest)))
+        ∙ cons_append (f at x) (gathered_from f (at + 1) us) (put is_its make new rest)))
 
-    last_piece : (all : List U) (u : U) → key_of u ≡ Some q → (at : ℕ) → gathered (begun_at key_of held (all ++ u ∷ [])) at (u ∷ []) ≡ cons_option (option_map {U = U × V} (λ value. (u, value)) (held_since at (held q) (all ++ u ∷ []))) []
+    last_piece : (all : List U) (u : U) → key_of u ≡ Some q → (at : ℕ) → gathered_from (begun_by key_of held (all ++ u ∷ [])) at (u ∷ []) ≡ cons_option (option_map {U = U × V} (λ value. (u, value)) (held_since at (held q) (all ++ u ∷ []))) []
     last_piece all u is at = ap (λ o. cons_option o []) (value_of_key (all ++ u ∷ []) at u q is)
 
     -- the key held nothing: its entry comes last
@@ -264,23 +264,23 @@ module _ {U K V : Type 0} (key_of : U → Option K) (held : K → List U → Opt
         let more = all ++ u ∷ [] in
         let v = make None in
         let some : held q more ≡ Some v = made ∙ ap (λ o. Some (make o)) none in
-        let f = begun_at key_of held more in
-        let g = begun_at key_of held all in
+        let f = begun_by key_of held more in
+        let g = begun_by key_of held all in
         let zero_on : 0 + length all ≡ length all = omega arith in
         let since : held_since (length all) (held q) more ≡ Some v = since_there (held q) (length all) more (without_stays (held q) all u v some ∙ without_now (held q) all none) ∙ some in
-        let last : gathered f (0 + length all) (u ∷ []) ≡ (u, v) ∷ [] =
-        ap (λ n. gathered f n (u ∷ [])) zero_on ∙ (last_piece all u is (length all) ∙ ap (λ o. cons_option (option_map {U = U × V} (λ (value : V). (u, value)) o) []) since) in
-        let before : gathered f 0 all ≡ gathered g 0 all = gathered_same f g 0 (length all)
+        let last : gathered_from f (0 + length all) (u ∷ []) ≡ (u, v) ∷ [] =
+        ap (λ n. gathered_from f n (u ∷ [])) zero_on ∙ (last_piece all u is (length all) ∙ ap (λ o. cons_option (option_map {U = U × V} (λ (value : V). (u, value)) o) []) since) in
+        let before : gathered_from f 0 all ≡ gathered_from g 0 all = gathered_same f g 0 (length all)
         (λ at x low early. value_other all u q is at x early
         (λ key e yes. let t = (decide key q).0 yes in
         let gone : held key all ≡ None = ap (λ k. held k all) t ∙ none in
         since_grown_empty (held key) at all u early gone ∙ sym (since_nothing (held key) at all gone)))
         0 all (omega arith) (omega arith) in
-        let past : put is_its make u (gathered g 0 all ++ []) ≡ gathered g 0 all ++ put is_its make u [] = put_past all make u (length all) (λ at early. since_nothing (held q) at all none) 0 all [] (omega arith) in
+        let past : put is_its make u (gathered_from g 0 all ++ []) ≡ gathered_from g 0 all ++ put is_its make u [] = put_past all make u (length all) (λ at early. since_nothing (held q) at all none) 0 all [] (omega arith) in
         gathered_append f 0 all (u ∷ [])
-        ∙ (ap (λ rest. gathered f 0 all ++ rest) last
+        ∙ (ap (λ rest. gathered_from f 0 all ++ rest) last
         ∙ (ap (λ front. front ++ (u, v) ∷ []) before
-        ∙ (sym past ∙ ap (put is_its make u) (append-nil (gathered g 0 all)))))
+        ∙ (sym past ∙ ap (put is_its make u) (append-nil (gathered_from g 0 all)))))
 
     -- the key held something: its entry changes in its place
     put_old : (make : Option V → V) (all : List U) (u : U) (w : V) → key_of u ≡ Some q → held q (all ++ u ∷ []) ≡ Some (make (held q all)) → held q all ≡ Some w
@@ -291,8 +291,8 @@ module _ {U K V : Type 0} (key_of : U → Option K) (held : K → List U → Opt
         let more = all ++ u ∷ [] in
         let v = make (Some w) in
         let some : held q more ≡ Some v = made ∙ ap (λ o. Some (make o)) old in
-        let f = begun_at key_of held more in
-        let g = begun_at key_of held all in
+        let f = begun_by key_of held more in
+        let g = begun_by key_of held all in
         let s = last_without (held q) all in
         let there = began all u q (length all) (omega arith) w (ap (held q) (take_all (length all) all (omega arith)) ∙ old) in
         let early : s < length all = there.0 in
@@ -310,25 +310,25 @@ module _ {U K V : Type 0} (key_of : U → Option K) (held : K → List U → Opt
         ∙ (since_elsewhere (held q) at more (λ m. n (sym m ∙ stays))
         ∙ (sym (since_elsewhere (held q) at all (λ m. n (sym m)))
         ∙ ap (λ k. held_since at (held k) all) (sym t)))) in
-        let front : gathered f 0 a ≡ gathered g 0 a = gathered_same f g 0 s (λ at y low e. same_at at y (omega arith) (λ m. omega arith)) 0 a (omega arith) (omega arith) in
-        let back : gathered f (s + 1) b ≡ gathered g (s + 1) b = gathered_same f g (s + 1) (length all) (λ at y low e. same_at at y e (λ m. omega arith)) (s + 1) b (omega arith) (omega arith) in
+        let front : gathered_from f 0 a ≡ gathered_from g 0 a = gathered_same f g 0 s (λ at y low e. same_at at y (omega arith) (λ m. omega arith)) 0 a (omega arith) (omega arith) in
+        let back : gathered_from f (s + 1) b ≡ gathered_from g (s + 1) b = gathered_same f g (s + 1) (length all) (λ at y low e. same_at at y e (λ m. omega arith)) (s + 1) b (omega arith) (omega arith) in
         let mid_f : f s x ≡ Some (x, v) = value_of_key more s x q there.1 ∙ ap (option_map {U = U × V} (λ (value : V). (x, value))) (since_there (held q) s more stays ∙ some) in
         let mid_g : g s x ≡ Some (x, w) = value_of_key all s x q there.1 ∙ ap (option_map {U = U × V} (λ (value : V). (x, value))) (since_there (held q) s all refl ∙ old) in
-        let tail = gathered g (s + 1) b in
-        let cut_f : gathered f 0 all ≡ gathered g 0 a ++ (x, v) ∷ tail =
-        ap (gathered f 0) cut ∙ (gathered_append f 0 a (x ∷ b) ∙ (ap (λ n. gathered f 0 a ++ gathered f n (x ∷ b)) on
-        ∙ (ap (λ o. gathered f 0 a ++ cons_option o (gathered f (s + 1) b)) mid_f ∙ (ap (λ h. h ++ (x, v) ∷ gathered f (s + 1) b) front ∙ ap (λ t. gathered g 0 a ++ (x, v) ∷ t) back)))) in
-        let cut_g : gathered g 0 all ≡ gathered g 0 a ++ (x, w) ∷ tail =
-        ap (gathered g 0) cut ∙ (gathered_append g 0 a (x ∷ b) ∙ (ap (λ n. gathered g 0 a ++ gathered g n (x ∷ b)) on
-        ∙ ap (λ o. gathered g 0 a ++ cons_option o tail) mid_g)) in
-        let last : gathered f (0 + length all) (u ∷ []) ≡ [] =
+        let tail = gathered_from g (s + 1) b in
+        let cut_f : gathered_from f 0 all ≡ gathered_from g 0 a ++ (x, v) ∷ tail =
+        ap (gathered_from f 0) cut ∙ (gathered_append f 0 a (x ∷ b) ∙ (ap (λ n. gathered_from f 0 a ++ gathered_from f n (x ∷ b)) on
+        ∙ (ap (λ o. gathered_from f 0 a ++ cons_option o (gathered_from f (s + 1) b)) mid_f ∙ (ap (λ h. h ++ (x, v) ∷ gathered_from f (s + 1) b) front ∙ ap (λ t. gathered_from g 0 a ++ (x, v) ∷ t) back)))) in
+        let cut_g : gathered_from g 0 all ≡ gathered_from g 0 a ++ (x, w) ∷ tail =
+        ap (gathered_from g 0) cut ∙ (gathered_append g 0 a (x ∷ b) ∙ (ap (λ n. gathered_from g 0 a ++ gathered_from g n (x ∷ b)) on
+        ∙ ap (λ o. gathered_from g 0 a ++ cons_option o tail) mid_g)) in
+        let last : gathered_from f (0 + length all) (u ∷ []) ≡ [] =
         last_piece all u is (0 + length all) ∙ ap (λ o. cons_option (option_map {U = U × V} (λ (value : V). (u, value)) o) []) (since_elsewhere (held q) (0 + length all) more (λ m. omega (arith, stays))) in
         let hit : put is_its make u ((x, w) ∷ tail) ≡ (x, v) ∷ tail = ap (λ b. cond b ((x, v) ∷ tail) ((x, w) ∷ put is_its make u tail)) (own x there.1) in
         let past = put_past all make u s (λ at e. since_elsewhere (held q) at all (λ m. omega arith)) 0 a ((x, w) ∷ tail) (omega arith) in
         gathered_append f 0 all (u ∷ [])
-        ∙ (ap (λ rest. gathered f 0 all ++ rest) last
-        ∙ (append-nil (gathered f 0 all)
-        ∙ (cut_f ∙ (ap (λ t. gathered g 0 a ++ t) (sym hit) ∙ (sym past ∙ ap (put is_its make u) (sym cut_g))))))
+        ∙ (ap (λ rest. gathered_from f 0 all ++ rest) last
+        ∙ (append-nil (gathered_from f 0 all)
+        ∙ (cut_f ∙ (ap (λ t. gathered_from g 0 a ++ t) (sym hit) ∙ (sym past ∙ ap (put is_its make u) (sym cut_g))))))
 
     -- an update of a key changes the key's entry
     pub in_order-own : (make : Option V → V) (all : List U) (u : U) → key_of u ≡ Some q → held q (all ++ u ∷ []) ≡ Some (make (held q all)) → ((x : U) → key_of x ≡ Some q → is_its x ≡ true)
@@ -358,10 +358,10 @@ module _ {U K V : Type 0} (key_of : U → Option K) (held : K → List U → Opt
       (λ none. absurd (let no : None ≡ Some v = sym (ap (option_and_then (λ key. held_since at (held key) all)) none) ∙ e in (cc)))
       (λ key some. (key, some, since_held at key v (sym (ap (option_and_then (λ key. held_since at (held key) all)) some) ∙ e)))
 
-  gathered_hold : (at : ℕ) (us : List U) → AllHold key_of held all (gathered (begun_at key_of held all) at us)
+  gathered_hold : (at : ℕ) (us : List U) → AllHold key_of held all (gathered_from (begun_by key_of held all) at us)
   unfolding AllHold
   gathered_hold at [] = tt
-  gathered_hold at (x ∷ us) = hold_front x (option_and_then (λ key. held_since at (held key) all) (key_of x)) (gathered (begun_at key_of held all) (at + 1) us) (key_held at x) (gathered_hold (at + 1) us)
+  gathered_hold at (x ∷ us) = hold_front x (option_and_then (λ key. held_since at (held key) all) (key_of x)) (gathered_from (begun_by key_of held all) (at + 1) us) (key_held at x) (gathered_hold (at + 1) us)
 
   pub in_order_hold : AllHold key_of held all (in_order key_of held all)
   in_order_hold = gathered_hold 0 all

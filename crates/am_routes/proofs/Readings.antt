@@ -2,14 +2,14 @@
 use Rattle.std.proofs.Common.{◌≡◌, ℕ, ◌+◌, ◌<◌, ◌≤◌, length, get_or, drop, add-one, suc, List, [], ◌∷◌, ◌++◌, append_assoc, append-nil, Result, Ok, Err, refl, sym, ap, ◌∙◌, subst}
 use Rattle.std.proofs.Math.Seq.{drop-cons}
 use Rattle.std.proofs.Math.ListN.{drop_of_length-le}
-use Rattle.am_routes.specs.Members.{Reads}
-use Rattle.am_routes.specs.Readings.{Reading, Is, Then, refused, goes_on, each, IsAnswerOf}
+use Rattle.am_routes.specs.Members.{ReadsMember}
+use Rattle.am_routes.specs.Readings.{Reading, Is, Then, refused, goes_on, each, AllowsResult}
 use Rattle.am_routes.specs.declared.config.fault.ConfigFault.{ConfigFault}
 use Rattle.am_routes.specs.declared.config.fault.ConfigFault.TheVariants.{NoMemory, NoOperator, BadName, BadQuote, BadPattern, NotJson, Missing, Deprecated, RootMatchers, TooDeep, BadDuration, WrongKind}
 
 -- a fault that one reading allows and another one allows too
 pub err_weaker : {A B : Type 0} (m : Reading A) (n : Reading B) (fault : ConfigFault)
-    → (m (Err fault) → n (Err fault)) → IsAnswerOf m (Err fault) → IsAnswerOf n (Err fault)
+    → (m (Err fault) → n (Err fault)) → AllowsResult m (Err fault) → AllowsResult n (Err fault)
 err_weaker m n NoMemory weaker h = tt
 err_weaker m n (NoOperator at) weaker h = weaker h
 err_weaker m n (BadName at) weaker h = weaker h
@@ -25,12 +25,12 @@ err_weaker m n (WrongKind at) weaker h = weaker h
 
 -- the first reading is refused
 pub first_refused : {A B : Type 0} (m : Reading A) (k : A → Reading B) (fault : ConfigFault)
-    → IsAnswerOf m (Err fault) → IsAnswerOf (Then m k) (Err fault)
+    → AllowsResult m (Err fault) → AllowsResult (Then m k) (Err fault)
 first_refused m k fault h = err_weaker m (Then m k) fault (λ r. refused r) h
 
 -- the first reading gave this, and the next one answers
 pub first_read : {A B : Type 0} (m : Reading A) (k : A → Reading B) (x : A) (result : Result B ConfigFault)
-    → m (Ok x) → IsAnswerOf (k x) result → IsAnswerOf (Then m k) result
+    → m (Ok x) → AllowsResult (k x) result → AllowsResult (Then m k) result
 first_read m k x (Ok y) first h = goes_on first h
 first_read m k x (Err fault) first h = err_weaker (k x) (Then m k) fault (λ r. goes_on first r) h
 
@@ -73,7 +73,7 @@ module _ {X A : Type 0} (reads : ℕ → X → Reading A) (all : List X) where
 
   -- an element is refused
   pub one_refused : (front : List A) (i : ℕ) (x : X) (rest : List X) (fault : ConfigFault)
-      → IsReadUpTo reads all front i (x ∷ rest) → IsAnswerOf (reads i x) (Err fault) → IsAnswerOf (each reads 0 all) (Err fault)
+      → IsReadUpTo reads all front i (x ∷ rest) → AllowsResult (reads i x) (Err fault) → AllowsResult (each reads 0 all) (Err fault)
   one_refused front i x rest fault so_far h =
       err_weaker (reads i x) (each reads 0 all) fault (λ r. so_far.answers (Err fault) (refused r)) h
 
@@ -94,10 +94,10 @@ module _ {X A : Type 0} (reads : ℕ → X → Reading A) (all : List X) where
   -- an element is refused, at its index
   pub refused_at : (front : List A) (i : ℕ) (x d : X) (fault : ConfigFault) (result : Result (List A) ConfigFault)
       → i < length all → x ≡ get_or all i d → IsReadUpTo reads all front i (drop i all)
-      → IsAnswerOf (reads i x) (Err fault) → result ≡ Err fault → IsAnswerOf (each reads 0 all) result
+      → AllowsResult (reads i x) (Err fault) → result ≡ Err fault → AllowsResult (each reads 0 all) result
   refused_at front i x d fault result inside here so_far h told =
       let cut = drop_at all i x d inside here in
-      subst (λ (r : Result (List A) ConfigFault). IsAnswerOf (each reads 0 all) r) (sym told)
+      subst (λ (r : Result (List A) ConfigFault). AllowsResult (each reads 0 all) r) (sym told)
       (one_refused front i x (drop (i + 1) all) fault (subst (λ (rest : List X). IsReadUpTo reads all front i rest) cut so_far) h)
 
   -- all elements are read
@@ -107,7 +107,7 @@ module _ {X A : Type 0} (reads : ℕ → X → Reading A) (all : List X) where
 
 -- a fault that a reader told of what has one answer alone
 pub reads_err : {X Y : Type 0} (seen : X → Y) (only : Result Y ConfigFault) (fault : ConfigFault)
-    → Reads seen (Err fault) only → IsAnswerOf (Is only) (Err fault)
+    → ReadsMember seen (Err fault) only → AllowsResult (Is only) (Err fault)
 reads_err seen only NoMemory h = tt
 reads_err seen only (NoOperator at) h = h
 reads_err seen only (BadName at) h = h

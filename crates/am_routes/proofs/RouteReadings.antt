@@ -2,14 +2,14 @@
 use Rattle.std.proofs.Common.{◌≡◌, ℕ, suc, Bool, List, Option, Some, Result, Ok, Err, refl, sym, subst}
 use Rattle.std.specs.Prelude.{codes}
 use Rattle.serde_json.specs.Data.{Data, Items}
-use Rattle.serde_json.specs.View.{view, items_view}
+use Rattle.serde_json.specs.View.{items_view}
 use Rattle.serde_json.specs.declared.value.Value.{Value}
 use Rattle.am_labels.specs.Matchers.{MatcherView}
 use Rattle.am_routes.specs.Routes.{Forest}
 use Rattle.am_routes.specs.Paths.{member_path, item_path}
-use Rattle.am_routes.specs.Members.{Reads}
+use Rattle.am_routes.specs.Members.{ReadsMember}
 use Rattle.am_routes.specs.RouteHeads.{head_of, tail_of}
-use Rattle.am_routes.specs.Readings.{Is, refused, goes_on, each, IsAnswerOf}
+use Rattle.am_routes.specs.Readings.{Is, refused, goes_on, each, AllowsResult}
 use Rattle.am_routes.specs.MatcherReadings.{matchers_of}
 use Rattle.am_routes.specs.RouteReadings.{elements, route_of, routes_of, with_children}
 use Rattle.am_routes.specs.RouteLists.{forest_of}
@@ -23,7 +23,7 @@ module _ (levels below : ℕ) (left : levels ≡ suc below) (above : Option Rout
   with_level : (result : Result Route ConfigFault) → route_of (suc below) above at d result → route_of levels above at d result
   with_level result h = subst (λ n. route_of n above at d result) (sym left) h
 
-  pub head_refused : (fault : ConfigFault) → Reads (λ (h : RouteHead). h) (Err fault) (head_of above at d) → IsAnswerOf (route_of levels above at d) (Err fault)
+  pub head_refused : (fault : ConfigFault) → ReadsMember (λ (h : RouteHead). h) (Err fault) (head_of above at d) → AllowsResult (route_of levels above at d) (Err fault)
   unfolding route_of
   head_refused fault h =
       err_weaker (Is (head_of above at d)) (route_of levels above at d) fault (λ r. with_level (Err fault) (refused r))
@@ -31,7 +31,7 @@ module _ (levels below : ℕ) (left : levels ≡ suc below) (above : Option Rout
 
   module _ (head : RouteHead) (is_head : head_of above at d ≡ Ok head) where
     module _ (path : List ℕ) (is_path : path ≡ member_path at (codes "matchers")) where
-      pub matchers_refused : (fault : ConfigFault) → IsAnswerOf (matchers_of path head.matcher_texts) (Err fault) → IsAnswerOf (route_of levels above at d) (Err fault)
+      pub matchers_refused : (fault : ConfigFault) → AllowsResult (matchers_of path head.matcher_texts) (Err fault) → AllowsResult (route_of levels above at d) (Err fault)
       unfolding route_of
       matchers_refused fault h =
           err_weaker (matchers_of path head.matcher_texts) (route_of levels above at d) fault
@@ -41,7 +41,7 @@ module _ (levels below : ℕ) (left : levels ≡ suc below) (above : Option Rout
         were_matchers : matchers_of (member_path at (codes "matchers")) head.matcher_texts (Ok matchers)
         were_matchers = subst (λ at. matchers_of at head.matcher_texts (Ok matchers)) is_path are_matchers
 
-        pub tail_refused : (fault : ConfigFault) → Reads (λ (tail : Bool × Items). tail) (Err fault) (tail_of at d) → IsAnswerOf (route_of levels above at d) (Err fault)
+        pub tail_refused : (fault : ConfigFault) → ReadsMember (λ (tail : Bool × Items). tail) (Err fault) (tail_of at d) → AllowsResult (route_of levels above at d) (Err fault)
         unfolding route_of
         tail_refused fault h =
             err_weaker (Is (tail_of at d)) (route_of levels above at d) fault
@@ -54,7 +54,7 @@ module _ (levels below : ℕ) (left : levels ≡ suc below) (above : Option Rout
           at_its_path : (result : Result Forest ConfigFault) → Below result → routes_of (route_of below (Some head)) (member_path at (codes "routes")) tail.1 result
           at_its_path result h = subst (λ at. routes_of (route_of below (Some head)) at tail.1 result) is_below_path h
 
-          pub children_refused : (fault : ConfigFault) → IsAnswerOf Below (Err fault) → IsAnswerOf (route_of levels above at d) (Err fault)
+          pub children_refused : (fault : ConfigFault) → AllowsResult Below (Err fault) → AllowsResult (route_of levels above at d) (Err fault)
           unfolding route_of
           children_refused fault h =
               err_weaker Below (route_of levels above at d) fault
@@ -74,8 +74,8 @@ module _ (levels : ℕ) (above : RouteHead) (path : List ℕ) (values : List Val
   abbrev routes_at : ℕ → Data → Result Route ConfigFault → Type 0
   routes_at i d = route_of levels (Some above) (item_path path i) d
 
-  pub routes_refused : (fault : ConfigFault) → IsAnswerOf (each routes_at 0 (elements (items_view values))) (Err fault)
-      → IsAnswerOf (routes_of (route_of levels (Some above)) path (items_view values)) (Err fault)
+  pub routes_refused : (fault : ConfigFault) → AllowsResult (each routes_at 0 (elements (items_view values))) (Err fault)
+      → AllowsResult (routes_of (route_of levels (Some above)) path (items_view values)) (Err fault)
   routes_refused fault h =
       err_weaker (each routes_at 0 (elements (items_view values))) (routes_of (route_of levels (Some above)) path (items_view values)) fault (λ r. refused r) h
 

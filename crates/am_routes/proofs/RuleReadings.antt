@@ -4,8 +4,8 @@ use Rattle.std.specs.Prelude.{codes, ⊤}
 use Rattle.serde_json.specs.Data.{Data, Items}
 use Rattle.am_labels.specs.Matchers.{MatcherView}
 use Rattle.am_routes.specs.Paths.{member_path}
-use Rattle.am_routes.specs.Members.{Reads, array_member, texts_member}
-use Rattle.am_routes.specs.Readings.{Is, refused, goes_on, IsAnswerOf}
+use Rattle.am_routes.specs.Members.{ReadsMember, array_member, texts_member}
+use Rattle.am_routes.specs.Readings.{Is, refused, goes_on, AllowsResult}
 use Rattle.am_routes.specs.MatcherReadings.{matchers_of}
 use Rattle.am_routes.specs.RuleForms.{rule_form_of}
 use Rattle.am_routes.specs.RuleReadings.{matchers_member, rule_of, rules_from, rules_of}
@@ -15,7 +15,7 @@ use Rattle.am_routes.proofs.Readings.{err_weaker, reads_err}
 
 -- a member's matchers
 module _ (at name : List ℕ) (d : Data) where
-  pub texts_refused : (fault : ConfigFault) → Reads (λ (texts : List (List ℕ)). texts) (Err fault) (texts_member at name d) → IsAnswerOf (matchers_member at name d) (Err fault)
+  pub texts_refused : (fault : ConfigFault) → ReadsMember (λ (texts : List (List ℕ)). texts) (Err fault) (texts_member at name d) → AllowsResult (matchers_member at name d) (Err fault)
   unfolding matchers_member
   texts_refused fault h =
       err_weaker (Is (texts_member at name d)) (matchers_member at name d) fault (λ r. refused r) (reads_err (λ (texts : List (List ℕ)). texts) (texts_member at name d) fault h)
@@ -25,31 +25,31 @@ module _ (at name : List ℕ) (d : Data) where
     unfolding matchers_member
     read_from result h = goes_on are_texts (subst (λ p. matchers_of p texts result) is_path h)
 
-    pub matchers_read : (result : Result (List MatcherView) ConfigFault) → IsAnswerOf (matchers_of path texts) result → IsAnswerOf (matchers_member at name d) result
+    pub matchers_read : (result : Result (List MatcherView) ConfigFault) → AllowsResult (matchers_of path texts) result → AllowsResult (matchers_member at name d) result
     matchers_read (Ok matchers) h = read_from (Ok matchers) h
     matchers_read (Err fault) h = err_weaker (matchers_of path texts) (matchers_member at name d) fault (λ r. read_from (Err fault) r) h
 
 -- a rule
 module _ (at : List ℕ) (d : Data) where
-  pub form_refused : (fault : ConfigFault) → Reads (λ (none : ⊤). none) (Err fault) (rule_form_of at d) → IsAnswerOf (rule_of at d) (Err fault)
+  pub form_refused : (fault : ConfigFault) → ReadsMember (λ (none : ⊤). none) (Err fault) (rule_form_of at d) → AllowsResult (rule_of at d) (Err fault)
   unfolding rule_of
   form_refused fault h =
       err_weaker (Is (rule_form_of at d)) (rule_of at d) fault (λ r. refused r) (reads_err (λ (none : ⊤). none) (rule_form_of at d) fault h)
 
   module _ (form : ⊤) (is_form : rule_form_of at d ≡ Ok form) where
-    pub source_refused : (fault : ConfigFault) → IsAnswerOf (matchers_member at (codes "source_matchers") d) (Err fault) → IsAnswerOf (rule_of at d) (Err fault)
+    pub source_refused : (fault : ConfigFault) → AllowsResult (matchers_member at (codes "source_matchers") d) (Err fault) → AllowsResult (rule_of at d) (Err fault)
     unfolding rule_of
     source_refused fault h =
         err_weaker (matchers_member at (codes "source_matchers") d) (rule_of at d) fault (λ r. goes_on is_form (refused r)) h
 
     module _ (source : List MatcherView) (is_source : matchers_member at (codes "source_matchers") d (Ok source)) where
-      pub target_refused : (fault : ConfigFault) → IsAnswerOf (matchers_member at (codes "target_matchers") d) (Err fault) → IsAnswerOf (rule_of at d) (Err fault)
+      pub target_refused : (fault : ConfigFault) → AllowsResult (matchers_member at (codes "target_matchers") d) (Err fault) → AllowsResult (rule_of at d) (Err fault)
       unfolding rule_of
       target_refused fault h =
           err_weaker (matchers_member at (codes "target_matchers") d) (rule_of at d) fault (λ r. goes_on is_form (goes_on is_source (refused r))) h
 
       module _ (target : List MatcherView) (is_target : matchers_member at (codes "target_matchers") d (Ok target)) where
-        pub equal_refused : (fault : ConfigFault) → Reads (λ (texts : List (List ℕ)). texts) (Err fault) (texts_member at (codes "equal") d) → IsAnswerOf (rule_of at d) (Err fault)
+        pub equal_refused : (fault : ConfigFault) → ReadsMember (λ (texts : List (List ℕ)). texts) (Err fault) (texts_member at (codes "equal") d) → AllowsResult (rule_of at d) (Err fault)
         unfolding rule_of
         equal_refused fault h =
             err_weaker (Is (texts_member at (codes "equal") d)) (rule_of at d) fault
@@ -63,7 +63,7 @@ module _ (at : List ℕ) (d : Data) where
 
 -- the rules of the whole
 module _ (d : Data) where
-  pub items_refused : (fault : ConfigFault) → Reads (λ (items : Items). items) (Err fault) (array_member [] (codes "inhibit_rules") d) → IsAnswerOf (rules_of d) (Err fault)
+  pub items_refused : (fault : ConfigFault) → ReadsMember (λ (items : Items). items) (Err fault) (array_member [] (codes "inhibit_rules") d) → AllowsResult (rules_of d) (Err fault)
   unfolding rules_of
   items_refused fault h =
       err_weaker (Is (array_member [] (codes "inhibit_rules") d)) (rules_of d) fault (λ r. refused r)
@@ -75,7 +75,7 @@ module _ (d : Data) where
     rules_from_items result h = goes_on are_items h
 
     pub rules_read : (path : List ℕ) (result : Result (List InhibitRule) ConfigFault) → path ≡ codes "inhibit_rules"
-        → IsAnswerOf (rules_from path items) result → IsAnswerOf (rules_of d) result
+        → AllowsResult (rules_from path items) result → AllowsResult (rules_of d) result
     rules_read path (Ok rules) is_path h = rules_from_items (Ok rules) (subst (λ p. rules_from p items (Ok rules)) is_path h)
     rules_read path (Err fault) is_path h =
         err_weaker (rules_from path items) (rules_of d) fault (λ r. rules_from_items (Err fault) (subst (λ p. rules_from p items (Err fault)) is_path r)) h

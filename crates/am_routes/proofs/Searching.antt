@@ -1,15 +1,15 @@
 -- A tree's searches in pre-order, and what asking them one after another comes to.
-use Rattle.std.proofs.Common.{◌≡◌, ◌≢◌, ℕ, zero, suc, ◌+◌, ◌-◌, ◌<◌, ◌≤◌, true, false, cond, List, [], ◌∷◌, ◌++◌, map, length, take, drop, get_or, set, refl, sym, ap, subst, ◌∙◌, arith, length-append}
-use Rattle.std.proofs.lemmas.List.{append_assoc, append-nil, drop_more, drop-drop, drop_at, take_more, set_at, get_or_at, map-append}
+use Rattle.std.proofs.Common.{◌≡◌, ◌≢◌, ℕ, zero, suc, ◌+◌, ◌-◌, ◌<◌, ◌≤◌, true, false, cond, List, [], ◌∷◌, ◌++◌, length, take, drop, get_or, set, refl, sym, ap, subst, ◌∙◌, arith, length-append}
+use Rattle.std.proofs.lemmas.List.{append_assoc, append-nil, drop_more, drop-drop, drop_at, take_more, set_at, get_or_at}
 use Rattle.am_routes.specs.declared.matching.RouteSearch.{RouteSearch}
 use Rattle.am_routes.specs.declared.route.Route.{Route}
 use Rattle.std.proofs.lemmas.List.{set-get_or}
 use Rattle.am_labels.specs.LabelSets.{Labels}
 use Rattle.am_labels.specs.Matchers.{MatcherView, all_admitted}
 use Rattle.am_routes.specs.Routes.{RouteView, Forest, no_routes, route, count_of}
-use Rattle.am_routes.specs.RouteLists.{view_of, forest_of}
+use Rattle.am_routes.specs.RouteLists.{route_view, forest_of}
 use Rattle.am_routes.specs.RouteAnswers.{Node, own_answer, joined_with, answer_of}
-use Rattle.am_routes.specs.inside.Searches.{nodes_in, searches_of, BeginAt}
+use Rattle.am_routes.specs.inside.Searches.{searches_of, BeginAt}
 
 pub length-searches : (f : Forest) → length (searches_of f) ≡ count_of f
 length-searches no_routes = refl
@@ -64,11 +64,11 @@ module _ (at : ℕ) (first : RouteView) (below others : Forest) (searches : List
   )
 
 -- the routes from an index on
-pub forest-drop : (rs : List Route) (i : ℕ) (r : Route) → i < length rs → r ≡ get_or rs i r → forest_of (drop i rs) ≡ route (view_of r) r.children (forest_of (drop (i + 1) rs))
+pub forest-drop : (rs : List Route) (i : ℕ) (r : Route) → i < length rs → r ≡ get_or rs i r → forest_of (drop i rs) ≡ route (route_view r) r.children (forest_of (drop (i + 1) rs))
 forest-drop rs i r h is = ap forest_of (drop_more rs i r h ∙ ap (λ one. one ∷ drop (i + 1) rs) (sym is))
 
 pub begins-drop : (rs : List Route) (i : ℕ) (r : Route) (at : ℕ) (searches : List RouteSearch) → i < length rs → r ≡ get_or rs i r
-    → BeginAt at (searches_of (forest_of (drop i rs))) searches → BeginAt at (searches_of (route (view_of r) r.children (forest_of (drop (i + 1) rs)))) searches
+    → BeginAt at (searches_of (forest_of (drop i rs))) searches → BeginAt at (searches_of (route (route_view r) r.children (forest_of (drop (i + 1) rs)))) searches
 begins-drop rs i r at searches h is begins = subst (λ f. BeginAt at (searches_of f) searches) (forest-drop rs i r h is) begins
 
 -- a search that is asked stays as it is
@@ -121,17 +121,17 @@ no_more_found old [] new e same = refl
 no_more_found old (node ∷ nodes) new e same = absurd (let l : length new ≡ length old + length (node ∷ nodes) = ap length e ∙ length-append old (node ∷ nodes) in omega arith)
 
 module _ (labels : Labels) (at : ℕ) (r : Route) (others : Forest) (old new : List Node) (found : new ≡ old ++ answer_of labels (at + 1) r.children) (admits : all_admitted r.matchers labels ≡ true) where
-  pub own-pushed : length new ≡ length old → new ++ (record { number = at; route = view_of r } ∷ []) ≡ old ++ own_answer labels at (view_of r) (answer_of labels (at + 1) r.children)
+  pub own-pushed : length new ≡ length old → new ++ (record { number = at; route = route_view r } ∷ []) ≡ old ++ own_answer labels at (route_view r) (answer_of labels (at + 1) r.children)
   own-pushed same =
       let none = no_more_found old (answer_of labels (at + 1) r.children) new found same in
-      let node : Node = record { number = at; route = view_of r } in
+      let node : Node = record { number = at; route = route_view r } in
       ap (λ l. l ++ node ∷ []) (found ∙ (ap (λ b. old ++ b) none ∙ append-nil old))
-      ∙ ap (λ own. old ++ own) (sym (own-itself labels at (view_of r) r.children others admits none))
+      ∙ ap (λ own. old ++ own) (sym (own-itself labels at (route_view r) r.children others admits none))
 
-  pub own-kept : length new ≢ length old → new ≡ old ++ own_answer labels at (view_of r) (answer_of labels (at + 1) r.children)
+  pub own-kept : length new ≢ length old → new ≡ old ++ own_answer labels at (route_view r) (answer_of labels (at + 1) r.children)
   own-kept more =
       let some : 0 < length (answer_of labels (at + 1) r.children) = omega (arith, ap length found ∙ length-append old (answer_of labels (at + 1) r.children), more) in
-      found ∙ ap (λ own. old ++ own) (sym (own-below labels at (view_of r) r.children others admits some))
+      found ∙ ap (λ own. old ++ own) (sym (own-below labels at (route_view r) r.children others admits some))
 
 module _ (labels : Labels) (rs : List Route) (i : ℕ) (r : Route) (early : i < length rs) (is : r ≡ get_or rs i r) (at : ℕ) (old total : List Node)
     (so_far : old ++ answer_of labels at (forest_of (drop i rs)) ≡ total) where
@@ -140,20 +140,20 @@ module _ (labels : Labels) (rs : List Route) (i : ℕ) (r : Route) (early : i < 
 
   pub step-past : all_admitted r.matchers labels ≡ false → old ++ answer_of labels (at + 1 + count_of r.children) (forest_of (drop (i + 1) rs)) ≡ total
   step-past refused =
-      ap (λ rest. old ++ rest) (sym (ap (answer_of labels at) (forest-drop rs i r early is) ∙ passed_over labels at (view_of r) r.children (forest_of (drop (i + 1) rs)) refused)) ∙ so_far
+      ap (λ rest. old ++ rest) (sym (ap (answer_of labels at) (forest-drop rs i r early is) ∙ passed_over labels at (route_view r) r.children (forest_of (drop (i + 1) rs)) refused)) ∙ so_far
 
-  pub step-on : (new : List Node) → new ≡ old ++ own_answer labels at (view_of r) (answer_of labels (at + 1) r.children) → r.continues ≡ true
+  pub step-on : (new : List Node) → new ≡ old ++ own_answer labels at (route_view r) (answer_of labels (at + 1) r.children) → r.continues ≡ true
       → new ++ answer_of labels (at + 1 + count_of r.children) (forest_of (drop (i + 1) rs)) ≡ total
   step-on new own continues =
       let rest = answer_of labels (at + 1 + count_of r.children) (forest_of (drop (i + 1) rs)) in
       ap (λ l. l ++ rest) own
-      ∙ (append_assoc old (own_answer labels at (view_of r) (answer_of labels (at + 1) r.children)) rest
-      ∙ (ap (λ l. old ++ l) (sym (ap (answer_of labels at) (forest-drop rs i r early is) ∙ goes-on labels at (view_of r) r.children (forest_of (drop (i + 1) rs)) continues)) ∙ so_far))
+      ∙ (append_assoc old (own_answer labels at (route_view r) (answer_of labels (at + 1) r.children)) rest
+      ∙ (ap (λ l. old ++ l) (sym (ap (answer_of labels at) (forest-drop rs i r early is) ∙ goes-on labels at (route_view r) r.children (forest_of (drop (i + 1) rs)) continues)) ∙ so_far))
 
-  pub step-end : (new : List Node) → new ≡ old ++ own_answer labels at (view_of r) (answer_of labels (at + 1) r.children) → r.continues ≡ false
-      → 0 < length (own_answer labels at (view_of r) (answer_of labels (at + 1) r.children)) → new ≡ total
+  pub step-end : (new : List Node) → new ≡ old ++ own_answer labels at (route_view r) (answer_of labels (at + 1) r.children) → r.continues ≡ false
+      → 0 < length (own_answer labels at (route_view r) (answer_of labels (at + 1) r.children)) → new ≡ total
   step-end new own last some =
-      own ∙ (ap (λ l. old ++ l) (sym (ap (answer_of labels at) (forest-drop rs i r early is) ∙ stops-here labels at (view_of r) r.children (forest_of (drop (i + 1) rs)) last some)) ∙ so_far)
+      own ∙ (ap (λ l. old ++ l) (sym (ap (answer_of labels at) (forest-drop rs i r early is) ∙ stops-here labels at (route_view r) r.children (forest_of (drop (i + 1) rs)) last some)) ∙ so_far)
 
 -- a route that admits the label set answers something
 pub own-some : (labels : Labels) (at : ℕ) (first : RouteView) (found : List Node) → all_admitted first.matchers labels ≡ true → 0 < length (own_answer labels at first found)

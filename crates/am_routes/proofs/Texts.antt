@@ -1,8 +1,5 @@
 -- Reading the texts of an array one after another.
-use Rattle.std.proofs.Common.{◌≡◌, ℕ, ◌+◌, List, [], ◌∷◌, ◌++◌, Some, Result, Ok, Err, refl, sym, ap, ◌∙◌, append_assoc}
-use Rattle.serde_json.specs.Data.{Data, Items, item}
-use Rattle.serde_json.specs.Find.{as_str}
-use Rattle.am_routes.specs.Members.{texts_from}
+use Rattle.std.proofs.Common.{List, ◌++◌, Result, Ok, Err}
 use Rattle.am_routes.specs.declared.config.fault.ConfigFault.{ConfigFault}
 
 -- elements that were read before others

@@ -9,7 +9,7 @@ use Rattle.am_routes.specs.Members.{of_kind}
 use Rattle.am_routes.specs.Readings.{Reading, Is, ◌>>=◌}
 use Rattle.am_routes.specs.Durations.{IsDuration}
 use Rattle.am_routes.specs.Timeouts.{timeout_text_of}
-use Rattle.am_routes.specs.RouteReadings.{root_of}
+use Rattle.am_routes.specs.RouteReadings.{root_reading}
 use Rattle.am_routes.specs.RuleReadings.{rules_of}
 use Rattle.am_routes.specs.declared.config.Config.{Config}
 use Rattle.am_routes.specs.declared.config.TheConstants.{DEFAULT_MILLISECONDS}
@@ -39,7 +39,7 @@ unfoldable pub config_of : Data → Reading Config
 config_of d = do
   members ← Is (of_kind as_object [] d)
   timeout ← timeout_of d
-  root ← root_of d
+  root ← root_reading d
   rules ← rules_of d
   Is (Ok (record { resolve_timeout = timeout; tree = record { root = root }; rules = rules }))
 

@@ -3,7 +3,7 @@ use Rattle.std.specs.Prelude.{◌≡◌, ℕ, List, [], ◌∷◌, ◌++◌}
 use Rattle.am_labels.specs.LabelSets.{Labels}
 use Rattle.am_routes.specs.Routes.{Forest}
 use Rattle.am_routes.specs.RouteAnswers.{Node, RoutesAnswer, answer_of}
-use Rattle.am_routes.specs.Groups.{Event, groups_of}
+use Rattle.am_routes.specs.Groups.{DispatchEvent, groups_of}
 
 -- routes have an answer for each label set
 abbrev pub RoutesAnswerEach : Type 0
@@ -17,6 +17,6 @@ RoutesAnswerOnce = (labels : Labels) (number : ℕ) (routes : Forest) (found : L
 
 -- what groups become by one event more goes by the groups alone, not by what led to them
 abbrev pub GroupsGoOn : Type 0
-GroupsGoOn = (tree : Forest) (one other : List Event) (event : Event)
+GroupsGoOn = (tree : Forest) (one other : List DispatchEvent) (event : DispatchEvent)
     → groups_of tree one ≡ groups_of tree other
     → groups_of tree (one ++ event ∷ []) ≡ groups_of tree (other ++ event ∷ [])

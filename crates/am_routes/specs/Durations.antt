@@ -42,31 +42,31 @@ abbrev pub IsNumber : List ℕ → Type 0
 IsNumber digits = (0 < length digits) × (list_all is_ascii_digit digits ≡ true)
 
 -- a number, as its digits, and its unit
-pub record Part : Type 0 where
+pub record DurationPart : Type 0 where
   pub digits : List ℕ
   pub unit : Unit
 
-abbrev pub written : Part → List ℕ
+abbrev pub written : DurationPart → List ℕ
 written part = part.digits ++ symbol_of part.unit
 
-abbrev pub worth : Part → ℕ
+abbrev pub worth : DurationPart → ℕ
 worth part = digits_value 10 part.digits * milliseconds_of part.unit
 
 -- each part has a number, and their units come in order, from a place on, each once at most
-abbrev pub AreParts : ℕ → List Part → Type 0
+abbrev pub AreParts : ℕ → List DurationPart → Type 0
 AreParts from [] = ⊤
 AreParts from (part ∷ parts) =
     IsNumber part.digits × (from ≤ rank_of part.unit) × AreParts (rank_of part.unit + 1) parts
 
 -- the parts of a text, whose units stand at a place or behind it
-pub record ArePartsOf (from : ℕ) (text : List ℕ) (parts : List Part) : Type 0 where
+pub record ArePartsOf (from : ℕ) (text : List ℕ) (parts : List DurationPart) : Type 0 where
   pub in_order : AreParts from parts
   pub whole : text ≡ flat_map written parts
 
 -- a text of one part or more, and their sum
 abbrev pub IsSumOfParts : List ℕ → ℕ → Type 0
 IsSumOfParts text total = (0 < length text)
-    × ((parts : List Part) × ArePartsOf 0 text parts × (total ≡ sum_by worth parts))
+    × ((parts : List DurationPart) × ArePartsOf 0 text parts × (total ≡ sum_by worth parts))
 
 -- a duration: its parts, or the text `0`, up to the limit
 abbrev pub IsDuration : List ℕ → ℕ → Type 0

@@ -1,5 +1,4 @@
 -- By which labels a route groups an alert (Alertmanager's `dispatch.getGroupLabels`).
-use Rattle.std.specs.Prelude.{List}
 use Rattle.std.specs.List.{list_any}
 use Rattle.std.specs.FinMap.{retain_keys}
 use Rattle.am_labels.specs.LabelSets.{Labels}

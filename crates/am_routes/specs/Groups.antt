@@ -15,41 +15,41 @@ use Rattle.am_routes.specs.GroupLabels.{group_labels}
 use Rattle.am_routes.specs.InOrder.{in_order}
 
 -- what a dispatcher is told: an alert, or to drop what is resolved at a moment
-pub data Event : Type 0 where
-  Take : (alert : Alert) → Event
-  Sweep : (now : ℕ) → Event
+pub data DispatchEvent : Type 0 where
+  Take : (alert : Alert) → DispatchEvent
+  Sweep : (now : ℕ) → DispatchEvent
 
 -- what becomes of groups: an alert comes to a route under its group labels, or what is resolved goes
-pub data Update : Type 0 where
-  Join : (node : Node) (labels : Labels) (alert : Alert) → Update
-  Resolve : (now : ℕ) → Update
+pub data GroupUpdate : Type 0 where
+  Join : (node : Node) (labels : Labels) (alert : Alert) → GroupUpdate
+  Resolve : (now : ℕ) → GroupUpdate
 
 -- an alert joins one group of each route that its label set comes to
-abbrev pub joins : List Node → Alert → List Update
+abbrev pub joins : List Node → Alert → List GroupUpdate
 joins nodes alert = map (λ node. Join node (group_labels node.route.group_by alert.labels) alert) nodes
 
-abbrev pub updates_of : Forest → Event → List Update
-updates_of tree (Take alert) = joins (answer_of alert.labels 0 tree) alert
-updates_of tree (Sweep now) = Resolve now ∷ []
+abbrev pub updates_of_event : Forest → DispatchEvent → List GroupUpdate
+updates_of_event tree (Take alert) = joins (answer_of alert.labels 0 tree) alert
+updates_of_event tree (Sweep now) = Resolve now ∷ []
 
-abbrev pub updates : Forest → List Event → List Update
-updates tree events = flat_map (updates_of tree) events
+abbrev pub group_updates : Forest → List DispatchEvent → List GroupUpdate
+group_updates tree events = flat_map (updates_of_event tree) events
 
 -- a group is known by its route and its labels
-pub record GroupKey : Type 0 where
+pub record GroupIdentity : Type 0 where
   pub route : ℕ
   pub labels : Labels
 
-abbrev pub same_group : GroupKey → GroupKey → Bool
+abbrev pub same_group : GroupIdentity → GroupIdentity → Bool
 same_group a b = nat_eq a.route b.route && same_labels a.labels b.labels
 
 -- the group of an update
-abbrev pub group_key : Update → Option GroupKey
+abbrev pub group_key : GroupUpdate → Option GroupIdentity
 group_key (Join node labels alert) = Some (record { route = node.number; labels = labels })
 group_key (Resolve now) = None
 
 -- the label set of an update of a group
-abbrev pub label_set : GroupKey → Update → Option Labels
+abbrev pub label_set : GroupIdentity → GroupUpdate → Option Labels
 label_set key (Join node labels alert) =
     if same_group key (record { route = node.number; labels = labels })
     then Some alert.labels else None
@@ -61,19 +61,19 @@ unless_resolved now alert = if is_resolved_at now alert then None else Some aler
 
 -- what one label set holds in one group after an update: the alert that joins, or nothing where it is
 -- resolved
-abbrev pub after_update : GroupKey → Labels → Option Alert → Update → Option Alert
-after_update key labels held (Join node group alert) =
+abbrev pub after_group_update : GroupIdentity → Labels → Option Alert → GroupUpdate → Option Alert
+after_group_update key labels held (Join node group alert) =
     if same_group key (record { route = node.number; labels = group }) && same_labels labels alert.labels
     then Some alert else held
-after_update key labels held (Resolve now) = option_and_then (unless_resolved now) held
+after_group_update key labels held (Resolve now) = option_and_then (unless_resolved now) held
 
--- what it holds after all updates
-abbrev pub held_in : GroupKey → Labels → List Update → Option Alert
-held_in key labels all = fold (after_update key labels) None all
+-- what it holds after all group_updates
+abbrev pub held_in : GroupIdentity → Labels → List GroupUpdate → Option Alert
+held_in key labels all = fold (after_group_update key labels) None all
 
 -- a group's alerts, in the order in which their label sets began
-abbrev pub alerts_in : GroupKey → List Update → List Alert
-alerts_in key all = map (λ entry. entry.1) (in_order (label_set key) (held_in key) all)
+abbrev pub alerts_of_group : GroupIdentity → List GroupUpdate → List Alert
+alerts_of_group key all = map (λ entry. entry.1) (in_order (label_set key) (held_in key) all)
 
 -- some alerts, or nothing
 abbrev pub some_of : List Alert → Option (List Alert)
@@ -81,8 +81,8 @@ some_of [] = None
 some_of (alert ∷ alerts) = Some (alert ∷ alerts)
 
 -- what a group holds: its alerts, where there is one
-abbrev pub members : GroupKey → List Update → Option (List Alert)
-members key all = some_of (alerts_in key all)
+abbrev pub members : GroupIdentity → List GroupUpdate → Option (List Alert)
+members key all = some_of (alerts_of_group key all)
 
 -- a group, as contracts see it
 pub record GroupView : Type 0 where
@@ -101,7 +101,7 @@ coded_group =
     (λ _. refl)
 
 -- the group that an update began, with the alerts that it has
-abbrev pub group_of : Update × List Alert → Option GroupView
+abbrev pub group_of : GroupUpdate × List Alert → Option GroupView
 group_of (Join node labels alert, alerts) = Some (record {
   route = node.number;
   receiver = node.route.receiver;
@@ -111,12 +111,12 @@ group_of (Join node labels alert, alerts) = Some (record {
 group_of (Resolve now, alerts) = None
 
 -- the groups that hold an alert, in the order in which they began
-abbrev pub groups_after : List Update → List GroupView
+abbrev pub groups_after : List GroupUpdate → List GroupView
 groups_after all = filter_map group_of (in_order group_key members all)
 
 -- the groups of a tree after what a dispatcher was told
-abbrev pub groups_of : Forest → List Event → List GroupView
-groups_of tree events = groups_after (updates tree events)
+abbrev pub groups_of : Forest → List DispatchEvent → List GroupView
+groups_of tree events = groups_after (group_updates tree events)
 
 -- a dispatcher, as contracts see it: its tree, and its groups
 pub record DispatcherView : Type 0 where
@@ -125,10 +125,10 @@ pub record DispatcherView : Type 0 where
 
 -- a dispatcher was told one thing more: for each list of which it has the groups, it then has those of
 -- that list followed by the event
-abbrev pub Follows : Event → DispatcherView → DispatcherView → Type 0
+abbrev pub Follows : DispatchEvent → DispatcherView → DispatcherView → Type 0
 Follows event old new =
     (new.tree ≡ old.tree)
-    × ((events : List Event) → old.groups ≡ groups_of old.tree events
+    × ((events : List DispatchEvent) → old.groups ≡ groups_of old.tree events
     → new.groups ≡ groups_of new.tree (events ++ event ∷ []))
 
 -- no alert

@@ -1,10 +1,9 @@
 -- The matchers of a configuration, each read from its text.
-use Rattle.std.specs.Prelude.{◌≡◌, ℕ, List, Result, Ok, Err}
+use Rattle.std.specs.Prelude.{◌≡◌, ℕ, List, Ok, Err}
 use Rattle.am_labels.specs.Matchers.{MatcherView, IsReadingOf}
 use Rattle.am_labels.specs.declared.match_fault.MatchFault.TheVariants as match_fault
 use Rattle.am_routes.specs.Paths.{item_path}
 use Rattle.am_routes.specs.Readings.{Reading, each}
-use Rattle.am_routes.specs.declared.config.fault.ConfigFault.{ConfigFault}
 use Rattle.am_routes.specs.declared.config.fault.ConfigFault.TheVariants.{NoMemory, NoOperator, BadName, BadQuote, BadPattern, NotJson, Missing, Deprecated, RootMatchers, TooDeep, BadDuration, WrongKind}
 
 -- the matcher of a text at a path, or why the text is none

@@ -1,5 +1,5 @@
 -- What the members of a configuration have to be, over the value that its JSON is.
-use Rattle.std.specs.Prelude.{◌≡◌, ℕ, ◌+◌, Bool, false, if◌then◌else◌, List, [], ◌∷◌, Option, Some, None, ok_or, is_some, Result, Ok, Err, ⊤}
+use Rattle.std.specs.Prelude.{◌≡◌, ℕ, ◌+◌, Bool, false, if◌then◌else◌, List, [], ◌∷◌, Option, ok_or, is_some, Result, Ok, Err, ⊤}
 use Rattle.std.specs.Option.{option_map_or}
 use Rattle.serde_json.specs.Data.{Data, Items, no_items, item}
 use Rattle.serde_json.specs.Find.{as_str, as_bool, as_array}
@@ -24,8 +24,8 @@ member_of absent reads at name d =
     option_map_or (reads (member_path at name)) (given name d) (Ok absent)
 
 -- a text, empty where it is absent
-abbrev pub text_member : List ℕ → List ℕ → Data → Result (List ℕ) ConfigFault
-text_member = member_of [] (of_kind as_str)
+abbrev pub member_text : List ℕ → List ℕ → Data → Result (List ℕ) ConfigFault
+member_text = member_of [] (of_kind as_str)
 
 -- a truth value, false where it is absent
 abbrev pub flag_member : List ℕ → List ℕ → Data → Result Bool ConfigFault
@@ -54,8 +54,8 @@ deprecated_member at name d =
 
 -- what a reader returned, as it is seen, is what the definition gives, unless memory ran out; what is
 -- read here is JSON
-abbrev pub Reads : {X Y : Type 0} → (X → Y) → Result X ConfigFault → Result Y ConfigFault → Type 0
-Reads seen (Ok x) read = read ≡ Ok (seen x)
-Reads seen (Err NoMemory) read = ⊤
-Reads seen (Err NotJson) read = ⊥
-Reads seen (Err fault) read = read ≡ Err fault
+abbrev pub ReadsMember : {X Y : Type 0} → (X → Y) → Result X ConfigFault → Result Y ConfigFault → Type 0
+ReadsMember seen (Ok x) read = read ≡ Ok (seen x)
+ReadsMember seen (Err NoMemory) read = ⊤
+ReadsMember seen (Err NotJson) read = ⊥
+ReadsMember seen (Err fault) read = read ≡ Err fault

@@ -30,8 +30,8 @@ each reads i (x ∷ xs) = do
   Is (Ok (first ∷ others))
 
 -- the reading allows the result, unless memory ran out; what is read here is JSON
-abbrev pub IsAnswerOf : {A : Type 0} → Reading A → Result A ConfigFault → Type 0
-IsAnswerOf reading (Ok x) = reading (Ok x)
-IsAnswerOf reading (Err NoMemory) = ⊤
-IsAnswerOf reading (Err NotJson) = ⊥
-IsAnswerOf reading (Err fault) = reading (Err fault)
+abbrev pub AllowsResult : {A : Type 0} → Reading A → Result A ConfigFault → Type 0
+AllowsResult reading (Ok x) = reading (Ok x)
+AllowsResult reading (Err NoMemory) = ⊤
+AllowsResult reading (Err NotJson) = ⊥
+AllowsResult reading (Err fault) = reading (Err fault)

@@ -1,12 +1,12 @@
 -- What a route of a configuration states besides its matchers and the routes below it (Alertmanager's
 -- configuration documentation, "route"), over the value that its JSON is.
-use Rattle.std.specs.Prelude.{ℕ, Bool, true, false, not, if◌then◌else◌, List, [], ◌∷◌, codes, filter, Option, Some, None, Result, Ok, Err}
+use Rattle.std.specs.Prelude.{ℕ, Bool, not, if◌then◌else◌, List, [], ◌∷◌, codes, filter, Option, Some, None, Result, Ok, Err}
 use Rattle.std.specs.List.{list_any}
 use Rattle.serde_json.specs.Data.{Data, Items}
 use Rattle.serde_json.specs.Find.{as_object}
 use Rattle.am_labels.specs.Texts.{same_text}
 use Rattle.am_routes.specs.Paths.{member_path}
-use Rattle.am_routes.specs.Members.{◌>>=◌, of_kind, text_member, flag_member, array_member, texts_member, deprecated_member}
+use Rattle.am_routes.specs.Members.{◌>>=◌, of_kind, member_text, flag_member, array_member, texts_member, deprecated_member}
 use Rattle.am_routes.specs.declared.group_by.GroupBy.{GroupBy}
 use Rattle.am_routes.specs.declared.group_by.GroupBy.TheVariants.{All, Names}
 use Rattle.am_routes.specs.declared.config.route_head.RouteHead.{RouteHead}
@@ -22,7 +22,7 @@ receiver_from None at [] = Err (Missing (member_path at (codes "receiver")))
 
 unfoldable pub receiver_of : Option RouteHead → List ℕ → Data → Result (List ℕ) ConfigFault
 receiver_of above at d = do
-  own ← text_member at (codes "receiver") d
+  own ← member_text at (codes "receiver") d
   receiver_from above at own
 
 -- the names, each once, where it stands first

@@ -5,8 +5,8 @@ use Rattle.am_routes.specs.declared.tree.RouteTree.{RouteTree}
 use Rattle.am_routes.specs.Routes.{RouteView, Forest, no_routes, route}
 
 -- a route without those below it
-abbrev pub view_of : Route → RouteView
-view_of r = record {
+abbrev pub route_view : Route → RouteView
+route_view r = record {
   receiver = r.receiver;
   group_by = r.group_by;
   matchers = r.matchers;
@@ -16,7 +16,7 @@ view_of r = record {
 -- routes, each with those below it
 abbrev pub forest_of : List Route → Forest
 forest_of [] = no_routes
-forest_of (r ∷ rs) = route (view_of r) r.children (forest_of rs)
+forest_of (r ∷ rs) = route (route_view r) r.children (forest_of rs)
 
 -- a tree, as its root alone with those below it
 abbrev pub root_of : RouteTree → Forest

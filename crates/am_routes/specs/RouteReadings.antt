@@ -1,6 +1,6 @@
 -- The routes of a configuration (Alertmanager's configuration documentation, "route", and
 -- `dispatch.NewRoute`), over the value that its JSON is.
-use Rattle.std.specs.Prelude.{ℕ, zero, suc, Bool, List, [], ◌∷◌, codes, Option, Some, None, Result, Ok, Err}
+use Rattle.std.specs.Prelude.{ℕ, zero, suc, Bool, List, [], ◌∷◌, codes, Option, Some, None, Ok, Err}
 use Rattle.serde_json.specs.Data.{Data, Items, no_items, item}
 use Rattle.am_alert.specs.Postables.{given}
 use Rattle.am_routes.specs.Paths.{member_path, item_path}
@@ -13,7 +13,6 @@ use Rattle.am_routes.specs.MatcherReadings.{matchers_of}
 use Rattle.am_routes.specs.declared.route.Route.{Route}
 use Rattle.am_routes.specs.declared.config.route_head.RouteHead.{RouteHead}
 use Rattle.am_routes.specs.declared.config.route_reader.TheConstants.{MAX_DEPTH}
-use Rattle.am_routes.specs.declared.config.fault.ConfigFault.{ConfigFault}
 use Rattle.am_routes.specs.declared.config.fault.ConfigFault.TheVariants.{Missing, TooDeep}
 
 -- the elements of an array in order
@@ -54,5 +53,5 @@ root_from None = Is (Err (Missing (codes "route")))
 root_from (Some d) = route_of MAX_DEPTH None (codes "route") d
 
 -- the route of the whole
-abbrev pub root_of : Data → Reading Route
-root_of d = root_from (given (codes "route") d)
+abbrev pub root_reading : Data → Reading Route
+root_reading d = root_from (given (codes "route") d)

@@ -39,7 +39,7 @@ pub struct Config {
 impl Config {
     ghost use Rattle.serde_json.specs.View.{view};
     ghost use Rattle.am_routes.specs.Configs.{config_of, IsConfigOf};
-    ghost use Rattle.am_routes.specs.Readings.{IsAnswerOf};
+    ghost use Rattle.am_routes.specs.Readings.{AllowsResult};
 
     /// The configuration of bytes that are JSON with the member names of Alertmanager's
     /// documentation, or the first fault in the order of the checks. Members that aren't named
@@ -55,7 +55,7 @@ impl Config {
     }
 
     fn from_value(alloc: Global, whole: &Value) -> Result<Config, ConfigFault>
-        ensures { IsAnswerOf (config_of (view whole.now)) result }
+        ensures { AllowsResult (config_of (view whole.now)) result }
     {
         if !whole.is_object() {
             return Err(ConfigFault::WrongKind(Path::whole(alloc)));

@@ -57,7 +57,7 @@ impl<'t> Model for Group<'t> {
 }
 
 impl<'t> Group<'t> {
-    ghost use Rattle.am_routes.specs.RouteLists.{view_of};
+    ghost use Rattle.am_routes.specs.RouteLists.{route_view};
 
     /// A group with its first alert.
     pub(crate) fn new(

@@ -5,7 +5,7 @@ ghost use Rattle.std.specs.List.{list_any};
 ghost use Rattle.std.specs.FinMap.{retain_keys};
 ghost use Rattle.am_labels.specs.Texts.{same_text};
 
-use crate::names::Names;
+use crate::label_names::LabelNames;
 use am_labels::LabelSet;
 use std::alloc::{AllocError, Global};
 
@@ -15,7 +15,7 @@ pub enum GroupBy {
     /// By all labels that an alert has: `group_by` holds `...`.
     All,
     /// By these, each named once.
-    Names(Names),
+    Names(LabelNames),
 }
 
 impl GroupBy {
@@ -43,7 +43,11 @@ impl GroupBy {
 }
 
 // The labels of some names.
-fn labels_named(alloc: Global, labels: &LabelSet, names: &Names) -> Result<LabelSet, AllocError>
+fn labels_named(
+    alloc: Global,
+    labels: &LabelSet,
+    names: &LabelNames,
+) -> Result<LabelSet, AllocError>
     ensures { IfOk result (λ named.
         named ≡ retain_keys labels.now (λ name. list_any (same_text name) names.now)) }
 {

@@ -1,6 +1,6 @@
 //! Inhibition rules: which alerts mute which others.
 
-use crate::names::Names;
+use crate::label_names::LabelNames;
 use am_labels::Matchers;
 use std::marker::Model;
 
@@ -12,7 +12,7 @@ pub struct InhibitRule {
     /// Which alerts are muted (`target_matchers`).
     pub target: Matchers,
     /// The labels that both have to have equal, as the configuration lists them.
-    pub equal: Names,
+    pub equal: LabelNames,
 }
 
 /// Rules in order, seen by contracts as their list.

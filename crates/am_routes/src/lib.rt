@@ -6,7 +6,12 @@
 //!
 //! ```text
 //! let config = Config::read(alloc, bytes)?;           // {"route":{"receiver":"ops", ..}}
-//! println!(rt; "{}", config.tree.root.receiver)?;     // ops
+//! let mut dispatcher = Dispatcher::new(alloc, &config.tree)?;
+//! dispatcher.take(&alert)?;
+//! for group in dispatcher.groups() {
+//!     println!(rt; "{} {}", group.receiver(), group.labels())?;       // ops {job="api"}
+//! }
+//! let swept = dispatcher.sweep(now);                  // what is resolved is gone
 //! ```
 //!
 //! This crate knows of no provider: it is handed labels and alerts, and says where they belong.
@@ -17,9 +22,9 @@ mod dispatcher;
 mod group;
 mod group_by;
 mod inhibit_rule;
+mod label_names;
 mod laws;
 mod matching;
-mod names;
 mod route;
 mod route_id;
 mod tree;
@@ -29,9 +34,9 @@ pub use dispatcher::{Dispatcher, Swept};
 pub use group::Group;
 pub use group_by::GroupBy;
 pub use inhibit_rule::{InhibitRule, InhibitRules};
+pub use label_names::LabelNames;
 pub use laws::dispatch_laws;
 pub use matching::PreparedTree;
-pub use names::Names;
 pub use route::{Route, Routes};
 pub use route_id::RouteId;
 pub use tree::RouteTree;

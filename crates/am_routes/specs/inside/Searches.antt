@@ -3,12 +3,12 @@ use Rattle.std.specs.Prelude.{◌≡◌, ℕ, List, [], ◌∷◌, ◌++◌, map
 use Rattle.am_routes.specs.declared.matching.FoundRoute.{FoundRoute}
 use Rattle.am_routes.specs.declared.matching.RouteSearch.{RouteSearch}
 use Rattle.am_routes.specs.Routes.{Forest, no_routes, route, count_of}
-use Rattle.am_routes.specs.RouteLists.{view_of}
+use Rattle.am_routes.specs.RouteLists.{route_view}
 use Rattle.am_routes.specs.RouteAnswers.{Node}
 
 -- a route that was found, as a node
 abbrev pub node_of : FoundRoute → Node
-node_of found = record { number = found.id.0; route = view_of found.route.now }
+node_of found = record { number = found.id.0; route = route_view found.route.now }
 
 abbrev pub nodes_in : List FoundRoute → List Node
 nodes_in found = map node_of found

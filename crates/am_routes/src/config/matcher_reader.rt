@@ -4,7 +4,7 @@ ghost use Rattle.std.specs.Prelude.{◌≡◌};
 ghost use Rattle.am_routes.specs.MatcherReadings.{matcher_at, matchers_of};
 ghost use Rattle.am_routes.specs.Paths.{item_path};
 ghost use Rattle.am_routes.specs.inside.MatchFaults.{fault_at};
-ghost use Rattle.am_routes.specs.Readings.{IsAnswerOf};
+ghost use Rattle.am_routes.specs.Readings.{AllowsResult};
 
 use crate::config::fault::ConfigFault;
 use crate::config::path::Path;
@@ -18,7 +18,7 @@ pub(crate) fn read_matchers(
     path: &Path,
     texts: &Texts,
 ) -> Result<Matchers, ConfigFault>
-    ensures { IsAnswerOf (matchers_of path.now texts.now) result }
+    ensures { AllowsResult (matchers_of path.now texts.now) result }
 {
     let mut matchers = Vec::with_capacity(alloc, texts.as_slice().len())?;
     for (i, text) in texts.as_slice().iter().enumerate() {
@@ -28,7 +28,7 @@ pub(crate) fn read_matchers(
 }
 
 fn read_matcher(alloc: Global, path: &Path, i: usize, text: &str) -> Result<Matcher, ConfigFault>
-    ensures { IsAnswerOf (matcher_at (item_path path.now i) text.now) result }
+    ensures { AllowsResult (matcher_at (item_path path.now i) text.now) result }
 {
     match Matcher::read(alloc, text) {
         Ok(matcher) => Ok(matcher),

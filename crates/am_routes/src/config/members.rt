@@ -4,7 +4,7 @@ ghost use Rattle.std.specs.Prelude.{◌≡◌, option_map};
 ghost use Rattle.serde_json.specs.View.{view, items_view};
 ghost use Rattle.am_alert.specs.Postables.{given};
 ghost use Rattle.am_routes.specs.Members.{array_member, deprecated_member, flag_member};
-ghost use Rattle.am_routes.specs.Members.{text_member, texts_from, texts_member, Reads};
+ghost use Rattle.am_routes.specs.Members.{member_text, texts_from, texts_member, ReadsMember};
 
 use crate::config::fault::ConfigFault;
 use crate::config::path::Path;
@@ -23,13 +23,13 @@ pub(crate) fn given<'v>(value: &'v Value, name: &str) -> Option<&'v Value>
     }
 }
 
-pub(crate) fn text_member<'v>(
+pub(crate) fn member_text<'v>(
     alloc: Global,
     value: &'v Value,
     at: &Path,
     name: &str,
 ) -> Result<&'v str, ConfigFault>
-    ensures { Reads (λ text. text.now) result (text_member at.now name.now (view value.now)) }
+    ensures { ReadsMember (λ text. text.now) result (member_text at.now name.now (view value.now)) }
 {
     let Some(member) = given(value, name) else {
         return Ok("");
@@ -46,7 +46,7 @@ pub(crate) fn flag_member(
     at: &Path,
     name: &str,
 ) -> Result<bool, ConfigFault>
-    ensures { Reads (λ flag. flag) result (flag_member at.now name.now (view value.now)) }
+    ensures { ReadsMember (λ flag. flag) result (flag_member at.now name.now (view value.now)) }
 {
     let Some(member) = given(value, name) else {
         return Ok(false);
@@ -63,7 +63,7 @@ pub(crate) fn array_member<'v>(
     at: &Path,
     name: &str,
 ) -> Result<&'v [Value], ConfigFault>
-    ensures { Reads (λ items. items_view items.now) result
+    ensures { ReadsMember (λ items. items_view items.now) result
         (array_member at.now name.now (view value.now)) }
 {
     let Some(member) = given(value, name) else {
@@ -81,14 +81,14 @@ pub(crate) fn texts_member(
     at: &Path,
     name: &str,
 ) -> Result<Texts, ConfigFault>
-    ensures { Reads (λ texts. texts) result (texts_member at.now name.now (view value.now)) }
+    ensures { ReadsMember (λ texts. texts) result (texts_member at.now name.now (view value.now)) }
 {
     let items = array_member(alloc, value, at, name)?;
     texts_from(alloc, items, &at.member(alloc, name)?)
 }
 
 fn texts_from(alloc: Global, items: &[Value], path: &Path) -> Result<Texts, ConfigFault>
-    ensures { Reads (λ texts. texts) result (texts_from path.now 0 (items_view items.now)) }
+    ensures { ReadsMember (λ texts. texts) result (texts_from path.now 0 (items_view items.now)) }
 {
     let mut texts = Vec::with_capacity(alloc, items.len())?;
     for (i, item) in items.iter().enumerate() {
@@ -107,7 +107,7 @@ pub(crate) fn refuse_deprecated(
     at: &Path,
     name: &str,
 ) -> Result<(), ConfigFault>
-    ensures { Reads (λ none. none) result (deprecated_member at.now name.now (view value.now)) }
+    ensures { ReadsMember (λ none. none) result (deprecated_member at.now name.now (view value.now)) }
 {
     match given(value, name) {
         Some(_) => Err(ConfigFault::Deprecated(at.member(alloc, name)?)),

@@ -3,18 +3,18 @@
 ghost use Rattle.std.specs.Prelude.{◌≡◌, option_copied, IfOk};
 ghost use Rattle.std.specs.List.{list_any};
 ghost use Rattle.serde_json.specs.View.{view, items_view};
-ghost use Rattle.am_routes.specs.Members.{Reads};
+ghost use Rattle.am_routes.specs.Members.{ReadsMember};
 ghost use Rattle.am_routes.specs.RouteHeads.{distinct, grouped_by, grouping_of, head_of};
 ghost use Rattle.am_routes.specs.RouteHeads.{matcher_texts_of, receiver_of, tail_of};
 
 use crate::config::fault::ConfigFault;
 use crate::config::members::{
-    array_member, flag_member, refuse_deprecated, text_member, texts_member,
+    array_member, flag_member, member_text, refuse_deprecated, texts_member,
 };
 use crate::config::path::Path;
 use crate::config::texts::Texts;
 use crate::group_by::GroupBy;
-use crate::names::Names;
+use crate::label_names::LabelNames;
 use am_labels::Text;
 use serde_json::Value;
 use std::alloc::{AllocError, Global};
@@ -37,7 +37,7 @@ pub(crate) fn read_head(
     at: &Path,
     value: &Value,
 ) -> Result<RouteHead, ConfigFault>
-    ensures { Reads (λ head. head) result
+    ensures { ReadsMember (λ head. head) result
         (head_of (option_copied above.entry) at.now (view value.now)) }
 {
     if !value.is_object() {
@@ -62,10 +62,10 @@ fn receiver_of(
     at: &Path,
     value: &Value,
 ) -> Result<Text, ConfigFault>
-    ensures { Reads (λ receiver. receiver) result
+    ensures { ReadsMember (λ receiver. receiver) result
         (receiver_of (option_copied above.entry) at.now (view value.now)) }
 {
-    let own = text_member(alloc, value, at, "receiver")?;
+    let own = member_text(alloc, value, at, "receiver")?;
     if !own.is_empty() {
         return Ok(Text::from_str(alloc, own)?);
     }
@@ -82,7 +82,7 @@ fn grouping_of(
     at: &Path,
     value: &Value,
 ) -> Result<GroupBy, ConfigFault>
-    ensures { Reads (λ grouping. grouping) result
+    ensures { ReadsMember (λ grouping. grouping) result
         (grouping_of (option_copied above.entry) at.now (view value.now)) }
 {
     let own = texts_member(alloc, value, at, "group_by")?;
@@ -91,7 +91,7 @@ fn grouping_of(
     }
     match above {
         Some(above) => Ok(above.group_by.copy(alloc)?),
-        None => Ok(GroupBy::Names(Names {
+        None => Ok(GroupBy::Names(LabelNames {
             names: Vec::new(alloc),
         })),
     }
@@ -107,7 +107,7 @@ fn grouped_by(alloc: Global, names: Texts) -> Result<GroupBy, AllocError>
 }
 
 // The names, each once, where it stands first.
-fn distinct(alloc: Global, names: Texts) -> Result<Names, AllocError>
+fn distinct(alloc: Global, names: Texts) -> Result<LabelNames, AllocError>
     ensures { IfOk result (λ kept. kept ≡ distinct names) }
 {
     let mut kept = Vec::with_capacity(alloc, names.texts.len())?;
@@ -116,7 +116,7 @@ fn distinct(alloc: Global, names: Texts) -> Result<Names, AllocError>
             kept.push(name)?;
         }
     }
-    Ok(Names { names: kept })
+    Ok(LabelNames { names: kept })
 }
 
 #[tactic(auto, unfolding(crate::specs::RouteHeads::matcher_texts_of))]
@@ -126,7 +126,7 @@ fn matcher_texts_of(
     at: &Path,
     value: &Value,
 ) -> Result<Texts, ConfigFault>
-    ensures { Reads (λ texts. texts) result
+    ensures { ReadsMember (λ texts. texts) result
         (matcher_texts_of (option_copied above.entry) at.now (view value.now)) }
 {
     let own = texts_member(alloc, value, at, "matchers")?;
@@ -143,7 +143,7 @@ pub(crate) fn read_tail<'v>(
     at: &Path,
     value: &'v Value,
 ) -> Result<(bool, &'v [Value]), ConfigFault>
-    ensures { Reads (λ tail. (tail.0, items_view tail.1.now)) result
+    ensures { ReadsMember (λ tail. (tail.0, items_view tail.1.now)) result
         (tail_of at.now (view value.now)) }
 {
     let continues = flag_member(alloc, value, at, "continue")?;

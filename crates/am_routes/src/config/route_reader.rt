@@ -2,8 +2,8 @@
 
 ghost use Rattle.std.specs.Prelude.{◌≡◌, option_copied};
 ghost use Rattle.serde_json.specs.View.{view, items_view};
-ghost use Rattle.am_routes.specs.Readings.{IsAnswerOf};
-ghost use Rattle.am_routes.specs.RouteReadings.{root_of, route_of, routes_of};
+ghost use Rattle.am_routes.specs.Readings.{AllowsResult};
+ghost use Rattle.am_routes.specs.RouteReadings.{root_reading, route_of, routes_of};
 
 use crate::config::fault::ConfigFault;
 use crate::config::matcher_reader::read_matchers;
@@ -19,7 +19,7 @@ pub const MAX_DEPTH: u32 = 32;
 
 /// The root of the whole.
 pub(crate) fn read_root(alloc: Global, whole: &Value) -> Result<Route, ConfigFault>
-    ensures { IsAnswerOf (root_of (view whole.now)) result }
+    ensures { AllowsResult (root_reading (view whole.now)) result }
 {
     let at = Path::whole(alloc).member(alloc, "route")?;
     match given(whole, "route") {
@@ -37,7 +37,7 @@ fn read_route(
     at: &Path,
     value: &Value,
 ) -> Result<Route, ConfigFault>
-    ensures { IsAnswerOf
+    ensures { AllowsResult
         (route_of levels (option_copied above.entry) at.now (view value.now)) result }
 {
     if levels == 0 {
@@ -71,7 +71,7 @@ fn read_routes(
     path: &Path,
     items: &[Value],
 ) -> Result<Routes, ConfigFault>
-    ensures { IsAnswerOf
+    ensures { AllowsResult
         (routes_of (route_of levels (Some above.now)) path.now (items_view items.now)) result }
 {
     let mut routes = Vec::with_capacity(alloc, items.len())?;

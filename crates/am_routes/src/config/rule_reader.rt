@@ -2,8 +2,8 @@
 
 ghost use Rattle.std.specs.Prelude.{◌≡◌};
 ghost use Rattle.serde_json.specs.View.{view, items_view};
-ghost use Rattle.am_routes.specs.Members.{Reads};
-ghost use Rattle.am_routes.specs.Readings.{IsAnswerOf};
+ghost use Rattle.am_routes.specs.Members.{ReadsMember};
+ghost use Rattle.am_routes.specs.Readings.{AllowsResult};
 ghost use Rattle.am_routes.specs.RuleForms.{rule_form_of};
 ghost use Rattle.am_routes.specs.RuleReadings.{matchers_member, rule_of, rules_from, rules_of};
 
@@ -12,14 +12,14 @@ use crate::config::matcher_reader::read_matchers;
 use crate::config::members::{array_member, refuse_deprecated, texts_member};
 use crate::config::path::Path;
 use crate::inhibit_rule::{InhibitRule, InhibitRules};
-use crate::names::Names;
+use crate::label_names::LabelNames;
 use am_labels::Matchers;
 use serde_json::Value;
 use std::alloc::Global;
 
 /// The rules of the whole.
 pub(crate) fn read_rules(alloc: Global, whole: &Value) -> Result<InhibitRules, ConfigFault>
-    ensures { IsAnswerOf (rules_of (view whole.now)) result }
+    ensures { AllowsResult (rules_of (view whole.now)) result }
 {
     let at = Path::whole(alloc);
     let items = array_member(alloc, whole, &at, "inhibit_rules")?;
@@ -28,7 +28,7 @@ pub(crate) fn read_rules(alloc: Global, whole: &Value) -> Result<InhibitRules, C
 
 // The rules of the array at a path.
 fn rules_from(alloc: Global, path: &Path, items: &[Value]) -> Result<InhibitRules, ConfigFault>
-    ensures { IsAnswerOf (rules_from path.now (items_view items.now)) result }
+    ensures { AllowsResult (rules_from path.now (items_view items.now)) result }
 {
     let mut rules = Vec::with_capacity(alloc, items.len())?;
     for (i, item) in items.iter().enumerate() {
@@ -39,7 +39,7 @@ fn rules_from(alloc: Global, path: &Path, items: &[Value]) -> Result<InhibitRule
 
 // The rule at a path.
 fn read_rule(alloc: Global, at: &Path, value: &Value) -> Result<InhibitRule, ConfigFault>
-    ensures { IsAnswerOf (rule_of at.now (view value.now)) result }
+    ensures { AllowsResult (rule_of at.now (view value.now)) result }
 {
     check_form(alloc, at, value)?;
     let source = matchers_member(alloc, value, at, "source_matchers")?;
@@ -48,13 +48,13 @@ fn read_rule(alloc: Global, at: &Path, value: &Value) -> Result<InhibitRule, Con
     Ok(InhibitRule {
         source,
         target,
-        equal: Names { names: equal.texts },
+        equal: LabelNames { names: equal.texts },
     })
 }
 
 #[tactic(auto, unfolding(crate::specs::RuleForms::rule_form_of))]
 fn check_form(alloc: Global, at: &Path, value: &Value) -> Result<(), ConfigFault>
-    ensures { Reads (λ none. none) result (rule_form_of at.now (view value.now)) }
+    ensures { ReadsMember (λ none. none) result (rule_form_of at.now (view value.now)) }
 {
     if !value.is_object() {
         return Err(ConfigFault::WrongKind(at.copy()?));
@@ -71,7 +71,7 @@ fn matchers_member(
     at: &Path,
     name: &str,
 ) -> Result<Matchers, ConfigFault>
-    ensures { IsAnswerOf (matchers_member at.now name.now (view value.now)) result }
+    ensures { AllowsResult (matchers_member at.now name.now (view value.now)) result }
 {
     let texts = texts_member(alloc, value, at, name)?;
     read_matchers(alloc, &at.member(alloc, name)?, &texts)

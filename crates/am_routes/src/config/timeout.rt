@@ -3,8 +3,8 @@
 ghost use Rattle.std.specs.Prelude.{◌≡◌, option_map};
 ghost use Rattle.serde_json.specs.View.{view};
 ghost use Rattle.am_routes.specs.Configs.{timeout_of};
-ghost use Rattle.am_routes.specs.Members.{Reads};
-ghost use Rattle.am_routes.specs.Readings.{IsAnswerOf};
+ghost use Rattle.am_routes.specs.Members.{ReadsMember};
+ghost use Rattle.am_routes.specs.Readings.{AllowsResult};
 ghost use Rattle.am_routes.specs.Timeouts.{given_text, object_member, timeout_text_of};
 
 use crate::config::DEFAULT_MILLISECONDS;
@@ -18,7 +18,7 @@ use std::time::Duration;
 
 /// The resolve timeout of the whole.
 pub(crate) fn read_timeout(alloc: Global, whole: &Value) -> Result<Duration, ConfigFault>
-    ensures { IsAnswerOf (timeout_of (view whole.now)) result }
+    ensures { AllowsResult (timeout_of (view whole.now)) result }
 {
     let Some(text) = timeout_text_of(alloc, whole)? else {
         return Ok(Duration::from_millis(DEFAULT_MILLISECONDS));
@@ -31,7 +31,7 @@ pub(crate) fn read_timeout(alloc: Global, whole: &Value) -> Result<Duration, Con
 
 #[tactic(auto, unfolding(crate::specs::Timeouts::timeout_text_of))]
 fn timeout_text_of(alloc: Global, whole: &Value) -> Result<Option<&str>, ConfigFault>
-    ensures { Reads (λ text. option_map (λ text. text.now) text) result
+    ensures { ReadsMember (λ text. option_map (λ text. text.now) text) result
         (timeout_text_of (view whole.now)) }
 {
     let at = Path::whole(alloc);
@@ -48,7 +48,7 @@ fn object_member<'v>(
     at: &Path,
     name: &str,
 ) -> Result<Option<&'v Value>, ConfigFault>
-    ensures { Reads (λ member. option_map (λ member. view member.now) member) result
+    ensures { ReadsMember (λ member. option_map (λ member. view member.now) member) result
         (object_member at.now name.now (view value.now)) }
 {
     let Some(member) = given(value, name) else {
@@ -66,7 +66,7 @@ fn given_text<'v>(
     at: &Path,
     name: &str,
 ) -> Result<Option<&'v str>, ConfigFault>
-    ensures { Reads (λ text. option_map (λ text. text.now) text) result
+    ensures { ReadsMember (λ text. option_map (λ text. text.now) text) result
         (given_text at.now name.now (view value.now)) }
 {
     let Some(member) = given(value, name) else {

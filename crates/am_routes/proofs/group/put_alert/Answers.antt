@@ -1,18 +1,15 @@
-use Rattle.std.proofs.Common.{rules, ◌≡◌, [], ◌∷◌, ◌++◌, ◌-◌, Some, None, is_some, true, false, not, length, take, filter, List, refl, sym, ap, subst, ◌∙◌, arith}
-use Rattle.std.specs.List.{slice_get, position, count_by}
-use Rattle.std.specs.Map.{keys_of, values_of}
+use Rattle.std.proofs.Common.{rules, ◌≡◌, [], ◌∷◌, ◌++◌, ◌-◌, Some, None, length, take, sym, ap, subst, ◌∙◌}
+use Rattle.std.specs.List.{position}
+use Rattle.std.specs.Map.{keys_of}
 use Rattle.std.specs.Map as map
-use Rattle.std.proofs.lemmas.List.Sums.{length-filter}
-use Rattle.std.proofs.lemmas.List.Filters.{length-filter_both}
-use Rattle.std.proofs.lemmas.List.{length-map, take-map, map-append}
+use Rattle.std.proofs.lemmas.List.{map-append}
 use Rattle.indexmap.specs.IndexMap.{get, insert_entry, set_value_at}
-use Rattle.indexmap.proofs.CallerLemmas.{insert_entry-new, filter-RetainsPairs}
+use Rattle.indexmap.proofs.CallerLemmas.{insert_entry-new}
 use Rattle.am_labels.specs.LabelSets.{Labels, same_labels}
 use Rattle.am_alert.specs.declared.alert.Alert.{Alert}
-use Rattle.am_alert.specs.Merging.{is_resolved_at}
-use Rattle.am_routes.specs.inside.GroupLists.{with_alert, unresolved}
-use Rattle.am_routes.specs.inside.GroupChanges.{alerts_before, kept_in, AreKeptByLabels, with_old}
-use Rattle.am_routes.proofs.GroupEntries.{kept_inserted, still_kept, written_at, take_last, has, looked_up, old_back, none_back, replaced_back, kept_filtered, still_filtered, still_taken}
+use Rattle.am_routes.specs.inside.GroupLists.{with_alert}
+use Rattle.am_routes.specs.inside.GroupChanges.{kept_in, AreKeptByLabels, with_old}
+use Rattle.am_routes.proofs.GroupEntries.{kept_inserted, still_kept, written_at, take_last, replaced_back}
 use Rattle.am_routes.proofs.group.put_alert.Goals as goal
 
 pub returns-in-Some-clause-put : goal.returns-in-Some-clause-put

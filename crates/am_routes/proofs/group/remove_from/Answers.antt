@@ -1,18 +1,14 @@
-use Rattle.std.proofs.Common.{rules, ◌≡◌, [], ◌∷◌, ◌++◌, ◌-◌, Some, None, is_some, true, false, not, length, take, filter, List, refl, sym, ap, subst, ◌∙◌, arith}
-use Rattle.std.specs.List.{slice_get, position, count_by}
-use Rattle.std.specs.Map.{keys_of, values_of}
-use Rattle.std.specs.Map as map
+use Rattle.std.proofs.Common.{rules, ◌≡◌, not, length, filter, refl, sym, ap, subst, ◌∙◌, arith}
+use Rattle.std.specs.List.{count_by}
 use Rattle.std.proofs.lemmas.List.Sums.{length-filter}
 use Rattle.std.proofs.lemmas.List.Filters.{length-filter_both}
-use Rattle.std.proofs.lemmas.List.{length-map, take-map}
-use Rattle.indexmap.specs.IndexMap.{get, insert_entry, set_value_at}
-use Rattle.indexmap.proofs.CallerLemmas.{insert_entry-new, filter-RetainsPairs}
-use Rattle.am_labels.specs.LabelSets.{Labels, same_labels}
+use Rattle.std.proofs.lemmas.List.{length-map}
+use Rattle.indexmap.proofs.CallerLemmas.{filter-RetainsPairs}
+use Rattle.am_labels.specs.LabelSets.{Labels}
 use Rattle.am_alert.specs.declared.alert.Alert.{Alert}
 use Rattle.am_alert.specs.Merging.{is_resolved_at}
-use Rattle.am_routes.specs.inside.GroupLists.{with_alert, unresolved}
-use Rattle.am_routes.specs.inside.GroupChanges.{alerts_before, kept_in, AreKeptByLabels, with_old}
-use Rattle.am_routes.proofs.GroupEntries.{kept_inserted, still_kept, written_at, take_last, has, looked_up, old_back, none_back, replaced_back, kept_filtered, still_filtered, still_taken}
+use Rattle.am_routes.specs.inside.GroupChanges.{kept_in, AreKeptByLabels}
+use Rattle.am_routes.proofs.GroupEntries.{kept_filtered, still_filtered}
 use Rattle.am_routes.proofs.group.remove_from.Goals as goal
 
 pub left : (c : goal.After-len) → c.retain.new.self.entries ≡ filter (λ (entry : Labels × Alert). not (is_resolved_at c.args.now entry.1)) c.args.alerts.now.entries

@@ -1,4 +1,4 @@
-use Rattle.std.proofs.Common.{rules, ◌≡◌, ◌++◌, ℕ, ◌+◌, ◌-◌, ◌<◌, ◌≤◌, length, List, [], ◌∷◌, sym, ap, subst, ◌∙◌, arith, take, get_or, set}
+use Rattle.std.proofs.Common.{◌≡◌, ◌++◌, ◌-◌, ◌<◌, length, List, [], ◌∷◌, sym, ap, subst, ◌∙◌, arith, get_or, set}
 use Rattle.am_routes.specs.declared.route.Route.{Route}
 use Rattle.am_routes.specs.Routes.{Forest, count_of}
 use Rattle.am_routes.specs.RouteLists.{forest_of}

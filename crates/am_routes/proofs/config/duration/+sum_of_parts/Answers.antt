@@ -4,7 +4,7 @@ use Rattle.std.specs.Char.{is_ascii_digit}
 use Rattle.std.specs.Str.Parse.{digits_value}
 use Rattle.std.proofs.lemmas.Bool.Decides.{nat_tests}
 use Rattle.am_routes.specs.Durations.{milliseconds_of, rank_of, ArePartsOf}
-use Rattle.am_routes.specs.inside.DurationParts.{digits_of, symbol_in, rest_of, unit_of}
+use Rattle.am_routes.specs.inside.DurationParts.{digits_of, rest_of, unit_of}
 use Rattle.am_routes.proofs.Durations.{no_unit, no_digits, out_of_order, large_number, large_others, large_worth, sum_read}
 use Rattle.am_routes.proofs.config.duration.+sum_of_parts.Goals as goal
 use Rattle.am_routes.proofs.config.duration.+sum_of_parts.Goals.{then-is_empty-2-via-then-is_empty-2, then-is_empty-2-via-else-is_empty-2+then-rank-from}

@@ -1,6 +1,4 @@
-use Rattle.std.proofs.Common.{◌≡◌, ◌≤◌, ◌<◌, ◌*◌, ◌+◌, ◌-◌, ℕ, sym, subst, arith, get_or, length}
-use Rattle.std.specs.Prelude.{MatchOption}
-use Rattle.std.specs.Str.Parse.{digits_value}
+use Rattle.std.proofs.Common.{arith}
 use Rattle.am_routes.proofs.Durations.{number_so_far, next_digit}
 use Rattle.am_routes.proofs.config.duration.number_of.Goals as goal
 

@@ -1,4 +1,4 @@
-use Rattle.std.proofs.Common.{◌≡◌, ◌<◌, ◌≤◌, ◌∙◌, Err, ℕ, List, ap, get_or, length, arith}
+use Rattle.std.proofs.Common.{◌<◌, ◌≤◌, ◌∙◌, Err, ℕ, List, ap, get_or, length, arith}
 use Rattle.std.proofs.lemmas.Result.{err_from_is_err_and}
 use Rattle.am_routes.proofs.Readings.{read_at, refused_at, read_all}
 use Rattle.am_routes.proofs.config.matcher_reader.read_matchers.Goals as goal

@@ -2,7 +2,7 @@ use Rattle.std.proofs.Common.{◌≡◌, ◌∙◌, ◌-◌, ◌≤◌, suc, Som
 use Rattle.std.specs.Prelude.{option_copied}
 use Rattle.std.proofs.lemmas.Result.{err_from_is_err_and}
 use Rattle.serde_json.specs.View.{view, items_view}
-use Rattle.am_routes.specs.Readings.{IsAnswerOf}
+use Rattle.am_routes.specs.Readings.{AllowsResult}
 use Rattle.am_routes.specs.RouteReadings.{route_of, routes_of}
 use Rattle.am_routes.proofs.RouteReadings.{none_left, head_refused, matchers_refused, tail_refused, children_refused, route_read, routes_refused, routes_read}
 use Rattle.am_routes.proofs.ArrayReadings.{item_read, item_refused, items_read}
@@ -15,14 +15,14 @@ pub read_route-returns-in_err-head : goal.read_route-returns-in_err-head
 read_route-returns-in_err-head t c =
     let p = err_from_is_err_and c.from_residual.result c.from_residual.ensures.1 in
     let left : c.args.levels ≡ suc (c.args.levels - 1) = omega arith in
-    subst (λ r. IsAnswerOf (route_of c.args.levels (option_copied c.args.above) c.args.at.now (view c.args.value.now)) r) (sym (p.1 ∙ ap Err p.2))
+    subst (λ r. AllowsResult (route_of c.args.levels (option_copied c.args.above) c.args.at.now (view c.args.value.now)) r) (sym (p.1 ∙ ap Err p.2))
     (head_refused c.args.levels (c.args.levels - 1) left (option_copied c.args.above) c.args.at.now (view c.args.value.now) c.in_err-head.field-0.0 c.in_err-head.ensures)
 
 pub read_route-returns-in_err-matchers : goal.read_route-returns-in_err-matchers
 read_route-returns-in_err-matchers t c =
     let p = err_from_is_err_and c.from_residual-in_err-matchers.result c.from_residual-in_err-matchers.ensures.1 in
     let left : c.args.levels ≡ suc (c.args.levels - 1) = omega arith in
-    subst (λ r. IsAnswerOf (route_of c.args.levels (option_copied c.args.above) c.args.at.now (view c.args.value.now)) r) (sym (p.1 ∙ ap Err p.2))
+    subst (λ r. AllowsResult (route_of c.args.levels (option_copied c.args.above) c.args.at.now (view c.args.value.now)) r) (sym (p.1 ∙ ap Err p.2))
     (matchers_refused c.args.levels (c.args.levels - 1) left (option_copied c.args.above) c.args.at.now (view c.args.value.now)
     c.in_ok-head.head c.in_ok-head.ensures c.in_ok-member.field-0 c.in_ok-member.ensures c.in_err-matchers.field-0.0 c.in_err-matchers.ensures)
 
@@ -30,7 +30,7 @@ pub read_route-returns-in_err-continues : goal.read_route-returns-in_err-continu
 read_route-returns-in_err-continues t c =
     let p = err_from_is_err_and c.from_residual-in_err-continues.result c.from_residual-in_err-continues.ensures.1 in
     let left : c.args.levels ≡ suc (c.args.levels - 1) = omega arith in
-    subst (λ r. IsAnswerOf (route_of c.args.levels (option_copied c.args.above) c.args.at.now (view c.args.value.now)) r) (sym (p.1 ∙ ap Err p.2))
+    subst (λ r. AllowsResult (route_of c.args.levels (option_copied c.args.above) c.args.at.now (view c.args.value.now)) r) (sym (p.1 ∙ ap Err p.2))
     (tail_refused c.args.levels (c.args.levels - 1) left (option_copied c.args.above) c.args.at.now (view c.args.value.now)
     c.in_ok-head.head c.in_ok-head.ensures c.in_ok-member.field-0 c.in_ok-member.ensures c.in_ok-matchers.matchers c.in_ok-matchers.ensures c.in_err-continues.field-0.0 c.in_err-continues.ensures)
 
@@ -38,7 +38,7 @@ pub read_route-returns-in_err-children : goal.read_route-returns-in_err-children
 read_route-returns-in_err-children t c =
     let p = err_from_is_err_and c.from_residual-in_err-children.result c.from_residual-in_err-children.ensures.1 in
     let left : c.args.levels ≡ suc (c.args.levels - 1) = omega arith in
-    subst (λ r. IsAnswerOf (route_of c.args.levels (option_copied c.args.above) c.args.at.now (view c.args.value.now)) r) (sym (p.1 ∙ ap Err p.2))
+    subst (λ r. AllowsResult (route_of c.args.levels (option_copied c.args.above) c.args.at.now (view c.args.value.now)) r) (sym (p.1 ∙ ap Err p.2))
     (children_refused c.args.levels (c.args.levels - 1) left (option_copied c.args.above) c.args.at.now (view c.args.value.now)
     c.in_ok-head.head c.in_ok-head.ensures c.in_ok-member.field-0 c.in_ok-member.ensures c.in_ok-matchers.matchers c.in_ok-matchers.ensures
     (c.in_ok-continues.continues, items_view c.in_ok-continues.below.now) c.in_ok-continues.ensures c.in_ok-member-2.field-0 c.in_ok-member-2.ensures
@@ -55,7 +55,7 @@ read_route-returns t c =
 pub read_routes-returns-in_err-read_route : goal.read_routes-returns-in_err-read_route
 read_routes-returns-in_err-read_route t c =
     let p = err_from_is_err_and c.from_residual-in_err-read_route.result c.from_residual-in_err-read_route.ensures.1 in
-    subst (λ r. IsAnswerOf (routes_of (route_of c.args.levels (Some c.args.above.now)) c.args.path.now (items_view c.args.items.now)) r) (sym (p.1 ∙ ap Err p.2))
+    subst (λ r. AllowsResult (routes_of (route_of c.args.levels (Some c.args.above.now)) c.args.path.now (items_view c.args.items.now)) r) (sym (p.1 ∙ ap Err p.2))
     (routes_refused c.args.levels c.args.above.now c.args.path.now c.args.items.now c.in_err-read_route.field-0.0
     (item_refused (route_of c.args.levels (Some c.args.above.now)) c.args.path.now c.args.items.now c.loop-i.routes.items c.loop-i.i c.index-items-i.result _
     c.in_ok-at.at c.loop-i-test.true c.index-items-i.is c.in_ok-at.ensures c.in_err-read_route.field-0.0 c.in_err-read_route.ensures c.loop-i.invariant))

@@ -1,5 +1,5 @@
 use Rattle.std.proofs.Common.{◌+◌, ◌*◌, drop, Some}
-use Rattle.serde_json.specs.View.{view, items_view}
+use Rattle.serde_json.specs.View.{items_view}
 use Rattle.am_routes.specs.Paths.{item_path}
 use Rattle.am_routes.specs.RouteReadings.{elements, route_of}
 use Rattle.am_routes.proofs.Readings.{IsReadUpTo}

@@ -1,7 +1,7 @@
 use Rattle.std.proofs.Common.{◌∙◌, Err, ap, sym, subst}
 use Rattle.std.proofs.lemmas.Result.{err_from_is_err_and}
 use Rattle.serde_json.specs.View.{view}
-use Rattle.am_routes.specs.Readings.{IsAnswerOf}
+use Rattle.am_routes.specs.Readings.{AllowsResult}
 use Rattle.am_routes.specs.RuleReadings.{matchers_member}
 use Rattle.am_routes.proofs.RuleReadings.{texts_refused, matchers_read}
 use Rattle.am_routes.proofs.config.rule_reader.matchers_member.Goals as goal
@@ -9,7 +9,7 @@ use Rattle.am_routes.proofs.config.rule_reader.matchers_member.Goals as goal
 pub returns-in_err-texts : goal.returns-in_err-texts
 returns-in_err-texts c =
     let p = err_from_is_err_and c.from_residual.result c.from_residual.ensures.1 in
-    subst (λ r. IsAnswerOf (matchers_member c.args.at.now c.args.name.now (view c.args.value.now)) r) (sym (p.1 ∙ ap Err p.2))
+    subst (λ r. AllowsResult (matchers_member c.args.at.now c.args.name.now (view c.args.value.now)) r) (sym (p.1 ∙ ap Err p.2))
     (texts_refused c.args.at.now c.args.name.now (view c.args.value.now) c.in_err-texts.field-0.0 c.in_err-texts.ensures)
 
 pub returns : goal.returns

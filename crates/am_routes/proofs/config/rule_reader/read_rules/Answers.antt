@@ -4,8 +4,8 @@ use Rattle.std.proofs.lemmas.Result.{err_from_is_err_and}
 use Rattle.serde_json.specs.Data.{Items}
 use Rattle.serde_json.specs.View.{view, items_view}
 use Rattle.am_routes.specs.Paths.{member_path}
-use Rattle.am_routes.specs.Members.{Reads, array_member}
-use Rattle.am_routes.specs.Readings.{IsAnswerOf}
+use Rattle.am_routes.specs.Members.{ReadsMember, array_member}
+use Rattle.am_routes.specs.Readings.{AllowsResult}
 use Rattle.am_routes.specs.RuleReadings.{rules_of}
 use Rattle.am_routes.proofs.RuleReadings.{items_refused, rules_read}
 use Rattle.am_routes.proofs.config.rule_reader.read_rules.Goals as goal
@@ -13,9 +13,9 @@ use Rattle.am_routes.proofs.config.rule_reader.read_rules.Goals as goal
 pub returns-in_err-items : goal.returns-in_err-items
 returns-in_err-items c =
     let p = err_from_is_err_and c.from_residual.result c.from_residual.ensures.1 in
-    subst (λ r. IsAnswerOf (rules_of (view c.args.whole.now)) r) (sym (p.1 ∙ ap Err p.2))
+    subst (λ r. AllowsResult (rules_of (view c.args.whole.now)) r) (sym (p.1 ∙ ap Err p.2))
     (items_refused (view c.args.whole.now) c.in_err-items.field-0.0
-    (subst (λ (at : List ℕ). Reads (λ (items : Items). items) (Err c.in_err-items.field-0.0) (array_member at (codes "inhibit_rules") (view c.args.whole.now))) c.whole-at.ensures c.in_err-items.ensures))
+    (subst (λ (at : List ℕ). ReadsMember (λ (items : Items). items) (Err c.in_err-items.field-0.0) (array_member at (codes "inhibit_rules") (view c.args.whole.now))) c.whole-at.ensures c.in_err-items.ensures))
 
 pub returns : goal.returns
 returns c =

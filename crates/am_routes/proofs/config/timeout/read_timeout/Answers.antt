@@ -1,8 +1,8 @@
-use Rattle.std.proofs.Common.{◌≡◌, ◌∙◌, None, Some, Err, Ok, refl, ap, sym, subst}
+use Rattle.std.proofs.Common.{◌∙◌, None, Some, Err, Ok, refl, ap, sym, subst}
 use Rattle.std.specs.Prelude.{option_map}
 use Rattle.std.proofs.lemmas.Result.{err_from_is_err_and}
 use Rattle.serde_json.specs.View.{view}
-use Rattle.am_routes.specs.Readings.{IsAnswerOf}
+use Rattle.am_routes.specs.Readings.{AllowsResult}
 use Rattle.am_routes.specs.Configs.{timeout_of}
 use Rattle.am_routes.specs.declared.config.fault.ConfigFault.TheVariants.{BadDuration}
 use Rattle.am_routes.proofs.Configs.{text_refused, text_read}
@@ -11,7 +11,7 @@ use Rattle.am_routes.proofs.config.timeout.read_timeout.Goals as goal
 pub returns-in_err-text : goal.returns-in_err-text
 returns-in_err-text c =
     let p = err_from_is_err_and c.from_residual.result c.from_residual.ensures.1 in
-    subst (λ r. IsAnswerOf (timeout_of (view c.args.whole.now)) r) (sym (p.1 ∙ ap Err p.2))
+    subst (λ r. AllowsResult (timeout_of (view c.args.whole.now)) r) (sym (p.1 ∙ ap Err p.2))
     (text_refused (view c.args.whole.now) c.in_err-text.field-0.0 c.in_err-text.ensures)
 
 pub returns-in_default : goal.returns-in_default

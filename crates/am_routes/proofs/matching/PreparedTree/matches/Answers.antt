@@ -1,9 +1,8 @@
-use Rattle.std.proofs.Common.{◌≡◌, arith, length, take, refl, List, [], ◌∷◌, map, rules, sym, ap, subst, ◌∙◌}
+use Rattle.std.proofs.Common.{◌≡◌, arith, length, take, refl, List, [], ◌∷◌, map, sym, ap, subst, ◌∙◌}
 use Rattle.std.proofs.lemmas.List.{take_all}
 use Rattle.am_routes.specs.RouteAnswers.{Node, RoutesAnswer}
 use Rattle.am_routes.specs.declared.matching.FoundRoute.{FoundRoute}
-use Rattle.am_routes.specs.declared.route_id.RouteId.{RouteId}
-use Rattle.am_routes.specs.inside.Searches.{node_of, nodes_in}
+use Rattle.am_routes.specs.inside.Searches.{nodes_in}
 use Rattle.am_routes.proofs.RouteAnswers.{answer-meets}
 use Rattle.am_routes.proofs.matching.PreparedTree.matches.Goals as goal
 

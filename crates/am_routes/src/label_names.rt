@@ -6,11 +6,11 @@ use std::marker::Model;
 
 /// Names in order, seen by contracts as their list.
 #[derive(Debug, Drop)]
-pub struct Names {
+pub struct LabelNames {
     pub names: Vec<Text>,
 }
 
-impl Model for Names {
+impl Model for LabelNames {
     ghost use Rattle.std.specs.Prelude.{List, ℕ};
 
     ghost Value = { List (List ℕ) };
@@ -18,7 +18,7 @@ impl Model for Names {
     ghost view = { λ a. a.names.items };
 }
 
-impl Names {
+impl LabelNames {
     ghost use Rattle.std.specs.Prelude.{◌≡◌, IfOk};
     ghost use Rattle.std.specs.List.{list_any};
     ghost use Rattle.am_labels.specs.Texts.{same_text};
@@ -37,13 +37,13 @@ impl Names {
     }
 
     /// The same names once more.
-    pub fn copy(&self, alloc: Global) -> Result<Names, AllocError>
+    pub fn copy(&self, alloc: Global) -> Result<LabelNames, AllocError>
         ensures { IfOk result (λ copy. copy ≡ self.now) }
     {
         let mut names = Vec::with_capacity(alloc, self.names.len())?;
         for name in self.as_slice() {
             names.push(name.copy()?)?;
         }
-        Ok(Names { names })
+        Ok(LabelNames { names })
     }
 }

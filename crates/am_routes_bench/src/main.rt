@@ -1,0 +1,178 @@
+//! Times routes and groups: a tree of 101 routes (ten teams with nine routes below each, a third of
+//! them with a pattern) and alerts of five labels. `bench/routes` runs it.
+//!
+//!     am_routes_bench matches ALERTS ROUNDS
+//!     am_routes_bench takes ALERTS ROUNDS
+//!
+//! A round asks the tree about the labels of each alert, or has a dispatcher take each alert, which
+//! then stands in a group of its own. It prints how many routes were found, or how many groups stand.
+#![tactic(auto)]
+
+use am_alert::{Alert, Moment};
+use am_labels::{LabelSet, SharedText};
+use am_routes::{Config, ConfigFault, Dispatcher, RouteTree};
+use std::alloc::{AllocError, Global};
+use std::env;
+use std::process::ExitCode;
+
+/// What is timed.
+#[derive(Clone, Copy, Debug)]
+enum Work {
+    Matches,
+    Takes,
+}
+
+fn config_text(alloc: Global) -> Result<String, AllocError> {
+    let mut text = String::from_str(
+        alloc,
+        r#"{"route":{"receiver":"root","group_by":["instance"],"routes":["#,
+    )?;
+    for team in 0..10u32 {
+        if team > 0 {
+            text.push_str(",")?;
+        }
+        add_team(&mut text, team)?;
+    }
+    text.push_str("]}}")?;
+    Ok(text)
+}
+
+fn add_team(text: &mut String, team: u32) -> Result<(), AllocError> {
+    write!(
+        text,
+        "{{\"receiver\":\"team{team}\",\"matchers\":[\"team=t{team}\"],\"routes\":["
+    )?;
+    for service in 0..9u32 {
+        if service > 0 {
+            text.push_str(",")?;
+        }
+        add_service(text, service)?;
+    }
+    text.push_str("]}")
+}
+
+fn add_service(text: &mut String, service: u32) -> Result<(), AllocError> {
+    if service % 3 == 2 {
+        write!(
+            text,
+            "{{\"matchers\":[\"service=~\\\"s{service}-(web|api)\\\"\"]}}"
+        )
+    } else {
+        write!(text, "{{\"matchers\":[\"service=s{service}-web\"]}}")
+    }
+}
+
+fn pair(alloc: Global, name: &str, value: String) -> Result<(String, String), AllocError> {
+    Ok((String::from_str(alloc, name)?, value))
+}
+
+// The labels of the alert of that number.
+fn labels_of(alloc: Global, number: u32) -> Result<LabelSet, AllocError> {
+    let team = number % 10;
+    let service = number / 10 % 9;
+    let rack = number / 250;
+    let host = number % 250;
+    let mut pairs = Vec::new(alloc);
+    pairs.push(pair(alloc, "alertname", String::from_str(alloc, "HighLatency")?)?)?;
+    pairs.push(pair(
+        alloc,
+        "instance",
+        format!(in alloc; "10.0.{rack}.{host}:9090")?,
+    )?)?;
+    pairs.push(pair(alloc, "service", format!(in alloc; "s{service}-web")?)?)?;
+    pairs.push(pair(alloc, "severity", String::from_str(alloc, "page")?)?)?;
+    pairs.push(pair(alloc, "team", format!(in alloc; "t{team}")?)?)?;
+    LabelSet::from_pairs(alloc, pairs)
+}
+
+fn alert_of(alloc: Global, number: u32) -> Result<Alert, AllocError> {
+    Ok(Alert {
+        labels: labels_of(alloc, number)?,
+        annotations: LabelSet::new(),
+        start: Moment::MAX,
+        end: Moment::MAX,
+        updated: Moment::MAX,
+        timeout: false,
+        generator: SharedText::new(),
+    })
+}
+
+fn alerts(alloc: Global, count: u32) -> Result<Vec<Alert>, AllocError> {
+    let mut alerts = Vec::new(alloc);
+    for number in 0..count {
+        alerts.push(alert_of(alloc, number)?)?;
+    }
+    Ok(alerts)
+}
+
+// How many routes are found in so many rounds.
+fn matches(
+    alloc: Global,
+    tree: &RouteTree,
+    alerts: &[Alert],
+    rounds: u32,
+) -> Result<u64, AllocError> {
+    let mut tree = tree.prepare(alloc)?;
+    let mut found = 0u64;
+    for _round in 0..rounds {
+        for alert in alerts {
+            found = found.wrapping_add(tree.matches(&alert.labels)?.len() as u64);
+        }
+    }
+    Ok(found)
+}
+
+// How many groups stand after so many rounds.
+fn takes(
+    alloc: Global,
+    tree: &RouteTree,
+    alerts: &[Alert],
+    rounds: u32,
+) -> Result<u64, AllocError> {
+    let mut dispatcher = Dispatcher::new(alloc, tree)?;
+    for _round in 0..rounds {
+        for alert in alerts {
+            dispatcher.take(alert)?;
+        }
+    }
+    Ok(dispatcher.groups().len() as u64)
+}
+
+fn run(alloc: Global, work: Work, count: u32, rounds: u32) -> Result<u64, ConfigFault> {
+    let text = config_text(alloc)?;
+    let config = Config::read(alloc, text.as_bytes())?;
+    let alerts = alerts(alloc, count)?;
+    Ok(match work {
+        Work::Matches => matches(alloc, &config.tree, &alerts, rounds)?,
+        Work::Takes => takes(alloc, &config.tree, &alerts, rounds)?,
+    })
+}
+
+fn work_of(rt: &HostRuntime) -> Option<(Work, u32, u32)> {
+    let mut arguments = env::args(rt).ok()?.skip(1);
+    let work = match arguments.next()?.as_str() {
+        "matches" => Work::Matches,
+        "takes" => Work::Takes,
+        _ => return None,
+    };
+    let count = number(arguments.next())?;
+    let rounds = number(arguments.next())?;
+    Some((work, count, rounds))
+}
+
+fn number(argument: Option<String>) -> Option<u32> {
+    argument?.as_str().parse::<u32>().ok()
+}
+
+fn main(rt: HostRuntime) -> ExitCode {
+    let Some((work, count, rounds)) = work_of(&rt) else {
+        return ExitCode::from(1);
+    };
+    match run(rt.alloc(), work, count, rounds) {
+        Ok(found) => {
+            let _printed = println!(rt; "{found}");
+            ExitCode::SUCCESS
+        }
+        Err(_) => ExitCode::from(3),
+    }
+}
