@@ -1,0 +1,85 @@
+-- A search through the rules finds the first candidate that mutes the target.
+use Rattle.std.proofs.Common.{◌≡◌, ℕ, zero, suc, ◌+◌, ◌<◌, Bool, true, false, cond, List, [], ◌∷◌, ◌++◌, map, filter, length, get_or, Option, Some, None, refl, sym, ap, ◌∙◌, arith}
+use Rattle.std.specs.List.{find, slice_get}
+use Rattle.std.specs.Option.{option_map, option_and_then, option_or}
+use Rattle.std.proofs.lemmas.List.Folds.{find-append}
+use Rattle.std.proofs.lemmas.Option.{slice_get-map}
+use Rattle.am_alert.specs.declared.alert.Alert.{Alert}
+use Rattle.am_labels.specs.LabelSets.{Labels}
+use Rattle.am_routes.specs.declared.inhibit_rule.InhibitRule.{InhibitRule}
+use Rattle.am_inhibit.specs.LastAlerts.{label_sets}
+use Rattle.am_inhibit.specs.Muting.{is_candidate, inhibits, Candidate, rule_candidates, candidate_inhibits, count_to}
+use Rattle.am_inhibit.specs.inside.Indexes.{IndexView, index_of, indexes_of, rules_of}
+use Rattle.am_inhibit.proofs.Cases.{by_bool}
+use Rattle.am_inhibit.proofs.Counting.{count_to-yes, count_to-no}
+
+-- an alert as a candidate of a rule
+abbrev pub candidate_of : ℕ → InhibitRule → Alert → Candidate
+candidate_of number rule alert = record { number = number; rule = rule; alert = alert }
+
+find-shown : (labels : Labels) (now number : ℕ) (rule : InhibitRule) (alerts : List Alert) → find (candidate_inhibits labels now) (map (candidate_of number rule) alerts) ≡ option_map (candidate_of number rule) (find (inhibits rule labels now) alerts)
+find-shown labels now number rule [] = refl
+find-shown labels now number rule (alert ∷ alerts) =
+    elim (inhibits rule labels now alert) as (λ b. cond b (Some (candidate_of number rule alert)) (find (candidate_inhibits labels now) (map (candidate_of number rule) alerts)) ≡ option_map (candidate_of number rule) (cond b (Some alert) (find (inhibits rule labels now) alerts))) [ true ↦ refl | false ↦ find-shown labels now number rule alerts ]
+
+count-shown : (labels : Labels) (now number : ℕ) (rule : InhibitRule) (alerts : List Alert) → count_to (candidate_inhibits labels now) (map (candidate_of number rule) alerts) ≡ count_to (inhibits rule labels now) alerts
+count-shown labels now number rule [] = refl
+count-shown labels now number rule (alert ∷ alerts) =
+    let test = candidate_inhibits labels now in
+    let one = candidate_of number rule alert in
+    let rest = map (candidate_of number rule) alerts in
+    by_bool {P = count_to test (one ∷ rest) ≡ count_to (inhibits rule labels now) (alert ∷ alerts)} (inhibits rule labels now alert)
+    (λ passes. count_to-yes test one rest passes ∙ sym (count_to-yes (inhibits rule labels now) alert alerts passes))
+    (λ fails. count_to-no test one rest fails ∙ (ap (λ n. 1 + n) (count-shown labels now number rule alerts) ∙ sym (count_to-no (inhibits rule labels now) alert alerts fails)))
+
+-- what the search of one rule found: the place of an alert, or none, and how many it came to
+pub record IsFound (labels : Labels) (now : ℕ) (alerts : List Alert) (rule : InhibitRule) (at : Option ℕ) (looked : ℕ) : Type 0 where
+  pub found : option_and_then (slice_get alerts) at ≡ find (inhibits rule labels now) (filter (is_candidate rule labels) alerts)
+  pub count : looked ≡ count_to (inhibits rule labels now) (filter (is_candidate rule labels) alerts)
+
+pub rule-none : (labels : Labels) (now number : ℕ) (alerts : List Alert) (rule : InhibitRule) (looked : ℕ) → IsFound labels now alerts rule None looked → find (candidate_inhibits labels now) (rule_candidates labels alerts (number, rule)) ≡ None
+rule-none labels now number alerts rule looked is =
+    find-shown labels now number rule (filter (is_candidate rule labels) alerts) ∙ ap (option_map (candidate_of number rule)) (sym is.found)
+
+pub rule-some : (labels : Labels) (now number : ℕ) (alerts : List Alert) (rule : InhibitRule) (at looked : ℕ) (alert : Alert) → IsFound labels now alerts rule (Some at) looked → slice_get alerts at ≡ Some alert
+    → find (candidate_inhibits labels now) (rule_candidates labels alerts (number, rule)) ≡ Some (candidate_of number rule alert)
+rule-some labels now number alerts rule at looked alert is got =
+    find-shown labels now number rule (filter (is_candidate rule labels) alerts) ∙ ap (option_map (candidate_of number rule)) (sym is.found ∙ got)
+
+pub rule-count : (labels : Labels) (now number : ℕ) (alerts : List Alert) (rule : InhibitRule) (at : Option ℕ) (looked : ℕ) → IsFound labels now alerts rule at looked → count_to (candidate_inhibits labels now) (rule_candidates labels alerts (number, rule)) ≡ looked
+rule-count labels now number alerts rule at looked is = count-shown labels now number rule (filter (is_candidate rule labels) alerts) ∙ sym is.count
+
+pub find-first : {X : Type 0} (test : X → Bool) (xs ys : List X) (x : X) → find test xs ≡ Some x → find test (xs ++ ys) ≡ Some x
+find-first test xs ys x found = find-append test xs ys ∙ ap (λ o. option_or o (find test ys)) found
+
+pub find-later : {X : Type 0} (test : X → Bool) (xs ys : List X) → find test xs ≡ None → find test (xs ++ ys) ≡ find test ys
+find-later test xs ys none = find-append test xs ys ∙ ap (λ o. option_or o (find test ys)) none
+
+pub got_within : {X : Type 0} (xs : List X) (at : ℕ) → at < length xs → (x : X) × (slice_get xs at ≡ Some x)
+got_within [] at early = absurd (omega arith)
+got_within (x ∷ xs) zero early = (x, refl)
+got_within (x ∷ xs) (suc at) early = got_within xs at (omega arith)
+
+pub label_set_at : (alerts : List Alert) (at : ℕ) (alert : Alert) → slice_get alerts at ≡ Some alert → slice_get (label_sets alerts) at ≡ Some alert.labels
+label_set_at alerts at alert got = slice_get-map (λ (a : Alert). a.labels) alerts at ∙ ap (option_map (λ (a : Alert). a.labels)) got
+
+-- ---- indexes and their rules
+
+pub rules_of-indexes : (rules : List InhibitRule) (alerts : List Alert) → rules_of (indexes_of rules alerts) ≡ rules
+rules_of-indexes [] alerts = refl
+rules_of-indexes (rule ∷ rules) alerts = ap (λ l. rule ∷ l) (rules_of-indexes rules alerts)
+
+-- each index is the one of its rule
+pub record AreIndexed (indexes : List IndexView) (alerts : List Alert) : Type 0 where
+  pub are : indexes ≡ indexes_of (rules_of indexes) alerts
+
+pub indexed_at : (indexes : List IndexView) (alerts : List Alert) (at : ℕ) (index : IndexView) → AreIndexed indexes alerts → at < length indexes → index ≡ get_or indexes at index → index ≡ index_of alerts index.rule
+indexed_at [] alerts at index indexed early is = absurd (omega arith)
+indexed_at (first ∷ indexes) alerts zero index indexed early is =
+    let are = indexed.are in
+    let own : first ≡ index_of alerts first.rule = (cc) in
+    is ∙ (own ∙ ap (λ (i : IndexView). index_of alerts i.rule) (sym is))
+indexed_at (first ∷ indexes) alerts (suc at) index indexed early is =
+    let are = indexed.are in
+    let rest : indexes ≡ indexes_of (rules_of indexes) alerts = (cc) in
+    indexed_at indexes alerts at index (record { are = rest }) (omega arith) is

@@ -1,0 +1,207 @@
+-- The sources that an index lists for a target are those that come into question.
+use Rattle.std.proofs.Common.{◌≡◌, ℕ, zero, suc, ◌+◌, ◌<◌, ◌≤◌, Bool, true, false, not, ◌&&◌, cond, List, [], ◌∷◌, ◌++◌, map, filter, length, drop, Some, None, refl, sym, ap, ◌∙◌, arith, append_assoc, append-nil}
+use Rattle.std.specs.List.{slice_get, find, All, AllByRecursion}
+use Rattle.std.specs.Map.{lookup}
+use Rattle.std.specs.Option.{unwrap_or, option_map, option_map_or, option_and_then}
+use Rattle.std.specs.Cmp.{unsigned_Decides}
+use Rattle.std.specs.Cmp.Lexicographic.{pointwise_decides}
+use Rattle.std.proofs.lemmas.List.Elements.{All-from_recursion}
+use Rattle.am_labels.specs.LabelSets.{Labels, value_of}
+use Rattle.am_labels.specs.Matchers.{all_admitted}
+use Rattle.am_labels.specs.Texts.{same_text}
+use Rattle.am_alert.specs.declared.alert.Alert.{Alert}
+use Rattle.am_alert.specs.Merging.{is_resolved_at}
+use Rattle.am_routes.specs.declared.inhibit_rule.InhibitRule.{InhibitRule}
+use Rattle.am_inhibit.specs.declared.source.Source.{Source}
+use Rattle.am_inhibit.specs.LastAlerts.{label_sets}
+use Rattle.am_inhibit.specs.Muting.{agree_on, is_on_both_sides, is_candidate, inhibits, count_to}
+use Rattle.am_inhibit.specs.inside.Sources.{same_values, values_equiv}
+use Rattle.am_inhibit.specs.inside.Indexes.{Entries, values_of as values_for, source_of, with_source, with_labels, with_all_labels, source_inhibits}
+use Rattle.am_inhibit.proofs.Cases.{by_bool}
+use Rattle.am_inhibit.proofs.Counting.{count_to-yes, count_to-no, find-yes, find-no}
+
+-- the sources that entries list for values
+abbrev pub listed : List (List ℕ) → Entries → List Source
+listed values entries = unwrap_or (lookup (same_values values) entries) []
+
+-- those of some label sets, counted from a number
+abbrev pub sources_from : InhibitRule → List (List ℕ) → ℕ → List Labels → List Source
+sources_from rule values at [] = []
+sources_from rule values at (labels ∷ rest) =
+    cond (all_admitted rule.source labels && same_values values (values_for rule.equal labels)) (source_of rule at labels ∷ sources_from rule values (at + 1) rest)
+    (sources_from rule values (at + 1) rest)
+
+same_are : (a b : List (List ℕ)) → same_values a b ≡ true → a ≡ b
+same_are a b e = (pointwise_decides (pointwise_decides unsigned_Decides) a b).0 e
+
+pub listed-with : (wanted values : List (List ℕ)) (source : Source) (entries : Entries) → listed wanted (with_source values source entries) ≡ listed wanted entries ++ cond (same_values wanted values) (source ∷ []) []
+listed-with wanted values source [] =
+    elim (same_values wanted values) as (λ b. unwrap_or (cond b (Some (source ∷ [])) None) [] ≡ cond b (source ∷ []) []) [ true ↦ refl | false ↦ refl ]
+listed-with wanted values source (entry ∷ entries) =
+    by_bool {P = listed wanted (with_source values source (entry ∷ entries)) ≡ listed wanted (entry ∷ entries) ++ cond (same_values wanted values) (source ∷ []) []} (same_values values entry.0)
+    (λ t.
+    let own : same_values wanted values ≡ same_values wanted entry.0 = ap (same_values wanted) (same_are values entry.0 t) in
+    ap (λ b. listed wanted (cond b ((entry.0, entry.1 ++ source ∷ []) ∷ entries) (entry ∷ with_source values source entries))) t
+    ∙ (elim (same_values wanted entry.0) as (λ b. unwrap_or (cond b (Some (entry.1 ++ source ∷ [])) (lookup (same_values wanted) entries)) [] ≡ unwrap_or (cond b (Some entry.1) (lookup (same_values wanted) entries)) [] ++ cond b (source ∷ []) []) [ true ↦ refl | false ↦ sym (append-nil (listed wanted entries)) ]
+    ∙ ap (λ b. listed wanted (entry ∷ entries) ++ cond b (source ∷ []) []) (sym own)))
+    (λ f.
+    ap (λ b. listed wanted (cond b ((entry.0, entry.1 ++ source ∷ []) ∷ entries) (entry ∷ with_source values source entries))) f
+    ∙ by_bool {P = listed wanted (entry ∷ with_source values source entries) ≡ listed wanted (entry ∷ entries) ++ cond (same_values wanted values) (source ∷ []) []} (same_values wanted entry.0)
+    (λ here.
+    let other : same_values wanted values ≡ false = ap (λ l. same_values l values) (same_are wanted entry.0 here) ∙ (values_equiv.symm entry.0 values ∙ f) in
+    ap (λ b. unwrap_or (cond b (Some entry.1) (lookup (same_values wanted) (with_source values source entries))) []) here
+    ∙ (sym (append-nil entry.1)
+    ∙ (ap (λ b. entry.1 ++ cond b (source ∷ []) []) (sym other)
+    ∙ ap (λ b. unwrap_or (cond b (Some entry.1) (lookup (same_values wanted) entries)) [] ++ cond (same_values wanted values) (source ∷ []) []) (sym here))))
+    (λ away.
+    ap (λ b. unwrap_or (cond b (Some entry.1) (lookup (same_values wanted) (with_source values source entries))) []) away
+    ∙ (listed-with wanted values source entries
+    ∙ ap (λ b. unwrap_or (cond b (Some entry.1) (lookup (same_values wanted) entries)) [] ++ cond (same_values wanted values) (source ∷ []) []) (sym away))))
+
+pub listed-all : (rule : InhibitRule) (wanted : List (List ℕ)) (at : ℕ) (sets : List Labels) (entries : Entries)
+    → listed wanted (with_all_labels rule at sets entries) ≡ listed wanted entries ++ sources_from rule wanted at sets
+listed-all rule wanted at [] entries = sym (append-nil (listed wanted entries))
+listed-all rule wanted at (labels ∷ sets) entries =
+    let source = source_of rule at labels in
+    let values = values_for rule.equal labels in
+    let rest = sources_from rule wanted (at + 1) sets in
+    listed-all rule wanted (at + 1) sets (with_labels rule at labels entries)
+    ∙ by_bool {P = listed wanted (with_labels rule at labels entries) ++ rest ≡ listed wanted entries ++ sources_from rule wanted at (labels ∷ sets)} (all_admitted rule.source labels)
+    (λ t.
+    ap (λ b. listed wanted (cond b (with_source values source entries) entries) ++ rest) t
+    ∙ (ap (λ l. l ++ rest) (listed-with wanted values source entries)
+    ∙ (append_assoc (listed wanted entries) (cond (same_values wanted values) (source ∷ []) []) rest
+    ∙ (ap (λ l. listed wanted entries ++ l) (elim (same_values wanted values) as (λ b. cond b (source ∷ []) [] ++ rest ≡ cond b (source ∷ rest) rest) [ true ↦ refl | false ↦ refl ])
+    ∙ ap (λ b. listed wanted entries ++ cond (b && same_values wanted values) (source ∷ rest) rest) (sym t)))))
+    (λ f.
+    ap (λ b. listed wanted (cond b (with_source values source entries) entries) ++ rest) f
+    ∙ ap (λ b. listed wanted entries ++ cond (b && same_values wanted values) (source ∷ rest) rest) (sym f))
+
+-- what is listed for a target's values are the sources among the alerts that agree with it
+pub listed_are : (rule : InhibitRule) (labels : Labels) (alerts : List Alert) (entries : Entries) (names values : List (List ℕ)) → entries ≡ with_all_labels rule 0 (label_sets alerts) [] → names ≡ rule.equal → values ≡ map (value_of labels) names
+    → listed values entries ≡ sources_from rule (values_for rule.equal labels) 0 (label_sets alerts)
+listed_are rule labels alerts entries names values indexed named have =
+    ap (λ v. listed v entries) (have ∙ ap (map (value_of labels)) named)
+    ∙ (ap (listed (values_for rule.equal labels)) indexed
+    ∙ listed-all rule (values_for rule.equal labels) 0 (label_sets alerts) [])
+
+-- ---- a target
+
+agree-same : (names : List (List ℕ)) (one other : Labels) → same_values (values_for names one) (values_for names other) ≡ agree_on names one other
+agree-same [] one other = refl
+agree-same (name ∷ names) one other = ap (λ b. same_text (value_of one name) (value_of other name) && b) (agree-same names one other)
+
+drop_suc : {X : Type 0} (xs : List X) (at : ℕ) (x : X) (rest : List X) → drop at xs ≡ x ∷ rest → (slice_get xs at ≡ Some x) × (drop (suc at) xs ≡ rest)
+drop_suc [] zero x rest e = absurd (cc)
+drop_suc [] (suc at) x rest e = absurd (cc)
+drop_suc (y ∷ xs) zero x rest e = ((let same : y ≡ x = (cc) in ap Some same), (let same : xs ≡ rest = (cc) in same))
+drop_suc (y ∷ xs) (suc at) x rest e = drop_suc xs at x rest e
+
+drop_next : {X : Type 0} (xs : List X) (at : ℕ) (x : X) (rest : List X) → drop at xs ≡ x ∷ rest → (slice_get xs at ≡ Some x) × (drop (at + 1) xs ≡ rest)
+drop_next xs at x rest e =
+    let next = drop_suc xs at x rest e in
+    let more : at + 1 ≡ suc at = omega arith in (next.0, ap (λ n. drop n xs) more ∙ next.1)
+
+-- nothing comes into question for a label set that is no target
+pub none_candidates : (rule : InhibitRule) (labels : Labels) (alerts : List Alert) → all_admitted rule.target labels ≡ false → filter (is_candidate rule labels) alerts ≡ []
+none_candidates rule labels [] none = refl
+none_candidates rule labels (alert ∷ alerts) none =
+    ap (λ b. cond (b && (all_admitted rule.source alert.labels && agree_on rule.equal labels alert.labels)) (alert ∷ filter (is_candidate rule labels) alerts) (filter (is_candidate rule labels) alerts)) none
+    ∙ none_candidates rule labels alerts none
+
+-- a target of a rule, and where its search stands
+pub record Target (rule : InhibitRule) (labels : Labels) (is_source : Bool) : Type 0 where
+  pub target : all_admitted rule.target labels ≡ true
+  pub source : is_source ≡ all_admitted rule.source labels
+
+same_test : (rule : InhibitRule) (labels : Labels) (is_source : Bool) (now : ℕ) (alerts : List Alert) (at : ℕ) (alert : Alert) → Target rule labels is_source → slice_get alerts at ≡ Some alert → all_admitted rule.source alert.labels ≡ true
+    → source_inhibits is_source now alerts (source_of rule at alert.labels) ≡ inhibits rule labels now alert
+same_test rule labels is_source now alerts at alert is got source =
+    ap (λ o. option_map_or (λ a. not (is_resolved_at now a)) o false && not (is_source && all_admitted rule.target alert.labels)) got
+    ∙ (ap (λ b. not (is_resolved_at now alert) && not (b && all_admitted rule.target alert.labels)) (is.source ∙ sym (and_true (all_admitted rule.source labels)))
+    ∙ (ap (λ b. not (is_resolved_at now alert) && not ((all_admitted rule.source labels && b) && all_admitted rule.target alert.labels)) (sym is.target)
+    ∙ ap (λ b. not (is_resolved_at now alert) && not (is_on_both_sides rule labels && (b && all_admitted rule.target alert.labels))) (sym source)))
+  where
+    and_true : (a : Bool) → (a && true) ≡ a
+    and_true true = refl
+    and_true false = refl
+
+both_of : (a b : Bool) → (a && b) ≡ true → (a ≡ true) × (b ≡ true)
+both_of true b e = (refl, e)
+both_of false b e = absurd (let e' : false ≡ true = e in (cc))
+
+chosen : (rule : InhibitRule) (labels : Labels) (is_source : Bool) (alert : Alert) → Target rule labels is_source
+    → (all_admitted rule.source alert.labels && same_values (values_for rule.equal labels) (values_for rule.equal alert.labels)) ≡ is_candidate rule labels alert
+chosen rule labels is_source alert is =
+    ap (λ b. all_admitted rule.source alert.labels && b) (agree-same rule.equal labels alert.labels)
+    ∙ ap (λ b. b && (all_admitted rule.source alert.labels && agree_on rule.equal labels alert.labels)) (sym is.target)
+
+-- the first that mutes the target is the first alert that does
+pub found-first : (rule : InhibitRule) (labels : Labels) (is_source : Bool) (now : ℕ) (alerts : List Alert) → Target rule labels is_source → (at : ℕ) (rest : List Alert) → drop at alerts ≡ rest
+    → option_and_then (slice_get alerts) (option_map (λ (source : Source). source.at) (find (source_inhibits is_source now alerts) (sources_from rule (values_for rule.equal labels) at (label_sets rest))))
+    ≡ find (inhibits rule labels now) (filter (is_candidate rule labels) rest)
+found-first rule labels is_source now alerts is at [] e = refl
+found-first rule labels is_source now alerts is at (alert ∷ rest) e =
+    let test = source_inhibits is_source now alerts in
+    let source = source_of rule at alert.labels in
+    let more = sources_from rule (values_for rule.equal labels) (at + 1) (label_sets rest) in
+    let others = filter (is_candidate rule labels) rest in
+    let answer = λ (sources : List Source). option_and_then (slice_get alerts) (option_map (λ (s : Source). s.at) (find test sources)) in
+    let next = drop_next alerts at alert rest e in
+    let later : answer more ≡ find (inhibits rule labels now) others = found-first rule labels is_source now alerts is (at + 1) rest next.1 in
+    ap (λ b. answer (cond b (source ∷ more) more)) (chosen rule labels is_source alert is)
+    ∙ by_bool {P = answer (cond (is_candidate rule labels alert) (source ∷ more) more) ≡ find (inhibits rule labels now) (cond (is_candidate rule labels alert) (alert ∷ others) others)} (is_candidate rule labels alert)
+    (λ t.
+    let matches : all_admitted rule.source alert.labels ≡ true = (both_of (all_admitted rule.source alert.labels) (agree_on rule.equal labels alert.labels) (both_of (all_admitted rule.target labels) (all_admitted rule.source alert.labels && agree_on rule.equal labels alert.labels) t).1).0 in
+    let same : test source ≡ inhibits rule labels now alert = same_test rule labels is_source now alerts at alert is next.0 matches in
+    ap (λ b. answer (cond b (source ∷ more) more)) t
+    ∙ (by_bool {P = answer (source ∷ more) ≡ find (inhibits rule labels now) (alert ∷ others)} (inhibits rule labels now alert)
+    (λ passes.
+    ap (λ o. option_and_then (slice_get alerts) (option_map (λ (s : Source). s.at) o)) (find-yes test source more (same ∙ passes))
+    ∙ (next.0 ∙ sym (find-yes (inhibits rule labels now) alert others passes)))
+    (λ fails.
+    ap (λ o. option_and_then (slice_get alerts) (option_map (λ (s : Source). s.at) o)) (find-no test source more (same ∙ fails))
+    ∙ (later ∙ sym (find-no (inhibits rule labels now) alert others fails)))
+    ∙ sym (ap (λ b. find (inhibits rule labels now) (cond b (alert ∷ others) others)) t)))
+    (λ f.
+    ap (λ b. answer (cond b (source ∷ more) more)) f
+    ∙ (later ∙ sym (ap (λ b. find (inhibits rule labels now) (cond b (alert ∷ others) others)) f)))
+
+-- and as many come before it
+pub looked-count : (rule : InhibitRule) (labels : Labels) (is_source : Bool) (now : ℕ) (alerts : List Alert) → Target rule labels is_source → (at : ℕ) (rest : List Alert) → drop at alerts ≡ rest
+    → count_to (source_inhibits is_source now alerts) (sources_from rule (values_for rule.equal labels) at (label_sets rest))
+    ≡ count_to (inhibits rule labels now) (filter (is_candidate rule labels) rest)
+looked-count rule labels is_source now alerts is at [] e = refl
+looked-count rule labels is_source now alerts is at (alert ∷ rest) e =
+    let test = source_inhibits is_source now alerts in
+    let source = source_of rule at alert.labels in
+    let more = sources_from rule (values_for rule.equal labels) (at + 1) (label_sets rest) in
+    let others = filter (is_candidate rule labels) rest in
+    let next = drop_next alerts at alert rest e in
+    let later : count_to test more ≡ count_to (inhibits rule labels now) others = looked-count rule labels is_source now alerts is (at + 1) rest next.1 in
+    ap (λ b. count_to test (cond b (source ∷ more) more)) (chosen rule labels is_source alert is)
+    ∙ by_bool {P = count_to test (cond (is_candidate rule labels alert) (source ∷ more) more) ≡ count_to (inhibits rule labels now) (cond (is_candidate rule labels alert) (alert ∷ others) others)} (is_candidate rule labels alert)
+    (λ t.
+    let matches : all_admitted rule.source alert.labels ≡ true = (both_of (all_admitted rule.source alert.labels) (agree_on rule.equal labels alert.labels) (both_of (all_admitted rule.target labels) (all_admitted rule.source alert.labels && agree_on rule.equal labels alert.labels) t).1).0 in
+    let same : test source ≡ inhibits rule labels now alert = same_test rule labels is_source now alerts at alert is next.0 matches in
+    ap (λ b. count_to test (cond b (source ∷ more) more)) t
+    ∙ (by_bool {P = count_to test (source ∷ more) ≡ count_to (inhibits rule labels now) (alert ∷ others)} (inhibits rule labels now alert)
+    (λ passes. count_to-yes test source more (same ∙ passes) ∙ sym (count_to-yes (inhibits rule labels now) alert others passes))
+    (λ fails.
+    count_to-no test source more (same ∙ fails)
+    ∙ (ap (λ n. 1 + n) later ∙ sym (count_to-no (inhibits rule labels now) alert others fails)))
+    ∙ sym (ap (λ b. count_to (inhibits rule labels now) (cond b (alert ∷ others) others)) t)))
+    (λ f.
+    ap (λ b. count_to test (cond b (source ∷ more) more)) f
+    ∙ (later ∙ sym (ap (λ b. count_to (inhibits rule labels now) (cond b (alert ∷ others) others)) f)))
+
+-- each source stands for an alert
+within : (rule : InhibitRule) (values : List (List ℕ)) (at : ℕ) (sets : List Labels) (end : ℕ) → at + length sets ≤ end → AllByRecursion (λ (source : Source). source.at < end) (sources_from rule values at sets)
+within rule values at [] end e = tt
+within rule values at (labels ∷ sets) end e =
+    let rest = within rule values (at + 1) sets end (omega arith) in
+    let here : at < end = omega arith in
+    elim (all_admitted rule.source labels && same_values values (values_for rule.equal labels)) as (λ b. AllByRecursion (λ (source : Source). source.at < end) (cond b (source_of rule at labels ∷ sources_from rule values (at + 1) sets) (sources_from rule values (at + 1) sets))) [ true ↦ (here, rest) | false ↦ rest ]
+
+pub all_within : (rule : InhibitRule) (values : List (List ℕ)) (sets : List Labels) (end : ℕ) → length sets ≤ end → All (λ (source : Source). source.at < end) (sources_from rule values 0 sets)
+all_within rule values sets end e = All-from_recursion (λ (source : Source). source.at < end) (sources_from rule values 0 sets) (within rule values 0 sets end (omega arith))

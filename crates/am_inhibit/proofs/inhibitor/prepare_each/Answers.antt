@@ -1,0 +1,22 @@
+use Rattle.std.proofs.Common.{◌≡◌, take, ◌+◌, ◌++◌, ◌∷◌, [], sym, ap, ◌∙◌}
+use Rattle.std.proofs.lemmas.List.{map-append, take_more, take_all}
+use Rattle.am_inhibit.specs.inside.Indexes.{index_of, indexes_of}
+use Rattle.am_inhibit.proofs.inhibitor.prepare_each.Goals as goal
+
+pub loop-rule-preserved : goal.loop-rule-preserved
+loop-rule-preserved c =
+    let rules = c.as_slice-rule-items.result.now in
+    let at = c.loop-rule.rule-index in
+    let rule = c.rule-item.result in
+    let more : take (at + 1) rules ≡ take at rules ++ rule ∷ [] =
+    take_more rules at rule c.loop-rule-test.true ∙ ap (λ r. take at rules ++ r ∷ []) (sym c.rule-item.is) in
+    c.in_ok-push.ensures.items
+    ∙ (ap (λ l. l ++ c.in_ok-new.field-0 ∷ []) c.loop-rule.invariant
+    ∙ (ap (λ i. indexes_of (take at rules) [] ++ i ∷ []) c.in_ok-new.ensures
+    ∙ sym (ap (λ l. indexes_of l []) more ∙ map-append (index_of []) (take at rules) (rule ∷ []))))
+
+pub returns : goal.returns
+returns c =
+    c.loop-rule.invariant
+    ∙ (ap (λ l. indexes_of l []) (take_all c.loop-rule.rule-index c.as_slice-rule-items.result.now c.loop-rule-test.false)
+    ∙ ap (λ l. indexes_of l []) c.as_slice-rule-items.ensures)

@@ -1,0 +1,9 @@
+pub use Rattle.am_labels.specs.LabelSets
+pub use Rattle.am_labels.specs.Matchers
+pub use Rattle.am_alert.specs.Alerts
+pub use Rattle.am_alert.specs.Merging
+pub mod LastAlerts
+pub mod Muting
+pub mod Inhibitors
+pub mod InhibitionLaws
+pub mod inside

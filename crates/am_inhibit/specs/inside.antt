@@ -1,0 +1,4 @@
+-- Definitions that only code of this crate cites.
+pub mod Sources
+pub mod Indexes
+pub mod Searches

@@ -1,0 +1,250 @@
+//! The inhibitor: says which targets are muted by the alerts that it took.
+
+ghost use Rattle.std.specs.Prelude.{◌≡◌, ◌<◌, ◌≤◌, [], ◌∷◌, ◌++◌, None, Some, map, min, length, position, IfOk, OnOk, OnErr};
+ghost use Rattle.am_inhibit.specs.Muting.{candidate_inhibits, count_to};
+ghost use Rattle.am_inhibit.specs.inside.Indexes.{index_with, indexes_before, indexes_of, rules_of};
+ghost use Rattle.am_inhibit.specs.inside.Searches.{candidates_from, first_muted, StandsFor};
+
+use crate::last_alerts::LastAlerts;
+use crate::source_index::{SourceChange, SourceIndex};
+use am_alert::{Alert, Moment};
+use am_labels::LabelSet;
+use am_routes::InhibitRules;
+use std::alloc::{AllocError, Global};
+use std::marker::Model;
+
+/// What mutes a target.
+#[derive(Clone, Copy)]
+pub(crate) struct Muting {
+    // The number of the rule.
+    rule: usize,
+    // Where the alert stands among the last alerts.
+    at: usize,
+}
+
+/// What a search through the rules came to.
+#[derive(Clone, Copy)]
+pub(crate) struct MutingSearch {
+    muting: Option<Muting>,
+    // How many candidates it came to. It stops at the greatest u64.
+    looked: u64,
+}
+
+/// The last alert of each label set that was taken, and the rules by which they mute others.
+#[derive(Drop)]
+pub struct Inhibitor<'r> {
+    rules: &'r InhibitRules,
+    // One for each rule, in their order.
+    indexes: Vec<SourceIndex<'r>>,
+    alerts: LastAlerts,
+    looked: u64,
+}
+
+impl<'r> Model for Inhibitor<'r> {
+    ghost use Rattle.std.specs.Prelude.{◌≡◌};
+    ghost use Rattle.am_routes.specs.contracts.inhibit_rule.InhibitRule as inhibit_rule;
+    ghost use Rattle.am_inhibit.specs.Inhibitors.{InhibitorView, coded_inhibitor};
+
+    ghost Value = { InhibitorView };
+
+    ghost coded = { coded_inhibitor inhibit_rule.the_row.coded };
+
+    ghost use Rattle.am_inhibit.specs.inside.Indexes.{indexes_of};
+
+    ghost view = { λ i. record { rules = i.rules.now; alerts = i.alerts; looked = i.looked } };
+
+    ghost invariant = { λ i. i.indexes.items ≡ indexes_of i.rules.now i.alerts };
+}
+
+impl<'r> Inhibitor<'r> {
+    ghost use Rattle.std.specs.Prelude.{⊤, slice_get};
+    ghost use Rattle.std.specs.Borrow.{sem};
+    ghost use Rattle.std.specs.Option.{option_map};
+    ghost use Rattle.am_inhibit.specs.contracts.inhibitor.Inhibitor.{the_row};
+    ghost use mathlib.Core.Option.{none};
+    ghost use mir.Syntax.{named};
+    ghost use denote.Follow.{follows_so};
+    ghost use Rattle.am_labels.specs.LabelSets.{same_labels};
+    ghost use Rattle.am_inhibit.specs.Inhibitors.{having_looked};
+    ghost use Rattle.am_inhibit.specs.Muting.{candidates_seen, muted};
+    ghost use Rattle.am_inhibit.specs.LastAlerts.{label_sets, last_alerts};
+
+    /// An inhibitor that took nothing yet. It borrows the rules, and has its own searches of their
+    /// patterns: none is compiled anew.
+    pub fn new(alloc: Global, rules: &'r InhibitRules) -> Result<Inhibitor<'r>, AllocError>
+        ensures { IfOk result (λ made.
+            made ≡ record { rules = rules.now; alerts = []; looked = 0 }) }
+    {
+        Ok(Inhibitor {
+            rules,
+            indexes: prepare_each(alloc, rules)?,
+            alerts: LastAlerts::new(alloc),
+            looked: 0,
+        })
+    }
+
+    /// Takes an alert in the place of the last one of its label set. If memory runs out, all stays
+    /// as it was.
+    pub fn take(&mut self, alert: &Alert) -> Result<(), AllocError>
+        ensures taken { OnOk result (self.new
+            ≡ record self.old { alerts = last_alerts (self.old.alerts ++ alert.now ∷ []) }) }
+        ensures err { OnErr result (self.new ≡ self.old) }
+    {
+        match self.alerts.index_of(&alert.labels) {
+            Some(at) => self.alerts.replace(at, alert),
+            None => self.begin(alert),
+        }
+    }
+
+    /// Whether a target is muted: by which rule, and by the alert of which label set. The lowest rule
+    /// answers, and of its sources the one whose label set was taken first. If memory runs out, all
+    /// stays as it was.
+    pub fn mutes(
+        &mut self,
+        labels: &LabelSet,
+        now: Moment,
+    ) -> Result<Option<(u64, &LabelSet)>, AllocError>
+        ensures* after { sem 𝓛 (follows_so (the_row (record { mir = named 1; lft = [] }))
+            (the_row (record { mir = named 1; lft = [] })) self.entry.ghost_name none (λ _ _. ⊤)
+            (λ new. OnErr result (new ≡ self.old) × OnOk result (new ≡ having_looked
+            (min (candidates_seen self.old.alerts self.old.rules labels.now now) u64.MAX)
+            self.old))) }
+        ensures muted { IfOk result (λ answer. option_map (λ by. (by.0, by.1.now)) answer
+            ≡ muted self.old.alerts self.old.rules labels.now now) }
+    {
+        let Some(muting) = self.search(labels, now)? else {
+            return Ok(None);
+        };
+        Ok(Some((muting.rule as u64, self.label_set(muting.at))))
+    }
+
+    /// How many sources the last answer of `mutes` came to: those that the rules name for the
+    /// target and that agree with it, up to the one that mutes it. It stops at the greatest u64.
+    pub fn looked(&self) -> u64
+        ensures { result ≡ self.now.looked }
+    {
+        self.looked
+    }
+
+    // The label set of an alert.
+    fn label_set(&self, at: usize) -> &LabelSet
+        requires { at < length self.now.alerts }
+        ensures { slice_get (label_sets self.now.alerts) at ≡ Some result.now }
+    {
+        &self.alerts.as_slice()[at].labels
+    }
+
+    // Looks for the rule and the alert that mute a target, and notes how many candidates it came to.
+    fn search(&mut self, labels: &LabelSet, now: Moment) -> Result<Option<Muting>, AllocError>
+        ensures muted { IfOk result (λ muting. StandsFor self.old.alerts muting
+            (muted self.old.alerts self.old.rules labels.now now)) }
+        ensures looked { OnOk result (self.new ≡ having_looked
+            (min (candidates_seen self.old.alerts self.old.rules labels.now now) u64.MAX)
+            self.old) }
+        ensures err { OnErr result (self.new ≡ self.old) }
+    {
+        let search = search_all(&mut self.indexes, self.alerts.as_slice(), labels, now)?;
+        self.looked = search.looked;
+        Ok(search.muting)
+    }
+
+    // Takes the first alert of a label set.
+    fn begin(&mut self, alert: &Alert) -> Result<(), AllocError>
+        requires { position (same_labels alert.now.labels) (label_sets self.old.alerts) ≡ None }
+        ensures taken { OnOk result (self.new
+            ≡ record self.old { alerts = last_alerts (self.old.alerts ++ alert.now ∷ []) }) }
+        ensures err { OnErr result (self.new ≡ self.old) }
+    {
+        let alloc = self.alerts.allocator();
+        let at = self.alerts.as_slice().len();
+        let changes = add_to_all(alloc, &mut self.indexes, &alert.labels, at)?;
+        match self.alerts.push(alert) {
+            Ok(()) => Ok(()),
+            Err(error) => {
+                take_back(&mut self.indexes, changes);
+                Err(error)
+            }
+        }
+    }
+}
+
+// The indexes of rules, without any source.
+fn prepare_each<'r>(
+    alloc: Global,
+    rules: &'r InhibitRules,
+) -> Result<Vec<SourceIndex<'r>>, AllocError>
+    ensures { IfOk result (λ indexes. indexes.items ≡ indexes_of rules.now []) }
+{
+    let mut indexes = Vec::with_capacity(alloc, rules.as_slice().len())?;
+    for rule in rules.as_slice() {
+        indexes.push(SourceIndex::new(alloc, rule)?)?;
+    }
+    Ok(indexes)
+}
+
+// Looks for the lowest rule that mutes a target, and the first of its alerts that does.
+fn search_all(
+    indexes: &mut [SourceIndex<'_>],
+    alerts: &[Alert],
+    labels: &LabelSet,
+    now: Moment,
+) -> Result<MutingSearch, AllocError>
+    requires { indexes.old ≡ indexes_of (rules_of indexes.old) alerts.now }
+    ensures muting { IfOk result (λ search. StandsFor alerts.now search.muting
+        (first_muted labels.now now (candidates_from 0 labels.now alerts.now (rules_of indexes.old)))) }
+    ensures looked { IfOk result (λ search. search.looked ≡ min (count_to
+        (candidate_inhibits labels.now now)
+        (candidates_from 0 labels.now alerts.now (rules_of indexes.old))) u64.MAX) }
+    ensures same { indexes.new ≡ indexes.old }
+{
+    let mut looked = 0u64;
+    for rule in 0..indexes.len() {
+        let found = indexes[rule].find(labels, alerts, now)?;
+        looked = looked.saturating_add(found.looked as u64);
+        if let Some(at) = found.at {
+            let muting = Some(Muting { rule, at });
+            return Ok(MutingSearch { muting, looked });
+        }
+    }
+    Ok(MutingSearch {
+        muting: None,
+        looked,
+    })
+}
+
+// Adds a label set to the index of each rule that it is a source of, or to none.
+fn add_to_all(
+    alloc: Global,
+    indexes: &mut [SourceIndex<'_>],
+    labels: &LabelSet,
+    at: usize,
+) -> Result<Vec<SourceChange>, AllocError>
+    ensures added { OnOk result (indexes.new ≡ map (index_with at labels.now) indexes.old) }
+    ensures undo { IfOk result
+        (λ changes. indexes_before changes.items indexes.new ≡ indexes.old) }
+    ensures long { IfOk result (λ changes. length changes.items ≡ length indexes.old) }
+    ensures err { OnErr result (indexes.new ≡ indexes.old) }
+{
+    let mut changes = Vec::with_capacity(alloc, indexes.len())?;
+    for index in 0..indexes.len() {
+        match indexes[index].add(labels, at) {
+            Ok(change) => changes.push_reserved(change),
+            Err(error) => {
+                take_back(indexes, changes);
+                return Err(error);
+            }
+        }
+    }
+    Ok(changes)
+}
+
+// Takes the changes of the first indexes back.
+fn take_back(indexes: &mut [SourceIndex<'_>], changes: Vec<SourceChange>)
+    requires { length changes.items ≤ length indexes.old }
+    ensures { indexes.new ≡ indexes_before changes.items indexes.old }
+{
+    let mut left = changes;
+    while let Some(change) = left.pop() {
+        indexes[left.len()].take_back(change);
+    }
+}

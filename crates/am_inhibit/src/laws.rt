@@ -1,0 +1,11 @@
+//! Laws of muting that callers may cite.
+
+ghost use Rattle.am_inhibit.specs.InhibitionLaws.{LastAlertsDecide, LastAlertsGoOn};
+ghost use Rattle.am_inhibit.specs.InhibitionLaws.{NoAlertMutesItself};
+
+/// The last alerts go on from what they are and decide who is muted, and no alert mutes itself.
+pub fn inhibition_laws()
+    ensures last_alerts { LastAlertsGoOn }
+    ensures decide { LastAlertsDecide }
+    ensures itself { NoAlertMutesItself }
+{}

@@ -1,0 +1,28 @@
+//! Who is muted: an alert of which another one tells already, by the inhibition rules of the
+//! configuration.
+//!
+//! An [`Inhibitor`] takes alerts and keeps the last one of each label set. While an alert that a
+//! rule names as a source fires, the targets that the rule names and that have the same values as
+//! the source are muted. A label set that matches both sides of a rule is never muted by it because
+//! of an alert that does so too, so no alert mutes itself.
+//!
+//! ```text
+//! let mut inhibitor = Inhibitor::new(alloc, &config.rules)?;
+//! inhibitor.take(&alert)?;
+//! if let Some(muting) = inhibitor.mutes(&labels, now)? {
+//!     println!(rt; "rule {} by {}", muting.0, muting.1)?;     // rule 0 by {alertname="Down"}
+//! }
+//! ```
+//!
+//! This crate knows of no provider: it is handed alerts and labels, and each moment too.
+#![tactic(auto)]
+
+mod equal_values;
+mod inhibitor;
+mod last_alerts;
+mod laws;
+mod source;
+mod source_index;
+
+pub use inhibitor::Inhibitor;
+pub use laws::inhibition_laws;
