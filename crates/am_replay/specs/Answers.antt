@@ -13,9 +13,15 @@ is_out_of_memory (answer.PostRefused put_fault.NoMemory) = true
 is_out_of_memory (answer.SubscribeRefused sub_fault.NoMemory) = true
 is_out_of_memory answer.CollectRefused = true
 is_out_of_memory answer.TrimRefused = true
+is_out_of_memory answer.TakeRefused = true
 is_out_of_memory _ = false
 
 -- whether the answer is an item, after which a subscription may show more
 abbrev pub is_item : Answer → Bool
 is_item (answer.Item alert) = true
 is_item _ = false
+
+-- whether the answer says that a subscription was opened
+abbrev pub is_subscribed : Answer → Bool
+is_subscribed (answer.Subscribed lane opening) = true
+is_subscribed _ = false

@@ -1,4 +1,6 @@
 pub mod Answers
+pub mod Dispatching
+pub mod FirstLines
 pub mod Bytes
 pub mod Inputs
 pub mod Next

@@ -3,6 +3,9 @@ use Rattle.std.specs.Prelude.{ℕ, Bool, List, [], ◌∷◌, ◌++◌, codes, O
 use Rattle.std.specs.List.{flat_map}
 use Rattle.std.specs.Fmt.{decimal}
 use Rattle.am_alert.specs.Printing.{alert_text, alert_fault_text, post_fault_text}
+use Rattle.am_labels.specs.LabelSets.{Labels}
+use Rattle.am_labels.specs.Printing.{labels_text, quoted}
+use Rattle.am_routes.specs.declared.dispatcher.Swept.{Swept}
 use Rattle.am_provider.specs.FaultTexts.{closed_text, put_fault_text, sub_fault_text}
 use Rattle.am_provider.specs.declared.answers.Counts.{Counts}
 use Rattle.am_script.specs.ScriptTexts.{verb_text}
@@ -24,6 +27,17 @@ abbrev pub left_text : ℕ → Bool → List ℕ
 left_text taken closed =
     codes "leave taken " ++ (decimal taken ++ (if closed then codes " closed" else []))
 
+-- a group of a dispatcher: its route, who is told, its labels, and how many alerts it has
+abbrev pub group_text : ℕ → List ℕ → Labels → ℕ → List ℕ
+group_text route receiver labels alerts =
+    codes "group route " ++ (decimal route ++ (codes " receiver " ++ (quoted receiver
+    ++ (codes " labels " ++ (labels_text labels ++ (codes " alerts " ++ decimal alerts))))))
+
+-- how many alerts and groups a sweep removed
+abbrev pub swept_text : Swept → List ℕ
+swept_text swept =
+    codes "sweep alerts " ++ (decimal swept.alerts ++ (codes " groups " ++ decimal swept.groups))
+
 -- what a call answered, printed after the number of its line
 abbrev pub answer_text : Answer → List ℕ
 answer_text (answer.Posted valid place) = posted_text valid place
@@ -44,6 +58,10 @@ answer_text answer.CloseAccepted = codes "close"
 answer_text answer.CloseRefused = codes "close refused " ++ closed_text
 answer_text (answer.Trimmed dropped) = codes "trim dropped " ++ decimal dropped
 answer_text answer.TrimRefused = codes "trim refused E0 NoMemory"
+answer_text answer.TakeRefused = codes "take refused E0 NoMemory"
+answer_text (answer.Group route receiver labels alerts) = group_text route receiver labels alerts
+answer_text (answer.Member alert) = codes "member " ++ alert_text alert
+answer_text (answer.Swept swept) = swept_text swept
 answer_text (answer.NotOpen word) = verb_text word ++ codes " none"
 
 -- an answer's line, without its line feed

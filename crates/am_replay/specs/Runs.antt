@@ -2,6 +2,7 @@
 use Rattle.std.specs.Prelude.{◌≡◌, ◌≢◌, ◌<◌, ◌+◌, ℕ, ◌&&◌, ◌==◌, Bool, true, false, List, [], ◌∷◌, ◌++◌, length, map, All, AllPairs, remove, slice_get, slice_set, position, Option, Some, None, Ok, Err, if◌then◌else◌, IsTrue}
 use Rattle.std.specs.List.{count_by}
 use Rattle.std.specs.Str.{bytes_eq}
+use Rattle.std.specs.Duration.{as_nanos}
 use Rattle.am_alert.specs.declared.alert.Alert.{Alert}
 use Rattle.am_alert.specs.declared.post.Post.{Post as Posting}
 use Rattle.am_alert.specs.declared.post.PostFault.{PostFault}
@@ -23,9 +24,14 @@ use Rattle.am_replay.specs.declared.answers.Answer.{Answer}
 use Rattle.am_replay.specs.declared.answers.Answer.TheVariants as answer
 use Rattle.am_replay.specs.declared.answers.Answered.{Answered}
 use Rattle.am_script.specs.declared.command.Command.{Command}
-use Rattle.am_script.specs.declared.command.Command.TheVariants.{Post, Subscribe, Read, Leave, Collect, Close, Trim}
+use Rattle.am_script.specs.declared.command.Command.TheVariants.{Post, Subscribe, Read, Leave, Collect, Close, Trim, Groups, Sweep}
 use Rattle.am_script.specs.declared.command.Line.{Line}
+use Rattle.am_script.specs.declared.kind.Kind.{Kind}
 use Rattle.am_script.specs.declared.command.Verb.TheVariants as verb
+use Rattle.am_routes.specs.RouteLists.{root_of}
+use Rattle.am_routes.specs.declared.config.Config.{Config}
+use Rattle.am_replay.specs.Dispatching.{Accompanies}
+use Rattle.am_replay.specs.declared.dispatchers.NamedDispatcher.{NamedDispatcher}
 use Rattle.am_replay.specs.declared.open_subscription.OpenSubscription.{OpenSubscription}
 
 -- a Book, and its open subscriptions in the order in which they were opened
@@ -35,10 +41,6 @@ pub record SessionView : Type 0 where
 
 abbrev pub empty_session : SessionView
 empty_session = record { book = new_book; opened = [] }
-
--- the resolve timeout, 5 minutes in nanoseconds
-abbrev pub resolve_timeout : ℕ
-resolve_timeout = 300_000_000_000
 
 -- a thread's subscription of this name
 abbrev pub is_named : ℕ → List ℕ → OpenSubscription → Bool
@@ -102,76 +104,92 @@ pub record IsFresh (book : BookView) (subscription : SubscriptionView) : Type 0 
   pub count : subscription.count ≡ 0
   pub told : subscription.closed_told ≡ false
 
--- What a thread's command does, and what it answers. A refused one does nothing.
-pub data Does : SessionView → ℕ → Command → SessionView → List Answer → Type 0 where
+-- What a thread's command does to the Book, and what it answers, under a resolve timeout in
+-- nanoseconds. A refused one does nothing, and nor does one that asks a dispatcher.
+pub data Does (timeout : ℕ) : SessionView → ℕ → Command → SessionView → List Answer → Type 0 where
   unread : {session : SessionView} {thread at : ℕ} {body : List ℕ} {why : PostFault}
-      → IsPostOf at resolve_timeout body (Err why)
-      → Does session thread (Post at body) session (answer.Unread why ∷ [])
+      → IsPostOf at timeout body (Err why)
+      → Does timeout session thread (Post at body) session (answer.Unread why ∷ [])
   posted : {old new : SessionView} {thread at : ℕ} {body : List ℕ} (post : Posting)
-      → IsPostOf at resolve_timeout body (Ok post)
+      → IsPostOf at timeout body (Ok post)
       → new.book.journal ≡ with_call old.book.journal (call.Posted at post.valid)
       → new.opened ≡ old.opened
-      → Does old thread (Post at body) new (posted_answers (posted_of post old.book.log))
+      → Does timeout old thread (Post at body) new (posted_answers (posted_of post old.book.log))
   post_refused : {session : SessionView} {thread at : ℕ} {body : List ℕ} {why : PutFault} (post : Posting)
-      → IsPostOf at resolve_timeout body (Ok post) → IsPutCause why post.valid session.book
-      → Does session thread (Post at body) session (answer.PostRefused why ∷ [])
-  subscribed : {old new : SessionView} {thread : ℕ} {name : List ℕ} (one : OpenSubscription)
+      → IsPostOf at timeout body (Ok post) → IsPutCause why post.valid session.book
+      → Does timeout session thread (Post at body) session (answer.PostRefused why ∷ [])
+  subscribed : {old new : SessionView} {thread : ℕ} {name : List ℕ} {kind : Kind} (one : OpenSubscription)
       → new.book.journal ≡ with_call old.book.journal (call.Subscribed one.subscription.lane)
       → one.thread ≡ thread → one.name ≡ name → IsFresh new.book one.subscription
       → one.subscription.at ≡ call_count old.book.journal → one.subscription.opening ≡ old.book.stored
       → new.opened ≡ old.opened ++ one ∷ []
-      → Does old thread (Subscribe name) new (answer.Subscribed one.subscription.lane (length old.book.stored) ∷ [])
-  subscribe_refused : {session : SessionView} {thread : ℕ} {name : List ℕ} {why : SubFault}
+      → Does timeout old thread (Subscribe name kind) new (answer.Subscribed one.subscription.lane (length old.book.stored) ∷ [])
+  subscribe_refused : {session : SessionView} {thread : ℕ} {name : List ℕ} {kind : Kind} {why : SubFault}
       → IsSubCause why session.book
-      → Does session thread (Subscribe name) session (answer.SubscribeRefused why ∷ [])
+      → Does timeout session thread (Subscribe name kind) session (answer.SubscribeRefused why ∷ [])
   read : {old new : SessionView} {thread : ℕ} {name : List ℕ} {max place : ℕ} {answers : List Answer} (before after : OpenSubscription)
       → position (is_named thread name) old.opened ≡ Some place
       → slice_get old.opened place ≡ Some before
       → ReadAnswers old.book before.subscription max answers after.subscription
       → after.thread ≡ before.thread → after.name ≡ before.name
       → new.book ≡ old.book → new.opened ≡ slice_set old.opened place after
-      → Does old thread (Read name max) new answers
+      → Does timeout old thread (Read name max) new answers
   left : {old new : SessionView} {thread : ℕ} {name : List ℕ} {place : ℕ} (one : OpenSubscription)
       → position (is_named thread name) old.opened ≡ Some place
       → slice_get old.opened place ≡ Some one
       → new.book.journal ≡ with_call old.book.journal (call.Left one.subscription.lane)
       → new.opened ≡ remove old.opened place
-      → Does old thread (Leave name) new (answer.Left (length (taken old.book one.subscription)) one.subscription.closed_told ∷ [])
+      → Does timeout old thread (Leave name) new (answer.Left (length (taken old.book one.subscription)) one.subscription.closed_told ∷ [])
   nothing_to_read : {session : SessionView} {thread : ℕ} {name : List ℕ} {max : ℕ}
       → position (is_named thread name) session.opened ≡ None
-      → Does session thread (Read name max) session (answer.NotOpen verb.Read ∷ [])
+      → Does timeout session thread (Read name max) session (answer.NotOpen verb.Read ∷ [])
   nothing_to_leave : {session : SessionView} {thread : ℕ} {name : List ℕ}
       → position (is_named thread name) session.opened ≡ None
-      → Does session thread (Leave name) session (answer.NotOpen verb.Leave ∷ [])
+      → Does timeout session thread (Leave name) session (answer.NotOpen verb.Leave ∷ [])
   collected : {old new : SessionView} {thread at : ℕ}
       → new.book.journal ≡ with_call old.book.journal (call.Collected at) → new.opened ≡ old.opened
-      → Does old thread (Collect at) new (answer.Collected (count_by (is_resolved_at at) old.book.stored) ∷ [])
+      → Does timeout old thread (Collect at) new (answer.Collected (count_by (is_resolved_at at) old.book.stored) ∷ [])
   collect_refused : {session : SessionView} {thread at : ℕ}
-      → Does session thread (Collect at) session (answer.CollectRefused ∷ [])
+      → Does timeout session thread (Collect at) session (answer.CollectRefused ∷ [])
   closed : {old new : SessionView} {thread : ℕ}
       → new.book.journal ≡ with_call old.book.journal call.Closed → new.opened ≡ old.opened
-      → Does old thread Close new (answer.CloseAccepted ∷ [])
+      → Does timeout old thread Close new (answer.CloseAccepted ∷ [])
   close_refused : {session : SessionView} {thread : ℕ}
       → IsTrue (is_closed session.book.journal)
-      → Does session thread Close session (answer.CloseRefused ∷ [])
+      → Does timeout session thread Close session (answer.CloseRefused ∷ [])
   trimmed : {old new : SessionView} {thread dropped : ℕ} → Drops old.book.journal dropped
       → IsTrimmed old.book.journal dropped new.book.journal → new.opened ≡ old.opened
-      → Does old thread Trim new (answer.Trimmed dropped ∷ [])
+      → Does timeout old thread Trim new (answer.Trimmed dropped ∷ [])
   trim_refused : {session : SessionView} {thread : ℕ}
-      → Does session thread Trim session (answer.TrimRefused ∷ [])
+      → Does timeout session thread Trim session (answer.TrimRefused ∷ [])
+  asks_groups : {session : SessionView} {thread : ℕ} {name : List ℕ}
+      → Does timeout session thread (Groups name) session []
+  asks_sweep : {session : SessionView} {thread at : ℕ} {name : List ℕ}
+      → Does timeout session thread (Sweep name at) session []
 
 -- the answers of a line, each with the line's number
 abbrev pub numbered : ℕ → List Answer → List Answered
 numbered number answers = map (λ one. record { number = number; answer = one }) answers
 
--- The lines one after another, with all that they answer. Each leaves a Book whose stored alerts
--- and log are those of its journal.
-pub data Runs (begun : SessionView) : List Line → SessionView → List Answered → Type 0 where
-  started : Runs begun [] begun []
-  followed : {lines : List Line} {old new : SessionView} {before : List Answered} {answers : List Answer} (line : Line)
-      → Runs begun lines old before → Does old line.thread line.command new answers
-      → IsFaithful new.book
-      → Runs begun (lines ++ line ∷ []) new (before ++ numbered line.number answers)
+-- a session, and the dispatchers beside its subscriptions
+pub record ReplayView : Type 0 where
+  pub session : SessionView
+  pub dispatchers : List NamedDispatcher
+
+abbrev pub empty_replay : ReplayView
+empty_replay = record { session = empty_session; dispatchers = [] }
+
+-- The lines one after another under a configuration, with all that they answer: what each does to
+-- the Book, which leaves one whose stored alerts and log are those of its journal, and what the
+-- dispatchers make of what that answered.
+pub data Runs (config : Config) (begun : ReplayView) : List Line → ReplayView → List Answered → Type 0 where
+  started : Runs config begun [] begun []
+  followed : {lines : List Line} {old new : ReplayView} {before : List Answered} {given : List Answer} (answers : List Answer) (line : Line)
+      → Runs config begun lines old before
+      → Does (as_nanos config.resolve_timeout) old.session line.thread line.command new.session given
+      → IsFaithful new.session.book
+      → Accompanies (root_of config.tree) old.dispatchers line.thread line.command given new.dispatchers answers
+      → Runs config begun (lines ++ line ∷ []) new (before ++ numbered line.number answers)
 
 -- the open subscriptions are the Book's, each on a lane of its own, and the Book is its journal's
 pub record IsReadySession (session : SessionView) : Type 0 where

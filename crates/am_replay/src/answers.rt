@@ -2,30 +2,45 @@
 
 ghost use Rattle.std.specs.Prelude.{◌≡◌, Some};
 ghost use Rattle.std.specs.Fmt.{DisplaysOnOk};
-ghost use Rattle.am_replay.specs.Answers.{is_out_of_memory, is_item};
-ghost use Rattle.am_replay.specs.Printing.{answer_text, left_text, line_text, posted_text};
+ghost use Rattle.am_replay.specs.Answers.{is_item, is_out_of_memory, is_subscribed};
+ghost use Rattle.am_replay.specs.Printing.{answer_text, group_text, left_text, line_text};
+ghost use Rattle.am_replay.specs.Printing.{posted_text, swept_text};
 
 use am_alert::{Alert, AlertFault, PostFault};
+use am_labels::{LabelSet, Quoted, Text};
 use am_provider::{PutFault, SubFault};
+use am_routes::Swept;
 use am_script::Verb;
 use std::fmt;
 
 /// One answer, which is one line of the output.
 #[derive(Debug, Drop)]
 pub enum Answer {
-    Posted { valid: u32, place: Option<u64> },
+    Posted {
+        valid: u32,
+        place: Option<u64>,
+    },
     /// An invalid alert of an accepted post, by its index in the post.
-    Invalid { index: u32, fault: AlertFault },
+    Invalid {
+        index: u32,
+        fault: AlertFault,
+    },
     /// The body of a post was refused.
     Unread(PostFault),
     PostRefused(PutFault),
-    Subscribed { lane: u32, opening: u64 },
+    Subscribed {
+        lane: u32,
+        opening: u64,
+    },
     SubscribeRefused(SubFault),
     Item(Alert),
     Pending,
     /// A subscription was told that the log is closed.
     SawClosed,
-    Left { taken: u64, closed: bool },
+    Left {
+        taken: u64,
+        closed: bool,
+    },
     Collected(u64),
     CollectRefused,
     CloseAccepted,
@@ -33,6 +48,18 @@ pub enum Answer {
     /// So many calls were dropped from the journal.
     Trimmed(u64),
     TrimRefused,
+    /// The item before it was not taken by the dispatcher, which was out of memory.
+    TakeRefused,
+    /// A group of a dispatcher, with how many alerts it has.
+    Group {
+        route: u64,
+        receiver: Text,
+        labels: LabelSet,
+        alerts: u64,
+    },
+    /// An alert of the last group before it.
+    Member(Alert),
+    Swept(Swept),
     /// The command's subscription isn't open, since its subscribe was refused.
     NotOpen(Verb),
 }
@@ -44,6 +71,13 @@ impl Answer {
         matches!(self, Answer::Item(_))
     }
 
+    /// Whether a subscription was opened.
+    pub fn is_subscribed(&self) -> bool
+        ensures { result ≡ is_subscribed self.now }
+    {
+        matches!(self, Answer::Subscribed { .. })
+    }
+
     /// Whether the call was out of memory.
     pub fn is_out_of_memory(&self) -> bool
         ensures { result ≡ is_out_of_memory self.now }
@@ -53,7 +87,8 @@ impl Answer {
             | Answer::PostRefused(PutFault::NoMemory)
             | Answer::SubscribeRefused(SubFault::NoMemory)
             | Answer::CollectRefused
-            | Answer::TrimRefused => true,
+            | Answer::TrimRefused
+            | Answer::TakeRefused => true,
             _ => false,
         }
     }
@@ -82,6 +117,15 @@ impl fmt::Display for Answer {
             Answer::CloseRefused => f.write_str("close refused E14 Closed"),
             Answer::Trimmed(dropped) => write!(f, "trim dropped {dropped}"),
             Answer::TrimRefused => f.write_str("trim refused E0 NoMemory"),
+            Answer::TakeRefused => f.write_str("take refused E0 NoMemory"),
+            Answer::Group {
+                route,
+                receiver,
+                labels,
+                alerts,
+            } => write_group(*route, receiver, labels, *alerts, f),
+            Answer::Member(alert) => write!(f, "member {alert}"),
+            Answer::Swept(swept) => write_swept(*swept, f),
             Answer::NotOpen(verb) => write!(f, "{verb} none"),
         }
     }
@@ -108,6 +152,30 @@ fn write_left<W: fmt::Write>(taken: u64, closed: bool, f: &mut fmt::Formatter<W>
     } else {
         write!(f, "leave taken {taken}")
     }
+}
+
+fn write_group<W: fmt::Write>(
+    route: u64,
+    receiver: &Text,
+    labels: &LabelSet,
+    alerts: u64,
+    f: &mut fmt::Formatter<W>,
+) -> fmt::Result
+    ensures { DisplaysOnOk W.write_str_gives f.old result
+        (Some (group_text route receiver.now labels.now alerts)) f.new }
+{
+    let receiver = Quoted(receiver.as_str());
+    write!(
+        f,
+        "group route {route} receiver {receiver} labels {labels} alerts {alerts}"
+    )
+}
+
+fn write_swept<W: fmt::Write>(swept: Swept, f: &mut fmt::Formatter<W>) -> fmt::Result
+    ensures { DisplaysOnOk W.write_str_gives f.old result (Some (swept_text swept)) f.new }
+{
+    let Swept { alerts, groups } = swept;
+    write!(f, "sweep alerts {alerts} groups {groups}")
 }
 
 /// An answer with the number of its line in the script.

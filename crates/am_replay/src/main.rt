@@ -5,6 +5,8 @@
 #![tactic(auto)]
 
 mod answers;
+mod dispatchers;
+mod first_line;
 mod io;
 mod open_subscription;
 mod program;

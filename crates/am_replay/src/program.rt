@@ -3,9 +3,11 @@
 ghost use Rattle.std.specs.Prelude.{◌≡◌, ◌≢◌, [], Ok, IfOk, IfErr, if◌then◌else◌, string_bytes};
 ghost use Rattle.am_script.specs.Script.{Checks, IsRefused, lines_of};
 ghost use Rattle.std.specs.Io.KnownBytes.{Keeps};
+ghost use Rattle.am_replay.specs.FirstLines.{IsFirstLine};
 ghost use Rattle.am_replay.specs.Printing.{report_text};
 ghost use Rattle.am_replay.specs.Replays.{ComesTo, IsReplay, ran_out_of_memory};
 
+use crate::first_line::FirstLine;
 use crate::io::failure::Failure;
 use crate::io::input::read_input;
 use crate::io::output::write_text;
@@ -13,7 +15,8 @@ use crate::report::Report;
 use crate::runner::run_script;
 use crate::status::Status;
 use am_provider::Book;
-use am_script::{Line, Refusal, ScriptFault, read_script};
+use am_routes::Config;
+use am_script::{Fault, Line, Refusal, ScriptFault, read_script};
 use std::alloc::{AllocError, Global};
 use std::io::{Read, Write};
 
@@ -68,13 +71,42 @@ fn outcome_of(alloc: Global, text: Vec<u8>) -> Result<Outcome, AllocError>
     ensures { IfOk result
         (λ outcome. ComesTo text.items outcome.status (string_bytes outcome.output)) }
 {
+    match FirstLine::read(alloc, &text)? {
+        FirstLine::TooLong => {
+            let refusal = FIRST_LINE_TOO_LARGE;
+            Ok(refused(format!(in alloc; "{refusal}\n")?))
+        }
+        FirstLine::Refused(fault) => { Ok(refused(format!(in alloc; "config {fault}\n")?)) }
+        FirstLine::Read(config) => outcome_under(alloc, &config, text),
+    }
+}
+
+const FIRST_LINE_TOO_LARGE: Refusal = Refusal {
+    number: 1,
+    fault: Fault::TooLarge,
+};
+
+// Nothing was run.
+fn refused(output: String) -> Outcome
+    ensures status { result.status ≡ Status.Refused }
+    ensures output { result.output ≡ output }
+{
+    Outcome {
+        status: Status::Refused,
+        output,
+        ran: None,
+    }
+}
+
+// What a script comes to under its configuration.
+fn outcome_under(alloc: Global, config: &Config, text: Vec<u8>) -> Result<Outcome, AllocError>
+    requires { IsFirstLine text.items (FirstLine.Read config.now) }
+    ensures { IfOk result
+        (λ outcome. ComesTo text.items outcome.status (string_bytes outcome.output)) }
+{
     match take_lines(alloc, text) {
-        Ok(lines) => ran(alloc, run_script(alloc, lines)?),
-        Err(ScriptFault::Refused(refusal)) => Ok(Outcome {
-            status: Status::Refused,
-            output: format!(in alloc; "{refusal}\n")?,
-            ran: None,
-        }),
+        Ok(lines) => ran(alloc, run_script(alloc, config, lines)?),
+        Err(ScriptFault::Refused(refusal)) => Ok(refused(format!(in alloc; "{refusal}\n")?)),
         Err(ScriptFault::NoMemory) => Err(AllocError),
     }
 }

@@ -2,6 +2,7 @@
 //! answers.
 
 ghost use Rattle.std.specs.Prelude.{◌≡◌, ◌<◌, ◌++◌, ◌∷◌, [], ℕ, length, position, IfOk};
+ghost use Rattle.std.specs.Duration.{as_nanos};
 ghost use Rattle.am_replay.specs.Runs.{Does, counts_of, empty_session, is_named, posted_answers};
 ghost use Rattle.am_replay.specs.Sessions.{IsFirstToLeave, IsReady, Leaves, LeavesAll, view_of};
 
@@ -10,15 +11,12 @@ use crate::open_subscription::{OpenSubscription, next_answers};
 use am_alert::{Moment, read_post};
 use am_labels::Text;
 use am_provider::{AlreadyClosed, Book, Counts, Pass, Posted, journal_laws};
-use am_script::{Command, THREADS, Thread, Verb};
+use am_script::{Command, Kind, THREADS, Thread, Verb};
 use std::alloc::{AllocError, Global};
 use std::time::Duration;
 
 /// How many places the Book is asked for. Its log has no such bound yet.
 const PLACES: u32 = 256;
-
-/// How many seconds a report without an end lasts.
-const RESOLVE_TIMEOUT: u64 = 300;
 
 /// A book, a pass for each thread, and the open subscriptions in the order of their opening.
 pub struct Session {
@@ -46,16 +44,16 @@ impl Session {
         thread: Thread,
         at: Moment,
         body: &Text,
+        resolve_timeout: Duration,
     ) -> Result<Vec<Answer>, AllocError>
         requires { IsReady self.old }
         ensures ready { IsReady self.new }
         ensures does { IfOk result
-            (λ answers. Does (view_of self.old) thread (Command.Post at body.now)
-            (view_of self.new) answers.items) }
+            (λ answers. Does (as_nanos resolve_timeout) (view_of self.old) thread
+            (Command.Post at body.now) (view_of self.new) answers.items) }
     {
         journal_laws();
-        let timeout = Duration::from_secs(RESOLVE_TIMEOUT);
-        let post = match read_post(alloc, body.as_str().as_bytes(), at, timeout) {
+        let post = match read_post(alloc, body.as_str().as_bytes(), at, resolve_timeout) {
             Ok(post) => post,
             Err(fault) => return one(alloc, Answer::Unread(fault)),
         };
@@ -69,8 +67,8 @@ impl Session {
         requires { IsReady self.old }
         ensures ready { IsReady self.new }
         ensures does { IfOk result
-            (λ answer. Does (view_of self.old) thread (Command.Subscribe name.now)
-            (view_of self.new) (answer ∷ [])) }
+            (λ answer. (timeout : ℕ) (kind : Kind) → Does timeout (view_of self.old) thread
+            (Command.Subscribe name.now kind) (view_of self.new) (answer ∷ [])) }
     {
         journal_laws();
         let name = name.copy()?;
@@ -102,8 +100,8 @@ impl Session {
         requires { IsReady self.old }
         ensures ready { IsReady self.new }
         ensures does { IfOk result
-            (λ answers. Does (view_of self.old) thread (Command.Read name.now max)
-            (view_of self.new) answers.items) }
+            (λ answers. (timeout : ℕ) → Does timeout (view_of self.old) thread
+            (Command.Read name.now max) (view_of self.new) answers.items) }
     {
         match position(&self.opened, thread, name) {
             Some(at) => next_answers(alloc, &mut self.opened[at].subscription, &self.book, max),
@@ -114,8 +112,8 @@ impl Session {
     pub fn leave(&mut self, thread: Thread, name: &Text) -> Answer
         requires { IsReady self.old }
         ensures ready { IsReady self.new }
-        ensures does { Does (view_of self.old) thread (Command.Leave name.now)
-            (view_of self.new) (result ∷ []) }
+        ensures does { (timeout : ℕ) → Does timeout (view_of self.old) thread
+            (Command.Leave name.now) (view_of self.new) (result ∷ []) }
     {
         match position(&self.opened, thread, name) {
             Some(at) => self.leave_at(at),
@@ -145,8 +143,8 @@ impl Session {
     pub fn collect(&mut self, at: Moment) -> Answer
         requires { IsReady self.old }
         ensures ready { IsReady self.new }
-        ensures does { (thread : ℕ)
-            → Does (view_of self.old) thread (Command.Collect at) (view_of self.new) (result ∷ []) }
+        ensures does { (timeout thread : ℕ) → Does timeout (view_of self.old) thread
+            (Command.Collect at) (view_of self.new) (result ∷ []) }
     {
         journal_laws();
         match self.book.collect_resolved(at) {
@@ -158,8 +156,8 @@ impl Session {
     pub fn close(&mut self) -> Answer
         requires { IsReady self.old }
         ensures ready { IsReady self.new }
-        ensures does { (thread : ℕ)
-            → Does (view_of self.old) thread Command.Close (view_of self.new) (result ∷ []) }
+        ensures does { (timeout thread : ℕ) → Does timeout (view_of self.old) thread
+            Command.Close (view_of self.new) (result ∷ []) }
     {
         journal_laws();
         match self.book.close() {
@@ -171,8 +169,8 @@ impl Session {
     pub fn trim(&mut self) -> Answer
         requires { IsReady self.old }
         ensures ready { IsReady self.new }
-        ensures does { (thread : ℕ)
-            → Does (view_of self.old) thread Command.Trim (view_of self.new) (result ∷ []) }
+        ensures does { (timeout thread : ℕ) → Does timeout (view_of self.old) thread
+            Command.Trim (view_of self.new) (result ∷ []) }
     {
         journal_laws();
         match self.book.trim() {

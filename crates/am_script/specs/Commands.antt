@@ -1,5 +1,5 @@
 -- The command of a script's line, over the value that its JSON is.
-use Rattle.std.specs.Prelude.{◌≡◌, ◌⊎◌, ◌≤◌, ⊤, ℕ, ◌&&◌, Bool, true, false, nat_le, if◌then◌else◌, List, [], ◌∷◌, codes, Option, Some, None, is_some, option_map, option_and_then, IfSome, MatchOption, Result, Ok, Err, IsUtf8}
+use Rattle.std.specs.Prelude.{◌≡◌, ◌⊎◌, ◌≤◌, ⊤, ℕ, ◌&&◌, false, nat_le, if◌then◌else◌, List, [], ◌∷◌, codes, Option, Some, None, is_some, option_map, option_and_then, IfSome, MatchOption, Result, Ok, Err, IsUtf8}
 use Rattle.std.specs.Str.{bytes_eq}
 use Rattle.serde_json.specs.Data.{Data, depth}
 use Rattle.serde_json.specs.Find.{get, as_str, as_number, as_u64}
@@ -7,10 +7,13 @@ use Rattle.serde_json.specs.Read.{read, max_depth}
 use Rattle.serde_json.specs.Written.{compact_text, has_float, IsInOrder}
 use Rattle.am_alert.specs.TimeTexts.{time_of}
 use Rattle.am_script.specs.declared.command.Command.{Command}
-use Rattle.am_script.specs.declared.command.Command.TheVariants.{Post, Subscribe, Read, Leave, Collect, Close, Trim}
+use Rattle.am_script.specs.declared.command.Command.TheVariants.{Post, Subscribe, Read, Leave, Collect, Close, Trim, Groups, Sweep}
 use Rattle.am_script.specs.declared.command.Line.{Line}
 use Rattle.am_script.specs.declared.command.LineFault.{LineFault}
 use Rattle.am_script.specs.declared.command.LineFault.TheVariants.{BadLine, NoMemory}
+use Rattle.am_script.specs.Kinds.{kind_named}
+use Rattle.am_script.specs.declared.kind.Kind.{Kind}
+use Rattle.am_script.specs.declared.kind.Kind.TheVariants.{Plain}
 use Rattle.am_script.specs.declared.command.Verb.{Verb}
 use Rattle.am_script.specs.declared.command.Verb.TheVariants as verb
 
@@ -47,14 +50,11 @@ unless_empty (byte ∷ bytes) = Some (byte ∷ bytes)
 abbrev pub name_of : Data → Option (List ℕ)
 name_of d = option_and_then unless_empty (text_member (codes "sub") d)
 
--- whether the kind of a subscription is `plain`, also where it is absent
-abbrev pub is_plain_kind : Option Data → Bool
-is_plain_kind None = true
-is_plain_kind (Some kind) = is_plain_text (as_str kind)
-  where
-    is_plain_text : Option (List ℕ) → Bool
-    is_plain_text None = false
-    is_plain_text (Some text) = bytes_eq text (codes "plain")
+-- the kind of a subscription: `plain`, where it is absent
+abbrev pub kind_of : Data → Option Kind
+kind_of d =
+    if is_some (get (codes "kind") d)
+    then option_and_then kind_named (text_member (codes "kind") d) else Some Plain
 
 -- at most how many calls of `next` a read makes: one, where `max` is absent
 abbrev pub max_of : Data → Option ℕ
@@ -69,7 +69,9 @@ verb_of text =
     else (if bytes_eq text (codes "collect") then Some verb.Collect
     else (if bytes_eq text (codes "close") then Some verb.Close
     else (if bytes_eq text (codes "trim") then Some verb.Trim
-    else None))))))
+    else (if bytes_eq text (codes "groups") then Some verb.Groups
+    else (if bytes_eq text (codes "sweep") then Some verb.Sweep
+    else None))))))))
 
 -- the word in `do`
 abbrev pub verb_at : Data → Option Verb
@@ -83,7 +85,8 @@ command_for body d verb.Post = do
   Some (Post at body)
 command_for body d verb.Subscribe = do
   name ← name_of d
-  if is_plain_kind (get (codes "kind") d) then Some (Subscribe name) else None
+  kind ← kind_of d
+  Some (Subscribe name kind)
 command_for body d verb.Read = do
   name ← name_of d
   max ← max_of d
@@ -92,6 +95,11 @@ command_for body d verb.Leave = option_map Leave (name_of d)
 command_for body d verb.Collect = option_map Collect (moment_of d)
 command_for body d verb.Close = Some Close
 command_for body d verb.Trim = Some Trim
+command_for body d verb.Groups = option_map Groups (name_of d)
+command_for body d verb.Sweep = do
+  name ← name_of d
+  at ← moment_of d
+  Some (Sweep name at)
 
 -- the line of this number, where a post's body is posted as this text
 unfoldable pub line_of : ℕ → List ℕ → Data → Option Line
@@ -114,22 +122,26 @@ IsPostedAs d text = MatchOption (as_str d) (IsCompactText d text) (λ bytes. tex
 -- the text that a command posts
 abbrev pub body_text : Command → List ℕ
 body_text (Post at body) = body
-body_text (Subscribe name) = []
+body_text (Subscribe name kind) = []
 body_text (Read name max) = []
 body_text (Leave name) = []
 body_text (Collect at) = []
 body_text Close = []
 body_text Trim = []
+body_text (Groups name) = []
+body_text (Sweep name at) = []
 
 -- a post's text is that of the line's body
 abbrev pub HasItsBody : Data → Command → Type 0
 HasItsBody d (Post at body) = IfSome (get (codes "body") d) (λ given. IsPostedAs given body)
-HasItsBody d (Subscribe name) = ⊤
+HasItsBody d (Subscribe name kind) = ⊤
 HasItsBody d (Read name max) = ⊤
 HasItsBody d (Leave name) = ⊤
 HasItsBody d (Collect at) = ⊤
 HasItsBody d Close = ⊤
 HasItsBody d Trim = ⊤
+HasItsBody d (Groups name) = ⊤
+HasItsBody d (Sweep name at) = ⊤
 
 -- what a reader returned is what the definition gives, unless memory ran out
 abbrev pub IsReadAs : {X : Type 0} → Result X LineFault → Option X → Type 0

@@ -1,3 +1,4 @@
+pub mod Kinds
 pub mod Commands
 pub mod Script
 pub mod Names

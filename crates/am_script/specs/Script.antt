@@ -1,12 +1,14 @@
 -- Checking a whole script before anything runs: its lines, its limits, and the names of its
 -- subscriptions.
-use Rattle.std.specs.Prelude.{◌≡◌, ◌⊎◌, ◌<◌, ◌≤◌, ◌+◌, ℕ, ◌&&◌, ◌==◌, Bool, true, false, not, if◌then◌else◌, List, [], ◌∷◌, ◌++◌, length, fold, Result, Ok, Err, ⊤}
+use Rattle.std.specs.Prelude.{◌≡◌, ◌⊎◌, ◌<◌, ◌≤◌, ◌+◌, ℕ, ◌&&◌, ◌==◌, Bool, true, false, if◌then◌else◌, List, [], ◌∷◌, ◌++◌, length, fold, Option, Some, None, is_some, is_none, Result, Ok, Err, ⊤}
+use Rattle.am_script.specs.Kinds.{is_some_dispatch}
+use Rattle.am_script.specs.declared.kind.Kind.{Kind}
 use Rattle.am_script.specs.declared.limits.TheConstants.{LONGEST_LINE, MOST_LINES}
 use Rattle.std.specs.List.{onto_first}
 use Rattle.std.specs.Str.{bytes_eq}
 use Rattle.am_script.specs.Commands.{IsLineOf}
 use Rattle.am_script.specs.declared.command.Command.{Command}
-use Rattle.am_script.specs.declared.command.Command.TheVariants.{Post, Subscribe, Read, Leave, Collect, Close, Trim}
+use Rattle.am_script.specs.declared.command.Command.TheVariants.{Post, Subscribe, Read, Leave, Collect, Close, Trim, Groups, Sweep}
 use Rattle.am_script.specs.declared.command.Line.{Line}
 use Rattle.am_script.specs.declared.command.LineFault.TheVariants as line_fault
 use Rattle.am_script.specs.declared.script.Fault.TheVariants.{BadLine, BadName, TooLarge}
@@ -23,37 +25,50 @@ lines_of [] = []
 lines_of (byte ∷ bytes) =
     if is_line_feed byte then [] ∷ lines_of bytes else onto_first byte (lines_of bytes)
 
--- whether a name is subscribed in a thread after a command of this thread (true) or another one
--- (false)
-abbrev pub subscribed_after : Bool → List ℕ → Bool → Command → Bool
-subscribed_after here name before (Subscribe other) =
-    if here && bytes_eq other name then true else before
+-- as what kind a name is subscribed in a thread after a command of this thread (true) or another
+-- one (false)
+abbrev pub subscribed_after : Bool → List ℕ → Option Kind → Command → Option Kind
+subscribed_after here name before (Subscribe other kind) =
+    if here && bytes_eq other name then Some kind else before
 subscribed_after here name before (Leave other) =
-    if here && bytes_eq other name then false else before
+    if here && bytes_eq other name then None else before
 subscribed_after here name before (Post at body) = before
 subscribed_after here name before (Read other max) = before
 subscribed_after here name before (Collect at) = before
 subscribed_after here name before Close = before
 subscribed_after here name before Trim = before
+subscribed_after here name before (Groups other) = before
+subscribed_after here name before (Sweep other at) = before
 
--- whether a name is subscribed in a thread by some lines, and not left again
-abbrev pub is_subscribed : List Line → ℕ → List ℕ → Bool
-is_subscribed lines thread name = fold
-    (λ before line. subscribed_after (line.thread == thread) name before line.command) false lines
+-- as what kind a name is subscribed in a thread by some lines, and not left again
+abbrev pub subscribed_as : List Line → ℕ → List ℕ → Option Kind
+subscribed_as lines thread name = fold
+    (λ before line. subscribed_after (line.thread == thread) name before line.command) None lines
 
--- whether a command's name is subscribed, or isn't where the command subscribes it
-abbrev pub is_named_well : (List ℕ → Bool) → Command → Bool
-is_named_well is_there (Subscribe name) = not (is_there name)
-is_named_well is_there (Leave name) = is_there name
-is_named_well is_there (Read name max) = is_there name
-is_named_well is_there (Post at body) = true
-is_named_well is_there (Collect at) = true
-is_named_well is_there Close = true
-is_named_well is_there Trim = true
+-- whether a command's name is subscribed as the command needs it, or isn't where the command
+-- subscribes it
+abbrev pub is_named_well : (List ℕ → Option Kind) → Command → Bool
+is_named_well subscribed (Subscribe name kind) = is_none (subscribed name)
+is_named_well subscribed (Leave name) = is_some (subscribed name)
+is_named_well subscribed (Read name max) = is_some (subscribed name)
+is_named_well subscribed (Groups name) = is_some_dispatch (subscribed name)
+is_named_well subscribed (Sweep name at) = is_some_dispatch (subscribed name)
+is_named_well subscribed (Post at body) = true
+is_named_well subscribed (Collect at) = true
+is_named_well subscribed Close = true
+is_named_well subscribed Trim = true
 
 -- whether a line's name is the right one after the lines before it
 abbrev pub is_well_named : List Line → Line → Bool
-is_well_named earlier line = is_named_well (is_subscribed earlier line.thread) line.command
+is_well_named earlier line = is_named_well (subscribed_as earlier line.thread) line.command
+
+abbrev pub first_of : List (List ℕ) → List ℕ
+first_of [] = []
+first_of (line ∷ lines) = line
+
+-- the first line, which is the configuration's; it is empty where there is none
+abbrev pub config_line : List ℕ → List ℕ
+config_line text = first_of (lines_of text)
 
 -- above the limit of lines, or of a line's bytes
 abbrev pub IsTooLarge : ℕ → List ℕ → Type 0

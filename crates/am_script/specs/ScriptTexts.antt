@@ -16,6 +16,8 @@ verb_text verb.Leave = codes "leave"
 verb_text verb.Collect = codes "collect"
 verb_text verb.Close = codes "close"
 verb_text verb.Trim = codes "trim"
+verb_text verb.Groups = codes "groups"
+verb_text verb.Sweep = codes "sweep"
 
 -- what is wrong with a line of a script
 abbrev pub fault_text : Fault → List ℕ

@@ -3,6 +3,7 @@
 ghost use Rattle.std.specs.Prelude.{◌≡◌, Some};
 ghost use Rattle.am_script.specs.ScriptTexts.{verb_text};
 
+use crate::kind::Kind;
 use crate::thread::Thread;
 use am_alert::Moment;
 use am_labels::Text;
@@ -14,13 +15,17 @@ use std::fmt;
 pub enum Command {
     /// A body given as a text is posted as its bytes, any other value as its compact text.
     Post { at: Moment, body: Text },
-    Subscribe { name: Text },
+    Subscribe { name: Text, kind: Kind },
     /// At most this many calls of `next`.
     Read { name: Text, max: u32 },
     Leave { name: Text },
     Collect { at: Moment },
     Close,
     Trim,
+    /// The groups of a subscription's dispatcher.
+    Groups { name: Text },
+    /// Its dispatcher drops what is resolved at the moment.
+    Sweep { name: Text, at: Moment },
 }
 
 /// A command, with the thread that gives it and the number of its line.
@@ -58,6 +63,8 @@ pub enum Verb {
     Collect,
     Close,
     Trim,
+    Groups,
+    Sweep,
 }
 
 impl fmt::Display for Verb {
@@ -72,6 +79,8 @@ impl fmt::Display for Verb {
             Verb::Collect => "collect",
             Verb::Close => "close",
             Verb::Trim => "trim",
+            Verb::Groups => "groups",
+            Verb::Sweep => "sweep",
         })
     }
 }

@@ -1,6 +1,7 @@
 //! The replay program's scripts: what a script's text says, before anything of it runs.
 //!
-//! A script has one JSON object a line, which is one command of one thread. It is checked whole: the
+//! Its first line is the configuration, which is read elsewhere. Each later one is one JSON object,
+//! which is one command of one thread. A script is checked whole: the
 //! limits of its lines, then each line's members, then whether its subscription's name is there. The
 //! first fault in the order of lines refuses it.
 //!
@@ -14,6 +15,7 @@
 #![tactic(auto)]
 
 mod command;
+mod kind;
 mod limits;
 mod line_reader;
 mod members;
@@ -22,7 +24,8 @@ mod script;
 mod thread;
 
 pub use command::{Command, Line, LineFault, Verb};
+pub use kind::Kind;
 pub use limits::{LONGEST_LINE, MOST_LINES};
 pub use line_reader::read_line;
-pub use script::{Fault, Refusal, ScriptFault, read_script};
+pub use script::{Fault, Refusal, ScriptFault, config_line, read_script};
 pub use thread::{THREADS, Thread};

@@ -1,13 +1,12 @@
 //! Reading the command of one line: its JSON, then its members in their order.
 
-ghost use Rattle.std.specs.Prelude.{◌≡◌, IfOk, codes};
-ghost use Rattle.serde_json.specs.Find.{get};
+ghost use Rattle.std.specs.Prelude.{IfOk};
 ghost use Rattle.serde_json.specs.View.{view};
-ghost use Rattle.am_script.specs.Commands.{command_for, is_plain_kind};
+ghost use Rattle.am_script.specs.Commands.{command_for};
 ghost use Rattle.am_script.specs.Commands.{IsLineFrom, IsLineOf, IsPostedAs, ReadsCommand};
 
 use crate::command::{Command, Line, LineFault, Verb};
-use crate::members::{max_at, moment_at, name_at, thread_at, verb_at};
+use crate::members::{kind_at, max_at, moment_at, name_at, thread_at, verb_at};
 use am_labels::Text;
 use serde_json::Value;
 use std::alloc::{AllocError, Global};
@@ -49,6 +48,8 @@ fn command_for(alloc: Global, value: &Value, verb: Verb) -> Result<Command, Line
         Verb::Collect => collect_of(value),
         Verb::Close => Ok(Command::Close),
         Verb::Trim => Ok(Command::Trim),
+        Verb::Groups => groups_of(alloc, value),
+        Verb::Sweep => sweep_of(alloc, value),
     }
 }
 
@@ -82,11 +83,8 @@ fn subscribe_of(alloc: Global, value: &Value) -> Result<Command, LineFault>
         (λ body. command_for body (view value.now) Verb.Subscribe) }
 {
     let name = name_at(alloc, value)?;
-    if is_plain(value) {
-        Ok(Command::Subscribe { name })
-    } else {
-        Err(LineFault::BadLine)
-    }
+    let kind = kind_at(value)?;
+    Ok(Command::Subscribe { name, kind })
 }
 
 #[tactic(auto, unfolding(crate::specs::Commands::command_for))]
@@ -117,15 +115,21 @@ fn collect_of(value: &Value) -> Result<Command, LineFault>
     Ok(Command::Collect { at })
 }
 
-// A kind that is absent is `plain`.
-fn is_plain(value: &Value) -> bool
-    ensures { result ≡ is_plain_kind (get (codes "kind") (view value.now)) }
+#[tactic(auto, unfolding(crate::specs::Commands::command_for))]
+fn groups_of(alloc: Global, value: &Value) -> Result<Command, LineFault>
+    ensures { ReadsCommand (view value.now) result
+        (λ body. command_for body (view value.now) Verb.Groups) }
 {
-    let Some(kind) = value.get("kind") else {
-        return true;
-    };
-    match kind.as_str() {
-        Some(text) => text == "plain",
-        None => false,
-    }
+    let name = name_at(alloc, value)?;
+    Ok(Command::Groups { name })
+}
+
+#[tactic(auto, unfolding(crate::specs::Commands::command_for))]
+fn sweep_of(alloc: Global, value: &Value) -> Result<Command, LineFault>
+    ensures { ReadsCommand (view value.now) result
+        (λ body. command_for body (view value.now) Verb.Sweep) }
+{
+    let name = name_at(alloc, value)?;
+    let at = moment_at(value)?;
+    Ok(Command::Sweep { name, at })
 }

@@ -2,10 +2,12 @@
 
 ghost use Rattle.std.specs.Prelude.{◌≡◌, ◌≤◌, IfOk, option_map};
 ghost use Rattle.serde_json.specs.View.{view};
-ghost use Rattle.am_script.specs.Commands.{max_of, moment_of, name_of, number_member, text_member};
-ghost use Rattle.am_script.specs.Commands.{thread_of, verb_at, verb_of, IsReadAs};
+ghost use Rattle.am_script.specs.Commands.{kind_of, max_of, moment_of, name_of, number_member};
+ghost use Rattle.am_script.specs.Commands.{text_member, thread_of, verb_at, verb_of, IsReadAs};
+ghost use Rattle.am_script.specs.Kinds.{kind_named};
 
 use crate::command::{LineFault, Verb};
+use crate::kind::Kind;
 use crate::thread::Thread;
 use am_alert::{Moment, TimeFault, read_time};
 use am_labels::Text;
@@ -57,6 +59,38 @@ fn verb_of(text: &str) -> Option<Verb>
         Some(Verb::Close)
     } else if text == "trim" {
         Some(Verb::Trim)
+    } else if text == "groups" {
+        Some(Verb::Groups)
+    } else if text == "sweep" {
+        Some(Verb::Sweep)
+    } else {
+        None
+    }
+}
+
+// The kind of a subscription: plain, where it is absent.
+pub(crate) fn kind_at(value: &Value) -> Result<Kind, LineFault>
+    ensures { IsReadAs result (kind_of (view value.now)) }
+{
+    let Some(member) = value.get("kind") else {
+        return Ok(Kind::Plain);
+    };
+    let Some(word) = member.as_str() else {
+        return Err(LineFault::BadLine);
+    };
+    match kind_named(word) {
+        Some(kind) => Ok(kind),
+        None => Err(LineFault::BadLine),
+    }
+}
+
+fn kind_named(word: &str) -> Option<Kind>
+    ensures { result ≡ kind_named word.now }
+{
+    if word == "plain" {
+        Some(Kind::Plain)
+    } else if word == "dispatch" {
+        Some(Kind::Dispatch)
     } else {
         None
     }

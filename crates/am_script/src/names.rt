@@ -1,17 +1,24 @@
 //! The names of subscriptions as a script's lines subscribe and leave them.
 
-ghost use Rattle.std.specs.Prelude.{◌≡◌, ◌++◌, ◌∷◌, [], List, if◌then◌else◌, IfOk, OnErr};
-ghost use Rattle.am_script.specs.Names.{HoldsNames};
+ghost use Rattle.std.specs.Prelude.{◌≡◌, ◌++◌, ◌∷◌, [], List, if◌then◌else◌, is_none, Some};
+ghost use Rattle.std.specs.Prelude.{IfOk, OnErr};
+ghost use Rattle.std.specs.Bool.{OnFalse, OnTrue};
+ghost use Rattle.std.specs.BTreeMap.{get, IsUnchanged, Updates};
+ghost use Rattle.am_script.specs.Names.{name_cmp, HoldsNames};
+ghost use Rattle.am_script.specs.Kinds.{is_some_dispatch};
 ghost use Rattle.am_script.specs.Script.{is_well_named};
 
 use crate::command::{Command, Line};
+use crate::kind::Kind;
 use crate::thread::Thread;
 use am_labels::Text;
 use std::alloc::AllocError;
-use std::collections::BTreeSet;
+use std::collections::BTreeMap;
+
+type Names = BTreeMap<(Thread, Text), Kind>;
 
 // Whether a line's name is the right one. The names then follow the line.
-pub(crate) fn follow(names: &mut BTreeSet<(Thread, Text)>, line: &Line) -> Result<bool, AllocError>
+pub(crate) fn follow(names: &mut Names, line: &Line) -> Result<bool, AllocError>
     ensures ok { IfOk result (λ fits. (earlier : List Line) → HoldsNames names.old earlier
         → (fits ≡ is_well_named earlier line.now)
         × HoldsNames names.new (if fits then earlier ++ line.now ∷ [] else earlier)) }
@@ -20,9 +27,37 @@ pub(crate) fn follow(names: &mut BTreeSet<(Thread, Text)>, line: &Line) -> Resul
 {
     let thread = line.thread;
     match &line.command {
-        Command::Subscribe { name } => Ok(names.insert((thread, name.copy()?))?),
-        Command::Leave { name } => Ok(names.remove(&(thread, name.copy()?))),
-        Command::Read { name, max: _ } => Ok(names.contains(&(thread, name.copy()?))),
+        Command::Subscribe { name, kind } => subscribe(names, (thread, name.copy()?), *kind),
+        Command::Leave { name } => Ok(names.remove(&(thread, name.copy()?)).is_some()),
+        Command::Read { name, max: _ } => Ok(names.contains_key(&(thread, name.copy()?))),
+        Command::Groups { name } | Command::Sweep { name, at: _ } => {
+            Ok(has_dispatcher(names, &(thread, name.copy()?)))
+        }
         Command::Post { .. } | Command::Collect { .. } | Command::Close | Command::Trim => Ok(true),
+    }
+}
+
+// Adds a name that isn't there, and answers whether it wasn't.
+fn subscribe(names: &mut Names, name: (Thread, Text), kind: Kind) -> Result<bool, AllocError>
+    ensures fits { IfOk result (λ fits. fits ≡ is_none (get name_cmp names.old name)) }
+    ensures added { IfOk result
+        (λ fits. OnTrue fits (Updates name_cmp names.old names.new name (Some kind))) }
+    ensures same { IfOk result (λ fits. OnFalse fits (IsUnchanged names.old names.new)) }
+    ensures err { OnErr result (IsUnchanged names.old names.new) }
+{
+    if names.contains_key(&name) {
+        return Ok(false);
+    }
+    names.insert(name, kind)?;
+    Ok(true)
+}
+
+// Whether the name is subscribed with a dispatcher.
+fn has_dispatcher(names: &Names, name: &(Thread, Text)) -> bool
+    ensures { result ≡ is_some_dispatch (get name_cmp names.now name.now) }
+{
+    match names.get(name) {
+        Some(kind) => kind.is_dispatch(),
+        None => false,
     }
 }

@@ -6,16 +6,17 @@ ghost use Rattle.std.specs.List.{position};
 ghost use Rattle.am_script.specs.Names.{HoldsNames};
 ghost use Rattle.am_script.specs.ScriptTexts.{fault_text, refusal_text};
 ghost use Rattle.am_script.specs.Script.{Checks, Continues, IsRefused, Stops, is_line_feed};
-ghost use Rattle.am_script.specs.Script.{is_well_named, lines_of};
+ghost use Rattle.am_script.specs.Script.{config_line, is_well_named, lines_of};
 
 use crate::command::{Line, LineFault};
+use crate::kind::Kind;
 use crate::limits::{LONGEST_LINE, MOST_LINES};
 use crate::line_reader::read_line;
 use crate::names::follow;
 use crate::thread::Thread;
 use am_labels::Text;
 use std::alloc::{AllocError, AllocFailed, Global};
-use std::collections::BTreeSet;
+use std::collections::BTreeMap;
 use std::fmt;
 
 /// What is wrong with a line.
@@ -89,7 +90,7 @@ pub fn read_script(alloc: Global, text: &[u8]) -> Result<Vec<Line>, ScriptFault>
 {
     let mut checked = Checked {
         lines: Vec::new(alloc),
-        names: BTreeSet::new(alloc),
+        names: BTreeMap::new(alloc),
     };
     let mut rest = text;
     let mut number = 1;
@@ -102,6 +103,16 @@ pub fn read_script(alloc: Global, text: &[u8]) -> Result<Vec<Line>, ScriptFault>
         rest = after;
     }
     Ok(checked.lines)
+}
+
+/// The first line of a script's text, without its line feed: its configuration.
+pub fn config_line(text: &[u8]) -> &[u8]
+    ensures { result.now ≡ config_line text.now }
+{
+    if text.is_empty() {
+        return text;
+    }
+    split_line(text).0
 }
 
 // The first line without its line feed, and what follows it.
@@ -132,7 +143,7 @@ fn refused<T>(number: u32, fault: Fault) -> Result<T, ScriptFault>
 #[derive(Drop)]
 struct Checked {
     lines: Vec<Line>,
-    names: BTreeSet<(Thread, Text)>,
+    names: BTreeMap<(Thread, Text), Kind>,
     ghost named: { HoldsNames names lines.items },
 }
 

@@ -1,19 +1,28 @@
-use Rattle.std.proofs.Common.{◌≡◌, ℕ, List, [], ◌∷◌, ◌++◌, sym, subst, string_bytes}
+use Rattle.std.proofs.Common.{◌≡◌, ℕ, List, [], ◌∷◌, ◌++◌, ap, subst, ◌∙◌, string_bytes}
 use Rattle.am_script.specs.ScriptTexts.{refusal_text}
-use Rattle.am_replay.specs.Replays.{ComesTo, refused}
-use Rattle.am_replay.specs.declared.status.Status.TheVariants.{Refused}
-use Rattle.am_replay.proofs.Outcomes.{comes, if_ok_both}
+use Rattle.am_replay.specs.FirstLines.{IsFirstLine, config_refusal_text}
+use Rattle.am_replay.specs.Replays.{first_line_too_large, no_config, too_long}
+use Rattle.am_replay.specs.declared.first_line.FirstLine.{FirstLine}
+use Rattle.am_replay.specs.declared.first_line.FirstLine.TheVariants as first_line
+use Rattle.am_replay.proofs.Outcomes.{refused_so}
 use Rattle.am_replay.proofs.program.outcome_of.Goals as goal
 
-pub returns-in_ok-run_script-in-Ok : goal.returns-in_ok-run_script-in-Ok
-returns-in_ok-run_script-in-Ok c =
-    let ran = c.in_ok-run_script-in-Ok.field-0 in
-    let run = c.in_ok-run_script-in-Ok.ensures in
-    if_ok_both c.ran.result c.ran.ensures.output c.ran.ensures.status
-    (λ outcome said ends. comes c.args.text.items c.in-Ok.lines.items run.0 ran.0.answers.items c.in-Ok.ensures.read run.1 ran.0.counts outcome.status (string_bytes outcome.output) run.2 said ends)
+-- what the first line of a text comes to
+first_line_of : (text slice : List ℕ) (read is : FirstLine) → slice ≡ text → read ≡ is → IsFirstLine slice read → IsFirstLine text is
+first_line_of text slice read is same known first =
+    subst (λ (l : FirstLine). IsFirstLine text l) known (subst (λ (t : List ℕ). IsFirstLine t read) same first)
 
-pub returns-in_ok-format-in-Err-Refused : goal.returns-in_ok-format-in-Err-Refused
-returns-in_ok-format-in-Err-Refused c =
-    let checks = rw c.in-Err-Refused.field-0-is at c.in-Err-Refused.ensures.refused in
-    let said : string_bytes c.in_ok-format-in-Err-Refused.field-0 ≡ refusal_text c.in-Err-Refused.refusal ++ 10 ∷ [] = c.in_ok-format-in-Err-Refused.ensures.ok in
-    subst (λ (output : List ℕ). ComesTo c.args.text.items Refused output) (sym said) (refused c.in-Err-Refused.refusal checks)
+pub returns-in_ok-format-in-TooLong : goal.returns-in_ok-format-in-TooLong
+returns-in_ok-format-in-TooLong c =
+    let text = c.args.text.items in
+    let first = first_line_of text c.deref.result.now c.in_ok-read.field-0 first_line.TooLong c.deref.ensures.value c.in-TooLong.is c.in_ok-read.ensures in
+    refused_so text (refusal_text first_line_too_large ++ 10 ∷ []) _ _ (too_long first) c.refused.ensures.status
+    (ap string_bytes c.refused.ensures.output ∙ c.in_ok-format-in-TooLong.ensures.ok)
+
+pub returns-in_ok-format-in-Refused : goal.returns-in_ok-format-in-Refused
+returns-in_ok-format-in-Refused c =
+    let text = c.args.text.items in
+    let fault = c.in-Refused.fault in
+    let first = first_line_of text c.deref.result.now c.in_ok-read.field-0 (first_line.Refused fault) c.deref.ensures.value c.in-Refused.is c.in_ok-read.ensures in
+    refused_so text (config_refusal_text fault ++ 10 ∷ []) _ _ (no_config fault first) c.refused-in-Refused.ensures.status
+    (ap string_bytes c.refused-in-Refused.ensures.output ∙ c.in_ok-format-in-Refused.ensures.ok)

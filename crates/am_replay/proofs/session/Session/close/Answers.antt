@@ -15,9 +15,9 @@ returns-in-Ok-clause-ready c = record {
 }
 
 pub returns-in-Ok-clause-does : goal.returns-in-Ok-clause-does
-returns-in-Ok-clause-does c = λ thread. closed c.in-Ok.ensures.journal refl
+returns-in-Ok-clause-does c = λ timeout thread. closed c.in-Ok.ensures.journal refl
 
 pub returns-in-Err-clause-does : goal.returns-in-Err-clause-does
 returns-in-Err-clause-does c =
-    λ thread. subst (λ (book : BookView). Does (view_of c.args.self.now) thread Close (record { book = book; opened = c.args.self.now.opened.items }) (answer.CloseRefused ∷ []))
+    λ timeout thread. subst (λ (book : BookView). Does timeout (view_of c.args.self.now) thread Close (record { book = book; opened = c.args.self.now.opened.items }) (answer.CloseRefused ∷ []))
     (sym c.in-Err.ensures.err) (close_refused (c.in-Err.ensures.closed.0 refl))

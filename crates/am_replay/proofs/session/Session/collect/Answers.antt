@@ -16,10 +16,10 @@ returns-in-Ok-clause-ready c = record {
 
 pub returns-in-Ok-clause-does : goal.returns-in-Ok-clause-does
 returns-in-Ok-clause-does c =
-    λ thread. subst (λ (removed : ℕ). Does (view_of c.args.self.now) thread (Collect c.args.at) (record { book = c.collect_resolved.new.self; opened = c.args.self.now.opened.items }) (answer.Collected removed ∷ []))
+    λ timeout thread. subst (λ (removed : ℕ). Does timeout (view_of c.args.self.now) thread (Collect c.args.at) (record { book = c.collect_resolved.new.self; opened = c.args.self.now.opened.items }) (answer.Collected removed ∷ []))
     (sym c.in-Ok.ensures.removed) (collected c.in-Ok.ensures.journal refl)
 
 pub returns-in-Err-clause-does : goal.returns-in-Err-clause-does
 returns-in-Err-clause-does c =
-    λ thread. subst (λ (book : BookView). Does (view_of c.args.self.now) thread (Collect c.args.at) (record { book = book; opened = c.args.self.now.opened.items }) (answer.CollectRefused ∷ []))
+    λ timeout thread. subst (λ (book : BookView). Does timeout (view_of c.args.self.now) thread (Collect c.args.at) (record { book = book; opened = c.args.self.now.opened.items }) (answer.CollectRefused ∷ []))
     (sym c.in-Err.ensures.err) collect_refused

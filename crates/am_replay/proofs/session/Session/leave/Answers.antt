@@ -12,9 +12,9 @@ returns-in-Some-clause-does c =
     let leaves = c.leave_at.ensures.leaves in
     let here : position (is_named c.args.thread c.args.name.now) old.opened ≡ Some c.in-Some.at =
     ap (position (is_named c.args.thread c.args.name.now)) (sym c.deref.ensures.value) ∙ (sym c.position.ensures ∙ c.in-Some.is) in
-    subst (λ (given : Answer). Does old c.args.thread (Leave c.args.name.now) new (given ∷ [])) (sym leaves.answer)
+    λ timeout. subst (λ (given : Answer). Does timeout old c.args.thread (Leave c.args.name.now) new (given ∷ [])) (sym leaves.answer)
     (left {old = old} {new = new} leaves.one here leaves.there leaves.journal leaves.opened)
 
 pub returns-in-None-clause-does : goal.returns-in-None-clause-does
 returns-in-None-clause-does c =
-    nothing_to_leave (ap (position (is_named c.args.thread c.args.name.now)) (sym c.deref.ensures.value) ∙ (sym c.position.ensures ∙ c.in-None.is))
+    λ timeout. nothing_to_leave (ap (position (is_named c.args.thread c.args.name.now)) (sym c.deref.ensures.value) ∙ (sym c.position.ensures ∙ c.in-None.is))

@@ -18,11 +18,11 @@ returns-in-Some-clause-does c =
     let within : c.in-Some.at < length old.opened = (position-Some (is_named c.args.thread c.args.name.now) old.opened c.in-Some.at before here).0 in
     let there : slice_get old.opened c.in-Some.at ≡ Some before = slice_get-get_or old.opened c.in-Some.at before within ∙ ap Some (sym c.index_mut.ensures.value) in
     let after : OpenSubscription = record { thread = before.thread; name = before.name; subscription = c.next_answers.new.subscription } in
-    if_ok_map c.next_answers.result c.next_answers.ensures.shows (λ answers shows. read {old = old} {place = c.in-Some.at} before after here there shows refl refl refl refl)
+    if_ok_map c.next_answers.result c.next_answers.ensures.shows (λ answers shows timeout. read {old = old} {place = c.in-Some.at} before after here there shows refl refl refl refl)
 
 pub returns-in-None-clause-does : goal.returns-in-None-clause-does
 returns-in-None-clause-does c =
     let old = view_of c.args.self.now in
     let here = ap (position (is_named c.args.thread c.args.name.now)) (sym c.deref.ensures.value) ∙ (sym c.position.ensures ∙ c.in-None.is) in
     if_ok_map c.one.result c.one.ensures
-    (λ answers are. subst (λ (given : List Answer). Does old c.args.thread (Read c.args.name.now c.args.max) old given) (sym are) (nothing_to_read {session = old} here))
+    (λ answers are timeout. subst (λ (given : List Answer). Does timeout old c.args.thread (Read c.args.name.now c.args.max) old given) (sym are) (nothing_to_read {session = old} here))

@@ -29,13 +29,13 @@ returns-in-Ok-clause-does c =
     let fresh : IsFresh c.subscribe.new.self c.in-Ok.subscription = record { given = c.in-Ok.ensures.given; count = c.in-Ok.ensures.fresh.0; told = c.in-Ok.ensures.fresh.1 } in
     let same = sym (ap (λ (lane : ℕ). answer.Subscribed lane c.opening.result) c.lane.ensures
     ∙ ap (λ (count : ℕ). answer.Subscribed c.in-Ok.subscription.lane count) (c.opening.ensures ∙ ap length c.in-Ok.ensures.opening)) in
-    subst (λ given. Does old c.args.thread (Subscribe c.args.name.now) new (given ∷ [])) same
+    λ timeout kind. subst (λ given. Does timeout old c.args.thread (Subscribe c.args.name.now kind) new (given ∷ [])) same
     (subscribed {old = old} {new = new} one c.in-Ok.ensures.journal refl c.in_ok-name.ensures fresh c.in-Ok.ensures.at c.in-Ok.ensures.opening grew)
 
 pub returns-in-Err-clause-does : goal.returns-in-Err-clause-does
 returns-in-Err-clause-does c =
     let old = view_of c.args.self.now in
     let why = c.in-Err.fault in
-    subst (λ (book : BookView). Does old c.args.thread (Subscribe c.args.name.now) (record { book = book; opened = c.reserve.new.self.items }) (answer.SubscribeRefused why ∷ [])) (sym c.in-Err.ensures.err)
-    (subst (λ (opened : List OpenSubscription). Does old c.args.thread (Subscribe c.args.name.now) (record { book = old.book; opened = opened }) (answer.SubscribeRefused why ∷ [])) (sym c.reserve.ensures.items)
+    λ timeout kind. subst (λ (book : BookView). Does timeout old c.args.thread (Subscribe c.args.name.now kind) (record { book = book; opened = c.reserve.new.self.items }) (answer.SubscribeRefused why ∷ [])) (sym c.in-Err.ensures.err)
+    (subst (λ (opened : List OpenSubscription). Does timeout old c.args.thread (Subscribe c.args.name.now kind) (record { book = old.book; opened = opened }) (answer.SubscribeRefused why ∷ [])) (sym c.reserve.ensures.items)
     (subscribe_refused {session = old} {why = why} (sub_cause old.book why c.in-Err.ensures.closed c.in-Err.ensures.no_lane)))

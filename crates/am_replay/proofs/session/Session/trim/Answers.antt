@@ -14,9 +14,9 @@ returns-in-Ok-clause-ready c = record {
 }
 
 pub returns-in-Ok-clause-does : goal.returns-in-Ok-clause-does
-returns-in-Ok-clause-does c = λ thread. trimmed c.in-Ok.ensures.dropped c.in-Ok.ensures.journal refl
+returns-in-Ok-clause-does c = λ timeout thread. trimmed c.in-Ok.ensures.dropped c.in-Ok.ensures.journal refl
 
 pub returns-in-Err-clause-does : goal.returns-in-Err-clause-does
 returns-in-Err-clause-does c =
-    λ thread. subst (λ (book : BookView). Does (view_of c.args.self.now) thread Trim (record { book = book; opened = c.args.self.now.opened.items }) (answer.TrimRefused ∷ []))
+    λ timeout thread. subst (λ (book : BookView). Does timeout (view_of c.args.self.now) thread Trim (record { book = book; opened = c.args.self.now.opened.items }) (answer.TrimRefused ∷ []))
     (sym c.in-Err.ensures.err) trim_refused

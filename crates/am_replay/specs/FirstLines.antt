@@ -1,0 +1,23 @@
+-- The first line of a script, which is its configuration.
+use Rattle.std.specs.Prelude.{◌≢◌, ◌<◌, ◌≤◌, ℕ, List, ◌++◌, length, codes, Ok, Err}
+use Rattle.am_script.specs.Script.{config_line}
+use Rattle.am_script.specs.declared.limits.TheConstants.{LONGEST_LINE}
+use Rattle.am_routes.specs.Configs.{IsConfigOf}
+use Rattle.am_routes.specs.FaultTexts.{config_fault_text}
+use Rattle.am_routes.specs.declared.config.fault.ConfigFault.{ConfigFault}
+use Rattle.am_routes.specs.declared.config.fault.ConfigFault.TheVariants.{NoMemory}
+use Rattle.am_replay.specs.declared.first_line.FirstLine.{FirstLine}
+use Rattle.am_replay.specs.declared.first_line.FirstLine.TheVariants.{TooLong, Refused, Read}
+
+-- what the first line of a text comes to: it is above the limit, or it is read as a configuration
+abbrev pub IsFirstLine : List ℕ → FirstLine → Type 0
+IsFirstLine text TooLong = LONGEST_LINE < length (config_line text)
+IsFirstLine text (Refused fault) =
+    (length (config_line text) ≤ LONGEST_LINE) × (fault ≢ NoMemory)
+    × IsConfigOf (config_line text) (Err fault)
+IsFirstLine text (Read config) =
+    (length (config_line text) ≤ LONGEST_LINE) × IsConfigOf (config_line text) (Ok config)
+
+-- a refused configuration
+abbrev pub config_refusal_text : ConfigFault → List ℕ
+config_refusal_text fault = codes "config " ++ config_fault_text fault
