@@ -1,13 +1,15 @@
 -- The command of a script's line, over the value that its JSON is.
 use Rattle.std.specs.Prelude.{◌≡◌, ◌⊎◌, ◌≤◌, ⊤, ℕ, ◌&&◌, false, nat_le, if◌then◌else◌, List, [], ◌∷◌, codes, Option, Some, None, is_some, option_map, option_and_then, IfSome, MatchOption, Result, Ok, Err, IsUtf8}
 use Rattle.std.specs.Str.{bytes_eq}
-use Rattle.serde_json.specs.Data.{Data, depth}
+use Rattle.serde_json.specs.Data.{Data, Members, object, depth}
 use Rattle.serde_json.specs.Find.{get, as_str, as_number, as_u64}
 use Rattle.serde_json.specs.Read.{read, max_depth}
 use Rattle.serde_json.specs.Written.{compact_text, has_float, IsInOrder}
+use Rattle.am_labels.specs.LabelSets.{Labels}
+use Rattle.am_alert.specs.Postables.{labels_of}
 use Rattle.am_alert.specs.TimeTexts.{time_of}
 use Rattle.am_script.specs.declared.command.Command.{Command}
-use Rattle.am_script.specs.declared.command.Command.TheVariants.{Post, Subscribe, Read, Leave, Collect, Close, Trim, Groups, Sweep}
+use Rattle.am_script.specs.declared.command.Command.TheVariants.{Post, Subscribe, Read, Leave, Collect, Close, Trim, Groups, Sweep, Mutes}
 use Rattle.am_script.specs.declared.command.Line.{Line}
 use Rattle.am_script.specs.declared.command.LineFault.{LineFault}
 use Rattle.am_script.specs.declared.command.LineFault.TheVariants.{BadLine, NoMemory}
@@ -60,6 +62,15 @@ kind_of d =
 abbrev pub max_of : Data → Option ℕ
 max_of d = if is_some (get (codes "max") d) then number_member (codes "max") 1 65536 d else Some 1
 
+-- the label set of an object's members as an alert's is made of them: each is a text, those with an
+-- empty value are dropped, and of two with one name the last holds
+abbrev pub label_set_of : Members → Option Labels
+label_set_of members = labels_of (object members)
+
+-- the label set in `labels`
+abbrev pub labels_at : Data → Option Labels
+labels_at d = option_and_then labels_of (get (codes "labels") d)
+
 abbrev pub verb_of : List ℕ → Option Verb
 verb_of text =
     if bytes_eq text (codes "post") then Some verb.Post
@@ -71,7 +82,8 @@ verb_of text =
     else (if bytes_eq text (codes "trim") then Some verb.Trim
     else (if bytes_eq text (codes "groups") then Some verb.Groups
     else (if bytes_eq text (codes "sweep") then Some verb.Sweep
-    else None))))))))
+    else (if bytes_eq text (codes "mutes") then Some verb.Mutes
+    else None)))))))))
 
 -- the word in `do`
 abbrev pub verb_at : Data → Option Verb
@@ -100,6 +112,11 @@ command_for body d verb.Sweep = do
   name ← name_of d
   at ← moment_of d
   Some (Sweep name at)
+command_for body d verb.Mutes = do
+  name ← name_of d
+  at ← moment_of d
+  labels ← labels_at d
+  Some (Mutes name at labels)
 
 -- the line of this number, where a post's body is posted as this text
 unfoldable pub line_of : ℕ → List ℕ → Data → Option Line
@@ -130,6 +147,7 @@ body_text Close = []
 body_text Trim = []
 body_text (Groups name) = []
 body_text (Sweep name at) = []
+body_text (Mutes name at labels) = []
 
 -- a post's text is that of the line's body
 abbrev pub HasItsBody : Data → Command → Type 0
@@ -142,6 +160,7 @@ HasItsBody d Close = ⊤
 HasItsBody d Trim = ⊤
 HasItsBody d (Groups name) = ⊤
 HasItsBody d (Sweep name at) = ⊤
+HasItsBody d (Mutes name at labels) = ⊤
 
 -- what a reader returned is what the definition gives, unless memory ran out
 abbrev pub IsReadAs : {X : Type 0} → Result X LineFault → Option X → Type 0

@@ -2,21 +2,34 @@
 use Rattle.std.specs.Prelude.{ℕ, Bool, true, false, List, codes, Option, Some, None, if◌then◌else◌}
 use Rattle.std.specs.Str.{bytes_eq}
 use Rattle.am_script.specs.declared.kind.Kind.{Kind}
-use Rattle.am_script.specs.declared.kind.Kind.TheVariants.{Plain, Dispatch}
+use Rattle.am_script.specs.declared.kind.Kind.TheVariants.{Plain, Dispatch, Inhibit}
 
 -- whether it is a dispatcher
 abbrev pub is_dispatch : Kind → Bool
 is_dispatch Plain = false
 is_dispatch Dispatch = true
+is_dispatch Inhibit = false
+
+-- whether it is an inhibitor
+abbrev pub is_inhibit : Kind → Bool
+is_inhibit Plain = false
+is_inhibit Dispatch = false
+is_inhibit Inhibit = true
 
 -- whether there is one, and it is a dispatcher
 abbrev pub is_some_dispatch : Option Kind → Bool
 is_some_dispatch None = false
 is_some_dispatch (Some kind) = is_dispatch kind
 
+-- whether there is one, and it is an inhibitor
+abbrev pub is_some_inhibit : Option Kind → Bool
+is_some_inhibit None = false
+is_some_inhibit (Some kind) = is_inhibit kind
+
 -- the kind of a word
 abbrev pub kind_named : List ℕ → Option Kind
 kind_named word =
     if bytes_eq word (codes "plain") then Some Plain
     else (if bytes_eq word (codes "dispatch") then Some Dispatch
-    else None)
+    else (if bytes_eq word (codes "inhibit") then Some Inhibit
+    else None))

@@ -1,14 +1,14 @@
 -- Checking a whole script before anything runs: its lines, its limits, and the names of its
 -- subscriptions.
 use Rattle.std.specs.Prelude.{◌≡◌, ◌⊎◌, ◌<◌, ◌≤◌, ◌+◌, ℕ, ◌&&◌, ◌==◌, Bool, true, false, if◌then◌else◌, List, [], ◌∷◌, ◌++◌, length, fold, Option, Some, None, is_some, is_none, Result, Ok, Err, ⊤}
-use Rattle.am_script.specs.Kinds.{is_some_dispatch}
+use Rattle.am_script.specs.Kinds.{is_some_dispatch, is_some_inhibit}
 use Rattle.am_script.specs.declared.kind.Kind.{Kind}
 use Rattle.am_script.specs.declared.limits.TheConstants.{LONGEST_LINE, MOST_LINES}
 use Rattle.std.specs.List.{onto_first}
 use Rattle.std.specs.Str.{bytes_eq}
 use Rattle.am_script.specs.Commands.{IsLineOf}
 use Rattle.am_script.specs.declared.command.Command.{Command}
-use Rattle.am_script.specs.declared.command.Command.TheVariants.{Post, Subscribe, Read, Leave, Collect, Close, Trim, Groups, Sweep}
+use Rattle.am_script.specs.declared.command.Command.TheVariants.{Post, Subscribe, Read, Leave, Collect, Close, Trim, Groups, Sweep, Mutes}
 use Rattle.am_script.specs.declared.command.Line.{Line}
 use Rattle.am_script.specs.declared.command.LineFault.TheVariants as line_fault
 use Rattle.am_script.specs.declared.script.Fault.TheVariants.{BadLine, BadName, TooLarge}
@@ -39,6 +39,7 @@ subscribed_after here name before Close = before
 subscribed_after here name before Trim = before
 subscribed_after here name before (Groups other) = before
 subscribed_after here name before (Sweep other at) = before
+subscribed_after here name before (Mutes other at labels) = before
 
 -- as what kind a name is subscribed in a thread by some lines, and not left again
 abbrev pub subscribed_as : List Line → ℕ → List ℕ → Option Kind
@@ -53,6 +54,7 @@ is_named_well subscribed (Leave name) = is_some (subscribed name)
 is_named_well subscribed (Read name max) = is_some (subscribed name)
 is_named_well subscribed (Groups name) = is_some_dispatch (subscribed name)
 is_named_well subscribed (Sweep name at) = is_some_dispatch (subscribed name)
+is_named_well subscribed (Mutes name at labels) = is_some_inhibit (subscribed name)
 is_named_well subscribed (Post at body) = true
 is_named_well subscribed (Collect at) = true
 is_named_well subscribed Close = true

@@ -18,6 +18,7 @@ verb_text verb.Close = codes "close"
 verb_text verb.Trim = codes "trim"
 verb_text verb.Groups = codes "groups"
 verb_text verb.Sweep = codes "sweep"
+verb_text verb.Mutes = codes "mutes"
 
 -- what is wrong with a line of a script
 abbrev pub fault_text : Fault → List ℕ

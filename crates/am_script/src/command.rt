@@ -6,26 +6,51 @@ ghost use Rattle.am_script.specs.ScriptTexts.{verb_text};
 use crate::kind::Kind;
 use crate::thread::Thread;
 use am_alert::Moment;
-use am_labels::Text;
-use std::alloc::AllocError;
+use am_labels::{LabelSet, Text};
+use std::alloc::{AllocError, AllocFailed};
 use std::fmt;
 
 /// What a line asks for.
 #[derive(Debug, Drop)]
 pub enum Command {
     /// A body given as a text is posted as its bytes, any other value as its compact text.
-    Post { at: Moment, body: Text },
-    Subscribe { name: Text, kind: Kind },
+    Post {
+        at: Moment,
+        body: Text,
+    },
+    Subscribe {
+        name: Text,
+        kind: Kind,
+    },
     /// At most this many calls of `next`.
-    Read { name: Text, max: u32 },
-    Leave { name: Text },
-    Collect { at: Moment },
+    Read {
+        name: Text,
+        max: u32,
+    },
+    Leave {
+        name: Text,
+    },
+    Collect {
+        at: Moment,
+    },
     Close,
     Trim,
     /// The groups of a subscription's dispatcher.
-    Groups { name: Text },
+    Groups {
+        name: Text,
+    },
     /// Its dispatcher drops what is resolved at the moment.
-    Sweep { name: Text, at: Moment },
+    Sweep {
+        name: Text,
+        at: Moment,
+    },
+    /// Whether a subscription's inhibitor mutes a target at the moment. The label set is made as an
+    /// alert's is: labels with an empty value are dropped, and of two with one name the last holds.
+    Mutes {
+        name: Text,
+        at: Moment,
+        labels: LabelSet,
+    },
 }
 
 /// A command, with the thread that gives it and the number of its line.
@@ -53,6 +78,16 @@ impl From<AllocError> for LineFault {
     }
 }
 
+impl<T: Drop> From<AllocFailed<T>> for LineFault {
+    ghost use Rattle.am_script.specs.declared.command.LineFault.TheVariants.{NoMemory};
+
+    ghost from_gives = { λ _ fault. fault ≡ NoMemory };
+
+    fn from(_error: AllocFailed<T>) -> LineFault {
+        LineFault::NoMemory
+    }
+}
+
 /// The word of a line's `do`.
 #[derive(Clone, Copy, Debug, PartialEq, Eq)]
 pub enum Verb {
@@ -65,6 +100,7 @@ pub enum Verb {
     Trim,
     Groups,
     Sweep,
+    Mutes,
 }
 
 impl fmt::Display for Verb {
@@ -81,6 +117,7 @@ impl fmt::Display for Verb {
             Verb::Trim => "trim",
             Verb::Groups => "groups",
             Verb::Sweep => "sweep",
+            Verb::Mutes => "mutes",
         })
     }
 }

@@ -1,7 +1,7 @@
 //! What stands beside a subscription, to take what it shows.
 
 ghost use Rattle.std.specs.Prelude.{◌≡◌};
-ghost use Rattle.am_script.specs.Kinds.{is_dispatch};
+ghost use Rattle.am_script.specs.Kinds.{is_dispatch, is_inhibit};
 
 /// What stands beside a subscription.
 #[derive(Clone, Copy, Debug, PartialEq, Eq)]
@@ -10,6 +10,8 @@ pub enum Kind {
     Plain,
     /// A dispatcher.
     Dispatch,
+    /// An inhibitor.
+    Inhibit,
 }
 
 impl Kind {
@@ -17,8 +19,17 @@ impl Kind {
         ensures { result ≡ is_dispatch self }
     {
         match self {
-            Kind::Plain => false,
             Kind::Dispatch => true,
+            Kind::Plain | Kind::Inhibit => false,
+        }
+    }
+
+    pub fn is_inhibit(self) -> bool
+        ensures { result ≡ is_inhibit self }
+    {
+        match self {
+            Kind::Inhibit => true,
+            Kind::Plain | Kind::Dispatch => false,
         }
     }
 }

@@ -1,9 +1,9 @@
 //! The replay program's scripts: what a script's text says, before anything of it runs.
 //!
 //! Its first line is the configuration, which is read elsewhere. Each later one is one JSON object,
-//! which is one command of one thread. A script is checked whole: the
-//! limits of its lines, then each line's members, then whether its subscription's name is there. The
-//! first fault in the order of lines refuses it.
+//! which is one command of one thread. A script is checked whole: the limits of its lines, then each
+//! line's members, then whether its subscription is there, and of the kind that the command needs.
+//! The first fault in the order of lines refuses it.
 //!
 //!     match read_script(alloc, text) {
 //!         Ok(lines) => run(lines),

@@ -6,7 +6,7 @@ ghost use Rattle.am_script.specs.Commands.{command_for};
 ghost use Rattle.am_script.specs.Commands.{IsLineFrom, IsLineOf, IsPostedAs, ReadsCommand};
 
 use crate::command::{Command, Line, LineFault, Verb};
-use crate::members::{kind_at, max_at, moment_at, name_at, thread_at, verb_at};
+use crate::members::{kind_at, labels_at, max_at, moment_at, name_at, thread_at, verb_at};
 use am_labels::Text;
 use serde_json::Value;
 use std::alloc::{AllocError, Global};
@@ -50,6 +50,7 @@ fn command_for(alloc: Global, value: &Value, verb: Verb) -> Result<Command, Line
         Verb::Trim => Ok(Command::Trim),
         Verb::Groups => groups_of(alloc, value),
         Verb::Sweep => sweep_of(alloc, value),
+        Verb::Mutes => mutes_of(alloc, value),
     }
 }
 
@@ -132,4 +133,15 @@ fn sweep_of(alloc: Global, value: &Value) -> Result<Command, LineFault>
     let name = name_at(alloc, value)?;
     let at = moment_at(value)?;
     Ok(Command::Sweep { name, at })
+}
+
+#[tactic(auto, unfolding(crate::specs::Commands::command_for))]
+fn mutes_of(alloc: Global, value: &Value) -> Result<Command, LineFault>
+    ensures { ReadsCommand (view value.now) result
+        (λ body. command_for body (view value.now) Verb.Mutes) }
+{
+    let name = name_at(alloc, value)?;
+    let at = moment_at(value)?;
+    let labels = labels_at(alloc, value)?;
+    Ok(Command::Mutes { name, at, labels })
 }

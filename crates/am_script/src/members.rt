@@ -1,17 +1,17 @@
 //! The members of a line: what each has to be.
 
 ghost use Rattle.std.specs.Prelude.{◌≡◌, ◌≤◌, IfOk, option_map};
-ghost use Rattle.serde_json.specs.View.{view};
-ghost use Rattle.am_script.specs.Commands.{kind_of, max_of, moment_of, name_of, number_member};
-ghost use Rattle.am_script.specs.Commands.{text_member, thread_of, verb_at, verb_of, IsReadAs};
+ghost use Rattle.serde_json.specs.View.{view, members_view};
+ghost use Rattle.am_script.specs.Commands.{kind_of, labels_at, max_of, moment_of, name_of, number_member};
+ghost use Rattle.am_script.specs.Commands.{label_set_of, text_member, thread_of, verb_at, verb_of, IsReadAs};
 ghost use Rattle.am_script.specs.Kinds.{kind_named};
 
 use crate::command::{LineFault, Verb};
 use crate::kind::Kind;
 use crate::thread::Thread;
 use am_alert::{Moment, TimeFault, read_time};
-use am_labels::Text;
-use serde_json::Value;
+use am_labels::{LabelSet, Text};
+use serde_json::{Map, Value};
 use std::alloc::Global;
 
 pub(crate) fn thread_at(value: &Value) -> Result<Thread, LineFault>
@@ -63,6 +63,8 @@ fn verb_of(text: &str) -> Option<Verb>
         Some(Verb::Groups)
     } else if text == "sweep" {
         Some(Verb::Sweep)
+    } else if text == "mutes" {
+        Some(Verb::Mutes)
     } else {
         None
     }
@@ -91,6 +93,8 @@ fn kind_named(word: &str) -> Option<Kind>
         Some(Kind::Plain)
     } else if word == "dispatch" {
         Some(Kind::Dispatch)
+    } else if word == "inhibit" {
+        Some(Kind::Inhibit)
     } else {
         None
     }
@@ -139,4 +143,32 @@ pub(crate) fn name_at(alloc: Global, value: &Value) -> Result<Text, LineFault>
         Some(name) if !name.is_empty() => Ok(Text::from_str(alloc, name)?),
         _ => Err(LineFault::BadLine),
     }
+}
+
+// The label set in `labels`, made as an alert's is.
+pub(crate) fn labels_at(alloc: Global, value: &Value) -> Result<LabelSet, LineFault>
+    ensures { IsReadAs result (labels_at (view value.now)) }
+{
+    let Some(member) = value.get("labels") else {
+        return Err(LineFault::BadLine);
+    };
+    match member.as_object() {
+        Some(members) => label_set_of(alloc, members),
+        None => Err(LineFault::BadLine),
+    }
+}
+
+fn label_set_of(alloc: Global, members: &Map<String, Value>) -> Result<LabelSet, LineFault>
+    ensures { IsReadAs result (label_set_of (members_view members.now.entries)) }
+{
+    let mut pairs = Vec::new(alloc);
+    for (name, member) in members.iter() {
+        let Some(text) = member.as_str() else {
+            return Err(LineFault::BadLine);
+        };
+        if !text.is_empty() {
+            pairs.push((Text::from_str(alloc, name)?, Text::from_str(alloc, text)?))?;
+        }
+    }
+    Ok(LabelSet::from_texts(alloc, pairs)?)
 }

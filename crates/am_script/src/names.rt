@@ -5,7 +5,7 @@ ghost use Rattle.std.specs.Prelude.{IfOk, OnErr};
 ghost use Rattle.std.specs.Bool.{OnFalse, OnTrue};
 ghost use Rattle.std.specs.BTreeMap.{get, IsUnchanged, Updates};
 ghost use Rattle.am_script.specs.Names.{name_cmp, HoldsNames};
-ghost use Rattle.am_script.specs.Kinds.{is_some_dispatch};
+ghost use Rattle.am_script.specs.Kinds.{is_some_dispatch, is_some_inhibit};
 ghost use Rattle.am_script.specs.Script.{is_well_named};
 
 use crate::command::{Command, Line};
@@ -33,6 +33,7 @@ pub(crate) fn follow(names: &mut Names, line: &Line) -> Result<bool, AllocError>
         Command::Groups { name } | Command::Sweep { name, at: _ } => {
             Ok(has_dispatcher(names, &(thread, name.copy()?)))
         }
+        Command::Mutes { name, .. } => Ok(has_inhibitor(names, &(thread, name.copy()?))),
         Command::Post { .. } | Command::Collect { .. } | Command::Close | Command::Trim => Ok(true),
     }
 }
@@ -58,6 +59,16 @@ fn has_dispatcher(names: &Names, name: &(Thread, Text)) -> bool
 {
     match names.get(name) {
         Some(kind) => kind.is_dispatch(),
+        None => false,
+    }
+}
+
+// Whether the name is subscribed with an inhibitor.
+fn has_inhibitor(names: &Names, name: &(Thread, Text)) -> bool
+    ensures { result ≡ is_some_inhibit (get name_cmp names.now name.now) }
+{
+    match names.get(name) {
+        Some(kind) => kind.is_inhibit(),
         None => false,
     }
 }
