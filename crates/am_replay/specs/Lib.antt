@@ -1,5 +1,5 @@
 pub mod Answers
-pub mod Dispatching
+pub mod Consuming
 pub mod FirstLines
 pub mod Bytes
 pub mod Inputs

@@ -38,6 +38,10 @@ abbrev pub swept_text : Swept → List ℕ
 swept_text swept =
     codes "sweep alerts " ++ (decimal swept.alerts ++ (codes " groups " ++ decimal swept.groups))
 
+-- the rule that mutes a target, and the label set by which it does
+abbrev pub muted_text : ℕ → Labels → List ℕ
+muted_text rule by = codes "muted rule " ++ (decimal rule ++ (codes " by " ++ labels_text by))
+
 -- what a call answered, printed after the number of its line
 abbrev pub answer_text : Answer → List ℕ
 answer_text (answer.Posted valid place) = posted_text valid place
@@ -62,6 +66,9 @@ answer_text answer.TakeRefused = codes "take refused E0 NoMemory"
 answer_text (answer.Group route receiver labels alerts) = group_text route receiver labels alerts
 answer_text (answer.Member alert) = codes "member " ++ alert_text alert
 answer_text (answer.Swept swept) = swept_text swept
+answer_text (answer.Muted rule by) = muted_text rule by
+answer_text answer.NotMuted = codes "not muted"
+answer_text answer.MutesRefused = codes "mutes refused E0 NoMemory"
 answer_text (answer.NotOpen word) = verb_text word ++ codes " none"
 
 -- an answer's line, without its line feed

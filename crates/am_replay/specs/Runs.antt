@@ -7,6 +7,7 @@ use Rattle.am_alert.specs.declared.alert.Alert.{Alert}
 use Rattle.am_alert.specs.declared.post.Post.{Post as Posting}
 use Rattle.am_alert.specs.declared.post.PostFault.{PostFault}
 use Rattle.am_alert.specs.Merging.{is_resolved_at}
+use Rattle.am_labels.specs.LabelSets.{Labels}
 use Rattle.am_alert.specs.Posts.{IsPostOf}
 use Rattle.am_provider.specs.BookView.{BookView, new_book, SubscriptionView, IsFaithful, BelongsTo, taken}
 use Rattle.am_provider.specs.Broadcast.{due}
@@ -24,14 +25,13 @@ use Rattle.am_replay.specs.declared.answers.Answer.{Answer}
 use Rattle.am_replay.specs.declared.answers.Answer.TheVariants as answer
 use Rattle.am_replay.specs.declared.answers.Answered.{Answered}
 use Rattle.am_script.specs.declared.command.Command.{Command}
-use Rattle.am_script.specs.declared.command.Command.TheVariants.{Post, Subscribe, Read, Leave, Collect, Close, Trim, Groups, Sweep}
+use Rattle.am_script.specs.declared.command.Command.TheVariants.{Post, Subscribe, Read, Leave, Collect, Close, Trim, Groups, Sweep, Mutes}
 use Rattle.am_script.specs.declared.command.Line.{Line}
 use Rattle.am_script.specs.declared.kind.Kind.{Kind}
 use Rattle.am_script.specs.declared.command.Verb.TheVariants as verb
-use Rattle.am_routes.specs.RouteLists.{root_of}
 use Rattle.am_routes.specs.declared.config.Config.{Config}
-use Rattle.am_replay.specs.Dispatching.{Accompanies}
-use Rattle.am_replay.specs.declared.dispatchers.NamedDispatcher.{NamedDispatcher}
+use Rattle.am_replay.specs.Consuming.{Accompanies}
+use Rattle.am_replay.specs.declared.consumers.NamedConsumer.{NamedConsumer}
 use Rattle.am_replay.specs.declared.open_subscription.OpenSubscription.{OpenSubscription}
 
 -- a Book, and its open subscriptions in the order in which they were opened
@@ -105,7 +105,8 @@ pub record IsFresh (book : BookView) (subscription : SubscriptionView) : Type 0 
   pub told : subscription.closed_told ≡ false
 
 -- What a thread's command does to the Book, and what it answers, under a resolve timeout in
--- nanoseconds. A refused one does nothing, and nor does one that asks a dispatcher.
+-- nanoseconds. A refused one does nothing, and nor does one that asks a
+-- consumer.
 pub data Does (timeout : ℕ) : SessionView → ℕ → Command → SessionView → List Answer → Type 0 where
   unread : {session : SessionView} {thread at : ℕ} {body : List ℕ} {why : PostFault}
       → IsPostOf at timeout body (Err why)
@@ -166,29 +167,31 @@ pub data Does (timeout : ℕ) : SessionView → ℕ → Command → SessionView 
       → Does timeout session thread (Groups name) session []
   asks_sweep : {session : SessionView} {thread at : ℕ} {name : List ℕ}
       → Does timeout session thread (Sweep name at) session []
+  asks_mutes : {session : SessionView} {thread at : ℕ} {name : List ℕ} {labels : Labels}
+      → Does timeout session thread (Mutes name at labels) session []
 
 -- the answers of a line, each with the line's number
 abbrev pub numbered : ℕ → List Answer → List Answered
 numbered number answers = map (λ one. record { number = number; answer = one }) answers
 
--- a session, and the dispatchers beside its subscriptions
+-- a session, and the consumers beside its subscriptions
 pub record ReplayView : Type 0 where
   pub session : SessionView
-  pub dispatchers : List NamedDispatcher
+  pub consumers : List NamedConsumer
 
 abbrev pub empty_replay : ReplayView
-empty_replay = record { session = empty_session; dispatchers = [] }
+empty_replay = record { session = empty_session; consumers = [] }
 
 -- The lines one after another under a configuration, with all that they answer: what each does to
 -- the Book, which leaves one whose stored alerts and log are those of its journal, and what the
--- dispatchers make of what that answered.
+-- consumers make of what that answered.
 pub data Runs (config : Config) (begun : ReplayView) : List Line → ReplayView → List Answered → Type 0 where
   started : Runs config begun [] begun []
   followed : {lines : List Line} {old new : ReplayView} {before : List Answered} {given : List Answer} (answers : List Answer) (line : Line)
       → Runs config begun lines old before
       → Does (as_nanos config.resolve_timeout) old.session line.thread line.command new.session given
       → IsFaithful new.session.book
-      → Accompanies (root_of config.tree) old.dispatchers line.thread line.command given new.dispatchers answers
+      → Accompanies config old.consumers line.thread line.command given new.consumers answers
       → Runs config begun (lines ++ line ∷ []) new (before ++ numbered line.number answers)
 
 -- the open subscriptions are the Book's, each on a lane of its own, and the Book is its journal's

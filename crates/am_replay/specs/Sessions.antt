@@ -7,16 +7,16 @@ use Rattle.am_replay.specs.Runs.{SessionView, ReplayView, IsReadySession}
 use Rattle.am_replay.specs.declared.answers.Answer.{Answer}
 use Rattle.am_replay.specs.declared.answers.Answer.TheVariants as answer
 use Rattle.am_replay.specs.declared.open_subscription.OpenSubscription.{OpenSubscription}
-use Rattle.am_replay.specs.declared.dispatchers.Dispatchers.{Dispatchers}
+use Rattle.am_replay.specs.declared.consumers.Consumers.{Consumers}
 use Rattle.am_replay.specs.declared.session.Session.{Session}
 
 abbrev pub view_of : Session → SessionView
 view_of session = record { book = session.book; opened = session.opened.items }
 
--- a session with the dispatchers beside its subscriptions
-abbrev pub replay_of : Session → Dispatchers → ReplayView
-replay_of session dispatchers =
-    record { session = view_of session; dispatchers = dispatchers.beside.items }
+-- a session with the consumers beside its subscriptions
+abbrev pub replay_of : Session → Consumers → ReplayView
+replay_of session consumers =
+    record { session = view_of session; consumers = consumers.beside.items }
 
 -- its subscriptions are its Book's, and each of the eight threads has a pass
 pub record IsReady (session : Session) : Type 0 where

@@ -48,7 +48,8 @@ pub enum Answer {
     /// So many calls were dropped from the journal.
     Trimmed(u64),
     TrimRefused,
-    /// The item before it was not taken by the dispatcher, which was out of memory.
+    /// The item before it was not taken by the consumer beside its subscription, which was out of
+    /// memory.
     TakeRefused,
     /// A group of a dispatcher, with how many alerts it has.
     Group {
@@ -60,6 +61,13 @@ pub enum Answer {
     /// An alert of the last group before it.
     Member(Alert),
     Swept(Swept),
+    /// A target is muted by the rule of this number, and by the alert of this label set.
+    Muted {
+        rule: u64,
+        by: LabelSet,
+    },
+    NotMuted,
+    MutesRefused,
     /// The command's subscription isn't open, since its subscribe was refused.
     NotOpen(Verb),
 }
@@ -88,7 +96,8 @@ impl Answer {
             | Answer::SubscribeRefused(SubFault::NoMemory)
             | Answer::CollectRefused
             | Answer::TrimRefused
-            | Answer::TakeRefused => true,
+            | Answer::TakeRefused
+            | Answer::MutesRefused => true,
             _ => false,
         }
     }
@@ -126,6 +135,9 @@ impl fmt::Display for Answer {
             } => write_group(*route, receiver, labels, *alerts, f),
             Answer::Member(alert) => write!(f, "member {alert}"),
             Answer::Swept(swept) => write_swept(*swept, f),
+            Answer::Muted { rule, by } => write!(f, "muted rule {rule} by {by}"),
+            Answer::NotMuted => f.write_str("not muted"),
+            Answer::MutesRefused => f.write_str("mutes refused E0 NoMemory"),
             Answer::NotOpen(verb) => write!(f, "{verb} none"),
         }
     }

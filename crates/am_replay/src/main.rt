@@ -5,7 +5,7 @@
 #![tactic(auto)]
 
 mod answers;
-mod dispatchers;
+mod consumers;
 mod first_line;
 mod io;
 mod open_subscription;

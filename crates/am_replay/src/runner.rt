@@ -2,13 +2,12 @@
 
 ghost use Rattle.std.specs.Prelude.{◌≡◌, ◌++◌, IfOk, OnOk};
 ghost use Rattle.std.specs.Duration.{as_nanos};
-ghost use Rattle.am_routes.specs.RouteLists.{root_of};
-ghost use Rattle.am_replay.specs.Dispatching.{Accompanies};
+ghost use Rattle.am_replay.specs.Consuming.{Accompanies};
 ghost use Rattle.am_replay.specs.Runs.{Does, ReplayView, Runs, counts_of, empty_replay, numbered};
 ghost use Rattle.am_replay.specs.Sessions.{IsReady, replay_of, view_of};
 
 use crate::answers::{Answer, Answered};
-use crate::dispatchers::Dispatchers;
+use crate::consumers::Consumers;
 use crate::report::Report;
 use crate::session::{Session, one};
 use am_provider::Book;
@@ -29,8 +28,8 @@ pub fn run_script(
         × (ran.0.counts ≡ counts_of end.session.book)) }
 {
     let mut session = Session::begin(alloc)?;
-    let mut dispatchers = Dispatchers::new(alloc);
-    let ran = run_lines(alloc, config, &mut session, &mut dispatchers, lines);
+    let mut consumers = Consumers::new(alloc);
+    let ran = run_lines(alloc, config, &mut session, &mut consumers, lines);
     let (counts, book) = session.end();
     match ran {
         Ok(answers) => Ok((Report { answers, counts }, book)),
@@ -42,19 +41,19 @@ fn run_lines<'c>(
     alloc: Global,
     config: &'c Config,
     session: &mut Session,
-    dispatchers: &mut Dispatchers<'c>,
+    consumers: &mut Consumers<'c>,
     lines: Vec<Line>,
 ) -> Result<Vec<Answered>, AllocError>
     requires { IsReady session.old }
     ensures ready { IsReady session.new }
     ensures runs { IfOk result (λ answers.
-        Runs config.now (replay_of session.old dispatchers.old) lines.items
-        (replay_of session.new dispatchers.new) answers.items) }
+        Runs config.now (replay_of session.old consumers.old) lines.items
+        (replay_of session.new consumers.new) answers.items) }
 {
     let mut answers = Vec::new(alloc);
     for line in lines {
         let given = run_line(alloc, config.resolve_timeout, session, &line)?;
-        let all = dispatchers.follow(alloc, &config.tree, &line, given)?;
+        let all = consumers.follow(alloc, config, &line, given)?;
         let number = line.number;
         drop(line);
         add_answers(&mut answers, number, all)?;
@@ -98,5 +97,10 @@ fn run_line(
         Command::Trim => one(alloc, session.trim()),
         Command::Groups { name: _ } => Ok(Vec::new(alloc)),
         Command::Sweep { name: _, at: _ } => Ok(Vec::new(alloc)),
+        Command::Mutes {
+            name: _,
+            at: _,
+            labels: _,
+        } => Ok(Vec::new(alloc)),
     }
 }

@@ -6,12 +6,12 @@ use Rattle.am_replay.proofs.runner.run_lines.Goals as goal
 
 pub loop-line-init : goal.loop-line-init
 loop-line-init c =
-    let begun = replay_of c.args.session.now c.args.dispatchers.now in
+    let begun = replay_of c.args.session.now c.args.consumers.now in
     (c.requires, subst (λ (answers : List Answered). Runs c.args.config.now begun [] begun answers) (sym c.new-answers.ensures.items) started)
 
 pub loop-line-preserved : goal.loop-line-preserved
 loop-line-preserved c =
-    let begun = replay_of c.args.session.now c.args.dispatchers.now in
+    let begun = replay_of c.args.session.now c.args.consumers.now in
     let new = replay_of c.run_line.new.session c.follow.new.self in
     let line = c.in-Some.line in (
       c.run_line.ensures.ready,
