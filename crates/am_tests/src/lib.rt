@@ -5,6 +5,8 @@
 #[cfg(test)]
 mod alerts;
 #[cfg(test)]
+mod expectation;
+#[cfg(test)]
 mod label_sets;
 #[cfg(test)]
 mod matchers;

@@ -1,6 +1,7 @@
 //! Matchers: what their texts are read as, what they admit, and that a call which was refused
 //! memory can be made again.
 
+use crate::expectation::expect;
 use am_labels::{
     LabelSet, MatchFault, Matcher, Matchers, Operator, PreparedMatcher, PreparedMatchers,
 };
@@ -49,28 +50,52 @@ fn with_label(alloc: Global, name: &str, value: &str) -> Result<LabelSet, AllocE
     }
 }
 
-// Whether the matcher of a text admits the one label `foo` with this value, or where it is empty no
-// label at all. Prepared, it answers the same, also when it is asked again.
-fn admits(alloc: Global, text: &str, value: &str) -> Result<bool, Fail> {
-    let mut matcher = read(alloc, text)?;
-    let labels = if value.is_empty() {
-        LabelSet::new()
+// The one label `foo` with this value, or where it is empty no label at all.
+fn labels_with(alloc: Global, value: &str) -> Result<LabelSet, AllocError> {
+    if value.is_empty() {
+        Ok(LabelSet::new())
     } else {
-        with_label(alloc, "foo", value)?
-    };
-    let answer = match matcher.admits(&labels) {
-        Err(AllocError) => matcher.admits(&labels)?,
-        Ok(answer) => answer,
-    };
-    let same = match matcher.prepare() {
-        Err(AllocError) => stays(&mut matcher.prepare()?, &labels, answer),
-        Ok(mut prepared) => stays(&mut prepared, &labels, answer),
-    };
-    if same {
-        Ok(answer)
-    } else {
-        Err(Fail::from("prepared it answers otherwise"))
+        with_label(alloc, "foo", value)
     }
+}
+
+fn answer_of(matcher: &mut Matcher, labels: &LabelSet) -> Result<bool, AllocError> {
+    match matcher.admits(labels) {
+        Err(AllocError) => matcher.admits(labels),
+        other => other,
+    }
+}
+
+fn prepared(matcher: &Matcher) -> Result<PreparedMatcher<'_>, AllocError> {
+    match matcher.prepare() {
+        Err(AllocError) => matcher.prepare(),
+        other => other,
+    }
+}
+
+fn stays_prepared(matcher: &Matcher, labels: &LabelSet, answer: bool) -> Result<bool, AllocError> {
+    let mut prepared = prepared(matcher)?;
+    Ok(stays(&mut prepared, labels, answer))
+}
+
+// Whether a matcher gives this answer, and prepared the same, also when it is asked again.
+fn answers(matcher: &mut Matcher, labels: &LabelSet, answer: bool) -> Result<bool, AllocError> {
+    Ok(answer_of(matcher, labels)? == answer && stays_prepared(matcher, labels, answer)?)
+}
+
+// Whether the matcher of a text gives this answer for that label.
+fn is_answer(alloc: Global, text: &str, value: &str, answer: bool) -> Result<bool, Fail> {
+    let labels = labels_with(alloc, value)?;
+    let mut matcher = read(alloc, text)?;
+    Ok(answers(&mut matcher, &labels, answer)?)
+}
+
+// Whether each text's matcher gives its answer for a value.
+fn are_answers(alloc: Global, cases: &[(&'static str, &'static str, bool)]) -> Result<(), Fail> {
+    for (text, value, answer) in cases {
+        expect(is_answer(alloc, text, value, *answer)?, text)?;
+    }
+    Ok(())
 }
 
 // Whether a prepared matcher gives this answer, asked again and again.
@@ -168,26 +193,32 @@ fn bad_quotes_and_patterns(rt: HostRuntime) {
 
 #[test]
 fn texts_admitted(rt: HostRuntime) -> Result<(), Fail> {
-    let alloc = rt.alloc();
-    assert!(rt; admits(alloc, "foo=bar", "bar")?);
-    assert!(rt; !admits(alloc, "foo=bar", "barr")?);
-    assert!(rt; !admits(alloc, "foo=bar", "")?);
-    assert!(rt; admits(alloc, "foo=", "")?);
-    assert!(rt; !admits(alloc, "foo!=bar", "bar")?);
-    assert!(rt; admits(alloc, "foo!=bar", "")?);
-    Ok(())
+    let cases = [
+        ("foo=bar", "bar", true),
+        ("foo=bar", "barr", false),
+        ("foo=bar", "", false),
+        ("foo=", "", true),
+        ("foo!=bar", "bar", false),
+        ("foo!=bar", "", true),
+    ];
+    are_answers(rt.alloc(), &cases)
 }
 
 #[test]
 fn patterns_admitted(rt: HostRuntime) -> Result<(), Fail> {
-    let alloc = rt.alloc();
-    assert!(rt; admits(alloc, "foo=~\"a|b\"", "a")? && admits(alloc, "foo=~\"a|b\"", "b")?);
-    assert!(rt; !admits(alloc, "foo=~\"a|b\"", "ab")?);
-    assert!(rt; admits(alloc, "foo=~a{2}", "aa")? && !admits(alloc, "foo=~a{2}", "a")?);
-    assert!(rt; admits(alloc, "foo=~a*", "")? && !admits(alloc, "foo=~a+", "")?);
-    assert!(rt; !admits(alloc, "foo!~a+", "aa")? && admits(alloc, "foo!~a+", "aab")?);
-    assert!(rt; admits(alloc, "foo!~a+", "")?);
-    Ok(())
+    let cases = [
+        ("foo=~\"a|b\"", "a", true),
+        ("foo=~\"a|b\"", "b", true),
+        ("foo=~\"a|b\"", "ab", false),
+        ("foo=~a{2}", "aa", true),
+        ("foo=~a{2}", "a", false),
+        ("foo=~a*", "", true),
+        ("foo=~a+", "", false),
+        ("foo!~a+", "aa", false),
+        ("foo!~a+", "aab", true),
+        ("foo!~a+", "", true),
+    ];
+    are_answers(rt.alloc(), &cases)
 }
 
 fn list(alloc: Global, texts: &[&str]) -> Result<Matchers, Fail> {
@@ -201,21 +232,40 @@ fn list(alloc: Global, texts: &[&str]) -> Result<Matchers, Fail> {
     Ok(Matchers { matchers })
 }
 
-fn all_admit(alloc: Global, texts: &[&str], labels: &LabelSet) -> Result<bool, Fail> {
-    let mut matchers = list(alloc, texts)?;
-    let answer = match matchers.admits(labels) {
-        Err(AllocError) => matchers.admits(labels)?,
-        Ok(answer) => answer,
-    };
-    let same = match matchers.prepare(alloc) {
-        Err(AllocError) => all_stay(&mut matchers.prepare(alloc)?, labels, answer),
-        Ok(mut prepared) => all_stay(&mut prepared, labels, answer),
-    };
-    if same {
-        Ok(answer)
-    } else {
-        Err(Fail::from("prepared they answer otherwise"))
+fn answer_of_all(matchers: &mut Matchers, labels: &LabelSet) -> Result<bool, AllocError> {
+    match matchers.admits(labels) {
+        Err(AllocError) => matchers.admits(labels),
+        other => other,
     }
+}
+
+fn all_prepared(alloc: Global, matchers: &Matchers) -> Result<PreparedMatchers<'_>, AllocError> {
+    match matchers.prepare(alloc) {
+        Err(AllocError) => matchers.prepare(alloc),
+        other => other,
+    }
+}
+
+fn all_stay_prepared(
+    alloc: Global,
+    matchers: &Matchers,
+    labels: &LabelSet,
+    answer: bool,
+) -> Result<bool, AllocError> {
+    let mut prepared = all_prepared(alloc, matchers)?;
+    Ok(all_stay(&mut prepared, labels, answer))
+}
+
+// Whether the matchers of these texts give this answer, and prepared the same.
+fn all_answer(
+    alloc: Global,
+    texts: &[&str],
+    labels: &LabelSet,
+    answer: bool,
+) -> Result<bool, Fail> {
+    let mut matchers = list(alloc, texts)?;
+    let found = answer_of_all(&mut matchers, labels)?;
+    Ok(found == answer && all_stay_prepared(alloc, &matchers, labels, answer)?)
 }
 
 fn all_stay(matchers: &mut PreparedMatchers<'_>, labels: &LabelSet, answer: bool) -> bool {
@@ -227,14 +277,25 @@ fn all_stay(matchers: &mut PreparedMatchers<'_>, labels: &LabelSet, answer: bool
     true
 }
 
+fn lists_answer(alloc: Global, labels: &LabelSet) -> Result<(), Fail> {
+    expect(all_answer(alloc, &[], labels, true)?, "no matcher")?;
+    expect(all_answer(alloc, &["foo=~b.r"], labels, true)?, "one")?;
+    expect(
+        all_answer(alloc, &["foo=bar", "a!~b"], labels, true)?,
+        "both",
+    )?;
+    expect(
+        all_answer(alloc, &["foo=bar", "a=b"], labels, false)?,
+        "the first alone",
+    )?;
+    expect(
+        all_answer(alloc, &["a=b", "foo=bar"], labels, false)?,
+        "the second alone",
+    )
+}
+
 #[test]
 fn lists(rt: HostRuntime) -> Result<(), Fail> {
-    let alloc = rt.alloc();
-    let labels = with_label(alloc, "foo", "bar")?;
-    assert!(rt; all_admit(alloc, &[], &labels)?);
-    assert!(rt; all_admit(alloc, &["foo=~b.r"], &labels)?);
-    assert!(rt; all_admit(alloc, &["foo=bar", "a!~b"], &labels)?);
-    assert!(rt; !all_admit(alloc, &["foo=bar", "a=b"], &labels)?);
-    assert!(rt; !all_admit(alloc, &["a=b", "foo=bar"], &labels)?);
-    Ok(())
+    let labels = with_label(rt.alloc(), "foo", "bar")?;
+    lists_answer(rt.alloc(), &labels)
 }

@@ -1,5 +1,6 @@
 //! Reading a post: its limits.
 
+use crate::expectation::expect;
 use am_alert::{Moment, Post, PostFault, TimeFault, read_post, read_time};
 use std::alloc::Global;
 use std::test::Fail;
@@ -27,58 +28,117 @@ fn repeated(alloc: Global, text: &str, times: usize) -> Result<String, Fail> {
 
 fn nested(alloc: Global, depth: usize) -> Result<String, Fail> {
     let mut body = repeated(alloc, "[", depth)?;
-    body.push_str(repeated(alloc, "]", depth)?.as_str())?;
+    let ends = repeated(alloc, "]", depth)?;
+    body.push_str(ends.as_str())?;
     Ok(body)
+}
+
+fn is_refused(alloc: Global, body: &str, fault: PostFault) -> Result<bool, Fail> {
+    match read(alloc, body)? {
+        Ok(_) => Ok(false),
+        Err(found) => Ok(found == fault),
+    }
+}
+
+fn is_nested_refused(alloc: Global, depth: usize, fault: PostFault) -> Result<bool, Fail> {
+    let body = nested(alloc, depth)?;
+    is_refused(alloc, body.as_str(), fault)
 }
 
 #[test]
 fn depth(rt: HostRuntime) -> Result<(), Fail> {
     let alloc = rt.alloc();
-    let too_deep = read(alloc, nested(alloc, 200)?.as_str())?;
-    assert!(rt; matches!(too_deep, Err(PostFault::NotJson)));
-    let deep = read(alloc, nested(alloc, 100)?.as_str())?;
-    assert!(rt; matches!(deep, Err(PostFault::BadMember(0))));
-    Ok(())
+    expect(
+        is_nested_refused(alloc, 200, PostFault::NotJson)?,
+        "200 are read",
+    )?;
+    expect(
+        is_nested_refused(alloc, 100, PostFault::BadMember(0))?,
+        "100 aren't read",
+    )
+}
+
+// Whether a post is read, as so many valid alerts and so many faults.
+fn is_read(alloc: Global, body: &str, valid: usize, faults: usize) -> Result<bool, Fail> {
+    match read(alloc, body)? {
+        Ok(post) => Ok(
+            post.valid.as_slice().len() == valid && post.faults.as_slice().len() == faults,
+        ),
+        Err(_) => Ok(false),
+    }
+}
+
+// 4,194,302 blanks and what follows them.
+fn blanks_and(alloc: Global, end: &str) -> Result<String, Fail> {
+    let mut body = repeated(alloc, " ", 4_194_302)?;
+    body.push_str(end)?;
+    Ok(body)
+}
+
+fn is_read_behind_blanks(alloc: Global) -> Result<bool, Fail> {
+    let body = blanks_and(alloc, "[]")?;
+    is_read(alloc, body.as_str(), 0, 0)
+}
+
+fn is_too_much_behind_blanks(alloc: Global) -> Result<bool, Fail> {
+    let body = blanks_and(alloc, "[] ")?;
+    is_refused(alloc, body.as_str(), PostFault::TooMany)
 }
 
 #[test]
 fn number_of_bytes(rt: HostRuntime) -> Result<(), Fail> {
-    let alloc = rt.alloc();
-    let mut body = repeated(alloc, " ", 4_194_302)?;
-    body.push_str("[]")?;
-    assert!(rt; matches!(read(alloc, body.as_str())?, Ok(_)));
-    body.push_str(" ")?;
-    assert!(rt; matches!(read(alloc, body.as_str())?, Err(PostFault::TooMany)));
-    Ok(())
+    expect(is_read_behind_blanks(rt.alloc())?, "the most are refused")?;
+    expect(is_too_much_behind_blanks(rt.alloc())?, "one more is read")
+}
+
+// An alert with a label, 1,023 without, and what follows them.
+fn alerts_and(alloc: Global, end: &str) -> Result<String, Fail> {
+    let mut body = repeated(alloc, "[{\"labels\":{\"a\":\"1\"}}", 1)?;
+    body.push_str(repeated(alloc, ",{\"labels\":{}}", 1_023)?.as_str())?;
+    body.push_str(end)?;
+    Ok(body)
+}
+
+fn are_all_read(alloc: Global) -> Result<bool, Fail> {
+    let body = alerts_and(alloc, "]")?;
+    is_read(alloc, body.as_str(), 1, 1_023)
+}
+
+fn is_one_too_many(alloc: Global) -> Result<bool, Fail> {
+    let body = alerts_and(alloc, ",1]")?;
+    is_refused(alloc, body.as_str(), PostFault::TooMany)
 }
 
 #[test]
 fn number_of_alerts(rt: HostRuntime) -> Result<(), Fail> {
-    let alloc = rt.alloc();
-    let mut body = String::from_str(alloc, "[{\"labels\":{\"a\":\"1\"}}")?;
-    body.push_str(repeated(alloc, ",{\"labels\":{}}", 1_023)?.as_str())?;
-    let mut larger = body.clone()?;
-    body.push_str("]")?;
-    larger.push_str(",1]")?;
-    match read(alloc, body.as_str())? {
-        Ok(post) => {
-            assert_eq!(rt; post.valid.as_slice().len(), 1);
-            assert_eq!(rt; post.faults.as_slice().len(), 1_023);
-        }
-        Err(_) => return Err(Fail::from("refused")),
-    }
-    assert!(rt; matches!(read(alloc, larger.as_str())?, Err(PostFault::TooMany)));
-    Ok(())
+    expect(are_all_read(rt.alloc())?, "other alerts or faults")?;
+    expect(is_one_too_many(rt.alloc())?, "one more is read")
+}
+
+fn is_on_day(moment: Moment, year: u16, month: u8, day: u8) -> bool {
+    let parts = moment.parts();
+    parts.year == year && parts.month == month && parts.day == day
+}
+
+fn is_at_time(moment: Moment, hour: u8, minute: u8, second: u8, nanosecond: u32) -> bool {
+    let parts = moment.parts();
+    parts.hour == hour
+        && parts.minute == minute
+        && parts.second == second
+        && parts.nanosecond == nanosecond
+}
+
+fn is_absent(text: &str) -> bool {
+    matches!(read_time(text), Ok(None))
 }
 
 #[test]
 fn times(rt: HostRuntime) -> Result<(), Fail> {
-    let parts = moment("2024-02-29T01:02:03.000000004Z")?.parts();
-    assert_eq!(rt; (parts.year, parts.month, parts.day), (2024, 2, 29));
-    assert_eq!(rt; (parts.hour, parts.minute, parts.second), (1, 2, 3));
-    assert_eq!(rt; parts.nanosecond, 4);
-    assert!(rt; matches!(read_time(""), Ok(None)));
-    assert!(rt; matches!(read_time("0001-01-01T00:00:00Z"), Ok(None)));
+    let leap_day = moment("2024-02-29T01:02:03.000000004Z")?;
+    assert!(rt; is_on_day(leap_day, 2024, 2, 29));
+    assert!(rt; is_at_time(leap_day, 1, 2, 3, 4));
+    assert!(rt; is_absent(""));
+    assert!(rt; is_absent("0001-01-01T00:00:00Z"));
     assert!(rt; matches!(read_time("0000-12-31T23:59:59Z"), Err(TimeFault::BadTime)));
     Ok(())
 }
