@@ -3,7 +3,13 @@
 #![tactic(auto)]
 
 #[cfg(test)]
+mod comparison;
+#[cfg(test)]
+mod expectation;
+#[cfg(test)]
 mod plain_store;
+#[cfg(test)]
+mod posts;
 #[cfg(test)]
 mod provider;
 #[cfg(test)]

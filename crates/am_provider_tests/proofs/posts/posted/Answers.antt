@@ -1,7 +1,7 @@
 use Rattle.std.proofs.Common.{◌≡◌, refl, rules}
 use Rattle.am_provider.specs.Journal.{with_call}
 use Rattle.am_provider.specs.declared.call.Call.TheVariants.{Posted}
-use Rattle.am_provider_tests.proofs.provider.posted.Goals as goal
+use Rattle.am_provider_tests.proofs.posts.posted.Goals as goal
 
 pub returns : goal.returns
 returns c =
