@@ -1,32 +1,42 @@
 //! The stored alerts as a plain list that is walked for each report: what the Book is compared with.
 
 use am_alert::{Alert, Moment, absorb};
+use am_labels::LabelSet;
 use std::alloc::{AllocError, Global};
 
-// What a report becomes.
-fn outcome(stored: &[Alert], new: &Alert, now: Moment) -> Result<Alert, AllocError> {
-    let old = stored.iter().find(|alert| alert.labels == new.labels);
-    absorb(old, new, now)
+// Puts an alert at this index, or at the end where there is none.
+fn put_at(stored: &mut Vec<Alert>, at: usize, became: Alert) -> Result<(), AllocError> {
+    if at < stored.len() {
+        stored[at] = became;
+        return Ok(());
+    }
+    Ok(stored.push(became)?)
 }
 
-// Puts an alert in the place of the one of its label set, or at the end.
-fn put(stored: &mut Vec<Alert>, became: Alert) -> Result<(), AllocError> {
-    match stored
-        .iter()
-        .position(|alert| alert.labels == became.labels)
-    {
-        Some(at) if at < stored.len() => {
-            stored[at] = became;
-            Ok(())
-        }
-        _ => Ok(stored.push(became)?),
+// Where the alert of a label set stands, or the end.
+fn position_of(stored: &[Alert], labels: &LabelSet) -> usize {
+    match stored.iter().position(|alert| alert.labels == *labels) {
+        Some(at) => at,
+        None => stored.len(),
     }
+}
+
+// Puts a copy of an alert there.
+fn put_copy(stored: &mut Vec<Alert>, at: usize, alert: &Alert) -> Result<(), AllocError> {
+    let copy = alert.copy()?;
+    put_at(stored, at, copy)
+}
+
+// What a report becomes where this index has the alert of its label set.
+fn outcome(stored: &[Alert], at: usize, new: &Alert, now: Moment) -> Result<Alert, AllocError> {
+    absorb(stored.get(at), new, now)
 }
 
 // Absorbs a report, and answers what it became.
 fn absorb_one(stored: &mut Vec<Alert>, new: &Alert, now: Moment) -> Result<Alert, AllocError> {
-    let became = outcome(stored, new, now)?;
-    put(stored, became.copy()?)?;
+    let at = position_of(stored, &new.labels);
+    let became = outcome(stored, at, new, now)?;
+    put_copy(stored, at, &became)?;
     Ok(became)
 }
 

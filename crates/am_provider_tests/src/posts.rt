@@ -92,13 +92,29 @@ pub(crate) fn post_of(alloc: Global, reports: &[AlertReport], updated: u32) -> R
     read(alloc, body.as_str(), moment(updated), 30)
 }
 
+/// A Book and one of its passes.
+#[derive(Drop)]
+pub(crate) struct Tested {
+    pub(crate) book: Book,
+    pub(crate) pass: Pass,
+}
+
+// The last of two passes.
+fn last_of_two(passes: Vec<Pass>) -> Option<Pass> {
+    let mut passes = passes;
+    if passes.len() == 2 {
+        passes.pop()
+    } else {
+        None
+    }
+}
+
 /// An empty Book, and the last of its two passes.
-pub(crate) fn begin(alloc: Global) -> Result<(Book, Pass), Fail> {
-    let (book, mut passes) = Book::begin(alloc, 4, 2)?;
-    expect(passes.len() == 2, "another number of passes")?;
-    match passes.pop() {
-        Some(pass) => Ok((book, pass)),
-        None => Err(Fail::from("no pass")),
+pub(crate) fn begin(alloc: Global) -> Result<Tested, Fail> {
+    let (book, passes) = Book::begin(alloc, 4, 2)?;
+    match last_of_two(passes) {
+        Some(pass) => Ok(Tested { book, pass }),
+        None => Err(Fail::from("another number of passes")),
     }
 }
 

@@ -73,19 +73,6 @@ fn three_posts(
     post_reports(alloc, book, pass, subscription, &[], 16, (0, None))
 }
 
-// What a subscription comes to that is there before three posts.
-fn ended_after_three_posts(alloc: Global, book: &mut Book, pass: &mut Pass) -> Result<Ended, Fail> {
-    let Ok(mut subscription) = book.subscribe() else {
-        return Err(Fail::from("no subscription"));
-    };
-    let posted = three_posts(alloc, book, pass, &subscription);
-    let shown = takes(&mut subscription, book, &[(10, 20), (10, 30), (10, 25)]);
-    let ended = book.leave(subscription);
-    posted?;
-    expect(shown, "other alerts")?;
-    Ok(ended)
-}
-
 // Whether a subscription began there and took so many, before the end was told.
 fn is_front(ended: Ended, at: u64, taken: u64) -> bool {
     let want = Ended {
@@ -96,14 +83,25 @@ fn is_front(ended: Ended, at: u64, taken: u64) -> bool {
     ended == want
 }
 
-#[test]
-fn reports_reach_a_subscriber(rt: HostRuntime) -> Result<(), Fail> {
-    let alloc = rt.alloc();
-    let (mut book, mut pass) = begin(alloc)?;
-    let ended = ended_after_three_posts(alloc, &mut book, &mut pass)?;
-    expect(is_front(ended, 0, 3), "another end")
+// A subscription that is there before three posts is shown what they send out.
+fn three_posts_are_shown(alloc: Global, book: &mut Book, pass: &mut Pass) -> Result<(), Fail> {
+    let Ok(mut subscription) = book.subscribe() else {
+        return Err(Fail::from("no subscription"));
+    };
+    let posted = three_posts(alloc, book, pass, &subscription);
+    let shown = takes(&mut subscription, book, &[(10, 20), (10, 30), (10, 25)]);
+    let ended = book.leave(subscription);
+    posted?;
+    expect(shown && is_front(ended, 0, 3), "other alerts")
 }
 
+#[test]
+fn reports_reach_a_subscriber(rt: HostRuntime) -> Result<(), Fail> {
+    let mut tested = begin(rt.alloc())?;
+    three_posts_are_shown(rt.alloc(), &mut tested.book, &mut tested.pass)
+}
+
+// Posts two reports.
 fn post_two(alloc: Global, book: &mut Book, pass: &mut Pass) -> Result<(), Fail> {
     let post = post_of(alloc, &two_reports(), 10)?;
     match book.post(pass, post, moment(10)) {
@@ -112,25 +110,20 @@ fn post_two(alloc: Global, book: &mut Book, pass: &mut Pass) -> Result<(), Fail>
     }
 }
 
-fn one_is_collected(book: &mut Book) -> Result<(), Fail> {
-    let removed = book.collect_resolved(moment(20))?;
-    expect(removed == 1, "another number collected")?;
-    expect(has_counts(book, 1, 1, 1), "other counts")
+// Whether a collection removes one of two alerts.
+fn one_is_collected(book: &mut Book) -> bool {
+    book.collect_resolved(moment(20)) == Ok(1) && has_counts(book, 1, 1, 1)
 }
 
-// What a subscription comes to that is shown what is left.
-fn ended_after_the_opening(book: &mut Book) -> Result<Ended, Fail> {
+// Whether a new subscription is shown the alert that is left.
+fn the_other_is_shown(book: &mut Book) -> bool {
     let Ok(mut subscription) = book.subscribe() else {
-        return Err(Fail::from("no subscription"));
+        return false;
     };
-    let lane = subscription.lane();
-    let opening = subscription.opening();
+    let begun = (subscription.lane(), subscription.opening());
     let shown = takes(&mut subscription, book, &[(10, 30)]);
     let ended = book.leave(subscription);
-    expect(lane == 0, "another lane")?;
-    expect(opening == 1, "another opening")?;
-    expect(shown, "other alerts")?;
-    Ok(ended)
+    begun == (0, 1) && shown && is_front(ended, 2, 1)
 }
 
 fn refuses_a_subscription(book: &mut Book) -> bool {
@@ -143,23 +136,20 @@ fn refuses_a_subscription(book: &mut Book) -> bool {
     }
 }
 
-fn ends_once(book: &mut Book) -> Result<(), Fail> {
-    expect(book.close().is_ok(), "closed before")?;
-    expect(book.close().is_err(), "closed twice")?;
-    expect(refuses_a_subscription(book), "subscribed")
+// Whether it can be closed once, and then takes no subscription.
+fn ends_once(book: &mut Book) -> bool {
+    book.close().is_ok() && book.close().is_err() && refuses_a_subscription(book)
 }
 
-fn collections(alloc: Global, book: &mut Book, pass: &mut Pass) -> Result<(), Fail> {
+fn one_is_collected_of_two(alloc: Global, book: &mut Book, pass: &mut Pass) -> Result<(), Fail> {
     post_two(alloc, book, pass)?;
-    one_is_collected(book)?;
-    let ended = ended_after_the_opening(book)?;
-    expect(is_front(ended, 2, 1), "another end")?;
-    ends_once(book)
+    expect(one_is_collected(book), "another number is collected")?;
+    expect(the_other_is_shown(book), "other alerts are left")?;
+    expect(ends_once(book), "another end")
 }
 
 #[test]
 fn collections_and_the_end(rt: HostRuntime) -> Result<(), Fail> {
-    let alloc = rt.alloc();
-    let (mut book, mut pass) = begin(alloc)?;
-    collections(alloc, &mut book, &mut pass)
+    let mut tested = begin(rt.alloc())?;
+    one_is_collected_of_two(rt.alloc(), &mut tested.book, &mut tested.pass)
 }

@@ -24,61 +24,51 @@ fn post_one(alloc: Global, book: &mut Book, pass: &mut Pass, number: u32) -> Res
     expect(posted, "refused")
 }
 
-// Trims, which is to drop so many calls.
-fn trim(book: &mut Book, want: u64) -> Result<(), Fail> {
-    let dropped = book.trim()?;
-    expect(dropped == want, "another number is dropped")
+// Whether a trim drops so many calls.
+fn trims(book: &mut Book, want: u64) -> bool {
+    book.trim() == Ok(want)
 }
 
-// What a trim drops while a subscription is open that begins at the journal's end, and what the
-// subscription came to.
-fn trimmed_while_open(book: &mut Book) -> Result<(Option<u64>, Ended), Fail> {
+// Whether a trim drops nothing while a subscription is open that begins at the first call left.
+fn drops_nothing_while_open(book: &mut Book) -> bool {
     let Ok(subscription) = book.subscribe() else {
-        return Err(Fail::from("no subscription"));
+        return false;
     };
-    let dropped = book.trim().ok();
+    let dropped = book.trim() == Ok(0);
     let ended = book.leave(subscription);
-    Ok((dropped, ended))
-}
-
-fn nothing_is_dropped_while_open(book: &mut Book) -> Result<(), Fail> {
-    let (dropped, ended) = trimmed_while_open(book)?;
     let want = Ended {
         at: 2,
         taken: 0,
         closed: false,
     };
-    expect(dropped == Some(0), "another number is dropped")?;
-    expect(ended == want, "another end")
+    dropped && ended == want
 }
 
-fn all_are_collected(book: &mut Book) -> Result<(), Fail> {
-    let removed = book.collect_resolved(moment(9_000))?;
-    expect(removed == 2, "another number collected")
+// Whether trims drop two posts, and then a subscription's begin and end.
+fn trims_calls(book: &mut Book) -> bool {
+    trims(book, 2) && drops_nothing_while_open(book) && trims(book, 2)
 }
 
-fn trims(alloc: Global, book: &mut Book, pass: &mut Pass) -> Result<(), Fail> {
+// Whether a trim drops a collection and the end, and nothing of what is stored.
+fn trims_at_the_end(book: &mut Book) -> bool {
+    book.collect_resolved(moment(9_000)) == Ok(2)
+        && book.close().is_ok()
+        && trims(book, 2)
+        && book.close().is_err()
+        && has_counts(book, 2, 2, 0)
+}
+
+fn trims_two_posts(alloc: Global, book: &mut Book, pass: &mut Pass) -> Result<(), Fail> {
     post_one(alloc, book, pass, 1)?;
     post_one(alloc, book, pass, 2)?;
-    trim(book, 2)?;
-    nothing_is_dropped_while_open(book)?;
-    trim(book, 2)
-}
-
-fn trims_at_the_end(book: &mut Book) -> Result<(), Fail> {
-    all_are_collected(book)?;
-    expect(book.close().is_ok(), "closed before")?;
-    trim(book, 2)?;
-    expect(book.close().is_err(), "closed twice")?;
-    expect(has_counts(book, 2, 2, 0), "other counts")
+    expect(trims_calls(book), "another number is dropped")?;
+    expect(trims_at_the_end(book), "another end")
 }
 
 #[test]
 fn a_trim_drops_what_no_open_subscription_needs(rt: HostRuntime) -> Result<(), Fail> {
-    let alloc = rt.alloc();
-    let (mut book, mut pass) = begin(alloc)?;
-    trims(alloc, &mut book, &mut pass)?;
-    trims_at_the_end(&mut book)
+    let mut tested = begin(rt.alloc())?;
+    trims_two_posts(rt.alloc(), &mut tested.book, &mut tested.pass)
 }
 
 fn a_thousand_posts(alloc: Global, book: &mut Book, pass: &mut Pass) -> Result<(), Fail> {
@@ -91,7 +81,7 @@ fn a_thousand_posts(alloc: Global, book: &mut Book, pass: &mut Pass) -> Result<(
 fn trims_often(alloc: Global, book: &mut Book, pass: &mut Pass) -> Result<(), Fail> {
     for _turn in 0..20_u32 {
         a_thousand_posts(alloc, book, pass)?;
-        trim(book, 1_000)?;
+        expect(trims(book, 1_000), "another number is dropped")?;
     }
     expect(has_counts(book, 20_000, 20_000, 1_000), "other counts")
 }
@@ -100,7 +90,6 @@ fn trims_often(alloc: Global, book: &mut Book, pass: &mut Pass) -> Result<(), Fa
 // each trim answers that it drops all that the journal holds.
 #[test]
 fn the_journal_stays_short(rt: HostRuntime) -> Result<(), Fail> {
-    let alloc = rt.alloc();
-    let (mut book, mut pass) = begin(alloc)?;
-    trims_often(alloc, &mut book, &mut pass)
+    let mut tested = begin(rt.alloc())?;
+    trims_often(rt.alloc(), &mut tested.book, &mut tested.pass)
 }
