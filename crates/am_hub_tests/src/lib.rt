@@ -9,4 +9,6 @@ mod locked;
 #[cfg(test)]
 mod one_thread;
 #[cfg(test)]
+mod slow_lanes;
+#[cfg(test)]
 mod threads;
