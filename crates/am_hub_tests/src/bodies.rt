@@ -26,3 +26,14 @@ pub fn body_of(alloc: Global, number: u32) -> Result<String, AllocError> {
     )?;
     Ok(body)
 }
+
+/// A body with one alert that starts and ends at the greatest instant.
+pub fn end_body(alloc: Global) -> Result<String, AllocError> {
+    let mut body = String::new(alloc);
+    let end = Moment::MAX;
+    write!(
+        body,
+        "[{{\"labels\":{{\"ended\":\"1\"}},\"startsAt\":\"{end}\",\"endsAt\":\"{end}\"}}]"
+    )?;
+    Ok(body)
+}
