@@ -5,6 +5,8 @@
 #[cfg(test)]
 mod bodies;
 #[cfg(test)]
+mod cut_races;
+#[cfg(test)]
 mod greatest;
 #[cfg(test)]
 mod locked;

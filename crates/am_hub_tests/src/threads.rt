@@ -17,9 +17,9 @@ use std::time::Duration;
 
 /// What a reader was shown, by the starts of its alerts, and whether it was told the end.
 #[derive(Drop)]
-struct Shown {
-    starts: Vec<Moment>,
-    closed: bool,
+pub struct Shown {
+    pub starts: Vec<Moment>,
+    pub closed: bool,
 }
 
 // Posts so many alerts of numbers of its own; where the log is full it tries again.
@@ -151,14 +151,14 @@ fn threads_of<R: Threads + Wait + Sync>(
     threads_day::<Brand, R>(rt, alloc, parts)
 }
 
-// Whether the starts are those of the first accepted alerts, each once and in the journal's order.
-fn is_front(settled: &Settled, shown: &Shown) -> bool {
+/// Whether the starts are those of the first accepted alerts, each once and in the journal's order.
+pub fn is_front(settled: &Settled, starts: &[Moment]) -> bool {
     let mut at = 0;
     for call in &settled.journal.calls {
         if let Call::Posted { now: _, alerts } = call {
             for alert in alerts.as_slice() {
-                if at < shown.starts.len() {
-                    if shown.starts[at] != alert.start {
+                if at < starts.len() {
+                    if starts[at] != alert.start {
                         return false;
                     }
                     at += 1;
@@ -166,7 +166,7 @@ fn is_front(settled: &Settled, shown: &Shown) -> bool {
             }
         }
     }
-    at == shown.starts.len()
+    at == starts.len()
 }
 
 #[test]
@@ -176,8 +176,8 @@ fn readers_beside_posters_and_a_close(rt: HostRuntime) -> Result<(), Fail> {
         return Err(Fail::from("no run"));
     };
     assert_eq!(rt; run.posted, 400);
-    assert!(rt; is_front(&settled, &run.a));
-    assert!(rt; is_front(&settled, &run.b));
+    assert!(rt; is_front(&settled, &run.a.starts));
+    assert!(rt; is_front(&settled, &run.b.starts));
     assert!(rt; run.a.closed && run.b.closed);
     assert_eq!(rt; run.a.starts.len(), 400);
     assert_eq!(rt; run.b.starts.len(), 400);
