@@ -11,6 +11,8 @@ mod greatest;
 #[cfg(test)]
 mod locked;
 #[cfg(test)]
+mod many_threads;
+#[cfg(test)]
 mod one_thread;
 #[cfg(test)]
 mod slow_lanes;
