@@ -5,7 +5,7 @@ ghost use Rattle.std.specs.Prelude.{◌≡◌};
 
 use crate::bodies::{body_of, moment};
 use am_alert::Moment;
-use am_hub::{NoGate, Origin, Parts, Pass, Policy, Provider, Settled, Step};
+use am_hub::{NoGate, Origin, Parts, Pass, Policy, Provider, Settled, Step, Subscription};
 use am_provider::Call;
 use std::alloc::{AllocError, Global};
 use std::marker::Brand;
@@ -49,17 +49,13 @@ fn post_all<N: Origin, R: Wait>(
 }
 
 // Reads until it is told the end, or the turns run out.
-fn read_all<N: Origin, R: Wait>(
-    rt: &R,
+fn read_all<N: Origin>(
     alloc: Global,
-    provider: &Provider<N>,
+    subscription: &mut Subscription<'_, N>,
     turns: u32,
 ) -> Result<Shown, AllocError> {
     let mut starts = Vec::new(alloc);
     let mut closed = false;
-    let Ok(mut subscription) = provider.subscribe(rt) else {
-        return Ok(Shown { starts, closed });
-    };
     let mut memory = Ok(());
     for _turn in 0..turns {
         match subscription.next() {
@@ -73,7 +69,6 @@ fn read_all<N: Origin, R: Wait>(
             Step::Cut => {}
         }
     }
-    provider.leave(rt, subscription);
     memory?;
     Ok(Shown { starts, closed })
 }
@@ -86,6 +81,7 @@ struct Run {
     b: Shown,
 }
 
+// Both readers subscribe before the first post, so that none comes after the close.
 fn run_all<N: Origin + Send + Sync, R: Threads + Wait + Sync>(
     rt: &R,
     alloc: Global,
@@ -93,7 +89,15 @@ fn run_all<N: Origin + Send + Sync, R: Threads + Wait + Sync>(
     first: &mut Pass<N>,
     second: &mut Pass<N>,
 ) -> Result<Run, AllocError> {
-    let ((one, two), (a, b)) = thread::join(
+    let Ok(mut a) = provider.subscribe(rt) else {
+        return Err(AllocError);
+    };
+    let Ok(mut b) = provider.subscribe(rt) else {
+        provider.leave(rt, a);
+        return Err(AllocError);
+    };
+    let (reader_a, reader_b) = (&mut a, &mut b);
+    let ((one, two), (shown_a, shown_b)) = thread::join(
         rt,
         move || {
             let both = thread::join(
@@ -107,15 +111,17 @@ fn run_all<N: Origin + Send + Sync, R: Threads + Wait + Sync>(
         move || {
             thread::join(
                 rt,
-                move || read_all(rt, alloc, provider, 2_000_000),
-                move || read_all(rt, alloc, provider, 2_000_000),
+                move || read_all(alloc, reader_a, 2_000_000),
+                move || read_all(alloc, reader_b, 2_000_000),
             )
         },
     );
+    provider.leave(rt, a);
+    provider.leave(rt, b);
     Ok(Run {
         posted: one?.wrapping_add(two?),
-        a: a?,
-        b: b?,
+        a: shown_a?,
+        b: shown_b?,
     })
 }
 
