@@ -43,6 +43,10 @@ sends (Subscribed lane) = false
 sends (Left lane) = false
 sends Closed = false
 
+-- how many batches the calls of a journal sent out, those that were dropped too
+abbrev pub places_of : JournalView → ℕ
+places_of journal = journal.places + length (broadcast journal)
+
 -- what the log has of a lane agrees with the journal: an idle lane isn't open; an open one reads the
 -- log from the batches before its subscription on, with a note of when it was subscribed and what was
 -- stored then
@@ -50,7 +54,7 @@ pub record IsLaneOf (book : BookView) (lane : ℕ) : Type 0 where
   pub shut : is_open book.journal lane ≡ false → (account_of book.log lane).stand ≡ idle
   pub given : is_open book.journal lane ≡ true → (account_of book.log lane).stand ≢ idle
   pub start : (at : ℕ) → IsOpenSubscription book.journal lane at → (account_of book.log lane).start
-      ≡ book.journal.places + length (broadcast (until book.journal at))
+      ≡ places_of (until book.journal at)
   pub note : (at : ℕ) → IsOpenSubscription book.journal lane at → (account_of book.log lane).note
       ≡ Some (record { at = at; opening = stored (updates (until book.journal at)) })
 

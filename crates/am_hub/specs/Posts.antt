@@ -1,10 +1,13 @@
 -- What a post does to its pass, to the lanes and to the log, and why it is refused.
 use Rattle.std.specs.Prelude.{◌≡◌, ℕ, ◌<◌, ◌≤◌, Bool, true, false, List, [], ◌∷◌, ◌++◌, Option, None, Some, length, slice_index_or}
+use mathlib.Core.Option.{some}
 use mathlib.Core.List.{IsPrefix}
+use lib.ListN.{get_elem?}
 use Rattle.am_alert.specs.declared.alert.Alert.{Alert}
 use Rattle.am_provider.specs.declared.call.Call.{Call}
 use Rattle.am_provider.specs.declared.call.Call.TheVariants.{Posted}
 use Rattle.am_provider.specs.Journal.{is_closed, has_lane}
+use Rattle.am_cast.specs.declared.views.Own.{Own}
 use Rattle.am_cast.specs.Rule.{live, most}
 use Rattle.am_cast.specs.Changes.{Stand, own_at}
 use Rattle.am_cast.specs.Seats.{account_of}
@@ -25,6 +28,14 @@ AddsOwn was now posted None is = is ≡ was
 AddsOwn was now posted (Some place) is =
     ((x : Batch) × (x.post ≡ Posted now posted) × (is.own ≡ was.own ++ own_at place x ∷ []))
     × Stand is.own is.noted × IsPrefix was.noted is.noted
+
+-- a pass met a subscription that has seen so much of the log: each of the pass's own posts that was seen
+-- stands at its place there, and the pass, which owns what it did, knows all that was seen
+pub record HasMet (seen : List Batch) (was is : PassView Alert Call) : Type 0 where
+  pub own : is.own ≡ was.own
+  pub stand : (k : ℕ) (o : Own Batch) → get_elem? was.own k ≡ some o → o.place < length seen
+      → get_elem? seen o.place ≡ some o.name
+  pub noted : IsPrefix was.noted is.noted × IsPrefix seen is.noted × Stand was.own is.noted
 
 -- which lanes a post cut: those that were as many places behind as the log has, and none where the
 -- policy is to refuse

@@ -43,6 +43,7 @@ mod parts;
 mod pass;
 mod provider;
 mod sending;
+mod settle;
 mod settled;
 mod subscription;
 

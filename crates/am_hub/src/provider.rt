@@ -10,7 +10,7 @@ ghost use Rattle.std.specs.List.{All};
 ghost use Rattle.std.specs.Duration.{as_nanos};
 ghost use Rattle.am_alert.specs.declared.post.Post.{Post};
 ghost use Rattle.am_alert.specs.Posts.{IsPostOf};
-ghost use Rattle.am_hub.specs.Posts.{AddsOwn};
+ghost use Rattle.am_hub.specs.Posts.{AddsOwn, HasMet};
 ghost use Rattle.am_hub.specs.Provided.{IsPostedAs, IsUnread};
 ghost use Rattle.am_hub.specs.Subscriptions.{taken};
 
@@ -94,6 +94,15 @@ impl<N: Origin> Provider<N> {
         ensures fresh { IfOk result (λ made. (taken made ≡ []) × (made.closed_told ≡ false)) }
     {
         self.book.lock(rt).subscribe(&self.cast)
+    }
+
+    /// Each own post of the pass that the subscription has seen stands at its place there, and the
+    /// pass knows at least as much of the log as the subscription. It takes no lock.
+    pub fn meet(&self, subscription: &mut Subscription<'_, N>, pass: &mut Pass<N>)
+        ensures same { subscription.new ≡ subscription.old }
+        ensures met { HasMet subscription.old.cursor.lane.front pass.old pass.new }
+    {
+        subscription.meet(&self.cast, pass);
     }
 
     /// Takes a subscription back, and answers what it came to.

@@ -1,15 +1,10 @@
 //! A subscriber's place. It reads without the provider: no lock, no memory, no waiting.
 
-ghost use Rattle.std.specs.Prelude.{◌≡◌, ◌-◌, ◌+◌, ◌<◌, ◌^◌, ◌%◌, Some, ℕ, false, true, slice_get, length};
+ghost use Rattle.std.specs.Prelude.{◌≡◌, ◌-◌, ◌+◌, ◌<◌, ◌^◌, ◌%◌, Some, false, true, slice_get, length};
 ghost use Rattle.am_cast.specs.Lent.{IsInHand};
 ghost use Rattle.am_hub.specs.Subscriptions.{taken};
 ghost use Rattle.am_hub.specs.inside.Advances.{Advances, AdvancesPast};
-ghost use mathlib.Core.Option.{some};
-ghost use mathlib.Core.List.{IsPrefix};
-ghost use lib.ListN.{get_elem?};
-ghost use Rattle.am_cast.specs.declared.views.Own.{Own};
-ghost use Rattle.am_cast.specs.Changes.{Stand};
-ghost use Rattle.am_hub.specs.Batches.{Batch};
+ghost use Rattle.am_hub.specs.Posts.{HasMet};
 ghost use Rattle.am_hub.specs.inside.Subscribed.{IsFresh, IsSubscription};
 
 use crate::feed::{Cast, Cursor, Origin};
@@ -186,13 +181,8 @@ impl<'a, N: Origin> Subscription<'a, N> {
     /// Each own post of the pass that the subscription has seen stands at its place there, and the
     /// pass knows at least as much of the log as the subscription.
     pub fn meet(&mut self, cast: &Cast<N>, pass: &mut Pass<N>)
-        ensures same { (self.new ≡ self.old) × (pass.new.own ≡ pass.old.own) }
-        ensures own { (k : ℕ) (o : Own Batch) → get_elem? pass.old.own k ≡ some o
-            → o.place < length self.old.cursor.lane.front
-            → get_elem? self.old.cursor.lane.front o.place ≡ some o.name }
-        ensures noted { IsPrefix pass.old.noted pass.new.noted
-            × IsPrefix self.old.cursor.lane.front pass.new.noted
-            × Stand pass.old.own pass.new.noted }
+        ensures same { self.new ≡ self.old }
+        ensures met { HasMet self.old.cursor.lane.front pass.old pass.new }
     {
         pass.pass.meet(cast, &mut self.cursor);
     }

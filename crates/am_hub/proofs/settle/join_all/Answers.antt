@@ -7,7 +7,7 @@ use Rattle.am_cast.specs.Posters.{PassView}
 use Rattle.am_hub.specs.Batches.{Batch}
 use Rattle.am_hub.specs.Settling.{own_of}
 use Rattle.am_hub.proofs.Settling.{own_of_last}
-use Rattle.am_hub.proofs.settled.join_all.Goals as goal
+use Rattle.am_hub.proofs.settle.join_all.Goals as goal
 
 pub loop-next-init : goal.loop-next-init
 loop-next-init g c =

@@ -8,7 +8,7 @@ use Rattle.am_cast.specs.Changes.{Stand}
 use Rattle.am_hub.specs.Batches.{Batch, LogView}
 use Rattle.am_hub.specs.Settling.{own_of}
 use Rattle.am_hub.proofs.Settling.{all_places}
-use Rattle.am_hub.proofs.settled.audit.Goals as goal
+use Rattle.am_hub.proofs.settle.audit.Goals as goal
 
 same_number : (m n : ℕ) → nat_eq m n ≡ true → m ≡ n
 same_number m n same = elim (eqb_tells m n) [ inl e ↦ e.1 | inr e ↦ absurd (let no : true ≡ false = sym same ∙ e.0 in cc) ]

@@ -1,6 +1,6 @@
 use Rattle.std.proofs.Common.{◌≡◌, ◌+◌, ◌++◌, length}
 use Rattle.am_hub.specs.Settling.{own_of}
-use Rattle.am_hub.proofs.settled.join_all.Given as goal
+use Rattle.am_hub.proofs.settle.join_all.Given as goal
 
 abbrev pub invariant-loop-next : goal.invariant-loop-next
 invariant-loop-next g l = record {
