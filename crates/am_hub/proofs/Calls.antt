@@ -1,7 +1,6 @@
 -- A Book's fields as each kind of call comes.
 use Rattle.std.proofs.Common.{◌≡◌, ◌≢◌, ℕ, zero, suc, ◌+◌, ◌-◌, ◌*◌, ◌%◌, ◌^◌, ◌<◌, ◌≤◌, Bool, true, false, cond, nat_eq, ◌||◌, ◌⊎◌, List, [], ◌∷◌, ◌++◌, length, take, drop, map, filter, set, Option, None, Some, All, refl, sym, ap, subst, ◌∙◌, arith, length-append, length-drop, inl, inr, ⊎_elim}
 use mathlib.Core.List.{IsPrefix}
-use Rattle.std.specs.List.{flat_map}
 use Rattle.std.specs.Option.{is_some, IfSome, IsSome}
 use Rattle.std.specs.VecDeque.{deque_len, deque_capacity}
 use Rattle.std.proofs.lemmas.List.{length-map, append-nil, append_assoc, map-append, drop-map, take_all, take-append-drop}
@@ -12,7 +11,6 @@ use Rattle.am_alert.specs.declared.post.TheConstants.{MAX_ALERTS}
 use Rattle.am_segment.specs.Segments.{KeyView}
 use Rattle.am_cast.specs.declared.views.Account.{Account}
 use Rattle.am_cast.specs.declared.views.Tail.{Tail}
-use Rattle.am_cast.specs.declared.views.LaneView.{LaneView}
 use Rattle.am_cast.specs.Rule.{idle, live, most, Sound}
 use Rattle.am_cast.specs.Changes.{longer_tail, shut_tail, left}
 use Rattle.am_cast.specs.Seats.{account_of}
@@ -20,13 +18,12 @@ use Rattle.am_cast.specs.Keys.{all_items}
 use Rattle.am_cast.specs.Keys as keys
 use Rattle.am_cast.specs.Cursors.{CursorView, HasEnded}
 use Rattle.am_cast.specs.Cursors as cast
-use Rattle.am_provider.specs.declared.book.TheConstants.{LOG_END}
 use Rattle.am_provider.specs.declared.call.Call.{Call}
-use Rattle.am_provider.specs.declared.call.Call.TheVariants.{Posted, Collected, Subscribed, Left, Closed}
+use Rattle.am_provider.specs.declared.call.Call.TheVariants.{Posted, Subscribed, Left, Closed}
 use Rattle.am_provider.specs.declared.lanes.OpenLane.{OpenLane}
 use Rattle.am_provider.specs.AlertList.{with_alerts, batch_by_list}
-use Rattle.am_provider.specs.Journal.{JournalView, with_call, call_count, until, is_closed, is_open, IsOpenSubscription, MayFollow}
-use Rattle.am_provider.specs.Stored.{updates, stored}
+use Rattle.am_provider.specs.Journal.{JournalView, with_call, call_count, until, MayFollow}
+use Rattle.am_provider.specs.Stored.{stored}
 use Rattle.am_provider.specs.Broadcast.{broadcast, items_of, due, IsFront}
 use Rattle.am_provider.specs.BookView as plain
 use Rattle.am_provider.specs.inside.Journals.{journal_of}
@@ -41,7 +38,9 @@ use Rattle.am_hub.specs.Batches.{Batch, LogView, posts_in, sent_in}
 use Rattle.am_hub.specs.BookView.{sends, IsEndingOf}
 use Rattle.am_hub.specs.Subscriptions.{SubscriptionView, taken}
 use Rattle.am_hub.specs.inside.Shelves.{Shelf, pages_of, IsKeptLane, IsKeptBook}
-use Rattle.am_hub.specs.inside.Subscribed.{IsFresh, IsSubscription}
+use Rattle.am_hub.specs.inside.Subscribed.{IsSubscription}
+use Rattle.am_hub.specs.Lefts.{left_ats}
+use Rattle.am_hub.proofs.Lefts.{lefts_quiet, lefts_left}
 use Rattle.am_hub.proofs.Shelves.{kept_grown, GoesOnAs, same_account, lane_stays, posts_grown, ending_grown, endings_grown}
 
 -- ---- the end of the log
@@ -52,7 +51,7 @@ pub kept_closed : (a b : Shelf) (counted places : ℕ) → IsKeptBook a counted 
 kept_closed a b counted places kept still journal stored log lanes posts endings room =
     kept_grown a b counted counted places places Closed kept
     (sound_closed (pages_of a) (pages_of b) kept.pages still journal stored (ap (λ (q : LogView). sent_in q.tail.log) log) lanes posts (ap (λ (q : LogView). q.tail.closed) log) room)
-    (sym kept.pages.closed ∙ still) journal (ap (λ (q : LogView). posts_in q.tail.log) log ∙ sym (append-nil (posts_in a.log.tail.log))) lanes
+    (sym kept.pages.closed ∙ still) (λ came. refl) journal (ap (λ (q : LogView). posts_in q.tail.log) log ∙ sym (append-nil (posts_in a.log.tail.log))) lanes
     (λ lane small. same_account (account_of a.log lane) (account_of b.log lane) (ap (λ (q : LogView). account_of q lane) log))
     endings (kept.total ∙ ap (λ (q : LogView). length q.tail.log) (sym log)) (omega arith)
 
@@ -81,7 +80,7 @@ kept_posted a b counted more places now news batch x kept still journal stored s
     let short : length (sent_in a.log.tail.log) ≡ length a.log.tail.log = length-map a.log.tail.log (λ (y : Batch). keys.items_of y) in
     kept_grown a b counted more places places (Posted now news) kept
     (sound_posted (pages_of a) (pages_of b) now news batch kept.pages still journal stored all sent long few (λ h. omega arith) (ap (λ (t : Tail Batch). t.closed) tail) lanes posts room)
-    (sym kept.pages.closed ∙ still) journal
+    (sym kept.pages.closed ∙ still) (λ came. refl) journal
     (ap posts_in log ∙ (map-append (λ (y : Batch). y.post) a.log.tail.log (x ∷ []) ∙ (ap (λ one. posts_in a.log.tail.log ++ one ∷ []) post ∙ ap (λ xs. posts_in a.log.tail.log ++ xs) (sym (sends_some now news some)))))
     lanes on endings
     (counts ∙ (ap (λ n. n + 1) kept.total ∙ sym (ap length log ∙ length-append a.log.tail.log (x ∷ [])))) (omega arith)
@@ -92,7 +91,7 @@ pub kept_empty : (a b : Shelf) (counted places now : ℕ) → IsKeptBook a count
 kept_empty a b counted places now kept still journal stored log lanes posts endings room =
     kept_grown a b counted counted places places (Posted now []) kept
     (sound_posted (pages_of a) (pages_of b) now [] [] kept.pages still journal stored (ap (λ (q : LogView). sent_in q.tail.log) log) refl refl (omega arith) (λ h. absurd (omega arith)) (ap (λ (q : LogView). q.tail.closed) log) lanes posts room)
-    (sym kept.pages.closed ∙ still) journal (ap (λ (q : LogView). posts_in q.tail.log) log ∙ sym (append-nil (posts_in a.log.tail.log))) lanes
+    (sym kept.pages.closed ∙ still) (λ came. refl) journal (ap (λ (q : LogView). posts_in q.tail.log) log ∙ sym (append-nil (posts_in a.log.tail.log))) lanes
     (λ lane small. same_account (account_of a.log lane) (account_of b.log lane) (ap (λ (q : LogView). account_of q lane) log))
     endings (kept.total ∙ ap (λ (q : LogView). length q.tail.log) (sym log)) (omega arith)
 
@@ -147,6 +146,7 @@ kept_subscribed a b counted places room lane one kept still low journal at openi
     let low_places : old.places ≤ length a.log.tail.log = omega (arith, kept.pages.kept.places) in
     record {
       pages = pages;
+      lefts = ap (map (λ (e : Ended). e.at)) endings ∙ (kept.lefts ∙ (lefts_quiet old (Subscribed lane) (λ came. refl) ∙ sym (ap left_ats journal)));
       posts = subst (λ (j : JournalView). drop j.places (posts_in b.log.tail.log) ≡ filter sends j.calls) (sym journal)
           (posts_grown old a.log.tail.log b.log.tail.log (Subscribed lane) kept.posts low_places (ap (λ (t : Tail Batch). posts_in t.log) tail ∙ sym (append-nil (posts_in a.log.tail.log))));
       lanes = λ other small.
@@ -384,6 +384,8 @@ kept_left a b counted places room s one ended kept by small journal stored tail 
     let more : length b.endings ≡ length a.endings + 1 = ap length endings ∙ length-append a.endings (ended ∷ []) in
     record {
       pages = pages;
+      lefts = ap (map (λ (e : Ended). e.at)) endings ∙ (map-append (λ (e : Ended). e.at) a.endings (ended ∷ []) ∙ (ap (λ xs. xs ++ ended.at ∷ []) kept.lefts
+          ∙ (ap (λ n. left_ats old ++ n ∷ []) (at ∙ by.at) ∙ (sym (lefts_left old lane one.at kept.pages.kept.legal by.its.given) ∙ sym (ap left_ats journal)))));
       posts = subst (λ (j : JournalView). drop j.places (posts_in b.log.tail.log) ≡ filter sends j.calls) (sym journal)
           (posts_grown old a.log.tail.log b.log.tail.log (Left lane) kept.posts low_places (ap (λ (t : Tail Batch). posts_in t.log) tail ∙ sym (append-nil (posts_in a.log.tail.log))));
       lanes = λ other inside.

@@ -4,3 +4,4 @@ pub mod Shelves
 pub mod Calls
 pub mod Settling
 pub mod Trimming
+pub mod Lefts

@@ -1,9 +1,9 @@
 -- A Book's fields as a call comes.
-use Rattle.std.proofs.Common.{◌≡◌, ◌≢◌, ℕ, zero, suc, ◌+◌, ◌-◌, ◌<◌, ◌≤◌, Bool, true, false, cond, ◌||◌, List, [], ◌∷◌, ◌++◌, length, take, drop, map, filter, Option, None, Some, All, refl, sym, ap, subst, ◌∙◌, arith, length-append, inl, inr}
+use Rattle.std.proofs.Common.{◌≡◌, ◌≢◌, ℕ, ◌+◌, ◌<◌, ◌≤◌, Bool, true, false, cond, ◌||◌, List, [], ◌∷◌, ◌++◌, length, drop, map, filter, Option, None, Some, All, sym, ap, subst, ◌∙◌, arith, length-append}
 use mathlib.Core.Logic.{dite}
 use native.Mathlib.Decide.{ℕ_discrete}
 use Rattle.std.specs.Option.{is_some, IfSome}
-use Rattle.std.proofs.lemmas.List.{length-map, append-nil, take-append-drop}
+use Rattle.std.proofs.lemmas.List.{length-map}
 use Rattle.std.proofs.lemmas.List.Elements.{filter-append}
 use Rattle.am_alert.specs.declared.alert.Alert.{Alert}
 use Rattle.am_segment.specs.Segments.{KeyView}
@@ -11,25 +11,26 @@ use Rattle.am_cast.specs.declared.views.Account.{Account}
 use Rattle.am_cast.specs.declared.views.Tail.{Tail}
 use Rattle.am_cast.specs.Rule.{idle}
 use Rattle.am_cast.specs.Seats.{account_of}
-use Rattle.am_cast.specs.Writers.{StaysAs, StandsOn, SameAdmission, IsCutAs}
+use Rattle.am_cast.specs.Writers.{StaysAs, SameAdmission, IsCutAs}
 use Rattle.am_provider.specs.declared.call.Call.{Call}
-use Rattle.am_provider.specs.declared.call.Call.TheVariants.{Posted, Collected, Subscribed, Left, Closed}
 use Rattle.am_provider.specs.declared.lanes.OpenLane.{OpenLane}
 use Rattle.am_provider.specs.Journal.{JournalView, with_call, call_count, until, closes, is_closed, is_open, open_after, IsOpenSubscription, MayFollow}
 use Rattle.am_provider.specs.Stored.{Update, updates, updates_of}
-use Rattle.am_provider.specs.Broadcast.{broadcast, broadcast_from, batches_of, items_of, due}
+use Rattle.am_provider.specs.Broadcast.{broadcast, batches_of, items_of, due}
 use Rattle.std.specs.VecDeque.{deque_len, deque_capacity}
 use Rattle.am_provider.specs.inside.BookLimits.{IsWithinLogLimits}
 use Rattle.am_provider.specs.inside.Journals.{journal_of}
 use Rattle.am_provider.specs.inside.Lanes.{lane_at, open_count, IsItsOpening}
 use Rattle.am_provider.specs.inside.BookInside.{Pages, book_of, AgreesWithJournal}
-use Rattle.am_provider.proofs.Journals.{drop_front, drop_twice, due_last, closed_last}
-use Rattle.am_provider.proofs.Opens.{until_stays, one_open, is_still_open}
+use Rattle.am_provider.proofs.Journals.{drop_front, due_last, closed_last}
+use Rattle.am_provider.proofs.Opens.{until_stays}
 use Rattle.am_provider.proofs.Growing.{silent}
 use Rattle.am_provider.proofs.Trimming.{kept_for}
 use Rattle.am_hub.specs.declared.answers.Ended.{Ended}
 use Rattle.am_hub.specs.Batches.{Batch, posts_in, sent_in}
-use Rattle.am_hub.specs.BookView.{BookView, sends, IsLaneOf, IsEndingOf, IsFaithful}
+use Rattle.am_hub.specs.BookView.{sends, IsLaneOf, IsEndingOf, IsFaithful}
+use Rattle.am_hub.specs.Lefts.{left_by, left_ats}
+use Rattle.am_hub.proofs.Lefts.{lefts_quiet}
 use Rattle.am_hub.specs.inside.Shelves.{Shelf, view_of, pages_of, IsKeptLane, IsKeptBook}
 
 -- ---- what is public of it
@@ -74,6 +75,7 @@ faithful shelf counted places kept = record {
   closed = kept.pages.closed;
   lanes = λ lane small. lane_of shelf counted places lane small kept;
   endings = kept.endings;
+  lefts = kept.lefts;
 }
 
 -- ---- the posts of the log
@@ -166,10 +168,10 @@ lanes_stay a b counted places c kept lanes journal on lane small =
 -- ---- a call that no lane comes or goes by
 
 pub kept_grown : (a b : Shelf) (counted more places room : ℕ) (c : Call) → IsKeptBook a counted places → AgreesWithJournal (pages_of b) → MayFollow (journal_of a.journal) c
-    → journal_of b.journal ≡ with_call (journal_of a.journal) c → posts_in b.log.tail.log ≡ posts_in a.log.tail.log ++ filter sends (c ∷ [])
+    → ((came : ℕ → Option ℕ) → left_by came c ≡ []) → journal_of b.journal ≡ with_call (journal_of a.journal) c → posts_in b.log.tail.log ≡ posts_in a.log.tail.log ++ filter sends (c ∷ [])
     → b.lanes ≡ a.lanes → ((lane : ℕ) → lane < 8 → GoesOnAs (account_of a.log lane) (account_of b.log lane))
     → b.endings ≡ a.endings → more ≡ length b.log.tail.log → places ≤ room → IsKeptBook b more room
-kept_grown a b counted more places room c kept pages may journal posts lanes on endings total roomy =
+kept_grown a b counted more places room c kept pages may quiet journal posts lanes on endings total roomy =
     let old = journal_of a.journal in
     let low : old.places ≤ length (sent_in a.log.tail.log) = kept.pages.kept.places in
     let few : length (sent_in a.log.tail.log) ≡ length a.log.tail.log = length-map a.log.tail.log (λ (b : Batch). Rattle.am_cast.specs.Keys.items_of b) in
@@ -179,6 +181,7 @@ kept_grown a b counted more places room c kept pages may journal posts lanes on 
       posts = subst (λ (j : JournalView). drop j.places (posts_in b.log.tail.log) ≡ filter sends j.calls) (sym journal) grown;
       lanes = lanes_stay a b counted places c kept lanes journal on;
       endings = subst (All (IsEndingOf (journal_of b.journal))) (sym endings) (subst (λ j. All (IsEndingOf j) a.endings) (sym journal) (endings_grown old c a.endings may kept.endings));
+      lefts = ap (map (λ (e : Ended). e.at)) endings ∙ (kept.lefts ∙ (lefts_quiet old c quiet ∙ sym (ap left_ats journal)));
       total = total;
       room = let r = kept.room in omega (arith, ap length endings, ap Rattle.am_provider.specs.inside.Lanes.open_count lanes);
     }
@@ -219,6 +222,7 @@ kept_alike a b counted places kept journal long roomy stored tail on lanes posts
       (subst (λ j. IsKeptLane j (account_of b.log lane) (lane_at a.lanes lane)) (sym journal)
       (still_kept (journal_of a.journal) (lane_at a.lanes lane) (account_of a.log lane) (account_of b.log lane) (on lane small) (kept.lanes lane small)));
   endings = subst (All (IsEndingOf (journal_of b.journal))) (sym endings) (subst (λ j. All (IsEndingOf j) a.endings) (sym journal) kept.endings);
+  lefts = ap (map (λ (e : Ended). e.at)) endings ∙ (kept.lefts ∙ sym (ap left_ats journal));
   total = kept.total ∙ sym (ap (λ (t : Tail Batch). length t.log) tail);
   room = let r = kept.room in omega (arith, ap length endings, ap open_count lanes);
 }

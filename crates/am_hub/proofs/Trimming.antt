@@ -1,5 +1,5 @@
 -- A Book's fields as its journal is trimmed.
-use Rattle.std.proofs.Common.{◌≡◌, ◌≢◌, ℕ, zero, suc, ◌+◌, ◌-◌, ◌<◌, ◌≤◌, Bool, true, false, cond, nat_le, List, [], ◌∷◌, ◌++◌, length, take, drop, filter, Option, None, Some, All, get_or, refl, sym, ap, subst, ◌∙◌, arith, length-append, length-drop, inl, inr}
+use Rattle.std.proofs.Common.{◌≡◌, ℕ, zero, suc, ◌+◌, ◌-◌, ◌≤◌, Bool, true, false, cond, nat_le, List, [], ◌∷◌, ◌++◌, length, take, drop, map, filter, Option, None, Some, All, refl, sym, ap, subst, ◌∙◌, arith, length-drop, inl, inr}
 use Rattle.std.specs.Option.{IfSome}
 use Rattle.std.specs.VecDeque.{deque_capacity}
 use Rattle.std.proofs.lemmas.List.{take-append-drop}
@@ -13,9 +13,9 @@ use Rattle.am_cast.specs.Seats.{account_of}
 use Rattle.am_provider.specs.declared.call.Call.{Call}
 use Rattle.am_provider.specs.declared.call.Call.TheVariants.{Posted, Collected, Subscribed, Left, Closed}
 use Rattle.am_provider.specs.declared.lanes.OpenLane.{OpenLane}
-use Rattle.am_provider.specs.Journal.{JournalView, call_count, first_calls, until, is_closed}
-use Rattle.am_provider.specs.Stored.{Update, updates_of, first_reports, updates}
-use Rattle.am_provider.specs.Broadcast.{broadcast, broadcast_from, batches_of, due}
+use Rattle.am_provider.specs.Journal.{JournalView}
+use Rattle.am_provider.specs.Stored.{Update, updates_of, first_reports}
+use Rattle.am_provider.specs.Broadcast.{broadcast_from, due}
 use Rattle.am_provider.specs.Trims.{AreBeforeOpen, IsTrimmed}
 use Rattle.am_provider.specs.inside.Journals.{journal_of, AreCounted}
 use Rattle.am_provider.specs.inside.Lanes.{lane_at, IsItsOpening}
@@ -25,8 +25,9 @@ use Rattle.am_provider.proofs.Journals.{drop_twice}
 use Rattle.am_provider.proofs.Trims.{sent_until, trimmed_gives_the_same}
 use Rattle.am_provider.proofs.Trimming.{sound_trimmed}
 use Rattle.am_hub.specs.declared.answers.Ended.{Ended}
-use Rattle.am_hub.specs.Batches.{Batch, LogView, posts_in, sent_in}
+use Rattle.am_hub.specs.Batches.{LogView, posts_in, sent_in}
 use Rattle.am_hub.specs.BookView.{sends, IsEndingOf}
+use Rattle.am_hub.proofs.Lefts.{lefts_trimmed, ats_kept}
 use Rattle.am_hub.specs.inside.Shelves.{Shelf, pages_of, IsKeptLane, IsKeptBook}
 
 -- as many batches go out as calls send one
@@ -110,6 +111,7 @@ kept_trimmed a b counted places count kept fits of counts stored log lanes posts
           (subst (λ ls. IsKeptLane new (account_of a.log lane) (lane_at ls lane)) (sym lanes)
           (lane_trimmed old new count lane (account_of a.log lane) (lane_at a.lanes lane) fits of (kept.pages.openings lane) (kept.lanes lane small)));
       endings = subst (All (IsEndingOf new)) (sym endings) (filter_all (λ (e : Ended). nat_le b.journal.before e.at) (IsEndingOf old) (IsEndingOf new) a.endings (λ e late was. ending_trimmed old new count e fits.within of late was) kept.endings);
+      lefts = ap (map (λ (e : Ended). e.at)) endings ∙ (ats_kept b.journal.before a.endings ∙ (ap (filter (nat_le b.journal.before)) kept.lefts ∙ lefts_trimmed old new count of));
       total = kept.total ∙ sym (ap (λ (q : LogView). length q.tail.log) log);
       room = let r = kept.room in omega (arith, fewer, ap Rattle.am_provider.specs.inside.Lanes.open_count lanes);
     }

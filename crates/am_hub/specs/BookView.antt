@@ -1,5 +1,5 @@
 -- What contracts see of a Book over the log.
-use Rattle.std.specs.Prelude.{◌≡◌, ◌≢◌, ℕ, ◌+◌, ◌≤◌, ◌<◌, Bool, true, false, List, [], ◌∷◌, Option, None, Some, length, drop, filter, nat_le}
+use Rattle.std.specs.Prelude.{◌≡◌, ◌≢◌, ℕ, ◌+◌, ◌≤◌, ◌<◌, Bool, true, false, List, [], ◌∷◌, Some, length, map, drop, filter}
 use Rattle.std.specs.List.{All}
 use Rattle.am_alert.specs.declared.alert.Alert.{Alert}
 use Rattle.am_cast.specs.Rule.{idle}
@@ -13,6 +13,7 @@ use Rattle.am_provider.specs.BookView as one_thread
 use Rattle.am_hub.specs.declared.answers.Policy.{Policy}
 use Rattle.am_hub.specs.declared.answers.Ended.{Ended}
 use Rattle.am_hub.specs.Batches.{Batch, LogView, sent_in, posts_in}
+use Rattle.am_hub.specs.Lefts.{left_ats}
 
 -- a Book: its stored alerts in order, its journal of accepted calls, the log as its writer knows it,
 -- what each subscription that was given back came to and how many of these were dropped, and what it
@@ -68,10 +69,12 @@ pub record IsEndingOf (journal : JournalView) (ended : Ended) : Type 0 where
   pub high : ended.at ≤ call_count journal
 
 -- what is stored, what was sent out and by which post, whether the log is closed, each lane and each
--- ending follow from the journal, and the journal is legal
+-- ending follow from the journal, and the journal is legal. There is one ending for each subscription that
+-- was given back, in that order, but for those whose Subscribed was dropped
 pub record IsFaithful (book : BookView) : Type 0 where
   pub journal : one_thread.IsFaithful (plain book)
   pub posts : drop book.journal.places (posts_in (batches book)) ≡ filter sends book.journal.calls
   pub closed : book.log.tail.closed ≡ is_closed book.journal
   pub lanes : (lane : ℕ) → lane < 8 → IsLaneOf book lane
   pub endings : All (IsEndingOf book.journal) book.endings
+  pub lefts : map (λ (ended : Ended). ended.at) book.endings ≡ left_ats book.journal

@@ -1,5 +1,5 @@
 -- What a post does to its pass, to the lanes and to the log, and why it is refused.
-use Rattle.std.specs.Prelude.{◌≡◌, ℕ, ◌<◌, ◌≤◌, Bool, true, false, List, [], ◌∷◌, ◌++◌, Option, None, Some, length, slice_index_or}
+use Rattle.std.specs.Prelude.{◌≡◌, ℕ, ◌<◌, Bool, true, false, List, [], ◌∷◌, ◌++◌, Option, None, Some, length, slice_index_or}
 use mathlib.Core.Option.{some}
 use mathlib.Core.List.{IsPrefix}
 use lib.ListN.{get_elem?}
@@ -8,12 +8,11 @@ use Rattle.am_provider.specs.declared.call.Call.{Call}
 use Rattle.am_provider.specs.declared.call.Call.TheVariants.{Posted}
 use Rattle.am_provider.specs.Journal.{is_closed, has_lane}
 use Rattle.am_cast.specs.declared.views.Own.{Own}
-use Rattle.am_cast.specs.Rule.{live, most}
+use Rattle.am_cast.specs.Rule.{live}
 use Rattle.am_cast.specs.Changes.{Stand, own_at}
 use Rattle.am_cast.specs.Seats.{account_of}
 use Rattle.am_cast.specs.Posters.{PassView}
 use Rattle.am_cast.specs.Writers.{StaysAs, SameAdmission, IsCutAs}
-use Rattle.am_hub.specs.declared.answers.Policy.{Policy}
 use Rattle.am_hub.specs.declared.answers.Policy.TheVariants.{Refuse}
 use Rattle.am_hub.specs.declared.faults.PutFault.{PutFault}
 use Rattle.am_hub.specs.declared.faults.PutFault.TheVariants as put_fault

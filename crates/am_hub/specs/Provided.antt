@@ -1,5 +1,5 @@
 -- What a post of a body comes to, whoever else has the lock before or after.
-use Rattle.std.specs.Prelude.{◌≡◌, ◌↔◌, ℕ, List, Option, None, Some, Ok, Err, length}
+use Rattle.std.specs.Prelude.{◌≡◌, ◌↔◌, ℕ, List, None, Ok, Err, length}
 use Rattle.am_alert.specs.declared.post.Post.{Post}
 use Rattle.am_alert.specs.Posts.{IsPostOf}
 use Rattle.am_alert.specs.declared.alert.Alert.{Alert}

@@ -1,8 +1,6 @@
 -- How a subscription moves on before its alert is lent.
 use Rattle.std.specs.Prelude.{◌≡◌, ◌<◌, ◌+◌, true, false, List, length}
 use mathlib.Core.List.{IsPrefix}
-use Rattle.am_alert.specs.declared.alert.Alert.{Alert}
-use Rattle.am_cast.specs.Cursors.{GoesOn}
 use Rattle.am_cast.specs.Lent.{IsItem, IsPending, IsClosed, IsCut}
 use Rattle.am_hub.specs.declared.subscription.Advance.{Advance}
 use Rattle.am_hub.specs.declared.subscription.Advance.TheVariants as advance

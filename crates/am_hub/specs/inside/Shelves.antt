@@ -1,8 +1,6 @@
 -- The fields of a Book, and what always holds of them.
-use Rattle.std.specs.Prelude.{◌≡◌, ◌≢◌, ℕ, ◌+◌, ◌≤◌, ◌<◌, List, Option, None, Some, length, drop, filter}
+use Rattle.std.specs.Prelude.{◌≡◌, ◌≢◌, ℕ, ◌+◌, ◌≤◌, ◌<◌, List, Option, None, Some, length, map, drop, filter}
 use Rattle.std.specs.List.{All}
-use Rattle.std.specs.declared.alloc.Global.{Global}
-use Rattle.am_labels.specs.LabelSets.{Labels}
 use Rattle.am_alert.specs.declared.alert.Alert.{Alert}
 use Rattle.am_cast.specs.declared.views.Account.{Account}
 use Rattle.am_cast.specs.Rule.{idle}
@@ -10,7 +8,7 @@ use Rattle.am_cast.specs.Seats.{account_of}
 use Rattle.am_segment.specs.Segments.{KeyView}
 use Rattle.am_provider.specs.declared.journal.Journal.{Journal}
 use Rattle.am_provider.specs.declared.lanes.OpenLane.{OpenLane}
-use Rattle.am_provider.specs.Journal.{JournalView, until, is_closed}
+use Rattle.am_provider.specs.Journal.{JournalView, until}
 use Rattle.am_provider.specs.Broadcast.{broadcast}
 use Rattle.am_provider.specs.inside.Journals.{journal_of}
 use Rattle.am_provider.specs.inside.Lanes.{lane_at, open_count}
@@ -18,6 +16,7 @@ use Rattle.am_provider.specs.inside.BookInside.{Pages, AgreesWithJournal}
 use Rattle.am_hub.specs.declared.answers.Policy.{Policy}
 use Rattle.am_hub.specs.declared.answers.Ended.{Ended}
 use Rattle.am_hub.specs.Batches.{LogView, sent_in, posts_in}
+use Rattle.am_hub.specs.Lefts.{left_ats}
 use Rattle.am_hub.specs.BookView.{BookView, sends, IsEndingOf}
 
 -- the fields of a Book
@@ -67,5 +66,6 @@ pub record IsKeptBook (shelf : Shelf) (counted places : ℕ) : Type 0 where
   pub lanes : (lane : ℕ) → lane < 8
       → IsKeptLane (journal_of shelf.journal) (account_of shelf.log lane) (lane_at shelf.lanes lane)
   pub endings : All (IsEndingOf (journal_of shelf.journal)) shelf.endings
+  pub lefts : map (λ (ended : Ended). ended.at) shelf.endings ≡ left_ats (journal_of shelf.journal)
   pub total : counted ≡ length shelf.log.tail.log
   pub room : length shelf.endings + open_count shelf.lanes ≤ places

@@ -1,6 +1,5 @@
-use Rattle.std.proofs.Common.{◌≡◌, ◌-◌, ◌≤◌, filter, nat_le, length, refl, sym, ap, ◌∙◌, arith, rules}
+use Rattle.std.proofs.Common.{arith, rules}
 use Rattle.std.proofs.lemmas.Fn.{filter_same}
-use Rattle.am_hub.specs.declared.answers.Ended.{Ended}
 use Rattle.am_hub.proofs.book.drop_before.Goals as goal
 
 pub returns-clause-kept : goal.returns-clause-kept

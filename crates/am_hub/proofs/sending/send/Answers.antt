@@ -1,4 +1,4 @@
-use Rattle.std.proofs.Common.{◌≡◌, ◌∙◌, ℕ, Bool, length, refl, sym, ap, subst, false, rules, arith}
+use Rattle.std.proofs.Common.{◌≡◌, ◌∙◌, length, sym, subst}
 use Rattle.am_cast.specs.Seats.{account_of}
 use Rattle.am_cast.specs.Writers.{IsCutAs}
 use Rattle.am_hub.specs.declared.answers.Policy.TheVariants.{Refuse, Cut}

@@ -1,4 +1,4 @@
-use Rattle.std.proofs.Common.{◌≡◌, ◌≢◌, ◌∙◌, ℕ, refl, ap, sym, true, false, ◌||◌, nat_eq, rules, arith, Bool, inl, inr}
+use Rattle.std.proofs.Common.{◌≡◌, ◌≢◌, ◌∙◌, ℕ, refl, ap, sym, true, false, ◌||◌, nat_eq, Bool, inl, inr}
 use Rattle.std.proofs.lemmas.Bool.Decides.{eqb_tells}
 use Rattle.am_provider.specs.Journal.{has_lane}
 use Rattle.am_provider.proofs.LaneBits.{lane_set}

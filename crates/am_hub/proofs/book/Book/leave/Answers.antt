@@ -1,4 +1,4 @@
-use Rattle.std.proofs.Common.{◌≡◌, ◌+◌, ◌≤◌, ◌<◌, ◌++◌, ◌∷◌, [], List, Some, None, length, set, refl, sym, ap, subst, ◌∙◌, ℕ, false, rules, arith, vec_len, vec_capacity}
+use Rattle.std.proofs.Common.{◌≡◌, ◌<◌, ◌++◌, ◌∷◌, [], List, None, length, set, refl, ap, subst, ◌∙◌, ℕ, rules, arith, vec_len}
 use Rattle.am_provider.specs.declared.call.Call.{Call}
 use Rattle.am_provider.specs.declared.call.Call.TheVariants.{Left}
 use Rattle.am_provider.specs.Journal.{with_call}
@@ -9,9 +9,7 @@ use Rattle.am_provider.specs.declared.lanes.OpenLane.{OpenLane}
 use Rattle.am_cast.specs.Cursors.{CursorView}
 use Rattle.am_hub.specs.BookView.{BookView}
 use Rattle.am_hub.specs.Subscriptions.{taken}
-use Rattle.am_hub.specs.inside.Shelves.{Shelf}
 use Rattle.am_hub.proofs.Calls.{leaving_by, all_counted, room_for_left, room_for_ending, kept_left}
-use Rattle.am_hub.proofs.book.Book.leave.Given.{Over}
 use Rattle.am_hub.proofs.book.Book.leave.Goals as goal
 
 pub push_back_reserved-requires : goal.push_back_reserved-requires

@@ -3,7 +3,6 @@ use Rattle.am_provider.specs.Trims.{AreBeforeOpen}
 use Rattle.am_hub.specs.BookView.{BookView}
 use Rattle.am_provider.specs.inside.Journals.{journal_of}
 use Rattle.am_provider.proofs.Trimming.{before_earliest, before_none}
-use Rattle.am_hub.specs.inside.Shelves.{pages_of}
 use Rattle.am_hub.proofs.book.Book.owed_from.Goals as goal
 
 pub returns-in-Some-clause-before : goal.returns-in-Some-clause-before

@@ -1,4 +1,4 @@
-use Rattle.std.proofs.Common.{◌≡◌, length, sym, subst}
+use Rattle.std.proofs.Common.{length, sym, subst}
 use Rattle.am_cast.specs.Seats.{account_of}
 use Rattle.am_cast.specs.Writers.{IsCutAs}
 use Rattle.am_hub.proofs.book.Book.post.Goals as goal

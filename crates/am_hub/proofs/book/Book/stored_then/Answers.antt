@@ -6,7 +6,6 @@ use Rattle.am_provider.specs.Stored.{updates, stored}
 use Rattle.am_provider.specs.Trims.{AreBeforeOpen}
 use Rattle.am_hub.specs.BookView.{BookView}
 use Rattle.am_provider.proofs.Trimming.{store_then, store_now, if_ok}
-use Rattle.am_hub.specs.inside.Shelves.{pages_of}
 use Rattle.am_hub.proofs.book.Book.stored_then.Goals as goal
 
 -- what is asked of the answer

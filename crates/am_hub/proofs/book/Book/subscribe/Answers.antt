@@ -1,10 +1,10 @@
-use Rattle.std.proofs.Common.{◌≡◌, ◌+◌, ◌≤◌, ◌<◌, ◌++◌, ◌∷◌, [], List, Some, None, length, set, refl, sym, ap, subst, ◌∙◌, false, rules, arith, vec_capacity}
+use Rattle.std.proofs.Common.{◌≡◌, ◌+◌, ◌≤◌, ◌++◌, ◌∷◌, [], List, Some, length, set, refl, sym, ap, ◌∙◌, rules, arith, vec_capacity}
 use Rattle.std.specs.VecDeque.{deque_len, deque_capacity}
 use Rattle.am_alert.specs.declared.alert.Alert.{Alert}
 use Rattle.am_provider.specs.declared.call.Call.{Call}
 use Rattle.am_provider.specs.declared.call.Call.TheVariants.{Subscribed}
 use Rattle.am_provider.specs.declared.lanes.OpenLane.{OpenLane}
-use Rattle.am_provider.specs.Journal.{JournalView, with_call, call_count}
+use Rattle.am_provider.specs.Journal.{with_call, call_count}
 use Rattle.am_provider.specs.inside.Journals.{journal_of}
 use Rattle.am_cast.specs.Cursors.{CursorView}
 use Rattle.am_cast.specs.Cursors as cast

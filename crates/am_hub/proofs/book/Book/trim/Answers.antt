@@ -1,11 +1,10 @@
-use Rattle.std.proofs.Common.{◌-◌, ◌≡◌, ◌+◌, filter, nat_le, length, min, ◌≤◌, refl, sym, subst, ap, ◌∙◌, arith}
+use Rattle.std.proofs.Common.{◌-◌, ◌≡◌, filter, nat_le, refl, sym, subst, ap, ◌∙◌}
 use Rattle.am_provider.specs.Trims.{AreBeforeOpen, IsTrimmed}
 use Rattle.am_provider.specs.inside.Journals.{journal_of}
 use Rattle.am_provider.proofs.Trims.{none_trimmed}
 use Rattle.am_hub.specs.declared.answers.Ended.{Ended}
 use Rattle.am_hub.specs.BookView.{BookView}
 use Rattle.am_hub.proofs.Trimming.{kept_trimmed, kept_room, none_gone}
-use Rattle.am_hub.proofs.book.Book.trim.Given.{Over}
 use Rattle.am_hub.proofs.book.Book.trim.Goals as goal
 
 pub returns-then-count-eq0-clause-journal : goal.returns-then-count-eq0-clause-journal

@@ -1,4 +1,4 @@
-use Rattle.std.proofs.Common.{◌≡◌, ◌↔◌, ◌∙◌, ℕ, zero, suc, Option, None, Some, cond, nat_eq, length, refl, sym, ap, rules, arith}
+use Rattle.std.proofs.Common.{◌≡◌, ◌↔◌, ◌∙◌, ℕ, zero, suc, Option, None, Some, cond, nat_eq, length, refl, sym, ap, arith}
 use Rattle.am_hub.proofs.provider.Provider.post.Goals as goal
 
 -- there is a place exactly where there is an alert

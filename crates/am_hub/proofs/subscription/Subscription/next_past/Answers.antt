@@ -1,4 +1,4 @@
-use Rattle.std.proofs.Common.{rules, arith, refl}
+use Rattle.std.proofs.Common.{refl}
 use Rattle.am_hub.proofs.Subscribing.{opened_one}
 use Rattle.am_hub.proofs.subscription.Subscription.next_past.Goals as goal
 
