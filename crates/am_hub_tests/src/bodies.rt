@@ -17,12 +17,18 @@ pub fn moment(seconds: u32) -> Moment {
 
 /// A body with one alert, whose label and start are of this number.
 pub fn body_of(alloc: Global, number: u32) -> Result<String, AllocError> {
+    report_of(alloc, number, number, 4_000_000)
+}
+
+/// A body with one alert of that label, which starts and ends so many seconds after the beginning of
+/// 2024.
+pub fn report_of(alloc: Global, label: u32, start: u32, end: u32) -> Result<String, AllocError> {
     let mut body = String::new(alloc);
-    let start = moment(number);
-    let end = moment(4_000_000);
+    let start = moment(start);
+    let end = moment(end);
     write!(
         body,
-        "[{{\"labels\":{{\"n\":\"{number}\"}},\"startsAt\":\"{start}\",\"endsAt\":\"{end}\"}}]"
+        "[{{\"labels\":{{\"n\":\"{label}\"}},\"startsAt\":\"{start}\",\"endsAt\":\"{end}\"}}]"
     )?;
     Ok(body)
 }

@@ -4,7 +4,8 @@
 ghost use Rattle.std.specs.Prelude.{◌≡◌};
 
 use crate::bodies::{body_of, moment};
-use crate::threads::is_front;
+use crate::days::Stopped;
+use crate::shown::is_front;
 use am_alert::Moment;
 use am_hub::{NoGate, Origin, Parts, Pass, Policy, Provider, Settled, Step, Subscription};
 use std::alloc::{AllocError, Global};
@@ -16,7 +17,7 @@ use std::thread;
 use std::thread::Threads;
 use std::time::Duration;
 
-const ROUNDS: u32 = 2_000;
+const ROUNDS: u32 = 10_000;
 
 /// What a reader was told last.
 #[derive(Clone, Copy, Debug, PartialEq, Eq, Drop)]
@@ -140,13 +141,12 @@ fn race<N: Origin + Send + Sync, R: Threads + Wait + Sync>(
     rt: &R,
     alloc: Global,
     provider: &Provider<N>,
-    pass: &mut Pass<N>,
+    passes: &mut [Pass<N>],
     bodies: &[String],
     turns: u32,
-) -> Result<Option<Round>, AllocError> {
-    let Ok(mut subscription) = provider.subscribe(rt) else {
-        return Ok(None);
-    };
+) -> Result<Round, Stopped> {
+    let pass = passes.first_mut().ok_or(Stopped::Refused)?;
+    let mut subscription = provider.subscribe(rt)?;
     let began = AtomicU8::new(0);
     let shared = &began;
     let reader = &mut subscription;
@@ -161,13 +161,13 @@ fn race<N: Origin + Send + Sync, R: Threads + Wait + Sync>(
     };
     let stays = stays(&mut subscription, end);
     let ended = provider.leave(rt, subscription);
-    Ok(Some(Round {
+    Ok(Round {
         told: told?,
         stays,
         placed,
         cuts,
         ended_cut: ended.cut,
-    }))
+    })
 }
 
 fn race_day<N: Origin + Send + Sync, R: Threads + Wait + Sync>(
@@ -176,7 +176,7 @@ fn race_day<N: Origin + Send + Sync, R: Threads + Wait + Sync>(
     parts: Parts,
     bodies: &[String],
     turns: u32,
-) -> Result<(Option<Round>, Settled), AllocError>
+) -> Result<(Round, Settled), Stopped>
     requires table { parts.log.board.shared.table_id ≡ N.table }
     requires ledger { (parts.ledger.name ≡ N.name) × (parts.ledger.parts ≡ N.parts) }
 {
@@ -186,12 +186,9 @@ fn race_day<N: Origin + Send + Sync, R: Threads + Wait + Sync>(
         Policy::Cut,
         Duration::from_secs(300),
     )?;
-    let round = match passes.first_mut() {
-        Some(pass) => race(rt, alloc, &provider, pass, bodies, turns),
-        None => Ok(None),
-    };
+    let outcome = race(rt, alloc, &provider, &mut passes, bodies, turns);
     let settled = provider.settle(rt, passes);
-    Ok((round?, settled))
+    Ok((outcome?, settled))
 }
 
 fn race_of<R: Threads + Wait + Sync>(
@@ -199,7 +196,7 @@ fn race_of<R: Threads + Wait + Sync>(
     alloc: Global,
     bodies: &[String],
     turns: u32,
-) -> Result<(Option<Round>, Settled), AllocError> {
+) -> Result<(Round, Settled), Stopped> {
     let parts = Parts::make(alloc, 1, 1)?;
     race_day::<Brand, R>(rt, alloc, parts, bodies, turns)
 }
@@ -221,26 +218,29 @@ fn is_right(round: &Round, settled: &Settled, bodies: usize) -> bool {
     }
 }
 
-// Whether a round was as it has to be, and whether the reader was cut.
+// Whether a round was as it has to be.
 fn is_right_round<R: Threads + Wait + Sync>(
     rt: &R,
     alloc: Global,
     bodies: &[String],
     turns: u32,
-) -> Result<bool, AllocError> {
+) -> Result<bool, Stopped> {
     let (round, settled) = race_of(rt, alloc, bodies, turns)?;
-    match round {
-        Some(round) => Ok(is_right(&round, &settled, bodies.len())),
-        None => Ok(false),
-    }
+    Ok(is_right(&round, &settled, bodies.len()))
 }
 
-// How many rounds were as they have to be.
-fn right_rounds<R: Threads + Wait + Sync>(rt: &R, alloc: Global) -> Result<u32, AllocError> {
+// Four bodies to post.
+fn four_bodies(alloc: Global) -> Result<Vec<String>, AllocError> {
     let mut bodies = Vec::new(alloc);
     for number in 0..4u32 {
         bodies.push(body_of(alloc, number)?)?;
     }
+    Ok(bodies)
+}
+
+// How many rounds were as they have to be.
+fn right_rounds<R: Threads + Wait + Sync>(rt: &R, alloc: Global) -> Result<u32, Stopped> {
+    let bodies = four_bodies(alloc)?;
     let mut right: u32 = 0;
     for round in 0..ROUNDS {
         if is_right_round(rt, alloc, &bodies, round % 1_000)? {

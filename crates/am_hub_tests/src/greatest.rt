@@ -1,15 +1,11 @@
 //! Posts and collections at the greatest instant there is.
 
-ghost use Rattle.std.specs.Prelude.{◌≡◌};
-
 use crate::bodies::end_body;
+use crate::days::{Day, Settings, Stopped, spend};
 use am_alert::{Moment, PostFault};
-use am_hub::{
-    NoGate, Origin, Parts, Pass, Policy, PostRefused, Provider, Settled, Step, Subscription,
-};
+use am_hub::{NoGate, Origin, Pass, PostRefused, Provider, Settled, Step, Subscription};
 use am_provider::Call;
-use std::alloc::{AllocError, Global};
-use std::marker::Brand;
+use std::alloc::Global;
 use std::sync::Wait;
 use std::test::Fail;
 use std::time::Duration;
@@ -26,19 +22,38 @@ struct Greatest {
     // How many alerts were shown that start, end and were reported at that instant, and how many others.
     shown: (u32, u32),
     // What a collection one nanosecond earlier removed, and then one at that instant.
-    before: Option<u64>,
-    collected: Option<u64>,
+    before: u64,
+    collected: u64,
 }
 
-fn post_at_end<N: Origin, R: Wait>(
+// A post of an alert that gives an end, and one of an alert that doesn't.
+fn post_both<N: Origin, R: Wait>(
     rt: &R,
     provider: &Provider<N>,
     pass: &mut Pass<N>,
     body: &[u8],
-) -> Answer {
+) -> Result<(Answer, Answer), Stopped> {
+    let ended = post(rt, provider, pass, body)?;
+    Ok((
+        ended,
+        post(rt, provider, pass, b"[{\"labels\":{\"open\":\"1\"}}]")?,
+    ))
+}
+
+fn post<N: Origin, R: Wait>(
+    rt: &R,
+    provider: &Provider<N>,
+    pass: &mut Pass<N>,
+    body: &[u8],
+) -> Result<Answer, Stopped> {
     match provider.post(rt, pass, &NoGate, body, Moment::MAX) {
-        Ok(posted) => Ok((posted.valid, posted.place)),
-        Err(fault) => Err(fault),
+        Ok(posted) => Ok(Ok((posted.valid, posted.place))),
+        Err(fault) => {
+            if Stopped::from(fault) == Stopped::NoMemory {
+                return Err(Stopped::NoMemory);
+            }
+            Ok(Err(fault))
+        }
     }
 }
 
@@ -63,66 +78,36 @@ fn count_shown<N: Origin>(subscription: &mut Subscription<'_, N>) -> (u32, u32) 
     (at_end, others)
 }
 
-fn collected_before<N: Origin, R: Wait>(rt: &R, provider: &Provider<N>) -> Option<u64> {
-    let earlier = Moment::try_new(Moment::MAX.nanoseconds() - 1)?;
-    provider.collect_resolved(rt, earlier).ok()
+#[derive(Clone, Copy, Drop)]
+struct AtTheEnd<'a> {
+    body: &'a str,
 }
 
-fn at_the_end<N: Origin, R: Wait>(
-    rt: &R,
-    provider: &Provider<N>,
-    pass: &mut Pass<N>,
-    body: &[u8],
-) -> Option<Greatest> {
-    let Ok(mut subscription) = provider.subscribe(rt) else {
-        return None;
-    };
-    let ended = post_at_end(rt, provider, pass, body);
-    let open = post_at_end(rt, provider, pass, b"[{\"labels\":{\"open\":\"1\"}}]");
-    let shown = count_shown(&mut subscription);
-    provider.leave(rt, subscription);
-    let before = collected_before(rt, provider);
-    let collected = provider.collect_resolved(rt, Moment::MAX).ok();
-    Some(Greatest {
-        ended,
-        open,
-        shown,
-        before,
-        collected,
-    })
-}
+impl<'a> Day for AtTheEnd<'a> {
+    type Outcome = Greatest;
 
-fn greatest_day<N: Origin, R: Wait>(
-    rt: &R,
-    alloc: Global,
-    parts: Parts,
-    body: &[u8],
-    resolve_timeout: Duration,
-) -> Result<(Option<Greatest>, Settled), AllocError>
-    requires table { parts.log.board.shared.table_id ≡ N.table }
-    requires ledger { (parts.ledger.name ≡ N.name) × (parts.ledger.parts ≡ N.parts) }
-{
-    let (provider, mut passes) = Provider::<N>::begin(
-        alloc,
-        parts,
-        Policy::Refuse,
-        resolve_timeout,
-    )?;
-    let day = match passes.first_mut() {
-        Some(pass) => at_the_end(rt, &provider, pass, body),
-        None => None,
-    };
-    Ok((day, provider.settle(rt, passes)))
-}
-
-fn greatest_of<R: Wait>(
-    rt: &R,
-    alloc: Global,
-    body: &[u8],
-    resolve_timeout: Duration,
-) -> Result<(Option<Greatest>, Settled), AllocError> {
-    let parts = Parts::make(alloc, 4, 1)?;
-    greatest_day::<Brand, R>(rt, alloc, parts, body, resolve_timeout)
+    fn spend<N: Origin, R: Wait>(
+        &self,
+        rt: &R,
+        _alloc: Global,
+        provider: &Provider<N>,
+        passes: &mut [Pass<N>],
+    ) -> Result<Greatest, Stopped> {
+        let pass = passes.first_mut().ok_or(Stopped::Refused)?;
+        let mut subscription = provider.subscribe(rt)?;
+        let posted = post_both(rt, provider, pass, self.body.as_bytes());
+        let shown = count_shown(&mut subscription);
+        provider.leave(rt, subscription);
+        let (ended, open) = posted?;
+        let earlier = Moment::try_new(Moment::MAX.nanoseconds() - 1).ok_or(Stopped::Refused)?;
+        Ok(Greatest {
+            ended,
+            open,
+            shown,
+            before: provider.collect_resolved(rt, earlier)?,
+            collected: provider.collect_resolved(rt, Moment::MAX)?,
+        })
+    }
 }
 
 // How many of the calls are posts and collections at that instant.
@@ -145,17 +130,19 @@ fn calls_at_end(settled: &Settled) -> (u32, u32) {
 #[test]
 fn greatest_instant(rt: HostRuntime) -> Result<(), Fail> {
     let body = end_body(rt.alloc())?;
-    let timeout = Duration::from_nanos(1);
-    let (day, settled) = greatest_of(&rt, rt.alloc(), body.as_bytes(), timeout)?;
+    let mut settings = Settings::of(4, 1);
+    settings.resolve_timeout = Duration::from_nanos(1);
+    let day = AtTheEnd { body: &body };
+    let (greatest, settled) = spend(&rt, rt.alloc(), settings, &day)?;
     assert_eq!(rt;
-        day,
-        Some(Greatest {
+        greatest,
+        Greatest {
             ended: Ok((1, Some(0))),
             open: Err(PostRefused::Unread(PostFault::OutOfRange(0))),
             shown: (1, 0),
-            before: Some(0),
-            collected: Some(1),
-        })
+            before: 0,
+            collected: 1,
+        }
     );
     assert_eq!(rt; calls_at_end(&settled), (1, 1));
     assert_eq!(rt; settled.store.len(), 0);
@@ -167,17 +154,19 @@ fn greatest_instant(rt: HostRuntime) -> Result<(), Fail> {
 #[test]
 fn greatest_instant_without_timeout(rt: HostRuntime) -> Result<(), Fail> {
     let body = end_body(rt.alloc())?;
-    let timeout = Duration::from_nanos(0);
-    let (day, settled) = greatest_of(&rt, rt.alloc(), body.as_bytes(), timeout)?;
+    let mut settings = Settings::of(4, 1);
+    settings.resolve_timeout = Duration::from_nanos(0);
+    let day = AtTheEnd { body: &body };
+    let (greatest, settled) = spend(&rt, rt.alloc(), settings, &day)?;
     assert_eq!(rt;
-        day,
-        Some(Greatest {
+        greatest,
+        Greatest {
             ended: Ok((1, Some(0))),
             open: Ok((1, Some(1))),
             shown: (2, 0),
-            before: Some(0),
-            collected: Some(2),
-        })
+            before: 0,
+            collected: 2,
+        }
     );
     assert_eq!(rt; calls_at_end(&settled), (2, 1));
     assert_eq!(rt; settled.store.len(), 0);

@@ -7,14 +7,18 @@ mod bodies;
 #[cfg(test)]
 mod cut_races;
 #[cfg(test)]
+mod days;
+#[cfg(test)]
 mod greatest;
 #[cfg(test)]
 mod locked;
+#[cfg(test)]
+mod many_subscriptions;
 #[cfg(test)]
 mod many_threads;
 #[cfg(test)]
 mod one_thread;
 #[cfg(test)]
-mod slow_lanes;
+mod shown;
 #[cfg(test)]
-mod threads;
+mod slow_lanes;

@@ -3,8 +3,9 @@
 ghost use Rattle.std.specs.Prelude.{◌≡◌};
 
 use crate::bodies::{body_of, moment};
-use am_hub::{Gate, NoGate, Origin, Parts, Pass, Policy, Provider, Step, Subscription};
-use std::alloc::{AllocError, Global};
+use crate::days::Stopped;
+use am_hub::{Gate, NoGate, Origin, Parts, Pass, Policy, Provider, Settled, Step, Subscription};
+use std::alloc::Global;
 use std::marker::Brand;
 use std::sync::Wait;
 use std::sync::atomic::{AtomicU8, Ordering};
@@ -60,8 +61,9 @@ fn beside_lock<N: Origin + Send + Sync, R: Threads + Wait + Sync>(
     rt: &R,
     alloc: Global,
     provider: &Provider<N>,
-    pass: &mut Pass<N>,
-) -> Result<(bool, bool), AllocError> {
+    passes: &mut [Pass<N>],
+) -> Result<(bool, bool), Stopped> {
+    let pass = passes.first_mut().ok_or(Stopped::Refused)?;
     let body = body_of(alloc, 1)?;
     let bytes = body.as_bytes();
     let (entered, read, seen) = (AtomicU8::new(0), AtomicU8::new(0), AtomicU8::new(0));
@@ -70,9 +72,7 @@ fn beside_lock<N: Origin + Send + Sync, R: Threads + Wait + Sync>(
         read: &read,
         seen: &seen,
     };
-    let Ok(mut subscription) = provider.subscribe(rt) else {
-        return Ok((false, false));
-    };
+    let mut subscription = provider.subscribe(rt)?;
     let _first = provider.post(rt, pass, &NoGate, bytes, moment(10));
     let reader = &mut subscription;
     let (_posted, item) = thread::join(
@@ -88,7 +88,7 @@ fn locked_day<N: Origin + Send + Sync, R: Threads + Wait + Sync>(
     rt: &R,
     alloc: Global,
     parts: Parts,
-) -> Result<(Option<(bool, bool)>, bool), AllocError>
+) -> Result<((bool, bool), Settled), Stopped>
     requires table { parts.log.board.shared.table_id ≡ N.table }
     requires ledger { (parts.ledger.name ≡ N.name) × (parts.ledger.parts ≡ N.parts) }
 {
@@ -98,26 +98,23 @@ fn locked_day<N: Origin + Send + Sync, R: Threads + Wait + Sync>(
         Policy::Refuse,
         Duration::from_secs(300),
     )?;
-    let run = match passes.first_mut() {
-        Some(pass) => beside_lock(rt, alloc, &provider, pass).ok(),
-        None => None,
-    };
+    let outcome = beside_lock(rt, alloc, &provider, &mut passes);
     let settled = provider.settle(rt, passes);
-    Ok((run, settled.complete))
+    Ok((outcome?, settled))
 }
 
 fn locked_of<R: Threads + Wait + Sync>(
     rt: &R,
     alloc: Global,
-) -> Result<(Option<(bool, bool)>, bool), AllocError> {
+) -> Result<((bool, bool), Settled), Stopped> {
     let parts = Parts::make(alloc, 16, 1)?;
     locked_day::<Brand, R>(rt, alloc, parts)
 }
 
 #[test]
 fn reader_beside_a_locked_post(rt: HostRuntime) -> Result<(), Fail> {
-    let (run, complete) = locked_of(&rt, rt.alloc())?;
-    assert_eq!(rt; run, Some((true, true)));
-    assert!(rt; complete);
+    let (shown, settled) = locked_of(&rt, rt.alloc())?;
+    assert_eq!(rt; shown, (true, true));
+    assert!(rt; settled.complete);
     Ok(())
 }

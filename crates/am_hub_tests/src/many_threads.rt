@@ -4,7 +4,9 @@
 ghost use Rattle.std.specs.Prelude.{◌≡◌};
 
 use crate::bodies::{body_of, moment};
-use crate::threads::{Shown, is_front};
+use crate::days::Stopped;
+use crate::shown::{Shown, is_front};
+use am_alert::Moment;
 use am_hub::{
     NoGate, Origin, Parts, Pass, Policy, PostRefused, Provider, PutFault, Settled, Step,
     Subscription,
@@ -19,15 +21,16 @@ use std::thread;
 use std::thread::Threads;
 use std::time::Duration;
 
-// Posts a body, and tries again while the log is full. Answers whether it was accepted.
-fn post_one<N: Origin, R: Wait>(
+/// Posts a body, and tries again while the log is full. Answers whether it was accepted.
+pub fn post_one<N: Origin, R: Wait>(
     rt: &R,
     provider: &Provider<N>,
     pass: &mut Pass<N>,
     body: &[u8],
+    now: Moment,
 ) -> bool {
     for _turn in 0..10_000_000u32 {
-        match provider.post(rt, pass, &NoGate, body, moment(3_000_000)) {
+        match provider.post(rt, pass, &NoGate, body, now) {
             Ok(_) => return true,
             Err(PostRefused::Put(PutFault::Full { lane: _, passed: _ })) => thread::yield_now(),
             Err(_) => return false,
@@ -44,25 +47,20 @@ fn post_some<N: Origin, R: Wait>(
     pass: &mut Pass<N>,
     first: u32,
     count: u32,
-) -> Result<u32, AllocError> {
+) -> u32 {
     for at in 0..count {
-        let body = body_of(alloc, first.wrapping_add(at))?;
-        if !post_one(rt, provider, pass, body.as_bytes()) {
-            return Ok(at);
+        let Ok(body) = body_of(alloc, first.wrapping_add(at)) else {
+            return at;
+        };
+        if !post_one(rt, provider, pass, body.as_bytes(), moment(3_000_000)) {
+            return at;
         }
     }
-    Ok(count)
+    count
 }
 
-// Posts some alerts, and closes once all four readers have subscribed.
-fn post_and_close<N: Origin, R: Wait>(
-    rt: &R,
-    alloc: Global,
-    provider: &Provider<N>,
-    pass: &mut Pass<N>,
-    arrived: &AtomicU32,
-) -> Result<u32, AllocError> {
-    let placed = post_some(rt, alloc, provider, pass, 0, 100);
+// Closes once all four readers have subscribed.
+fn close_at_four<N: Origin, R: Wait>(rt: &R, provider: &Provider<N>, arrived: &AtomicU32) {
     for _turn in 0..10_000_000u32 {
         if arrived.load(Ordering::SeqCst) == 4 {
             break;
@@ -70,7 +68,6 @@ fn post_and_close<N: Origin, R: Wait>(
         thread::yield_now();
     }
     let _closed = provider.close(rt);
-    placed
 }
 
 fn read_on<N: Origin>(
@@ -103,161 +100,78 @@ fn read_all<N: Origin, R: Wait>(
     alloc: Global,
     provider: &Provider<N>,
     arrived: &AtomicU32,
-) -> Result<Shown, AllocError> {
-    let Ok(mut subscription) = provider.subscribe(rt) else {
-        return Ok(Shown {
-            starts: Vec::new(alloc),
-            closed: false,
-        });
-    };
+) -> Result<Shown, Stopped> {
+    let mut subscription = provider.subscribe(rt)?;
     arrived.fetch_add(1, Ordering::SeqCst);
     let shown = read_on(alloc, &mut subscription);
     provider.leave(rt, subscription);
-    shown
-}
-
-fn two_post<N: Origin + Send + Sync, R: Threads + Wait + Sync>(
-    rt: &R,
-    alloc: Global,
-    provider: &Provider<N>,
-    third: &mut Pass<N>,
-    fourth: &mut Pass<N>,
-) -> Result<u32, AllocError> {
-    let (three, four) = thread::join(
-        rt,
-        move || post_some(rt, alloc, provider, third, 2000, 200),
-        move || post_some(rt, alloc, provider, fourth, 3000, 200),
-    );
-    Ok(three?.wrapping_add(four?))
-}
-
-fn two_post_and_close<N: Origin + Send + Sync, R: Threads + Wait + Sync>(
-    rt: &R,
-    alloc: Global,
-    provider: &Provider<N>,
-    first: &mut Pass<N>,
-    second: &mut Pass<N>,
-    arrived: &AtomicU32,
-) -> Result<u32, AllocError> {
-    let (one, two) = thread::join(
-        rt,
-        move || post_and_close(rt, alloc, provider, first, arrived),
-        move || post_some(rt, alloc, provider, second, 1000, 200),
-    );
-    Ok(one?.wrapping_add(two?))
-}
-
-fn two_read<N: Origin + Send + Sync, R: Threads + Wait + Sync>(
-    rt: &R,
-    alloc: Global,
-    provider: &Provider<N>,
-    arrived: &AtomicU32,
-) -> Result<(Shown, Shown), AllocError> {
-    let (a, b) = thread::join(
-        rt,
-        move || read_all(rt, alloc, provider, arrived),
-        move || read_all(rt, alloc, provider, arrived),
-    );
-    Ok((a?, b?))
-}
-
-/// What the four readers were shown.
-#[derive(Drop)]
-struct Readings {
-    two: (Shown, Shown),
-    others: (Shown, Shown),
-}
-
-fn four_read<N: Origin + Send + Sync, R: Threads + Wait + Sync>(
-    rt: &R,
-    alloc: Global,
-    provider: &Provider<N>,
-    arrived: &AtomicU32,
-) -> Result<Readings, AllocError> {
-    let (two, others) = thread::join(
-        rt,
-        move || two_read(rt, alloc, provider, arrived),
-        move || two_read(rt, alloc, provider, arrived),
-    );
-    Ok(Readings {
-        two: two?,
-        others: others?,
-    })
-}
-
-fn four_post<N: Origin + Send + Sync, R: Threads + Wait + Sync>(
-    rt: &R,
-    alloc: Global,
-    provider: &Provider<N>,
-    first: &mut Pass<N>,
-    second: &mut Pass<N>,
-    third: &mut Pass<N>,
-    fourth: &mut Pass<N>,
-    arrived: &AtomicU32,
-) -> Result<u32, AllocError> {
-    let (two, others) = thread::join(
-        rt,
-        move || two_post_and_close(rt, alloc, provider, first, second, arrived),
-        move || two_post(rt, alloc, provider, third, fourth),
-    );
-    Ok(two?.wrapping_add(others?))
+    Ok(shown?)
 }
 
 /// How many alerts were accepted, and what the readers were shown.
 #[derive(Drop)]
 struct Run {
     posted: u32,
-    read: Readings,
+    readings: Vec<Result<Shown, Stopped>>,
+}
+
+// Each poster in a thread of its own; the first one has fewer alerts, and closes then.
+fn post_all<N: Origin + Send + Sync, R: Threads + Wait + Sync>(
+    rt: &R,
+    alloc: Global,
+    provider: &Provider<N>,
+    passes: &mut [Pass<N>],
+    arrived: &AtomicU32,
+) -> u32 {
+    let posted = AtomicU32::new(0);
+    thread::for_each_mut(
+        rt,
+        passes,
+        4,
+        &|at, pass| {
+            let first = (at % 4) as u32 * 1000;
+            let count = if at == 0 { 100 } else { 200 };
+            posted.fetch_add(
+                post_some(rt, alloc, provider, pass, first, count),
+                Ordering::SeqCst,
+            );
+            if at == 0 {
+                close_at_four(rt, provider, arrived);
+            }
+        },
+    );
+    posted.load(Ordering::SeqCst)
 }
 
 fn run_all<N: Origin + Send + Sync, R: Threads + Wait + Sync>(
     rt: &R,
     alloc: Global,
     provider: &Provider<N>,
-    first: &mut Pass<N>,
-    second: &mut Pass<N>,
-    third: &mut Pass<N>,
-    fourth: &mut Pass<N>,
-) -> Result<Run, AllocError> {
+    passes: &mut [Pass<N>],
+) -> Result<Run, Stopped> {
     let arrived = AtomicU32::new(0);
     let shared = &arrived;
-    let (posted, read) = thread::join(
+    let (posted, readings) = thread::join(
         rt,
-        move || four_post(rt, alloc, provider, first, second, third, fourth, shared),
-        move || four_read(rt, alloc, provider, shared),
+        move || post_all(rt, alloc, provider, passes, shared),
+        move || thread::map_indices(
+            rt,
+            alloc,
+            4,
+            &|_reader| read_all(rt, alloc, provider, shared),
+        ),
     );
     Ok(Run {
-        posted: posted?,
-        read: read?,
+        posted,
+        readings: readings?,
     })
 }
 
-fn with_four<N: Origin + Send + Sync, R: Threads + Wait + Sync>(
-    rt: &R,
-    alloc: Global,
-    provider: &Provider<N>,
-    passes: &mut [Pass<N>],
-) -> Option<Run> {
-    let Some((first, rest)) = passes.split_first_mut() else {
-        return None;
-    };
-    let Some((second, rest)) = rest.split_first_mut() else {
-        return None;
-    };
-    let Some((third, rest)) = rest.split_first_mut() else {
-        return None;
-    };
-    let Some(fourth) = rest.first_mut() else {
-        return None;
-    };
-    run_all(rt, alloc, provider, first, second, third, fourth).ok()
-}
-
-fn many_day<N: Origin + Send + Sync, R: Threads + Wait + Sync>(
+fn run_day<N: Origin + Send + Sync, R: Threads + Wait + Sync>(
     rt: &R,
     alloc: Global,
     parts: Parts,
-) -> Result<(Option<Run>, Settled), AllocError>
+) -> Result<(Run, Settled), Stopped>
     requires table { parts.log.board.shared.table_id ≡ N.table }
     requires ledger { (parts.ledger.name ≡ N.name) × (parts.ledger.parts ≡ N.parts) }
 {
@@ -267,16 +181,14 @@ fn many_day<N: Origin + Send + Sync, R: Threads + Wait + Sync>(
         Policy::Refuse,
         Duration::from_secs(300),
     )?;
-    let run = with_four(rt, alloc, &provider, &mut passes);
-    Ok((run, provider.settle(rt, passes)))
+    let outcome = run_all(rt, alloc, &provider, &mut passes);
+    let settled = provider.settle(rt, passes);
+    Ok((outcome?, settled))
 }
 
-fn many_of<R: Threads + Wait + Sync>(
-    rt: &R,
-    alloc: Global,
-) -> Result<(Option<Run>, Settled), AllocError> {
+fn run_of<R: Threads + Wait + Sync>(rt: &R, alloc: Global) -> Result<(Run, Settled), Stopped> {
     let parts = Parts::make(alloc, 16, 4)?;
-    many_day::<Brand, R>(rt, alloc, parts)
+    run_day::<Brand, R>(rt, alloc, parts)
 }
 
 // How many alerts the journal's posts have.
@@ -295,16 +207,23 @@ fn is_whole(settled: &Settled, shown: &Shown) -> bool {
     is_front(settled, &shown.starts) && shown.closed && shown.starts.len() == count_due(settled)
 }
 
+// How many readers were shown all of it.
+fn count_whole(settled: &Settled, readings: &[Result<Shown, Stopped>]) -> u32 {
+    let mut count: u32 = 0;
+    for reading in readings {
+        if let Ok(shown) = reading
+            && is_whole(settled, shown)
+        {
+            count = count.wrapping_add(1);
+        }
+    }
+    count
+}
+
 #[test]
 fn four_posters_and_four_readers(rt: HostRuntime) -> Result<(), Fail> {
-    let (run, settled) = many_of(&rt, rt.alloc())?;
-    let Some(run) = run else {
-        return Err(Fail::from("no run"));
-    };
-    let (a, b) = &run.read.two;
-    let (c, d) = &run.read.others;
-    assert!(rt; is_whole(&settled, a) && is_whole(&settled, b));
-    assert!(rt; is_whole(&settled, c) && is_whole(&settled, d));
+    let (run, settled) = run_of(&rt, rt.alloc())?;
+    assert_eq!(rt; count_whole(&settled, &run.readings), 4);
     assert_eq!(rt; count_due(&settled), run.posted as usize);
     assert!(rt; settled.complete);
     assert_eq!(rt; settled.ended.len(), 4);

@@ -1,26 +1,20 @@
 //! A log with two places and three subscribers: which lane a full log names, and when it takes a post
 //! again.
 
-ghost use Rattle.std.specs.Prelude.{◌≡◌};
-
 use crate::bodies::moment;
-use am_hub::{
-    NoGate, Origin, Parts, Pass, Policy, PostRefused, Provider, PutFault, Step, Subscription,
-};
-use std::alloc::{AllocError, Global};
-use std::marker::Brand;
+use crate::days::{Day, Settings, Stopped, spend};
+use am_hub::{NoGate, Origin, Pass, PostRefused, Provider, PutFault, Step, Subscription};
+use std::alloc::Global;
 use std::sync::Wait;
 use std::test::Fail;
-use std::time::Duration;
 
 const BODY: &[u8] = b"[{\"labels\":{\"a\":\"1\"}}]";
 
 /// What a post came to.
 #[derive(Clone, Copy, Debug, PartialEq, Eq, Drop)]
 enum Answer {
-    Placed(u64),
+    Placed(Option<u64>),
     Full { lane: u32, passed: u64 },
-    Other,
 }
 
 /// What the posts came to, in their order, and whether the subscribers were shown what was posted.
@@ -36,14 +30,15 @@ struct Filled {
     shown: bool,
 }
 
-fn post_one<N: Origin, R: Wait>(rt: &R, provider: &Provider<N>, pass: &mut Pass<N>) -> Answer {
+fn post_one<N: Origin, R: Wait>(
+    rt: &R,
+    provider: &Provider<N>,
+    pass: &mut Pass<N>,
+) -> Result<Answer, Stopped> {
     match provider.post(rt, pass, &NoGate, BODY, moment(60)) {
-        Ok(posted) => match posted.place {
-            Some(place) => Answer::Placed(place),
-            None => Answer::Other,
-        },
-        Err(PostRefused::Put(PutFault::Full { lane, passed })) => Answer::Full { lane, passed },
-        Err(_) => Answer::Other,
+        Ok(posted) => Ok(Answer::Placed(posted.place)),
+        Err(PostRefused::Put(PutFault::Full { lane, passed })) => Ok(Answer::Full { lane, passed }),
+        Err(fault) => Err(Stopped::from(fault)),
     }
 }
 
@@ -77,20 +72,20 @@ fn fill<N: Origin, R: Wait>(
     quick: &mut Subscription<'_, N>,
     slow: &mut Subscription<'_, N>,
     slowest: &mut Subscription<'_, N>,
-) -> Filled {
-    let one = post_one(rt, provider, pass);
+) -> Result<Filled, Stopped> {
+    let one = post_one(rt, provider, pass)?;
     let first = shows_all(quick, 1) && shows_all(slow, 1) && shows_all(slowest, 1);
-    let two = post_one(rt, provider, pass);
-    let three = post_one(rt, provider, pass);
+    let two = post_one(rt, provider, pass)?;
+    let three = post_one(rt, provider, pass)?;
     let all = shows_all(quick, 2);
-    let full = post_one(rt, provider, pass);
+    let full = post_one(rt, provider, pass)?;
     let held = shows(slow, 1);
-    let in_hand = post_one(rt, provider, pass);
+    let in_hand = post_one(rt, provider, pass)?;
     let passed = shows(slow, 1);
-    let asked = post_one(rt, provider, pass);
+    let asked = post_one(rt, provider, pass)?;
     let both = shows(slowest, 2);
-    let last = post_one(rt, provider, pass);
-    Filled {
+    let last = post_one(rt, provider, pass)?;
+    Ok(Filled {
         one,
         two,
         three,
@@ -99,7 +94,7 @@ fn fill<N: Origin, R: Wait>(
         asked,
         last,
         shown: first && all && held && passed && both,
-    }
+    })
 }
 
 fn with_slowest<N: Origin, R: Wait>(
@@ -108,13 +103,11 @@ fn with_slowest<N: Origin, R: Wait>(
     pass: &mut Pass<N>,
     quick: &mut Subscription<'_, N>,
     slow: &mut Subscription<'_, N>,
-) -> Option<Filled> {
-    let Ok(mut slowest) = provider.subscribe(rt) else {
-        return None;
-    };
+) -> Result<Filled, Stopped> {
+    let mut slowest = provider.subscribe(rt)?;
     let filled = fill(rt, provider, pass, quick, slow, &mut slowest);
     provider.leave(rt, slowest);
-    Some(filled)
+    filled
 }
 
 fn with_slow<N: Origin, R: Wait>(
@@ -122,73 +115,52 @@ fn with_slow<N: Origin, R: Wait>(
     provider: &Provider<N>,
     pass: &mut Pass<N>,
     quick: &mut Subscription<'_, N>,
-) -> Option<Filled> {
-    let Ok(mut slow) = provider.subscribe(rt) else {
-        return None;
-    };
+) -> Result<Filled, Stopped> {
+    let mut slow = provider.subscribe(rt)?;
     let filled = with_slowest(rt, provider, pass, quick, &mut slow);
     provider.leave(rt, slow);
     filled
 }
 
-fn with_three<N: Origin, R: Wait>(
-    rt: &R,
-    provider: &Provider<N>,
-    pass: &mut Pass<N>,
-) -> Option<Filled> {
-    let Ok(mut quick) = provider.subscribe(rt) else {
-        return None;
-    };
-    let filled = with_slow(rt, provider, pass, &mut quick);
-    provider.leave(rt, quick);
-    filled
-}
+#[derive(Clone, Copy, Drop)]
+struct Filling;
 
-fn filled_day<N: Origin, R: Wait>(
-    rt: &R,
-    alloc: Global,
-    parts: Parts,
-) -> Result<(Option<Filled>, bool), AllocError>
-    requires table { parts.log.board.shared.table_id ≡ N.table }
-    requires ledger { (parts.ledger.name ≡ N.name) × (parts.ledger.parts ≡ N.parts) }
-{
-    let (provider, mut passes) = Provider::<N>::begin(
-        alloc,
-        parts,
-        Policy::Refuse,
-        Duration::from_secs(300),
-    )?;
-    let filled = match passes.first_mut() {
-        Some(pass) => with_three(rt, &provider, pass),
-        None => None,
-    };
-    let settled = provider.settle(rt, passes);
-    Ok((filled, settled.complete))
-}
+impl Day for Filling {
+    type Outcome = Filled;
 
-fn filled_of<R: Wait>(rt: &R, alloc: Global) -> Result<(Option<Filled>, bool), AllocError> {
-    let parts = Parts::make(alloc, 2, 1)?;
-    filled_day::<Brand, R>(rt, alloc, parts)
+    fn spend<N: Origin, R: Wait>(
+        &self,
+        rt: &R,
+        _alloc: Global,
+        provider: &Provider<N>,
+        passes: &mut [Pass<N>],
+    ) -> Result<Filled, Stopped> {
+        let pass = passes.first_mut().ok_or(Stopped::Refused)?;
+        let mut quick = provider.subscribe(rt)?;
+        let filled = with_slow(rt, provider, pass, &mut quick);
+        provider.leave(rt, quick);
+        filled
+    }
 }
 
 // The lowest lane that is two places behind is named. It is so until it asks for an alert after the
 // one that it was shown, and then the next such lane is named. Once none is left the post is taken.
 #[test]
 fn slowest_lane_fills_the_log(rt: HostRuntime) -> Result<(), Fail> {
-    let (filled, complete) = filled_of(&rt, rt.alloc())?;
+    let (filled, settled) = spend(&rt, rt.alloc(), Settings::of(2, 1), &Filling)?;
     assert_eq!(rt;
         filled,
-        Some(Filled {
-            one: Answer::Placed(0),
-            two: Answer::Placed(1),
-            three: Answer::Placed(2),
+        Filled {
+            one: Answer::Placed(Some(0)),
+            two: Answer::Placed(Some(1)),
+            three: Answer::Placed(Some(2)),
             full: Answer::Full { lane: 1, passed: 1 },
             in_hand: Answer::Full { lane: 1, passed: 1 },
             asked: Answer::Full { lane: 2, passed: 1 },
-            last: Answer::Placed(3),
+            last: Answer::Placed(Some(3)),
             shown: true,
-        })
+        }
     );
-    assert!(rt; complete);
+    assert!(rt; settled.complete);
     Ok(())
 }
