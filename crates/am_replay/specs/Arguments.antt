@@ -12,8 +12,8 @@ use Rattle.am_replay.specs.declared.arguments.ArgumentsFault.{ArgumentsFault}
 use Rattle.am_replay.specs.declared.arguments.ArgumentsFault.TheVariants.{Refused, NoMemory}
 
 -- the value of an option: the one that it is given, else its default
-abbrev pub value_of : App → List Text → Text → Option Text
-value_of options given name = first_of name (matches_of options given)
+abbrev pub option_value : App → List Text → Text → Option Text
+option_value options given name = first_of name (matches_of options given)
 
 -- a decimal number, which may begin with a plus sign
 abbrev pub number_of : Text → ℕ
@@ -24,10 +24,10 @@ pub record AreRead (given : List Text) (arguments : Arguments) : Type 0 where
   pub options : App
   pub are_options : AreOptions options
   pub taken : fault_of options given ≡ []
-  pub mode : value_of options given (codes "mode") ≡ Some (mode_name arguments.mode)
-  pub places : (text : Text) × (value_of options given (codes "places") ≡ Some text)
+  pub mode : option_value options given (codes "mode") ≡ Some (mode_name arguments.mode)
+  pub places : (text : Text) × (option_value options given (codes "places") ≡ Some text)
       × (number_of text ≡ arguments.places)
-  pub full : value_of options given (codes "full") ≡ Some (policy_name arguments.full)
+  pub full : option_value options given (codes "full") ≡ Some (policy_name arguments.full)
 
 -- clap finds a fault with what is given, or is asked for help
 pub record AreRefused (given : List Text) : Type 0 where

@@ -25,7 +25,7 @@ pub enum Mode {
 pub const MOST_PLACES: u32 = 256;
 
 /// What the command line asks for.
-#[derive(Clone, Copy, Debug, PartialEq, Eq)]
+#[derive(Clone, Copy)]
 pub struct Arguments {
     pub mode: Mode,
     /// How many batches the log holds.
@@ -36,7 +36,7 @@ pub struct Arguments {
 }
 
 /// Why the arguments of a command line weren't read.
-#[derive(Debug, Drop)]
+#[derive(Drop)]
 pub enum ArgumentsFault {
     /// They are refused, or ask for help. This is what is to be printed.
     Refused(String),
