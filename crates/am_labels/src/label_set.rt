@@ -157,11 +157,18 @@ fn last_of_each(alloc: Global, pairs: Vec<(Text, Text)>) -> Result<Vec<(Text, Te
     Ok(sorted.into_iter().collect(alloc)?)
 }
 
+// Among how many pairs a name is sooner found by comparing it with each. That two names aren't the
+// same mostly shows from their lengths.
+const FEW: usize = 8;
+
 // The value of a name among pairs in byte order of names.
 fn find<'a>(pairs: &'a [(Text, Text)], name: &str) -> Option<&'a Text>
     requires { T (is_sorted text_cmp pairs.now) }
     ensures { option_copied result ≡ find text_cmp name.now pairs.now }
 {
+    if pairs.len() <= FEW {
+        return find_among_few(pairs, name);
+    }
     let order = |pair: &(Text, Text)| -> Ordering
         ensures { result ≡ text_cmp pair.now.0 name.entry.now }
     { pair.0.as_str().cmp(name) };
@@ -169,6 +176,18 @@ fn find<'a>(pairs: &'a [(Text, Text)], name: &str) -> Option<&'a Text>
         Ok(at) => Some(&pairs[at].1),
         Err(_) => None,
     }
+}
+
+fn find_among_few<'a>(pairs: &'a [(Text, Text)], name: &str) -> Option<&'a Text>
+    requires { T (is_sorted text_cmp pairs.now) }
+    ensures { option_copied result ≡ find text_cmp name.now pairs.now }
+{
+    for (other, value) in pairs {
+        if other.as_str() == name {
+            return Some(value);
+        }
+    }
+    None
 }
 
 impl PartialEq for LabelSet {

@@ -1,6 +1,8 @@
 pub mod Causes
 pub mod Desks
+pub mod GivenArguments
 pub mod Measures
+pub mod Options
 pub mod Outcomes
 pub mod Shown
 pub mod Taken

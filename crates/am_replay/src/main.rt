@@ -5,6 +5,7 @@
 #![tactic(auto)]
 
 mod answers;
+mod arguments;
 mod consumers;
 mod first_line;
 mod io;
@@ -25,7 +26,7 @@ use std::process::ExitCode;
 
 // The arguments of the command line, without the program's name; or how the program ends where they
 // can't be had. No contract knows what they really are.
-fn arguments(rt: &HostRuntime) -> Result<Vec<String>, Status> {
+fn given_arguments(rt: &HostRuntime) -> Result<Vec<String>, Status> {
     let mut arguments = Vec::new(rt.alloc());
     match env::args(rt) {
         Ok(args) => {
@@ -43,7 +44,7 @@ fn arguments(rt: &HostRuntime) -> Result<Vec<String>, Status> {
 }
 
 fn main(rt: HostRuntime) -> ExitCode {
-    let status = match arguments(&rt) {
+    let status = match given_arguments(&rt) {
         Ok(arguments) => run(&rt, &arguments, &mut rt.stdin(), &mut rt.stdout()),
         Err(status) => status,
     };

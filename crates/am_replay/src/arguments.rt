@@ -1,0 +1,189 @@
+//! The arguments of the command line.
+
+ghost use Rattle.std.specs.Prelude.{◌≤◌, ◌≡◌, IfOk, IfErr, map, string_bytes};
+ghost use Rattle.clap.specs.Matches.{found_of};
+ghost use Rattle.am_replay.specs.declared.arguments.TheConstants.{MOST_PLACES};
+ghost use Rattle.am_replay.specs.Options.{AreModes, ArePolicies, HasOptions, IsCommandOf, IsOption};
+ghost use Rattle.am_replay.specs.ArgumentsFaults.{IsTold};
+
+use am_hub::Policy;
+use clap::builder::ValueParser;
+use clap::error::ErrorKind;
+use clap::{Arg, ArgAction, ArgMatches, Command, Error};
+use std::alloc::{AllocError, Global};
+
+/// In which order the lines of the script are run.
+#[derive(Clone, Copy, Debug, PartialEq, Eq)]
+pub enum Mode {
+    /// In the script's order, whichever threads they belong to.
+    Ordered,
+    /// Each thread runs its own in their order, beside the others.
+    Free,
+}
+
+/// How many places a log may have.
+pub const MOST_PLACES: u32 = 256;
+
+/// What the command line asks for.
+#[derive(Clone, Copy)]
+pub struct Arguments {
+    pub mode: Mode,
+    /// How many batches the log holds.
+    pub places: u32,
+    /// What a post does where the log is full.
+    pub full: Policy,
+    ghost in_range: { (1 ≤ places) × (places ≤ MOST_PLACES) },
+}
+
+/// Why the arguments of a command line weren't read.
+#[derive(Drop)]
+pub enum ArgumentsFault {
+    /// They are refused, or ask for help. This is what is to be printed.
+    Refused(String),
+    NoMemory,
+}
+
+impl From<AllocError> for ArgumentsFault {
+    ghost use Rattle.am_replay.specs.declared.arguments.ArgumentsFault.TheVariants.{NoMemory};
+
+    ghost from_gives = { λ _ fault. fault ≡ NoMemory };
+
+    fn from(_error: AllocError) -> ArgumentsFault {
+        ArgumentsFault::NoMemory
+    }
+}
+
+static MODES: [&str; 2] = ["ordered", "free"];
+
+static POLICIES: [&str; 2] = ["refuse", "cut"];
+
+impl Arguments {
+    ghost use Rattle.am_replay.specs.Arguments.{AreFound, AreRead, IsFaultOf};
+
+    /// Reads the arguments that a command line gives, without the program's name.
+    pub fn read(alloc: Global, given: &[String]) -> Result<Arguments, ArgumentsFault>
+        ensures read { IfOk result (AreRead (map string_bytes given.now)) }
+        ensures refused { IfErr result (IsFaultOf (map string_bytes given.now)) }
+    {
+        let command = command(alloc, MODES.as_slice(), POLICIES.as_slice())?;
+        match command.try_get_matches_from(given) {
+            Ok(matches) => Ok(Arguments::found(&matches)),
+            Err(error) => Err(told(alloc, &error)),
+        }
+    }
+
+    // What the options of a command line that clap has read come to.
+    fn found(matches: &ArgMatches<'_>) -> Arguments
+        requires { HasOptions (found_of matches.now) }
+        ensures { AreFound (found_of matches.now) result }
+    {
+        Arguments {
+            mode: match matches.get_str("mode") {
+                Some("free") => Mode::Free,
+                _ => Mode::Ordered,
+            },
+            places: matches.get_one::<u32>("places").unwrap_or(MOST_PLACES),
+            full: match matches.get_str("full") {
+                Some("cut") => Policy::Cut,
+                _ => Policy::Refuse,
+            },
+        }
+    }
+}
+
+const USAGE: &str = "./replay [OPTIONS] < SCRIPT";
+
+const ABOUT: &str =
+    "Runs a script of calls on an in-memory alert provider, and prints each answer.";
+
+const MODE_HELP: &str = "Run the lines in the script's order, or each thread's beside the others";
+
+const PLACES_HELP: &str = "How many batches the log holds, from 1 to 256";
+
+const FULL_HELP: &str = "Where the log is full, refuse the post or cut the slowest subscribers off";
+
+// Two calls that work as they stand, and a line for each command of a script.
+const EXAMPLES: &str = "\
+Examples:
+  ./replay < rows/first_post.in
+  ./replay --places 1 --full cut < rows/cut_the_slow_lane.in
+
+The first line of a script is the configuration. Each further one is a JSON object
+with a command as `do`, a `thread` from 0 to 7, and what stands beside the command:
+  post       at, body          posts alerts
+  subscribe  sub, kind         subscribes, with a `dispatch` or an `inhibit` beside it
+  read       sub, max          prints what the subscription is shown next
+  leave      sub               leaves the subscription
+  collect    at                removes the alerts that are resolved by then
+  close                        closes the log: no more posts and subscribers
+  trim                         drops the calls that no subscription needs any more
+  groups     sub               prints the dispatcher's groups
+  sweep      sub, at           removes from the groups what is resolved by then
+  mutes      sub, at, labels   asks the inhibitor whether it mutes such an alert";
+
+// The command with the program's options.
+fn command<'a>(
+    alloc: Global,
+    modes: &'a [&'a str],
+    policies: &'a [&'a str],
+) -> Result<Command<'a>, AllocError>
+    requires modes { AreModes modes }
+    requires policies { ArePolicies policies }
+    ensures { IfOk result (IsCommandOf modes.entry policies.entry) }
+{
+    let mode = option(alloc, "mode", "MODE", "ordered", modes.into(), MODE_HELP);
+    let numbers = ValueParser::unsigned(1, u64::from(MOST_PLACES));
+    let places = option(alloc, "places", "N", "256", numbers, PLACES_HELP);
+    let full = option(
+        alloc,
+        "full",
+        "POLICY",
+        "refuse",
+        policies.into(),
+        FULL_HELP,
+    );
+    Command::new(alloc, "replay")
+        .no_binary_name(true)
+        .override_usage(USAGE)
+        .about(ABOUT)
+        .after_help(EXAMPLES)
+        .arg(mode)?
+        .arg(places)?
+        .arg(full)
+}
+
+// An option that takes one value.
+fn option<'a>(
+    alloc: Global,
+    name: &'a str,
+    value_name: &'a str,
+    default: &'a str,
+    parser: ValueParser<'a>,
+    help: &'a str,
+) -> Arg<'a>
+    ensures { IsOption name.entry.now default.entry.now parser.entry result }
+{
+    Arg::new(alloc, name)
+        .long(name)
+        .action(ArgAction::Set)
+        .value_name(value_name)
+        .default_value(default)
+        .value_parser(parser)
+        .help(help)
+}
+
+// What is told of an error of clap's.
+fn told(alloc: Global, error: &Error) -> ArgumentsFault
+    ensures { IsTold error.now result }
+{
+    if error.kind() == ErrorKind::OutOfMemory {
+        return ArgumentsFault::NoMemory;
+    }
+    match error.to_string(alloc) {
+        Ok(text) => ArgumentsFault::Refused(text),
+        Err(AllocError) => ArgumentsFault::NoMemory,
+    }
+}
+
+#[cfg(test)]
+mod tests;
