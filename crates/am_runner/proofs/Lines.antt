@@ -1,0 +1,16 @@
+-- One line after another.
+use Rattle.std.proofs.Common.{ℕ, List, [], ◌∷◌, ◌++◌, Result, IfOk, sym, subst}
+use Rattle.std.specs.Global.{Vec}
+use Rattle.am_routes.specs.declared.config.Config.{Config}
+use Rattle.am_script.specs.declared.command.Line.{Line}
+use Rattle.am_runner.specs.Sessions.{SessionView}
+use Rattle.am_runner.specs.Working.{Works, RunsLine, Adds, one_more}
+use Rattle.am_runner.specs.declared.answer.Answer.{Answer}
+
+pub more_work : {E : Type 0} (config : Config) (timeout thread : ℕ) (begun old new : SessionView) (lines : List Line) (line : Line) (answers all : List (Vec Answer)) (given : Result (Vec Answer) E)
+    → Works config timeout thread begun lines answers old
+    → IfOk given (λ answered. RunsLine config timeout thread line old answered.items new)
+    → Adds answers given all → Works config timeout thread begun (lines ++ line ∷ []) all new
+more_work config timeout thread begun old new lines line answers all given before runs (answered, same, is) =
+    subst (λ (every : List (Vec Answer)). Works config timeout thread begun (lines ++ line ∷ []) every new) (sym is)
+    (one_more line answered before (subst (λ (r : Result (Vec Answer) _). IfOk r (λ one. RunsLine config timeout thread line old one.items new)) same runs))

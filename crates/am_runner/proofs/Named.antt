@@ -1,0 +1,55 @@
+-- What is done to the subscription of a name.
+use Rattle.std.proofs.Common.{◌≡◌, ℕ, List, [], ◌∷◌, ◌++◌, Some, IfSome, refl, ap, sym, subst, ◌∙◌, length, get_or, slice_get, slice_set}
+use Rattle.std.proofs.lemmas.List.{length-set}
+use Rattle.std.proofs.lemmas.List.Quantifiers.{position-Some}
+use Rattle.std.proofs.lemmas.Option.{slice_get-get_or}
+use Rattle.std.specs.Str.{bytes_eq}
+use Rattle.am_hub.specs.Subscriptions.{taken}
+use Rattle.am_routes.specs.declared.config.Config.{Config}
+use Rattle.am_script.specs.declared.command.Command.{Command}
+use Rattle.am_script.specs.declared.command.Command.TheVariants.{Subscribe}
+use Rattle.am_script.specs.declared.command.Verb.{Verb}
+use Rattle.am_script.specs.declared.kind.Kind.{Kind}
+use Rattle.am_script.specs.declared.kind.Kind.TheVariants.{Plain, Dispatch, Inhibit}
+use Rattle.am_runner.specs.Consuming.{HasTaken, fresh_consumer}
+use Rattle.am_runner.specs.Reading.{OpenView}
+use Rattle.am_runner.specs.Sessions.{SessionView, Does, subscribed, OnNamed, one_named, none_named, place_of}
+use Rattle.am_runner.specs.declared.answer.Answer.{Answer}
+use Rattle.am_runner.specs.declared.answer.Answer.TheVariants.{Subscribed}
+
+pub there : (name : List ℕ) (opened : List OpenView) (place : ℕ) (found : OpenView) → place_of name opened ≡ Some place → found ≡ get_or opened place found → slice_get opened place ≡ Some found
+there name opened place found here is =
+    slice_get-get_or opened place found (position-Some (λ (other : OpenView). bytes_eq other.name name) opened place found here).0 ∙ ap Some (sym is)
+
+-- the same of one that is lent to be changed
+pub on_place : (name : List ℕ) (word : Verb) (does : OpenView → List Answer → OpenView → Type 0) (opened : List OpenView) (place : ℕ) (other after : OpenView) (answers : List Answer)
+    → place_of name opened ≡ Some place → does (get_or opened place other) answers after → OnNamed name word does opened answers (slice_set opened place after)
+on_place name word does opened place other after answers here done =
+    one_named here (slice_get-get_or opened place other (position-Some (λ (each : OpenView). bytes_eq each.name name) opened place other here).0) done
+
+pub fresh_took : (config : Config) (kind : Kind) → IfSome (fresh_consumer config kind) (HasTaken [])
+fresh_took config Plain = tt
+fresh_took config Dispatch = ([], refl, refl)
+fresh_took config Inhibit = refl
+
+pub subscribed_so : (config : Config) (timeout : ℕ) (old new : SessionView) (name : List ℕ) (kind : Kind) (made : OpenView) (lane opening : ℕ)
+    → made.name ≡ name → taken made.subscription ≡ [] → made.consumer ≡ fresh_consumer config kind
+    → lane ≡ made.subscription.cursor.lane.number → opening ≡ length made.subscription.opening
+    → new ≡ record old { opened = old.opened ++ made ∷ [] }
+    → Does config timeout old (Subscribe name kind) (Subscribed lane opening ∷ []) new
+subscribed_so config timeout old new name kind made lane opening named unread fresh on_lane counted is =
+    subst (λ (session : SessionView). Does config timeout old (Subscribe name kind) (Subscribed lane opening ∷ []) session) (sym is)
+    (subst (λ (n : ℕ). Does config timeout old (Subscribe name kind) (Subscribed n opening ∷ []) (record old { opened = old.opened ++ made ∷ [] })) (sym on_lane)
+    (subst (λ (n : ℕ). Does config timeout old (Subscribe name kind) (Subscribed made.subscription.cursor.lane.number n ∷ []) (record old { opened = old.opened ++ made ∷ [] })) (sym counted)
+    (subscribed made named unread fresh)))
+
+-- a session of which only the subscriptions changed
+pub with_opened : (config : Config) (timeout : ℕ) (old new : SessionView) (command : Command) (answers : List Answer)
+    → new.pass ≡ old.pass → Does config timeout old command answers (record old { opened = new.opened }) → Does config timeout old command answers new
+with_opened config timeout old new command answers kept does =
+    subst (λ (pass : _). Does config timeout old command answers (record { pass = pass; opened = new.opened })) (sym kept) does
+
+-- as many subscriptions are there as before
+pub as_many : (name : List ℕ) (word : Verb) (does : OpenView → List Answer → OpenView → Type 0) (old new : List OpenView) (answers : List Answer) → OnNamed name word does old answers new → length new ≡ length old
+as_many name word does old new answers (one_named {place = place} {after = after} here found done) = length-set old place after
+as_many name word does old new answers (none_named here) = refl

@@ -1,0 +1,176 @@
+-- A consumer that took what its subscription has taken still does after a call.
+use Rattle.std.proofs.Common.{◌≡◌, ℕ, Bool, true, false, List, [], ◌∷◌, ◌++◌, Option, Some, None, IfSome, refl, ap, sym, subst, ◌∙◌, append-nil, take}
+use Rattle.std.proofs.lemmas.Bool.{false≢true}
+use Rattle.std.proofs.lemmas.List.Elements.{filter_map-append}
+use Rattle.am_alert.specs.declared.alert.Alert.{Alert}
+use Rattle.am_hub.specs.Subscriptions.{SubscriptionView, taken}
+use Rattle.am_cast.specs.Cursors as cast
+use Rattle.am_hub.specs.Showings.{ShowsItem, ShowsNone}
+use Rattle.am_inhibit.proofs.Muting.{last_alerts_go_on}
+use Rattle.am_inhibit.specs.LastAlerts.{last_alerts}
+use Rattle.am_routes.specs.Groups.{Take, Sweep}
+use Rattle.am_runner.specs.Answers.{is_item}
+use Rattle.am_runner.specs.Consuming.{HasTaken, TakesAlert, IsSwept, swept, no_dispatcher, alert_of}
+use Rattle.am_runner.specs.Reading.{OpenView, NextIs, IsTaken, ReadsOne, takes, misses, ends, TookAll, TakenBeside, AsksBeside, asks, none_beside}
+use Rattle.am_runner.specs.declared.answer.Answer.{Answer}
+use Rattle.am_runner.specs.declared.answer.Answer.TheVariants as answer
+use Rattle.am_runner.specs.declared.consumer.Consumer.{Consumer}
+use Rattle.am_runner.specs.declared.consumer.Consumer.TheVariants.{Dispatcher, Inhibitor}
+
+-- one alert more was taken
+pub one_taken : (alerts : List Alert) (alert : Alert) (old new : Consumer) → TakesAlert alert old new → HasTaken alerts old → HasTaken (alerts ++ alert ∷ []) new
+one_taken alerts alert (Dispatcher old) (Dispatcher new) follows (events, are, groups) =
+    (events ++ Take alert ∷ [], filter_map-append alert_of events (Take alert ∷ []) ∙ ap (λ (taken : List Alert). taken ++ alert ∷ []) are, follows.1 events groups)
+one_taken alerts alert (Inhibitor old) (Inhibitor new) same is =
+    ap (λ one. one.alerts) same ∙ (ap (λ (taken : List Alert). last_alerts (taken ++ alert ∷ [])) is ∙ last_alerts_go_on alerts alert)
+one_taken alerts alert (Dispatcher old) (Inhibitor new) never is = absurd never
+one_taken alerts alert (Inhibitor old) (Dispatcher new) never is = absurd never
+
+-- a sweep takes nothing
+pub sweep_takes_none : (alerts : List Alert) (now : ℕ) (old new : Consumer) (given : Answer) → IsSwept now old new given → HasTaken alerts old → HasTaken alerts new
+sweep_takes_none alerts now (Dispatcher old) (Dispatcher new) given (swept gone follows counted groups_gone) (events, are, groups) =
+    (events ++ Sweep now ∷ [], filter_map-append alert_of events (Sweep now ∷ []) ∙ (append-nil _ ∙ are), follows.1 events groups)
+sweep_takes_none alerts now (Inhibitor old) (Inhibitor new) given no_dispatcher is = is
+sweep_takes_none alerts now (Dispatcher old) (Inhibitor new) given never is = elim never [ ]
+sweep_takes_none alerts now (Inhibitor old) (Dispatcher new) given never is = elim never [ ]
+
+pub beside_taken : (alerts : List Alert) (alert : Alert) (old new : Option Consumer) → TakenBeside alert old new → IfSome old (HasTaken alerts) → IfSome new (HasTaken (alerts ++ alert ∷ []))
+beside_taken alerts alert None None did took = tt
+beside_taken alerts alert (Some old) (Some new) did took = one_taken alerts alert old new did took
+beside_taken alerts alert (Some old) None did took = absurd did
+beside_taken alerts alert None (Some new) did took = absurd did
+
+pub beside_swept : (alerts : List Alert) (now : ℕ) (without given : Answer) (old new : Option Consumer) → AsksBeside (IsSwept now) without old given new → IfSome old (HasTaken alerts) → IfSome new (HasTaken alerts)
+beside_swept alerts now without given (Some old) (Some new) (asks does) took = sweep_takes_none alerts now old new given does took
+beside_swept alerts now without given None None none_beside took = tt
+beside_swept alerts now without given None (Some new) never took = elim never [ ]
+beside_swept alerts now without given (Some old) None never took = elim never [ ]
+
+-- an alert was shown, and taken beside
+pub took_one : (old new : SubscriptionView) (alert : Alert) (before after : Option Consumer) (missed : Bool) → ShowsItem old alert new → TakenBeside alert before after → TookAll old before missed → TookAll new after missed
+took_one old new alert before after missed shows did took none =
+    subst (λ (alerts : List Alert). IfSome after (HasTaken alerts)) (sym shows.taken) (beside_taken (taken old) alert before after did (took none))
+
+-- an alert was missed
+pub missed_one : (new : SubscriptionView) (after : Option Consumer) (missed : Bool) → missed ≡ true → TookAll new after missed
+missed_one new after missed is none = absurd (false≢true (sym none ∙ is))
+
+module _ (old new : SubscriptionView) (before after : Option Consumer) (missed goes_on : Bool) where
+  -- what is no alert leaves what was taken
+  none_taken : (told : Bool) → ShowsNone old told new → cast.taken new.cursor ≡ cast.taken old.cursor → taken new ≡ taken old
+  none_taken told none same = ap taken none.rest ∙ ap (λ (log : List Alert). take old.shown old.opening ++ log) same
+
+  after_none : (taken new ≡ taken old) → after ≡ before → TookAll old before missed → TookAll new after missed
+  after_none same kept took none =
+      subst (λ (consumer : Option Consumer). IfSome consumer (HasTaken (taken new))) (sym kept)
+      (subst (λ (alerts : List Alert). IfSome before (HasTaken alerts)) (sym same) (took none))
+
+  -- an answer of `next` was taken: what was taken beside goes on from what it was
+  pub took_shown : (given : Answer) → NextIs old given new → IsTaken given before goes_on after → TookAll old before missed → TookAll new after missed
+  took_shown (answer.Item alert) next taken_it took = took_one old new alert before after missed next taken_it.1 took
+  took_shown answer.Pending next kept took = after_none (none_taken old.closed_told next.0 next.1.taken) kept.1 took
+  took_shown answer.SawClosed next kept took = after_none (none_taken true next.0 next.1.taken) kept.1 took
+  took_shown answer.SawCut next kept took = after_none (none_taken old.closed_told next.0 next.1.taken) kept.1 took
+  took_shown (answer.Posted v p) next kept took = absurd next
+  took_shown (answer.Invalid i f) next kept took = absurd next
+  took_shown (answer.CutLane l) next kept took = absurd next
+  took_shown (answer.PostRefused w) next kept took = absurd next
+  took_shown (answer.Subscribed l o) next kept took = absurd next
+  took_shown (answer.SubscribeRefused w) next kept took = absurd next
+  took_shown (answer.Left t c u) next kept took = absurd next
+  took_shown (answer.Collected n) next kept took = absurd next
+  took_shown answer.CollectRefused next kept took = absurd next
+  took_shown answer.CloseAccepted next kept took = absurd next
+  took_shown answer.CloseRefused next kept took = absurd next
+  took_shown (answer.Trimmed n) next kept took = absurd next
+  took_shown answer.TrimRefused next kept took = absurd next
+  took_shown answer.TakeRefused next kept took = absurd next
+  took_shown (answer.Group r c l a) next kept took = absurd next
+  took_shown (answer.Member a) next kept took = absurd next
+  took_shown (answer.Swept s) next kept took = absurd next
+  took_shown (answer.Muted r b) next kept took = absurd next
+  took_shown answer.NotMuted next kept took = absurd next
+  took_shown answer.MutesRefused next kept took = absurd next
+  took_shown (answer.NotOpen v) next kept took = absurd next
+
+  abbrev pub view_before : List ℕ → OpenView
+  view_before name = record { name = name; subscription = old; consumer = before; missed = missed }
+
+  abbrev pub view_after : List ℕ → Bool → OpenView
+  view_after name flag = record { name = name; subscription = new; consumer = after; missed = flag }
+
+  last_read : (name : List ℕ) (answers : List Answer) (last : Answer) → is_item last ≡ false → NextIs old last new → goes_on ≡ false → after ≡ before
+      → ReadsOne (view_before name) answers goes_on (answers ++ last ∷ []) (view_after name missed)
+  last_read name answers last is next stops kept =
+      subst (λ (b : Bool). ReadsOne (view_before name) answers b (answers ++ last ∷ []) (view_after name missed)) (sym stops)
+      (ends last is next kept (refl, refl))
+
+  -- an answer of `next` was taken: one read
+  pub reads_shown : (name : List ℕ) (answers : List Answer) (given : Answer) → NextIs old given new → IsTaken given before goes_on after
+      → ReadsOne (view_before name) answers goes_on (answers ++ given ∷ []) (view_after name missed)
+  reads_shown name answers (answer.Item alert) next taken_it =
+      subst (λ (b : Bool). ReadsOne (view_before name) answers b (answers ++ answer.Item alert ∷ []) (view_after name missed)) (sym taken_it.0)
+      (takes alert next taken_it.1 (refl, refl))
+  reads_shown name answers answer.Pending next kept = last_read name answers answer.Pending refl next kept.0 kept.1
+  reads_shown name answers answer.SawClosed next kept = last_read name answers answer.SawClosed refl next kept.0 kept.1
+  reads_shown name answers answer.SawCut next kept = last_read name answers answer.SawCut refl next kept.0 kept.1
+  reads_shown name answers (answer.Posted v p) next kept = absurd next
+  reads_shown name answers (answer.Invalid i f) next kept = absurd next
+  reads_shown name answers (answer.CutLane l) next kept = absurd next
+  reads_shown name answers (answer.PostRefused w) next kept = absurd next
+  reads_shown name answers (answer.Subscribed l o) next kept = absurd next
+  reads_shown name answers (answer.SubscribeRefused w) next kept = absurd next
+  reads_shown name answers (answer.Left t c u) next kept = absurd next
+  reads_shown name answers (answer.Collected n) next kept = absurd next
+  reads_shown name answers answer.CollectRefused next kept = absurd next
+  reads_shown name answers answer.CloseAccepted next kept = absurd next
+  reads_shown name answers answer.CloseRefused next kept = absurd next
+  reads_shown name answers (answer.Trimmed n) next kept = absurd next
+  reads_shown name answers answer.TrimRefused next kept = absurd next
+  reads_shown name answers answer.TakeRefused next kept = absurd next
+  reads_shown name answers (answer.Group r c l a) next kept = absurd next
+  reads_shown name answers (answer.Member a) next kept = absurd next
+  reads_shown name answers (answer.Swept s) next kept = absurd next
+  reads_shown name answers (answer.Muted r b) next kept = absurd next
+  reads_shown name answers answer.NotMuted next kept = absurd next
+  reads_shown name answers answer.MutesRefused next kept = absurd next
+  reads_shown name answers (answer.NotOpen v) next kept = absurd next
+
+  -- an alert was refused beside: one read too
+  pub reads_missed : (name : List ℕ) (answers : List Answer) (given : Answer) → is_item given ≡ true → NextIs old given new → after ≡ before
+      → ReadsOne (view_before name) answers true ((answers ++ given ∷ []) ++ answer.TakeRefused ∷ []) (view_after name true)
+  reads_missed name answers (answer.Item alert) is next kept = misses alert next kept (refl, refl)
+  reads_missed name answers answer.Pending is next kept = absurd (false≢true is)
+  reads_missed name answers answer.SawClosed is next kept = absurd (false≢true is)
+  reads_missed name answers answer.SawCut is next kept = absurd (false≢true is)
+  reads_missed name answers (answer.Posted v p) is next kept = absurd (false≢true is)
+  reads_missed name answers (answer.Invalid i f) is next kept = absurd (false≢true is)
+  reads_missed name answers (answer.CutLane l) is next kept = absurd (false≢true is)
+  reads_missed name answers (answer.PostRefused w) is next kept = absurd (false≢true is)
+  reads_missed name answers (answer.Subscribed l o) is next kept = absurd (false≢true is)
+  reads_missed name answers (answer.SubscribeRefused w) is next kept = absurd (false≢true is)
+  reads_missed name answers (answer.Left t c u) is next kept = absurd (false≢true is)
+  reads_missed name answers (answer.Collected n) is next kept = absurd (false≢true is)
+  reads_missed name answers answer.CollectRefused is next kept = absurd (false≢true is)
+  reads_missed name answers answer.CloseAccepted is next kept = absurd (false≢true is)
+  reads_missed name answers answer.CloseRefused is next kept = absurd (false≢true is)
+  reads_missed name answers (answer.Trimmed n) is next kept = absurd (false≢true is)
+  reads_missed name answers answer.TrimRefused is next kept = absurd (false≢true is)
+  reads_missed name answers answer.TakeRefused is next kept = absurd (false≢true is)
+  reads_missed name answers (answer.Group r c l a) is next kept = absurd (false≢true is)
+  reads_missed name answers (answer.Member a) is next kept = absurd (false≢true is)
+  reads_missed name answers (answer.Swept s) is next kept = absurd (false≢true is)
+  reads_missed name answers (answer.Muted r b) is next kept = absurd (false≢true is)
+  reads_missed name answers answer.NotMuted is next kept = absurd (false≢true is)
+  reads_missed name answers answer.MutesRefused is next kept = absurd (false≢true is)
+  reads_missed name answers (answer.NotOpen v) is next kept = absurd (false≢true is)
+
+  pub read_one : (name : List ℕ) (answers all : List Answer) (given : Answer) → NextIs old given new → IsTaken given before goes_on after
+      → all ≡ answers ++ given ∷ [] → ReadsOne (view_before name) answers goes_on all (view_after name missed)
+  read_one name answers all given next taken_it is =
+      subst (λ (every : List Answer). ReadsOne (view_before name) answers goes_on every (view_after name missed)) (sym is) (reads_shown name answers given next taken_it)
+
+  pub missed_read : (name : List ℕ) (answers all : List Answer) (given : Answer) → is_item given ≡ true → NextIs old given new → after ≡ before
+      → all ≡ (answers ++ given ∷ []) ++ answer.TakeRefused ∷ [] → ReadsOne (view_before name) answers true all (view_after name true)
+  missed_read name answers all given item next kept is =
+      subst (λ (every : List Answer). ReadsOne (view_before name) answers true every (view_after name true)) (sym is) (reads_missed name answers given item next kept)

@@ -1,0 +1,16 @@
+use Rattle.std.proofs.Common.{Option, Some, sym, subst}
+use Rattle.am_runner.specs.Consuming.{IsSwept}
+use Rattle.am_runner.specs.Reading.{AsksBeside, asks, none_beside}
+use Rattle.am_runner.specs.declared.answer.Answer.TheVariants.{NotOpen}
+use Rattle.am_runner.specs.declared.consumer.Consumer.{Consumer}
+use Rattle.am_script.specs.declared.command.Verb.TheVariants.{Sweep}
+use Rattle.am_runner.proofs.open_subscription.sweep_beside.Goals as goal
+
+pub returns-in-Some : goal.returns-in-Some
+returns-in-Some c =
+    subst (λ (old : Option Consumer). AsksBeside (IsSwept c.args.now) (NotOpen Sweep) old c.sweep.result (Some c.sweep.new.self)) (sym c.in-Some.is)
+    (asks c.sweep.ensures)
+
+pub returns-in-None : goal.returns-in-None
+returns-in-None c =
+    subst (λ (old : Option Consumer). AsksBeside (IsSwept c.args.now) (NotOpen Sweep) old (NotOpen Sweep) old) (sym c.in-None.is) none_beside

@@ -1,0 +1,37 @@
+use Rattle.std.proofs.Common.{◌≡◌, ◌∙◌, ◌∷◌, ◌++◌, [], List, Option, IfSome, ap, sym, subst, length}
+use Rattle.am_hub.specs.Subscriptions.{SubscriptionView, taken}
+use Rattle.am_runner.specs.Consuming.{HasTaken, fresh_consumer}
+use Rattle.am_runner.specs.Reading.{OpenView}
+use Rattle.am_runner.specs.Sessions.{SessionView, Does, subscribe_refused}
+use Rattle.am_runner.specs.declared.answer.Answer.TheVariants.{Subscribed, SubscribeRefused}
+use Rattle.am_runner.specs.declared.consumer.Consumer.{Consumer}
+use Rattle.am_script.specs.declared.command.Command.TheVariants.{Subscribe}
+use Rattle.am_runner.proofs.Named.{fresh_took, subscribed_so}
+use Rattle.am_runner.proofs.session.Session.subscribe.Goals as goal
+
+pub begin-requires-in-Ok-clause-fresh : goal.begin-requires-in-Ok-clause-fresh
+begin-requires-in-Ok-clause-fresh g c =
+    subst (λ (made : Option Consumer). IfSome made (HasTaken [])) (sym c.in_ok-consumer.ensures) (fresh_took c.args.config.now c.args.kind)
+
+pub returns-in-Ok : goal.returns-in-Ok
+returns-in-Ok g c timeout =
+    let made = c.begin-in-Ok.result in
+    let view : SessionView = record { pass = c.self.inside.pass; opened = c.self.inside.opened.items } in
+    let now : SessionView = record { pass = c.self.inside.pass; opened = c.push_reserved.new.self.items } in
+    let named : made.name ≡ c.args.name.now = ap (λ (o : OpenView). o.name) c.begin-in-Ok.ensures ∙ c.in_ok-name.ensures in
+    let reads : made.subscription ≡ c.in-Ok.subscription = ap (λ (o : OpenView). o.subscription) c.begin-in-Ok.ensures in
+    let unread : taken made.subscription ≡ [] = ap taken reads ∙ c.in-Ok.ensures.fresh.0 in
+    let fresh : made.consumer ≡ fresh_consumer c.args.config.now c.args.kind = ap (λ (o : OpenView). o.consumer) c.begin-in-Ok.ensures ∙ c.in_ok-consumer.ensures in
+    let items : c.push_reserved.new.self.items ≡ c.self.inside.opened.items ++ made ∷ [] = c.push_reserved.ensures.items ∙ ap (λ (front : List OpenView). front ++ made ∷ []) c.in_ok-reserve.ensures.items in
+    subst (λ (old : SessionView). Does c.args.config.now timeout old (Subscribe c.args.name.now c.args.kind) (Subscribed c.lane.result c.opening.result ∷ []) now) c.self.view_is
+    (subscribed_so c.args.config.now timeout view now c.args.name.now c.args.kind made c.lane.result c.opening.result named unread fresh
+    (c.lane.ensures ∙ ap (λ (s : SubscriptionView). s.cursor.lane.number) (sym reads))
+    (c.opening.ensures ∙ ap (λ (s : SubscriptionView). length s.opening) (sym reads))
+    (ap (λ (opened : List OpenView). record { pass = c.self.inside.pass; opened = opened }) items))
+
+pub returns-in-Err : goal.returns-in-Err
+returns-in-Err g c timeout =
+    let items : c.reserve.new.self.items ≡ c.self.inside.opened.items = c.in_ok-reserve.ensures.items in
+    subst (λ (old : SessionView). Does c.args.config.now timeout old (Subscribe c.args.name.now c.args.kind) (SubscribeRefused c.in-Err.why ∷ []) (record { pass = c.self.inside.pass; opened = c.reserve.new.self.items })) c.self.view_is
+    (subst (λ (opened : List OpenView). Does c.args.config.now timeout (record { pass = c.self.inside.pass; opened = c.self.inside.opened.items }) (Subscribe c.args.name.now c.args.kind) (SubscribeRefused c.in-Err.why ∷ []) (record { pass = c.self.inside.pass; opened = opened })) (sym items)
+    subscribe_refused)

@@ -1,0 +1,24 @@
+-- Which answers say that a call was out of memory, and which show an alert.
+use Rattle.std.specs.Prelude.{Bool, true, false}
+use Rattle.am_alert.specs.declared.post.PostFault.TheVariants as post_fault
+use Rattle.am_hub.specs.declared.faults.PostRefused.TheVariants.{Unread, Put}
+use Rattle.am_hub.specs.declared.faults.PutFault.TheVariants as put_fault
+use Rattle.am_hub.specs.declared.faults.SubFault.TheVariants as sub_fault
+use Rattle.am_runner.specs.declared.answer.Answer.{Answer}
+use Rattle.am_runner.specs.declared.answer.Answer.TheVariants as answer
+
+-- whether the answer is printed with `E0 NoMemory`
+abbrev pub is_out_of_memory : Answer → Bool
+is_out_of_memory (answer.PostRefused (Unread post_fault.NoMemory)) = true
+is_out_of_memory (answer.PostRefused (Put put_fault.NoMemory)) = true
+is_out_of_memory (answer.SubscribeRefused sub_fault.NoMemory) = true
+is_out_of_memory answer.CollectRefused = true
+is_out_of_memory answer.TrimRefused = true
+is_out_of_memory answer.TakeRefused = true
+is_out_of_memory answer.MutesRefused = true
+is_out_of_memory _ = false
+
+-- whether the answer is an item, after which a subscription may show more
+abbrev pub is_item : Answer → Bool
+is_item (answer.Item alert) = true
+is_item _ = false

@@ -1,0 +1,6 @@
+pub mod Answers
+pub mod Printing
+pub mod Consuming
+pub mod Reading
+pub mod Sessions
+pub mod Working

@@ -1,0 +1,71 @@
+-- How answers are printed.
+use Rattle.std.specs.Prelude.{ℕ, Bool, List, [], ◌∷◌, ◌++◌, codes, Option, Some, None, if◌then◌else◌}
+use Rattle.std.specs.Fmt.{decimal}
+use Rattle.am_alert.specs.Printing.{alert_text, alert_fault_text}
+use Rattle.am_labels.specs.LabelSets.{Labels}
+use Rattle.am_labels.specs.Printing.{labels_text, quoted}
+use Rattle.am_routes.specs.declared.dispatcher.Swept.{Swept}
+use Rattle.am_hub.specs.FaultTexts.{closed_text, post_refused_text, sub_fault_text}
+use Rattle.am_script.specs.ScriptTexts.{verb_text}
+use Rattle.am_runner.specs.declared.answer.Answer.{Answer}
+use Rattle.am_runner.specs.declared.answer.Answer.TheVariants as answer
+
+-- the place of a post's batch in the log, if it has one
+abbrev pub place_text : Option ℕ → List ℕ
+place_text (Some place) = codes " place " ++ decimal place
+place_text None = codes " no place"
+
+-- an accepted post
+abbrev pub posted_text : ℕ → Option ℕ → List ℕ
+posted_text valid place = codes "post valid " ++ (decimal valid ++ place_text place)
+
+-- a subscription that was left, whether it was told that the log is closed, and whether a post cut it
+abbrev pub left_text : ℕ → Bool → Bool → List ℕ
+left_text taken closed cut =
+    codes "leave taken " ++ (decimal taken ++ ((if closed then codes " closed" else [])
+    ++ (if cut then codes " cut" else [])))
+
+-- a group of a dispatcher: its route, who is told, its labels, and how many alerts it has
+abbrev pub group_text : ℕ → List ℕ → Labels → ℕ → List ℕ
+group_text route receiver labels alerts =
+    codes "group route " ++ (decimal route ++ (codes " receiver " ++ (quoted receiver
+    ++ (codes " labels " ++ (labels_text labels ++ (codes " alerts " ++ decimal alerts))))))
+
+-- how many alerts and groups a sweep removed
+abbrev pub swept_text : Swept → List ℕ
+swept_text swept =
+    codes "sweep alerts " ++ (decimal swept.alerts ++ (codes " groups " ++ decimal swept.groups))
+
+-- the rule that mutes a target, and the label set by which it does
+abbrev pub muted_text : ℕ → Labels → List ℕ
+muted_text rule by = codes "muted rule " ++ (decimal rule ++ (codes " by " ++ labels_text by))
+
+-- what a call answered, printed after the number of its line
+abbrev pub answer_text : Answer → List ℕ
+answer_text (answer.Posted valid place) = posted_text valid place
+answer_text (answer.Invalid index why) =
+    codes "invalid " ++ (decimal index ++ 32 ∷ alert_fault_text why)
+answer_text (answer.CutLane lane) = codes "cut lane " ++ decimal lane
+answer_text (answer.PostRefused why) = codes "post refused " ++ post_refused_text why
+answer_text (answer.Subscribed lane opening) =
+    codes "subscribe lane " ++ (decimal lane ++ (codes " opening " ++ decimal opening))
+answer_text (answer.SubscribeRefused why) = codes "subscribe refused " ++ sub_fault_text why
+answer_text (answer.Item alert) = codes "item " ++ alert_text alert
+answer_text answer.Pending = codes "pending"
+answer_text answer.SawClosed = codes "closed"
+answer_text answer.SawCut = codes "cut"
+answer_text (answer.Left taken closed cut) = left_text taken closed cut
+answer_text (answer.Collected removed) = codes "collect removed " ++ decimal removed
+answer_text answer.CollectRefused = codes "collect refused E0 NoMemory"
+answer_text answer.CloseAccepted = codes "close"
+answer_text answer.CloseRefused = codes "close refused " ++ closed_text
+answer_text (answer.Trimmed dropped) = codes "trim dropped " ++ decimal dropped
+answer_text answer.TrimRefused = codes "trim refused E0 NoMemory"
+answer_text answer.TakeRefused = codes "take refused E0 NoMemory"
+answer_text (answer.Group route receiver labels alerts) = group_text route receiver labels alerts
+answer_text (answer.Member alert) = codes "member " ++ alert_text alert
+answer_text (answer.Swept swept) = swept_text swept
+answer_text (answer.Muted rule by) = muted_text rule by
+answer_text answer.NotMuted = codes "not muted"
+answer_text answer.MutesRefused = codes "mutes refused E0 NoMemory"
+answer_text (answer.NotOpen word) = verb_text word ++ codes " none"

@@ -1,0 +1,92 @@
+-- An open subscription with the consumer beside it, and what reading it answers.
+use Rattle.std.specs.Prelude.{◌≡◌, ℕ, ◌+◌, ◌<◌, Bool, true, false, List, [], ◌∷◌, ◌++◌, Option, Some, None, IfSome}
+use Rattle.am_alert.specs.declared.alert.Alert.{Alert}
+use Rattle.am_hub.specs.Subscriptions.{SubscriptionView, taken}
+use Rattle.am_hub.specs.Showings.{ShowsItem, Shows}
+use Rattle.am_hub.specs.declared.answers.Step.TheVariants as step
+use Rattle.am_runner.specs.Answers.{is_item}
+use Rattle.am_runner.specs.Consuming.{TakesAlert, HasTaken, answers_of_groups}
+use Rattle.am_script.specs.declared.command.Verb.TheVariants as verb
+use Rattle.am_runner.specs.declared.answer.Answer.{Answer}
+use Rattle.am_runner.specs.declared.answer.Answer.TheVariants as answer
+use Rattle.am_runner.specs.declared.consumer.Consumer.{Consumer}
+
+-- a subscription, its name, what stands beside it, and whether that had no memory for an alert that was
+-- shown
+pub record OpenView : Type 0 where
+  pub name : List ℕ
+  pub subscription : SubscriptionView
+  pub consumer : Option Consumer
+  pub missed : Bool
+
+-- unless an alert was missed, a consumer took what its subscription has taken, and nothing else
+abbrev pub TookAll : SubscriptionView → Option Consumer → Bool → Type 0
+TookAll subscription consumer missed = missed ≡ false → IfSome consumer (HasTaken (taken subscription))
+
+-- the answer to what the subscription shows next
+abbrev pub NextIs : SubscriptionView → Answer → SubscriptionView → Type 0
+NextIs old (answer.Item alert) new = ShowsItem old alert new
+NextIs old answer.Pending new = Shows old step.Pending new
+NextIs old answer.SawClosed new = Shows old step.Closed new
+NextIs old answer.SawCut new = Shows old step.Cut new
+NextIs old other new = ⊥
+
+-- what stands beside a subscription, if anything does, takes an alert
+abbrev pub TakenBeside : Alert → Option Consumer → Option Consumer → Type 0
+TakenBeside alert None None = Unit {0}
+TakenBeside alert (Some old) (Some new) = TakesAlert alert old new
+TakenBeside alert (Some old) None = ⊥
+TakenBeside alert None (Some new) = ⊥
+
+-- an answer that is an alert is taken, and then there may be more; of another one nothing is
+abbrev pub IsTaken : Answer → Option Consumer → Bool → Option Consumer → Type 0
+IsTaken (answer.Item alert) old goes_on new = (goes_on ≡ true) × TakenBeside alert old new
+IsTaken other old goes_on new = (goes_on ≡ false) × (new ≡ old)
+
+-- One read: an alert, which the consumer takes, or behind which stands that it had no memory to take
+-- it; or another answer, which ends the reading. It comes after those before.
+pub data ReadsOne (old : OpenView) (before : List Answer) : Bool → List Answer → OpenView → Type 0 where
+  takes : {new : OpenView} (alert : Alert) → ShowsItem old.subscription alert new.subscription
+      → TakenBeside alert old.consumer new.consumer
+      → (new.name ≡ old.name) × (new.missed ≡ old.missed)
+      → ReadsOne old before true (before ++ answer.Item alert ∷ []) new
+  misses : {new : OpenView} (alert : Alert) → ShowsItem old.subscription alert new.subscription
+      → new.consumer ≡ old.consumer → (new.name ≡ old.name) × (new.missed ≡ true)
+      → ReadsOne old before true
+      ((before ++ answer.Item alert ∷ []) ++ answer.TakeRefused ∷ []) new
+  ends : {new : OpenView} (last : Answer) → is_item last ≡ false
+      → NextIs old.subscription last new.subscription
+      → new.consumer ≡ old.consumer → (new.name ≡ old.name) × (new.missed ≡ old.missed)
+      → ReadsOne old before false (before ++ last ∷ []) new
+
+-- so many alerts were read, one after another
+pub data ReadsSome (old : OpenView) : ℕ → List Answer → OpenView → Type 0 where
+  nothing : ReadsSome old 0 [] old
+  one_more : {count : ℕ} {before answers : List Answer} {mid new : OpenView}
+      → ReadsSome old count before mid → ReadsOne mid before true answers new
+      → ReadsSome old (count + 1) answers new
+
+-- what at most so many reads answer: as many alerts, or less and then why there are no more
+pub data ReadAnswers (old : OpenView) (max : ℕ) : List Answer → OpenView → Type 0 where
+  all : {answers : List Answer} {new : OpenView} → ReadsSome old max answers new
+      → ReadAnswers old max answers new
+  ended : {count : ℕ} {before answers : List Answer} {mid new : OpenView} → count < max
+      → ReadsSome old count before mid → ReadsOne mid before false answers new
+      → ReadAnswers old max answers new
+
+-- what is answered of the groups of the dispatcher beside a subscription
+abbrev pub groups_beside : Option Consumer → List Answer
+groups_beside (Some consumer) = answers_of_groups consumer
+groups_beside None = answer.NotOpen verb.Groups ∷ []
+
+-- what a consumer, if there is one, does and answers; where there is none, nothing is done
+pub data AsksBeside (does : Consumer → Consumer → Answer → Type 0) (without_one : Answer) : Option Consumer → Answer → Option Consumer → Type 0 where
+  asks : {before after : Consumer} {given : Answer} → does before after given
+      → AsksBeside does without_one (Some before) given (Some after)
+  none_beside : AsksBeside does without_one None without_one None
+
+-- the consumer beside a subscription is asked, and nothing else of it changes
+abbrev pub Asks : (Consumer → Consumer → Answer → Type 0) → Answer → OpenView → Answer → OpenView → Type 0
+Asks does without_one old given new =
+    AsksBeside does without_one old.consumer given new.consumer
+    × (new ≡ record old { consumer = new.consumer })

@@ -1,0 +1,145 @@
+-- A thread's pass and its open subscriptions, and what each command of its lines does to them.
+use Rattle.std.specs.Prelude.{◌≡◌, ℕ, zero, suc, List, [], ◌∷◌, ◌++◌, map, length, position, slice_get, slice_set, remove, Option, Some, None, if◌then◌else◌}
+use Rattle.std.specs.Option.{option_and_then}
+use Rattle.std.specs.Str.{bytes_eq}
+use Rattle.am_alert.specs.declared.alert.Alert.{Alert}
+use Rattle.am_provider.specs.declared.call.Call.{Call}
+use Rattle.am_provider.specs.Journal.{has_lane}
+use Rattle.am_cast.specs.Posters.{PassView}
+use Rattle.am_hub.specs.Posts.{HasMet}
+use Rattle.am_hub.specs.Provided.{IsPostedAs, IsUnread}
+use Rattle.am_hub.specs.Subscriptions.{taken}
+use Rattle.am_hub.specs.declared.answers.Ended.{Ended}
+use Rattle.am_hub.specs.declared.answers.Posted.{Posted}
+use Rattle.am_hub.specs.declared.faults.PostRefused.{PostRefused}
+use Rattle.am_hub.specs.declared.faults.SubFault.{SubFault}
+use Rattle.am_labels.specs.LabelSets.{Labels}
+use Rattle.am_script.specs.declared.kind.Kind.{Kind}
+use Rattle.am_routes.specs.declared.config.Config.{Config}
+use Rattle.am_script.specs.declared.command.Command.{Command}
+use Rattle.am_script.specs.declared.command.Command.TheVariants.{Post, Subscribe, Read, Leave, Collect, Close, Trim, Groups, Sweep, Mutes}
+use Rattle.am_script.specs.declared.command.Verb.{Verb}
+use Rattle.am_script.specs.declared.command.Verb.TheVariants as verb
+use Rattle.am_runner.specs.Consuming.{fresh_consumer, IsAsked, IsSwept}
+use Rattle.am_runner.specs.Reading.{OpenView, ReadAnswers, Asks, groups_beside}
+use Rattle.am_runner.specs.declared.answer.Answer.{Answer}
+use Rattle.am_runner.specs.declared.answer.Answer.TheVariants as answer
+
+-- a thread's pass, and its open subscriptions in the order in which they were opened
+pub record SessionView : Type 0 where
+  pub pass : PassView Alert Call
+  pub opened : List OpenView
+
+-- the pass of who hasn't posted yet
+abbrev pub new_pass : PassView Alert Call
+new_pass = record { noted = []; own = [] }
+
+-- a session that nothing was done in
+abbrev pub new_session : SessionView
+new_session = record { pass = new_pass; opened = [] }
+
+-- where the subscription of this name stands
+abbrev pub place_of : List ℕ → List OpenView → Option ℕ
+place_of name opened = position (λ one. bytes_eq one.name name) opened
+
+-- the lanes below a number that a post cut, in their order
+abbrev pub cut_below : ℕ → ℕ → List ℕ
+cut_below bits zero = []
+cut_below bits (suc lane) =
+    cut_below bits lane ++ (if has_lane bits lane then lane ∷ [] else [])
+
+-- what is answered of an accepted post: how many alerts were valid and their place, each invalid one, and
+-- each lane that it cut
+abbrev pub posted_answers : Posted → List Answer
+posted_answers posted = (answer.Posted posted.valid posted.place
+    ∷ map (λ fault. answer.Invalid fault.0 fault.1) posted.faults)
+    ++ map answer.CutLane (cut_below posted.cut 8)
+
+-- what a command on the subscription of a name does to that one, and answers; where no subscription has
+-- the name, nothing is done and that is answered
+pub data OnNamed (name : List ℕ) (word : Verb) (does : OpenView → List Answer → OpenView → Type 0) (old : List OpenView) : List Answer → List OpenView → Type 0 where
+  one_named : {place : ℕ} {before after : OpenView} {answers : List Answer}
+      → place_of name old ≡ Some place → slice_get old place ≡ Some before
+      → does before answers after
+      → OnNamed name word does old answers (slice_set old place after)
+  none_named : place_of name old ≡ None
+      → OnNamed name word does old (answer.NotOpen word ∷ []) old
+
+-- the subscription at a place is left, once the pass has met it, and the rest stay in their order
+pub record LeavesAt (place : ℕ) (old : SessionView) (ended : Ended) (new : SessionView) : Type 0 where
+  pub one : OpenView
+  pub there : slice_get old.opened place ≡ Some one
+  pub opened : new.opened ≡ remove old.opened place
+  pub taken : ended.taken ≡ length (taken one.subscription)
+  pub closed : ended.closed ≡ one.subscription.closed_told
+  pub met : HasMet one.subscription.cursor.lane.front old.pass new.pass
+
+-- one answer
+pub data IsOne (does : Answer → Type 0) : List Answer → Type 0 where
+  just : {given : Answer} → does given → IsOne does (given ∷ [])
+
+-- the subscription of a name is read
+abbrev pub ReadsNamed : List ℕ → ℕ → List OpenView → List Answer → List OpenView → Type 0
+ReadsNamed name max old answers new =
+    OnNamed name verb.Read (λ before given after. ReadAnswers before max given after) old answers new
+
+-- what is answered of the groups of the dispatcher beside a subscription, if there is that
+abbrev pub groups_told : Option OpenView → List Answer
+groups_told None = answer.NotOpen verb.Groups ∷ []
+groups_told (Some open_one) = groups_beside open_one.consumer
+
+-- the subscription of a name
+abbrev pub named_in : List ℕ → List OpenView → Option OpenView
+named_in name opened = option_and_then (slice_get opened) (place_of name opened)
+
+-- the dispatcher beside it is swept
+abbrev pub SweepsNamed : List ℕ → ℕ → List OpenView → List Answer → List OpenView → Type 0
+SweepsNamed name at old answers new = OnNamed name verb.Sweep (λ before given after.
+    IsOne (λ one. Asks (IsSwept at) (answer.NotOpen verb.Sweep) before one after) given) old answers new
+
+-- the inhibitor beside it is asked of a target
+abbrev pub AsksNamed : List ℕ → Labels → ℕ → List OpenView → List Answer → List OpenView → Type 0
+AsksNamed name labels at old answers new = OnNamed name verb.Mutes (λ before given after.
+    IsOne (λ one. Asks (IsAsked labels at) (answer.NotOpen verb.Mutes) before one after) given) old answers new
+
+-- What a command does to a session, and what it answers, under a configuration and a resolve timeout in
+-- nanoseconds. What the provider makes of it is what its calls say.
+pub data Does (config : Config) (timeout : ℕ) (old : SessionView) : Command → List Answer → SessionView → Type 0 where
+  posted : {at : ℕ} {body : List ℕ} {posted : Posted} {pass : PassView Alert Call}
+      → IsPostedAs at timeout body posted old.pass pass
+      → Does config timeout old (Post at body) (posted_answers posted) (record old { pass = pass })
+  post_refused : {at : ℕ} {body : List ℕ} {why : PostRefused} → IsUnread at timeout body why
+      → Does config timeout old (Post at body) (answer.PostRefused why ∷ []) old
+  subscribed : {name : List ℕ} {kind : Kind} (one : OpenView) → one.name ≡ name
+      → taken one.subscription ≡ [] → one.consumer ≡ fresh_consumer config kind
+      → Does config timeout old (Subscribe name kind)
+      (answer.Subscribed one.subscription.cursor.lane.number
+      (length one.subscription.opening) ∷ [])
+      (record old { opened = old.opened ++ one ∷ [] })
+  subscribe_refused : {name : List ℕ} {kind : Kind} {why : SubFault}
+      → Does config timeout old (Subscribe name kind) (answer.SubscribeRefused why ∷ []) old
+  read : {name : List ℕ} {max : ℕ} {answers : List Answer} {opened : List OpenView}
+      → ReadsNamed name max old.opened answers opened
+      → Does config timeout old (Read name max) answers (record old { opened = opened })
+  left : {name : List ℕ} {place : ℕ} {ended : Ended} {new : SessionView}
+      → place_of name old.opened ≡ Some place → LeavesAt place old ended new
+      → Does config timeout old (Leave name)
+      (answer.Left ended.taken ended.closed ended.cut ∷ []) new
+  nothing_to_leave : {name : List ℕ} → place_of name old.opened ≡ None
+      → Does config timeout old (Leave name) (answer.NotOpen verb.Leave ∷ []) old
+  collected : {at removed : ℕ}
+      → Does config timeout old (Collect at) (answer.Collected removed ∷ []) old
+  collect_refused : {at : ℕ} → Does config timeout old (Collect at) (answer.CollectRefused ∷ []) old
+  closed : Does config timeout old Close (answer.CloseAccepted ∷ []) old
+  close_refused : Does config timeout old Close (answer.CloseRefused ∷ []) old
+  trimmed : {dropped : ℕ} → Does config timeout old Trim (answer.Trimmed dropped ∷ []) old
+  trim_refused : Does config timeout old Trim (answer.TrimRefused ∷ []) old
+  groups : {name : List ℕ} {answers : List Answer}
+      → answers ≡ groups_told (named_in name old.opened)
+      → Does config timeout old (Groups name) answers old
+  swept : {name : List ℕ} {at : ℕ} {answers : List Answer} {opened : List OpenView}
+      → SweepsNamed name at old.opened answers opened
+      → Does config timeout old (Sweep name at) answers (record old { opened = opened })
+  mutes : {name : List ℕ} {at : ℕ} {labels : Labels} {answers : List Answer} {opened : List OpenView}
+      → AsksNamed name labels at old.opened answers opened
+      → Does config timeout old (Mutes name at labels) answers (record old { opened = opened })

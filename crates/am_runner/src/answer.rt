@@ -1,0 +1,205 @@
+//! What the calls of a script answered, and how an answer is printed.
+
+ghost use Rattle.std.specs.Prelude.{◌≡◌, ◌∷◌, [], IfOk, Some};
+ghost use Rattle.std.specs.Fmt.{DisplaysOnOk};
+ghost use Rattle.am_runner.specs.Answers.{is_item, is_out_of_memory};
+ghost use Rattle.am_runner.specs.Printing.{answer_text, group_text, left_text};
+ghost use Rattle.am_runner.specs.Printing.{posted_text, swept_text};
+
+use am_alert::{Alert, AlertFault, PostFault};
+use am_hub::{PostRefused, PutFault, SubFault};
+use am_labels::{LabelSet, Quoted, Text};
+use am_routes::Swept;
+use am_script::Verb;
+use std::alloc::{AllocError, Global};
+use std::fmt;
+
+/// One answer, which is one line of the output.
+#[derive(Drop)]
+pub enum Answer {
+    Posted {
+        valid: u32,
+        place: Option<u64>,
+    },
+    /// An invalid alert of an accepted post, by its index in the post.
+    Invalid {
+        index: u32,
+        fault: AlertFault,
+    },
+    /// The post before it cut this lane, whose subscriber was too slow.
+    CutLane(u32),
+    PostRefused(PostRefused),
+    Subscribed {
+        lane: u32,
+        opening: u64,
+    },
+    SubscribeRefused(SubFault),
+    Item(Alert),
+    Pending,
+    /// A subscription was told that the log is closed.
+    SawClosed,
+    /// A subscription was told that it was cut.
+    SawCut,
+    Left {
+        taken: u64,
+        closed: bool,
+        cut: bool,
+    },
+    Collected(u64),
+    CollectRefused,
+    CloseAccepted,
+    CloseRefused,
+    /// So many calls were dropped from the journal.
+    Trimmed(u64),
+    TrimRefused,
+    /// The item before it was not taken by the consumer beside its subscription, which was out of
+    /// memory.
+    TakeRefused,
+    /// A group of a dispatcher, with how many alerts it has.
+    Group {
+        route: u64,
+        receiver: Text,
+        labels: LabelSet,
+        alerts: u64,
+    },
+    /// An alert of the last group before it.
+    Member(Alert),
+    Swept(Swept),
+    /// A target is muted by the rule of this number, and by the alert of this label set.
+    Muted {
+        rule: u64,
+        by: LabelSet,
+    },
+    NotMuted,
+    MutesRefused,
+    /// The command's subscription isn't open, since its subscribe was refused.
+    NotOpen(Verb),
+}
+
+impl Answer {
+    pub fn is_item(&self) -> bool
+        ensures { result ≡ is_item self.now }
+    {
+        matches!(self, Answer::Item(_))
+    }
+
+    /// Whether the call was out of memory.
+    pub fn is_out_of_memory(&self) -> bool
+        ensures { result ≡ is_out_of_memory self.now }
+    {
+        match self {
+            Answer::PostRefused(PostRefused::Unread(PostFault::NoMemory))
+            | Answer::PostRefused(PostRefused::Put(PutFault::NoMemory))
+            | Answer::SubscribeRefused(SubFault::NoMemory)
+            | Answer::CollectRefused
+            | Answer::TrimRefused
+            | Answer::TakeRefused
+            | Answer::MutesRefused => true,
+            _ => false,
+        }
+    }
+}
+
+impl fmt::Display for Answer {
+    ghost output = { λ answer. Some (answer_text answer) };
+
+    fn fmt<W: fmt::Write>(&self, f: &mut fmt::Formatter<W>) -> fmt::Result {
+        match self {
+            Answer::Posted { valid, place } => write_posted(*valid, *place, f),
+            Answer::Invalid { index, fault } => write!(f, "invalid {index} {fault}"),
+            Answer::CutLane(lane) => write!(f, "cut lane {lane}"),
+            Answer::PostRefused(fault) => write!(f, "post refused {fault}"),
+            Answer::Subscribed { lane, opening } => {
+                write!(f, "subscribe lane {lane} opening {opening}")
+            }
+            Answer::SubscribeRefused(fault) => write!(f, "subscribe refused {fault}"),
+            Answer::Item(alert) => write!(f, "item {alert}"),
+            Answer::Pending => f.write_str("pending"),
+            Answer::SawClosed => f.write_str("closed"),
+            Answer::SawCut => f.write_str("cut"),
+            Answer::Left { taken, closed, cut } => write_left(*taken, *closed, *cut, f),
+            Answer::Collected(removed) => write!(f, "collect removed {removed}"),
+            Answer::CollectRefused => f.write_str("collect refused E0 NoMemory"),
+            Answer::CloseAccepted => f.write_str("close"),
+            Answer::CloseRefused => f.write_str("close refused E14 Closed"),
+            Answer::Trimmed(dropped) => write!(f, "trim dropped {dropped}"),
+            Answer::TrimRefused => f.write_str("trim refused E0 NoMemory"),
+            Answer::TakeRefused => f.write_str("take refused E0 NoMemory"),
+            Answer::Group {
+                route,
+                receiver,
+                labels,
+                alerts,
+            } => write_group(*route, receiver, labels, *alerts, f),
+            Answer::Member(alert) => write!(f, "member {alert}"),
+            Answer::Swept(swept) => write_swept(*swept, f),
+            Answer::Muted { rule, by } => write!(f, "muted rule {rule} by {by}"),
+            Answer::NotMuted => f.write_str("not muted"),
+            Answer::MutesRefused => f.write_str("mutes refused E0 NoMemory"),
+            Answer::NotOpen(verb) => write!(f, "{verb} none"),
+        }
+    }
+}
+
+fn write_posted<W: fmt::Write>(
+    valid: u32,
+    place: Option<u64>,
+    f: &mut fmt::Formatter<W>,
+) -> fmt::Result
+    ensures { DisplaysOnOk W.write_str_gives f.old result (Some (posted_text valid place)) f.new }
+{
+    match place {
+        Some(place) => write!(f, "post valid {valid} place {place}"),
+        None => write!(f, "post valid {valid} no place"),
+    }
+}
+
+fn write_left<W: fmt::Write>(
+    taken: u64,
+    closed: bool,
+    cut: bool,
+    f: &mut fmt::Formatter<W>,
+) -> fmt::Result
+    ensures { DisplaysOnOk W.write_str_gives f.old result (Some (left_text taken closed cut)) f.new }
+{
+    write!(f, "leave taken {taken}")?;
+    if closed {
+        f.write_str(" closed")?;
+    }
+    if cut {
+        f.write_str(" cut")?;
+    }
+    Ok(())
+}
+
+fn write_group<W: fmt::Write>(
+    route: u64,
+    receiver: &Text,
+    labels: &LabelSet,
+    alerts: u64,
+    f: &mut fmt::Formatter<W>,
+) -> fmt::Result
+    ensures { DisplaysOnOk W.write_str_gives f.old result
+        (Some (group_text route receiver.now labels.now alerts)) f.new }
+{
+    let receiver = Quoted(receiver.as_str());
+    write!(
+        f,
+        "group route {route} receiver {receiver} labels {labels} alerts {alerts}"
+    )
+}
+
+fn write_swept<W: fmt::Write>(swept: Swept, f: &mut fmt::Formatter<W>) -> fmt::Result
+    ensures { DisplaysOnOk W.write_str_gives f.old result (Some (swept_text swept)) f.new }
+{
+    let Swept { alerts, groups } = swept;
+    write!(f, "sweep alerts {alerts} groups {groups}")
+}
+
+pub(crate) fn one(alloc: Global, answer: Answer) -> Result<Vec<Answer>, AllocError>
+    ensures { IfOk result (λ answers. answers.items ≡ answer ∷ []) }
+{
+    let mut answers = Vec::new(alloc);
+    answers.push(answer)?;
+    Ok(answers)
+}

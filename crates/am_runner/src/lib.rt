@@ -1,0 +1,34 @@
+//! Runs the lines of a script in eight threads, each thread its own lines in their order, on one
+//! provider.
+//!
+//! > Whatever posts, subscriptions, reads, leaves, collections and close come, from whichever
+//! > threads and in whatever interleaving, what a subscription has taken begins the alerts stored at
+//! > its subscription followed by every alert accepted since, merged as stored, each once and in
+//! > journal order; one that was told 'closed' has taken them all; and no segment is freed that an
+//! > open cursor has not passed.
+//!
+//! `run_threads` starts the threads, and none runs a line before all are there. A thread has a pass and
+//! the subscriptions that its lines opened (`Session`), with a dispatcher or an inhibitor beside each
+//! that asks for one. When the threads' lines are run is up to the `Turns` that the caller passes: one
+//! after another as they stand in the script (`InOrder`), or as the threads come to them (`Freely`).
+//! What comes back is what each line answered, and the passes, by which `Provider::settle` shows the
+//! journal.
+//!
+//!     let ran = run_threads(rt, alloc, &provider, passes, configuration, &lines, &InOrder::new(alloc, &lines)?)?;
+#![tactic(auto)]
+
+mod answer;
+mod consumer;
+mod open_subscription;
+mod session;
+mod start;
+mod threads;
+mod turns;
+mod work;
+
+pub use answer::Answer;
+pub use consumer::Consumer;
+pub use open_subscription::OpenSubscription;
+pub use session::Session;
+pub use threads::{Outcome, run_threads};
+pub use turns::{Freely, InOrder, Turn, Turns};

@@ -1,0 +1,245 @@
+//! An open subscription of a script, with the consumer beside it, and what reading it answers.
+
+ghost use Rattle.std.specs.Prelude.{◌≡◌, ℕ, List, false, true, [], IfOk, IfSome, OnErr, OnOk};
+ghost use Rattle.std.specs.Str.{bytes_eq};
+ghost use Rattle.am_hub.specs.Subscriptions.{taken};
+ghost use Rattle.am_runner.specs.Consuming.{HasTaken, IsAsked, IsSwept};
+ghost use Rattle.am_alert.specs.declared.alert.Alert.{Alert};
+ghost use Rattle.am_runner.specs.Answers.{is_item};
+ghost use Rattle.am_runner.specs.Reading.{Asks, AsksBeside, IsTaken, NextIs, ReadAnswers};
+ghost use Rattle.am_runner.specs.Reading.{ReadsOne, TakenBeside, TookAll, groups_beside};
+
+use crate::answer::{Answer, one};
+use crate::consumer::Consumer;
+use am_alert::{Alert, Moment};
+use am_hub::{Origin, Step, Subscription};
+use am_labels::{LabelSet, Text};
+use am_script::Verb;
+use std::alloc::{AllocError, Global};
+use std::marker::Model;
+
+/// An open subscription with its name, and what stands beside it. Contracts see all of it: unless an
+/// alert was missed, the consumer took what the subscription has taken, and nothing else.
+pub struct OpenSubscription<'p, 'c, N: Origin> {
+    name: Text,
+    subscription: Subscription<'p, N>,
+    consumer: Option<Consumer<'c>>,
+    // Whether there was no memory for an alert that was shown.
+    missed: bool,
+}
+
+impl<'p, 'c, N: Origin> Model for OpenSubscription<'p, 'c, N> {
+    ghost use Rattle.std.specs.Coded.{codes};
+    ghost use Rattle.am_alert.specs.Alerts.{coded_alert};
+    ghost use Rattle.am_provider.specs.contracts.call.Call as call;
+    ghost use Rattle.am_provider.specs.contracts.lanes.OpenLane as lane;
+    ghost use Rattle.am_runner.specs.contracts.consumer.Consumer as beside;
+    ghost use Rattle.std.specs.Prelude.{[]};
+    ghost use mir.Syntax.{named};
+    ghost use Rattle.am_runner.specs.Reading.{OpenView, TookAll};
+
+    ghost Value = { OpenView };
+
+    ghost coded = { Prim.hlevel (codes, coded_alert, call.the_row.coded, lane.the_row.coded, (beside.the_row (record { mir = named 0; lft = [] })).coded) };
+
+    ghost view = { λ o. record {
+      name = o.name;
+      subscription = o.subscription;
+      consumer = o.consumer;
+      missed = o.missed;
+    } };
+
+    ghost invariant = { λ o. TookAll o.subscription o.consumer o.missed };
+}
+
+impl<'p, 'c, N: Origin> OpenSubscription<'p, 'c, N> {
+    /// A subscription that was not read yet, and a consumer that took nothing yet.
+    pub fn begin(
+        name: Text,
+        subscription: Subscription<'p, N>,
+        consumer: Option<Consumer<'c>>,
+    ) -> OpenSubscription<'p, 'c, N>
+        requires unread { taken subscription ≡ [] }
+        requires fresh { IfSome consumer (HasTaken []) }
+        ensures { result ≡ record {
+          name = name;
+          subscription = subscription.entry;
+          consumer = consumer.entry;
+          missed = false;
+        } }
+    {
+        OpenSubscription {
+            name,
+            subscription,
+            consumer,
+            missed: false,
+        }
+    }
+
+    pub fn has_name(&self, name: &Text) -> bool
+        ensures { result ≡ bytes_eq self.now.name name.now }
+    {
+        self.name == *name
+    }
+
+    /// What at most this many reads answer. Any answer that isn't an alert ends them.
+    pub fn read(&mut self, alloc: Global, max: u32) -> Result<Vec<Answer>, AllocError>
+        ensures { IfOk result (λ answers. ReadAnswers self.old max answers.items self.new) }
+    {
+        let mut answers = Vec::new(alloc);
+        for _shown in 0..max {
+            if !self.read_one(&mut answers)? {
+                return Ok(answers);
+            }
+        }
+        Ok(answers)
+    }
+
+    // Reads once, and answers whether there may be more.
+    fn read_one(&mut self, answers: &mut Vec<Answer>) -> Result<bool, AllocError>
+        ensures { IfOk result
+            (λ goes_on. ReadsOne self.old answers.old.items goes_on answers.new.items self.new) }
+    {
+        read_beside(
+            &mut self.subscription,
+            &mut self.consumer,
+            &mut self.missed,
+            answers,
+        )
+    }
+
+    /// The groups of the dispatcher beside it.
+    pub fn groups(&self, alloc: Global) -> Result<Vec<Answer>, AllocError>
+        ensures { IfOk result (λ answers. answers.items ≡ groups_beside self.now.consumer) }
+    {
+        match &self.consumer {
+            Some(consumer) => consumer.groups(alloc),
+            None => one(alloc, Answer::NotOpen(Verb::Groups)),
+        }
+    }
+
+    /// The dispatcher beside it drops what is resolved at a moment.
+    pub fn sweep(&mut self, now: Moment) -> Answer
+        ensures { Asks (IsSwept now) (Answer.NotOpen Verb.Sweep) self.old result self.new }
+    {
+        sweep_beside(&mut self.consumer, now)
+    }
+
+    /// By what the inhibitor beside it mutes a target.
+    pub fn mutes(&mut self, labels: &LabelSet, now: Moment) -> Result<Answer, AllocError>
+        ensures { IfOk result (λ answer. Asks (IsAsked labels.now now)
+            (Answer.NotOpen Verb.Mutes) self.old answer self.new) }
+    {
+        ask_beside(&mut self.consumer, labels, now)
+    }
+
+    /// The subscription, to be given back. What stood beside it goes.
+    pub fn into_subscription(self) -> Subscription<'p, N>
+        ensures { result ≡ self.entry.subscription }
+    {
+        let OpenSubscription {
+            name: _,
+            subscription,
+            consumer: _,
+            missed: _,
+        } = self;
+        subscription
+    }
+}
+
+// Reads once; what stands beside the subscription takes the alert that was shown.
+fn read_beside<N: Origin>(
+    subscription: &mut Subscription<'_, N>,
+    consumer: &mut Option<Consumer<'_>>,
+    missed: &mut bool,
+    answers: &mut Vec<Answer>,
+) -> Result<bool, AllocError>
+    ensures took { TookAll subscription.old consumer.old missed.old
+        → TookAll subscription.new consumer.new missed.new }
+    ensures reads { IfOk result (λ goes_on. (name : List ℕ) → ReadsOne
+        (record { name = name; subscription = subscription.old; consumer = consumer.old; missed = missed.old })
+        answers.old.items goes_on answers.new.items
+        (record { name = name; subscription = subscription.new; consumer = consumer.new; missed = missed.new })) }
+{
+    let answer = match next_answer(subscription) {
+        Ok(answer) => answer,
+        Err(error) => {
+            *missed = true;
+            return Err(error);
+        }
+    };
+    match take_shown(consumer, &answer) {
+        Ok(goes_on) => {
+            answers.push(answer)?;
+            Ok(goes_on)
+        }
+        Err(_) => {
+            *missed = true;
+            answers.push(answer)?;
+            answers.push(Answer::TakeRefused)?;
+            Ok(true)
+        }
+    }
+}
+
+// Whether the answer is an alert, which what stands beside the subscription then takes.
+fn take_shown(consumer: &mut Option<Consumer<'_>>, answer: &Answer) -> Result<bool, AllocError>
+    ensures taken { IfOk result (λ goes_on. IsTaken answer.now consumer.old goes_on consumer.new) }
+    ensures err { OnErr result ((is_item answer.now ≡ true) × (consumer.new ≡ consumer.old)) }
+{
+    match answer {
+        Answer::Item(alert) => {
+            take_beside(consumer, alert)?;
+            Ok(true)
+        }
+        _ => Ok(false),
+    }
+}
+
+fn sweep_beside(consumer: &mut Option<Consumer<'_>>, now: Moment) -> Answer
+    ensures { AsksBeside (IsSwept now) (Answer.NotOpen Verb.Sweep) consumer.old result consumer.new }
+{
+    match consumer {
+        Some(consumer) => consumer.sweep(now),
+        None => Answer::NotOpen(Verb::Sweep),
+    }
+}
+
+fn ask_beside(
+    consumer: &mut Option<Consumer<'_>>,
+    labels: &LabelSet,
+    now: Moment,
+) -> Result<Answer, AllocError>
+    ensures answer { IfOk result (λ answer. AsksBeside (IsAsked labels.now now)
+        (Answer.NotOpen Verb.Mutes) consumer.old answer consumer.new) }
+    ensures took { (alerts : List Alert) → IfSome consumer.old (HasTaken alerts)
+        → IfSome consumer.new (HasTaken alerts) }
+{
+    match consumer {
+        Some(consumer) => consumer.mutes(labels, now),
+        None => Ok(Answer::NotOpen(Verb::Mutes)),
+    }
+}
+
+fn next_answer<N: Origin>(subscription: &mut Subscription<'_, N>) -> Result<Answer, AllocError>
+    ensures { IfOk result (λ answer. NextIs subscription.old answer subscription.new) }
+{
+    let answer = match subscription.next() {
+        Step::Item(alert) => Answer::Item(alert.copy()?),
+        Step::Pending => Answer::Pending,
+        Step::Closed => Answer::SawClosed,
+        Step::Cut => Answer::SawCut,
+    };
+    Ok(answer)
+}
+
+// What stands beside a subscription takes an alert. If memory runs out, all stays as it was.
+fn take_beside(consumer: &mut Option<Consumer<'_>>, alert: &Alert) -> Result<(), AllocError>
+    ensures taken { OnOk result (TakenBeside alert.now consumer.old consumer.new) }
+    ensures err { OnErr result (consumer.new ≡ consumer.old) }
+{
+    match consumer {
+        Some(consumer) => consumer.take(alert),
+        None => Ok(()),
+    }
+}

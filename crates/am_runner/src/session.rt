@@ -1,0 +1,354 @@
+//! What a thread of a script has: its pass and the subscriptions that its lines opened.
+
+ghost use Rattle.std.specs.Prelude.{◌≡◌, ◌<◌, ◌++◌, ◌∷◌, [], ℕ, IfOk, OnOk, length, map};
+ghost use Rattle.std.specs.Duration.{as_nanos};
+ghost use Rattle.am_provider.specs.Journal.{has_lane};
+ghost use Rattle.am_runner.specs.Sessions.{AsksNamed, Does, LeavesAt, ReadsNamed, SessionView};
+ghost use Rattle.am_runner.specs.Sessions.{SweepsNamed, cut_below, groups_told, named_in};
+ghost use Rattle.am_runner.specs.Sessions.{place_of, posted_answers};
+
+use crate::answer::{Answer, one};
+use crate::consumer::Consumer;
+use crate::open_subscription::OpenSubscription;
+use am_alert::{AlertFault, Moment};
+use am_hub::{AlreadyClosed, Ended, Gate, Origin, Pass, Posted, Provider};
+use am_labels::{LabelSet, Text};
+use am_routes::Config;
+use am_script::{Command, Kind, Verb};
+use std::alloc::{AllocError, Global};
+use std::marker::Model;
+use std::sync::Wait;
+
+/// A thread's pass, and its open subscriptions in the order in which they were opened.
+pub struct Session<'p, 'c, N: Origin> {
+    pass: Pass<N>,
+    opened: Vec<OpenSubscription<'p, 'c, N>>,
+}
+
+impl<'p, 'c, N: Origin> Model for Session<'p, 'c, N> {
+    ghost use Rattle.std.specs.Coded.{codes};
+    ghost use Rattle.am_alert.specs.Alerts.{coded_alert};
+    ghost use Rattle.am_provider.specs.contracts.call.Call as call;
+    ghost use Rattle.am_provider.specs.contracts.lanes.OpenLane as lane;
+    ghost use Rattle.am_runner.specs.contracts.consumer.Consumer as beside;
+    ghost use Rattle.std.specs.Prelude.{[]};
+    ghost use mir.Syntax.{named};
+    ghost use Rattle.am_runner.specs.Sessions.{SessionView};
+
+    ghost Value = { SessionView };
+
+    ghost coded = { Prim.hlevel (codes, coded_alert, call.the_row.coded, lane.the_row.coded, (beside.the_row (record { mir = named 0; lft = [] })).coded) };
+
+    ghost view = { λ s. record { pass = s.pass; opened = s.opened.items } };
+}
+
+impl<'p, 'c, N: Origin> Session<'p, 'c, N> {
+    /// A session with no subscription yet.
+    pub fn begin(alloc: Global, pass: Pass<N>) -> Session<'p, 'c, N>
+        ensures { result ≡ record { pass = pass; opened = [] } }
+    {
+        Session {
+            pass,
+            opened: Vec::new(alloc),
+        }
+    }
+
+    /// Does what a command asks for, and answers it. If the memory for the answers runs out, the command
+    /// may have been done.
+    pub fn run<R: Wait, G: Gate>(
+        &mut self,
+        rt: &R,
+        alloc: Global,
+        provider: &'p Provider<N>,
+        config: &'c Config,
+        gate: &G,
+        command: &Command,
+    ) -> Result<Vec<Answer>, AllocError>
+        ensures { IfOk result (λ answers. Does config.now (as_nanos provider.now.resolve_timeout)
+            self.old command.now answers.items self.new) }
+    {
+        match command {
+            Command::Post { at, body } => self.post(rt, alloc, provider, gate, *at, body),
+            Command::Subscribe { name, kind } => {
+                one(
+                    alloc,
+                    self.subscribe(rt, alloc, provider, config, name, *kind)?,
+                )
+            }
+            Command::Read { name, max } => self.read(alloc, name, *max),
+            Command::Leave { name } => one(alloc, self.leave(rt, provider, name)),
+            Command::Collect { at } => one(alloc, collect(rt, provider, *at)),
+            Command::Close => one(alloc, close(rt, provider)),
+            Command::Trim => one(alloc, trim(rt, provider)),
+            Command::Groups { name } => self.groups(alloc, name),
+            Command::Sweep { name, at } => self.sweep(alloc, name, *at),
+            Command::Mutes { name, at, labels } => self.mutes(alloc, name, labels, *at),
+        }
+    }
+
+    fn post<R: Wait, G: Gate>(
+        &mut self,
+        rt: &R,
+        alloc: Global,
+        provider: &'p Provider<N>,
+        gate: &G,
+        at: Moment,
+        body: &Text,
+    ) -> Result<Vec<Answer>, AllocError>
+        ensures { IfOk result (λ answers. (config : Config) → Does config (as_nanos provider.now.resolve_timeout)
+            self.old (Command.Post at body.now) answers.items self.new) }
+    {
+        let posted = match provider.post(rt, &mut self.pass, gate, body.as_str().as_bytes(), at) {
+            Ok(posted) => posted,
+            Err(why) => return one(alloc, Answer::PostRefused(why)),
+        };
+        posted_answers(alloc, &posted)
+    }
+
+    fn subscribe<R: Wait>(
+        &mut self,
+        rt: &R,
+        alloc: Global,
+        provider: &'p Provider<N>,
+        config: &'c Config,
+        name: &Text,
+        kind: Kind,
+    ) -> Result<Answer, AllocError>
+        ensures { IfOk result (λ answer. (timeout : ℕ) → Does config.now timeout
+            self.old (Command.Subscribe name.now kind) (answer ∷ []) self.new) }
+    {
+        let name = name.copy()?;
+        let consumer = Consumer::begin(alloc, config, kind)?;
+        self.opened.reserve(1)?;
+        match provider.subscribe(rt) {
+            Ok(subscription) => {
+                let answer = Answer::Subscribed {
+                    lane: subscription.lane(),
+                    opening: subscription.opening(),
+                };
+                self.opened
+                    .push_reserved(OpenSubscription::begin(name, subscription, consumer));
+                Ok(answer)
+            }
+            Err(why) => Ok(Answer::SubscribeRefused(why)),
+        }
+    }
+
+    fn read(&mut self, alloc: Global, name: &Text, max: u32) -> Result<Vec<Answer>, AllocError>
+        ensures { IfOk result (λ answers. (config : Config) (timeout : ℕ) → Does config timeout
+            self.old (Command.Read name.now max) answers.items self.new) }
+    {
+        read_named(&mut self.opened, alloc, name, max)
+    }
+
+    fn leave<R: Wait>(&mut self, rt: &R, provider: &'p Provider<N>, name: &Text) -> Answer
+        ensures { (config : Config) (timeout : ℕ) → Does config timeout
+            self.old (Command.Leave name.now) (result ∷ []) self.new }
+    {
+        match place_of(&self.opened, name) {
+            Some(place) => {
+                let Ended {
+                    at: _,
+                    taken,
+                    closed,
+                    cut,
+                } = self.leave_at(rt, provider, place);
+                Answer::Left { taken, closed, cut }
+            }
+            None => Answer::NotOpen(Verb::Leave),
+        }
+    }
+
+    fn leave_at<R: Wait>(&mut self, rt: &R, provider: &'p Provider<N>, place: usize) -> Ended
+        requires { place < length self.old.opened }
+        ensures { LeavesAt place self.old result self.new }
+    {
+        let mut subscription = self.opened.remove(place).into_subscription();
+        provider.meet(&mut subscription, &mut self.pass);
+        provider.leave(rt, subscription)
+    }
+
+    fn groups(&self, alloc: Global, name: &Text) -> Result<Vec<Answer>, AllocError>
+        ensures { IfOk result (λ answers. (config : Config) (timeout : ℕ) → Does config timeout
+            self.now (Command.Groups name.now) answers.items self.now) }
+    {
+        groups_named(&self.opened, alloc, name)
+    }
+
+    fn sweep(&mut self, alloc: Global, name: &Text, at: Moment) -> Result<Vec<Answer>, AllocError>
+        ensures { IfOk result (λ answers. (config : Config) (timeout : ℕ) → Does config timeout
+            self.old (Command.Sweep name.now at) answers.items self.new) }
+    {
+        sweep_named(&mut self.opened, alloc, name, at)
+    }
+
+    fn mutes(
+        &mut self,
+        alloc: Global,
+        name: &Text,
+        labels: &LabelSet,
+        at: Moment,
+    ) -> Result<Vec<Answer>, AllocError>
+        ensures { IfOk result (λ answers. (config : Config) (timeout : ℕ) → Does config timeout
+            self.old (Command.Mutes name.now at labels.now) answers.items self.new) }
+    {
+        ask_named(&mut self.opened, alloc, name, labels, at)
+    }
+
+    /// Leaves the open subscriptions in the order in which they were opened, and gives the pass back.
+    pub fn end<R: Wait>(mut self, rt: &R, provider: &'p Provider<N>) -> Pass<N>
+        ensures { result.own ≡ self.entry.pass.own }
+    {
+        while !self.opened.is_empty() {
+            let _ended = self.leave_at(rt, provider, 0);
+        }
+        let Session { pass, opened } = self;
+        opened.destroy_empty();
+        pass
+    }
+}
+
+fn collect<R: Wait, N: Origin>(rt: &R, provider: &Provider<N>, at: Moment) -> Answer
+    ensures { (config : Config) (timeout : ℕ) (session : SessionView) → Does config timeout session
+        (Command.Collect at) (result ∷ []) session }
+{
+    match provider.collect_resolved(rt, at) {
+        Ok(removed) => Answer::Collected(removed),
+        Err(_) => Answer::CollectRefused,
+    }
+}
+
+fn close<R: Wait, N: Origin>(rt: &R, provider: &Provider<N>) -> Answer
+    ensures { (config : Config) (timeout : ℕ) (session : SessionView) → Does config timeout session
+        Command.Close (result ∷ []) session }
+{
+    match provider.close(rt) {
+        Ok(()) => Answer::CloseAccepted,
+        Err(AlreadyClosed) => Answer::CloseRefused,
+    }
+}
+
+fn trim<R: Wait, N: Origin>(rt: &R, provider: &Provider<N>) -> Answer
+    ensures { (config : Config) (timeout : ℕ) (session : SessionView) → Does config timeout session
+        Command.Trim (result ∷ []) session }
+{
+    match provider.trim(rt) {
+        Ok(dropped) => Answer::Trimmed(dropped),
+        Err(_) => Answer::TrimRefused,
+    }
+}
+
+fn read_named<N: Origin>(
+    opened: &mut [OpenSubscription<'_, '_, N>],
+    alloc: Global,
+    name: &Text,
+    max: u32,
+) -> Result<Vec<Answer>, AllocError>
+    ensures { IfOk result (λ answers.
+        ReadsNamed name.now max opened.old answers.items opened.new) }
+{
+    match place_of(opened, name) {
+        Some(place) => opened[place].read(alloc, max),
+        None => one(alloc, Answer::NotOpen(Verb::Read)),
+    }
+}
+
+fn groups_named<N: Origin>(
+    opened: &[OpenSubscription<'_, '_, N>],
+    alloc: Global,
+    name: &Text,
+) -> Result<Vec<Answer>, AllocError>
+    ensures { IfOk result (λ answers.
+        answers.items ≡ groups_told (named_in name.now opened.now)) }
+{
+    match place_of(opened, name) {
+        Some(place) => opened[place].groups(alloc),
+        None => one(alloc, Answer::NotOpen(Verb::Groups)),
+    }
+}
+
+fn sweep_named<N: Origin>(
+    opened: &mut [OpenSubscription<'_, '_, N>],
+    alloc: Global,
+    name: &Text,
+    at: Moment,
+) -> Result<Vec<Answer>, AllocError>
+    ensures { IfOk result (λ answers.
+        SweepsNamed name.now at opened.old answers.items opened.new) }
+{
+    match place_of(opened, name) {
+        Some(place) => one(alloc, opened[place].sweep(at)),
+        None => one(alloc, Answer::NotOpen(Verb::Sweep)),
+    }
+}
+
+fn ask_named<N: Origin>(
+    opened: &mut [OpenSubscription<'_, '_, N>],
+    alloc: Global,
+    name: &Text,
+    labels: &LabelSet,
+    at: Moment,
+) -> Result<Vec<Answer>, AllocError>
+    ensures { IfOk result (λ answers.
+        AsksNamed name.now labels.now at opened.old answers.items opened.new) }
+{
+    match place_of(opened, name) {
+        Some(place) => one(alloc, opened[place].mutes(labels, at)?),
+        None => one(alloc, Answer::NotOpen(Verb::Mutes)),
+    }
+}
+
+// Where the subscription of that name stands.
+fn place_of<N: Origin>(opened: &[OpenSubscription<'_, '_, N>], name: &Text) -> Option<usize>
+    ensures { result ≡ place_of name.now opened.now }
+{
+    opened.iter().position(|open| open.has_name(name))
+}
+
+// That a post was accepted, its invalid alerts, and the lanes that it cut.
+fn posted_answers(alloc: Global, posted: &Posted) -> Result<Vec<Answer>, AllocError>
+    ensures { IfOk result (λ answers. answers.items ≡ posted_answers posted.now) }
+{
+    let mut answers = one(
+        alloc,
+        Answer::Posted {
+            valid: posted.valid,
+            place: posted.place,
+        },
+    )?;
+    add_invalid(&mut answers, posted.faults.as_slice())?;
+    add_cut(&mut answers, posted.cut)?;
+    Ok(answers)
+}
+
+fn add_invalid(answers: &mut Vec<Answer>, faults: &[(u32, AlertFault)]) -> Result<(), AllocError>
+    ensures { OnOk result (answers.new.items
+        ≡ answers.old.items ++ map (λ fault. Answer.Invalid fault.0 fault.1) faults.now) }
+{
+    for fault in faults {
+        answers.push(Answer::Invalid {
+            index: fault.0,
+            fault: fault.1,
+        })?;
+    }
+    Ok(())
+}
+
+fn add_cut(answers: &mut Vec<Answer>, bits: u8) -> Result<(), AllocError>
+    ensures { OnOk result
+        (answers.new.items ≡ answers.old.items ++ map Answer.CutLane (cut_below bits 8)) }
+{
+    for lane in 0..8u32 {
+        if has_lane(bits, lane) {
+            answers.push(Answer::CutLane(lane))?;
+        }
+    }
+    Ok(())
+}
+
+fn has_lane(bits: u8, lane: u32) -> bool
+    requires { lane < 8 }
+    ensures { result ≡ has_lane bits lane }
+{
+    (bits >> lane) % 2 == 1
+}

@@ -1,0 +1,182 @@
+//! The eight threads: started together, and each run to its end.
+
+ghost use Rattle.std.specs.Prelude.{◌≡◌, ◌≤◌, IfOk, IsErr, vec_len};
+ghost use Rattle.std.specs.List.{All};
+ghost use Rattle.std.specs.Duration.{as_nanos};
+ghost use Rattle.am_runner.specs.Sessions.{new_pass};
+ghost use Rattle.am_runner.specs.Working.{AreWork, IsWorkUnder};
+
+use crate::answer::Answer;
+use crate::start::Start;
+use crate::turns::Turns;
+use crate::work::work;
+use am_hub::{Origin, Pass, Provider};
+use am_routes::Config;
+use am_script::{Line, THREADS, Thread};
+use std::alloc::{AllocError, Global};
+use std::sync::Wait;
+use std::thread;
+use std::thread::{Promise, Scope, Threads};
+use std::time::Duration;
+
+/// What a thread's run came to: what each line of the script answered, which is nothing where it is
+/// another thread's, or an error where memory ran out or the threads weren't started; and the pass, which
+/// has what the thread posted.
+pub type Outcome<N> = (Result<Vec<Vec<Answer>>, AllocError>, Pass<N>);
+
+// What all threads share.
+#[derive(Drop)]
+struct Shared<'s, N: Origin, R, T> {
+    rt: &'s R,
+    alloc: Global,
+    provider: &'s Provider<N>,
+    configuration: &'s [u8],
+    lines: &'s [Line],
+    turns: &'s T,
+    start: &'s Start,
+}
+
+// That a thread's outcome is the work that its lines ask for.
+#[derive(Clone, Copy, Drop)]
+struct RunsLines<'s> {
+    configuration: &'s [u8],
+    lines: &'s [Line],
+    timeout: Duration,
+    thread: Thread,
+}
+
+impl<'s, N: Origin> Promise<Outcome<N>> for RunsLines<'s> {
+    ghost use Rattle.std.specs.Duration.{as_nanos};
+    ghost use Rattle.am_runner.specs.Working.{IsWorkUnder};
+
+    ghost kept_by = { λ p outcome. IsWorkUnder p.configuration.now (as_nanos p.timeout) p.lines.now p.thread
+        outcome.0 outcome.1 };
+}
+
+/// Runs a script's lines, each in the thread that it names. None is run before all threads are there;
+/// where one can't be started or has no memory for the configuration, none is run at all. A thread reads
+/// the configuration's text itself, since a pattern's search isn't shared by threads.
+pub fn run_threads<N: Origin + Send + Sync, R: Threads + Wait + Sync, T: Turns + Sync>(
+    rt: &R,
+    alloc: Global,
+    provider: &Provider<N>,
+    passes: Vec<Pass<N>>,
+    configuration: &[u8],
+    lines: &[Line],
+    turns: &T,
+) -> Result<Vec<Outcome<N>>, AllocError>
+    requires count { vec_len passes ≡ 8 }
+    requires fresh { All (λ pass. pass ≡ new_pass) passes.items }
+    ensures { IfOk result (λ all. AreWork configuration.now
+        (as_nanos provider.now.resolve_timeout) lines.now 8 all.items) }
+{
+    let start = Start::new(THREADS);
+    let shared = Shared {
+        rt,
+        alloc,
+        provider,
+        configuration,
+        lines,
+        turns,
+        start: &start,
+    };
+    run_shared(rt, &shared, passes)
+}
+
+fn run_shared<N: Origin + Send + Sync, R: Threads + Wait + Sync, T: Turns + Sync>(
+    rt: &R,
+    shared: &Shared<'_, N, R, T>,
+    passes: Vec<Pass<N>>,
+) -> Result<Vec<Outcome<N>>, AllocError>
+    requires count { vec_len passes ≡ 8 }
+    requires fresh { All (λ pass. pass ≡ new_pass) passes.items }
+    ensures { IfOk result (λ all. AreWork shared.now.configuration.now
+        (as_nanos shared.now.provider.now.resolve_timeout) shared.now.lines.now 8 all.items) }
+{
+    thread::scope(
+        thread::scope_env(),
+        rt,
+        |scope| -> Result<Vec<Outcome<N>>, AllocError>
+            requires count { vec_len passes ≡ 8 }
+            requires fresh { All (λ pass. pass ≡ new_pass) passes.items }
+            ensures { IfOk result (λ all. AreWork shared.entry.now.configuration.now
+                (as_nanos shared.entry.now.provider.now.resolve_timeout)
+                shared.entry.now.lines.now 8 all.items) }
+        { run_from(rt, scope, shared, passes) },
+    )
+}
+
+// Starts a thread for the last pass, then those for the others, and waits for it when these have ended.
+fn run_from<'s, E, N: Origin + Send + Sync, R: Threads + Wait + Sync, T: Turns + Sync>(
+    rt: &R,
+    scope: &Scope<'s, E>,
+    shared: &'s Shared<'s, N, R, T>,
+    passes: Vec<Pass<N>>,
+) -> Result<Vec<Outcome<N>>, AllocError>
+    requires count { vec_len passes ≤ 8 }
+    requires fresh { All (λ pass. pass ≡ new_pass) passes.items }
+    ensures { IfOk result (λ all. AreWork shared.now.configuration.now
+        (as_nanos shared.now.provider.now.resolve_timeout) shared.now.lines.now
+        (vec_len passes) all.items) }
+{
+    let mut passes = passes;
+    let Some(pass) = passes.pop() else {
+        return Ok(Vec::new(shared.alloc));
+    };
+    let thread = Thread::new(passes.len() as u32);
+    let promise = RunsLines {
+        configuration: shared.configuration,
+        lines: shared.lines,
+        timeout: shared.provider.resolve_timeout,
+        thread,
+    };
+    let child = match scope.spawn_with(promise, move || work_when_told(shared, thread, pass)) {
+        Ok(child) => child,
+        Err(_) => {
+            shared.start.give_up(rt);
+            return Err(AllocError);
+        }
+    };
+    let others = run_from(rt, scope, shared, passes);
+    let outcome = child.join(rt);
+    let mut all = others?;
+    all.push(outcome)?;
+    Ok(all)
+}
+
+// Reads the configuration, meets the other threads, and works.
+fn work_when_told<N: Origin, R: Wait, T: Turns>(
+    shared: &Shared<'_, N, R, T>,
+    thread: Thread,
+    pass: Pass<N>,
+) -> Outcome<N>
+    requires { pass ≡ new_pass }
+    ensures { IsWorkUnder shared.now.configuration.now
+        (as_nanos shared.now.provider.now.resolve_timeout) shared.now.lines.now thread
+        result.0 result.1 }
+{
+    let rt = shared.rt;
+    let Ok(config) = Config::read(shared.alloc, shared.configuration) else {
+        shared.start.give_up(rt);
+        return not_run(pass);
+    };
+    if !shared.start.arrive(rt) {
+        return not_run(pass);
+    }
+    work(
+        rt,
+        shared.alloc,
+        shared.provider,
+        &config,
+        shared.lines,
+        shared.turns,
+        thread,
+        pass,
+    )
+}
+
+fn not_run<N: Origin>(pass: Pass<N>) -> Outcome<N>
+    ensures { IsErr result.0 × (result.1 ≡ pass) }
+{
+    (Err(AllocError), pass)
+}
