@@ -76,14 +76,14 @@ having_answered labels now old =
     having_looked (min (candidates_seen old.alerts old.rules labels now) most_counted) old
 
 -- an inhibitor is asked of a target: it answers, or it is out of memory, and then stays as it was
-abbrev pub Asks : Labels → ℕ → InhibitorView → InhibitorView → Answer → Type 0
-Asks labels now old new answer.MutesRefused = new ≡ old
-Asks labels now old new given = (new ≡ having_answered labels now old)
+abbrev pub AsksInhibitor : Labels → ℕ → InhibitorView → InhibitorView → Answer → Type 0
+AsksInhibitor labels now old new answer.MutesRefused = new ≡ old
+AsksInhibitor labels now old new given = (new ≡ having_answered labels now old)
     × (given ≡ muting_answer (muted old.alerts old.rules labels now))
 
 -- an inhibitor is asked of a target; a dispatcher can't be
 pub data IsAsked (labels : Labels) (now : ℕ) : Consumer → Consumer → Answer → Type 0 where
-  asked : {old new : InhibitorView} {given : Answer} → Asks labels now old new given
+  asked : {old new : InhibitorView} {given : Answer} → AsksInhibitor labels now old new given
       → IsAsked labels now (Inhibitor old) (Inhibitor new) given
   no_inhibitor : {dispatcher : DispatcherView} → IsAsked labels now (Dispatcher dispatcher)
       (Dispatcher dispatcher) (answer.NotOpen verb.Mutes)

@@ -3,7 +3,7 @@
 
 ghost use Rattle.std.specs.Prelude.{◌≡◌, ◌++◌, ◌∷◌, List, IfOk, OnOk, OnErr, flat_map, map};
 ghost use Rattle.am_runner.specs.Consuming.{answers_of_group, answers_of_groups, fresh_consumer};
-ghost use Rattle.am_runner.specs.Consuming.{Asks, HasTaken, IsAsked, IsSwept, TakesAlert};
+ghost use Rattle.am_runner.specs.Consuming.{AsksInhibitor, HasTaken, IsAsked, IsSwept, TakesAlert};
 ghost use Rattle.am_alert.specs.declared.alert.Alert.{Alert};
 
 use crate::answer::{Answer, one};
@@ -86,7 +86,7 @@ fn muting_answer(
     labels: &LabelSet,
     now: Moment,
 ) -> Result<Answer, AllocError>
-    ensures asks { IfOk result (Asks labels.now now inhibitor.old inhibitor.new) }
+    ensures asks { IfOk result (AsksInhibitor labels.now now inhibitor.old inhibitor.new) }
     ensures alerts { inhibitor.new.alerts ≡ inhibitor.old.alerts }
 {
     match inhibitor.mutes(labels, now) {
