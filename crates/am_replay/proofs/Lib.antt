@@ -1,9 +1,3 @@
-pub mod Causes
-pub mod Desks
 pub mod GivenArguments
-pub mod Measures
 pub mod Options
 pub mod Outcomes
-pub mod Shown
-pub mod Taken
-pub mod Written

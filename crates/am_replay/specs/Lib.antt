@@ -1,14 +1,8 @@
-pub mod Answers
 pub mod Arguments
 pub mod ArgumentsFaults
-pub mod Consuming
 pub mod FirstLines
-pub mod Bytes
-pub mod Inputs
-pub mod Next
 pub mod Options
 pub mod Printing
 pub mod Replays
 pub mod Runs
-pub mod Sessions
 pub mod Statuses

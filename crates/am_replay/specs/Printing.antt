@@ -1,79 +1,37 @@
--- How answers and refused scripts are printed: one line each, by the number of the script's line.
-use Rattle.std.specs.Prelude.{ℕ, Bool, List, [], ◌∷◌, ◌++◌, codes, Option, Some, None, if◌then◌else◌}
-use Rattle.std.specs.List.{flat_map}
+-- How a run is printed: one line for each answer, by the number of the script's line, and a last one.
+use Rattle.std.specs.Prelude.{ℕ, ◌+◌, Bool, List, [], ◌∷◌, ◌++◌, codes, flat_map, slice_get, Option, Some, None}
+use Rattle.std.specs.Global.{Vec}
+use Rattle.std.specs.Option.{option_and_then}
+use Rattle.std.specs.List.{list_any}
 use Rattle.std.specs.Fmt.{decimal}
-use Rattle.am_alert.specs.Printing.{alert_text, alert_fault_text, post_fault_text}
-use Rattle.am_labels.specs.LabelSets.{Labels}
-use Rattle.am_labels.specs.Printing.{labels_text, quoted}
-use Rattle.am_routes.specs.declared.dispatcher.Swept.{Swept}
-use Rattle.am_provider.specs.FaultTexts.{closed_text, put_fault_text, sub_fault_text}
-use Rattle.am_provider.specs.declared.answers.Counts.{Counts}
-use Rattle.am_script.specs.ScriptTexts.{verb_text}
-use Rattle.am_replay.specs.declared.answers.Answer.{Answer}
-use Rattle.am_replay.specs.declared.answers.Answer.TheVariants as answer
-use Rattle.am_replay.specs.declared.answers.Answered.{Answered}
+use Rattle.am_hub.specs.declared.answers.Counts.{Counts}
+use Rattle.am_runner.specs.Answers.{is_out_of_memory}
+use Rattle.am_runner.specs.Printing.{answer_text}
+use Rattle.am_runner.specs.declared.answer.Answer.{Answer}
+use Rattle.am_script.specs.declared.command.Line.{Line}
 
--- the place of a post's batch in the log, if it has one
-abbrev pub place_text : Option ℕ → List ℕ
-place_text (Some place) = codes " place " ++ decimal place
-place_text None = codes " no place"
+abbrev pub items_of : Option (Vec Answer) → List Answer
+items_of None = []
+items_of (Some given) = given.items
 
--- an accepted post
-abbrev pub posted_text : ℕ → Option ℕ → List ℕ
-posted_text valid place = codes "post valid " ++ (decimal valid ++ place_text place)
+-- what a thread answered to the line at a place of the script, of what each thread answered to each line
+abbrev pub given_at : List (Vec (Vec Answer)) → ℕ → ℕ → List Answer
+given_at answers thread place =
+    items_of (option_and_then (λ all. slice_get all.items place) (slice_get answers thread))
 
--- a subscription that was left, and whether it was told that the log is closed
-abbrev pub left_text : ℕ → Bool → List ℕ
-left_text taken closed =
-    codes "leave taken " ++ (decimal taken ++ (if closed then codes " closed" else []))
+-- an answer, behind the number of its line
+abbrev pub answer_line : ℕ → Answer → List ℕ
+answer_line number one = decimal number ++ 32 ∷ (answer_text one ++ 10 ∷ [])
 
--- a group of a dispatcher: its route, who is told, its labels, and how many alerts it has
-abbrev pub group_text : ℕ → List ℕ → Labels → ℕ → List ℕ
-group_text route receiver labels alerts =
-    codes "group route " ++ (decimal route ++ (codes " receiver " ++ (quoted receiver
-    ++ (codes " labels " ++ (labels_text labels ++ (codes " alerts " ++ decimal alerts))))))
+abbrev pub answers_text : ℕ → List Answer → List ℕ
+answers_text number given = flat_map (answer_line number) given
 
--- how many alerts and groups a sweep removed
-abbrev pub swept_text : Swept → List ℕ
-swept_text swept =
-    codes "sweep alerts " ++ (decimal swept.alerts ++ (codes " groups " ++ decimal swept.groups))
-
--- the rule that mutes a target, and the label set by which it does
-abbrev pub muted_text : ℕ → Labels → List ℕ
-muted_text rule by = codes "muted rule " ++ (decimal rule ++ (codes " by " ++ labels_text by))
-
--- what a call answered, printed after the number of its line
-abbrev pub answer_text : Answer → List ℕ
-answer_text (answer.Posted valid place) = posted_text valid place
-answer_text (answer.Invalid index why) =
-    codes "invalid " ++ (decimal index ++ 32 ∷ alert_fault_text why)
-answer_text (answer.Unread why) = codes "post refused " ++ post_fault_text why
-answer_text (answer.PostRefused why) = codes "post refused " ++ put_fault_text why
-answer_text (answer.Subscribed lane opening) =
-    codes "subscribe lane " ++ (decimal lane ++ (codes " opening " ++ decimal opening))
-answer_text (answer.SubscribeRefused why) = codes "subscribe refused " ++ sub_fault_text why
-answer_text (answer.Item alert) = codes "item " ++ alert_text alert
-answer_text answer.Pending = codes "pending"
-answer_text answer.SawClosed = codes "closed"
-answer_text (answer.Left taken closed) = left_text taken closed
-answer_text (answer.Collected removed) = codes "collect removed " ++ decimal removed
-answer_text answer.CollectRefused = codes "collect refused E0 NoMemory"
-answer_text answer.CloseAccepted = codes "close"
-answer_text answer.CloseRefused = codes "close refused " ++ closed_text
-answer_text (answer.Trimmed dropped) = codes "trim dropped " ++ decimal dropped
-answer_text answer.TrimRefused = codes "trim refused E0 NoMemory"
-answer_text answer.TakeRefused = codes "take refused E0 NoMemory"
-answer_text (answer.Group route receiver labels alerts) = group_text route receiver labels alerts
-answer_text (answer.Member alert) = codes "member " ++ alert_text alert
-answer_text (answer.Swept swept) = swept_text swept
-answer_text (answer.Muted rule by) = muted_text rule by
-answer_text answer.NotMuted = codes "not muted"
-answer_text answer.MutesRefused = codes "mutes refused E0 NoMemory"
-answer_text (answer.NotOpen word) = verb_text word ++ codes " none"
-
--- an answer's line, without its line feed
-abbrev pub line_text : Answered → List ℕ
-line_text line = decimal line.number ++ 32 ∷ answer_text line.answer
+-- what each line, from the one at a place on, was answered by its thread
+abbrev pub lines_text : List (Vec (Vec Answer)) → ℕ → List Line → List ℕ
+lines_text answers place [] = []
+lines_text answers place (line ∷ lines) =
+    answers_text line.number (given_at answers line.thread place)
+    ++ lines_text answers (place + 1) lines
 
 -- the last line: the places of the log, the accepted posts, the stored alerts
 abbrev pub counts_text : Counts → List ℕ
@@ -81,10 +39,11 @@ counts_text counts =
     codes "end places " ++ (decimal counts.places ++ (codes " posts " ++ (decimal counts.posts
     ++ (codes " stored " ++ decimal counts.stored))))
 
--- a line for each answer
-abbrev pub lines_text : List Answered → List ℕ
-lines_text answers = flat_map (λ line. line_text line ++ 10 ∷ []) answers
+-- what a run prints: a line for each answer in the order of the script's lines, and the last one
+abbrev pub report_text : List Line → List (Vec (Vec Answer)) → Counts → List ℕ
+report_text lines answers counts = lines_text answers 0 lines ++ (counts_text counts ++ 10 ∷ [])
 
--- what a run prints: a line for each answer, and the last one
-abbrev pub report_text : List Answered → Counts → List ℕ
-report_text answers counts = lines_text answers ++ (counts_text counts ++ 10 ∷ [])
+-- whether some call was out of memory
+abbrev pub ran_out_of_memory : List (Vec (Vec Answer)) → Bool
+ran_out_of_memory answers =
+    list_any (λ all. list_any (λ given. list_any is_out_of_memory given.items) all.items) answers

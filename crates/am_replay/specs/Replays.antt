@@ -1,15 +1,17 @@
 -- A whole replay: what it reads, what it prints and how it ends.
-use Rattle.std.specs.Prelude.{◌≡◌, ℕ, Bool, true, false, List, [], ◌∷◌, ◌++◌, Option, Ok, Err}
-use Rattle.std.specs.List.{list_any}
+use Rattle.std.specs.Prelude.{ℕ, Bool, List, [], ◌∷◌, ◌++◌, Option, Ok, Err, if◌then◌else◌}
+use Rattle.std.specs.Duration.{as_nanos}
 use Rattle.std.specs.Io.KnownBytes.{Appends, Keeps}
-use Rattle.am_replay.specs.Answers.{is_out_of_memory}
-use Rattle.am_replay.specs.Bytes.{AppendsBeginning}
-use Rattle.am_replay.specs.Inputs.{IsReadOf}
-use Rattle.am_replay.specs.Printing.{report_text}
+use Rattle.am_io.specs.Bytes.{AppendsBeginning}
+use Rattle.am_io.specs.Inputs.{IsReadOf}
+use Rattle.am_replay.specs.Printing.{ran_out_of_memory, report_text}
 use Rattle.am_script.specs.ScriptTexts.{refusal_text}
-use Rattle.am_replay.specs.Runs.{ReplayView, Runs, counts_of, empty_replay}
-use Rattle.am_script.specs.Script.{Checks, lines_of}
-use Rattle.am_replay.specs.declared.answers.Answered.{Answered}
+use Rattle.am_replay.specs.Runs.{IsRun}
+use Rattle.am_replay.specs.Arguments.{AreRead, AreRefused}
+use Rattle.am_replay.specs.declared.arguments.Arguments.{Arguments}
+use Rattle.am_replay.specs.declared.report.Report.{Report}
+use Rattle.am_hub.specs.declared.settled.Settled.{Settled}
+use Rattle.am_script.specs.Script.{Checks, config_line, lines_of}
 use Rattle.am_script.specs.declared.command.Line.{Line}
 use Rattle.am_script.specs.declared.script.Fault.TheVariants.{TooLarge}
 use Rattle.am_script.specs.declared.script.Refusal.{Refusal}
@@ -21,18 +23,17 @@ use Rattle.am_replay.specs.declared.first_line.FirstLine.TheVariants as first_li
 use Rattle.am_replay.specs.declared.status.Status.{Status}
 use Rattle.am_replay.specs.declared.status.Status.TheVariants.{Done, BadArguments, Refused, CallOutOfMemory, OutOfMemory, ReadFailed, WriteFailed}
 
--- whether some call was out of memory
-abbrev pub ran_out_of_memory : List Answered → Bool
-ran_out_of_memory answers = list_any (λ line. is_out_of_memory line.answer) answers
-
 -- the first line is above the limit
 abbrev pub first_line_too_large : Refusal
 first_line_too_large = record { number = 1; fault = TooLarge }
 
+-- how a script that was run ends: it is told where some call was out of memory
+abbrev pub status_of : Bool → Status
+status_of out_of_memory = if out_of_memory then CallOutOfMemory else Done
+
 -- What a script's text comes to: its first line is looked at before the others, and one that is no
 -- configuration prints its fault; a refused script prints its first fault; in both nothing is run.
--- Another one is run, and prints what its calls answered. It is told where one of them was out of
--- memory.
+-- Another one is run, and prints what its calls answered.
 pub data ComesTo (text : List ℕ) : Status → List ℕ → Type 0 where
   too_long : IsFirstLine text TooLong
       → ComesTo text Refused (refusal_text first_line_too_large ++ 10 ∷ [])
@@ -41,16 +42,12 @@ pub data ComesTo (text : List ℕ) : Status → List ℕ → Type 0 where
   refused : (config : Config) (refusal : Refusal) → IsFirstLine text (first_line.Read config)
       → Checks 1 [] (lines_of text) (Err refusal)
       → ComesTo text Refused (refusal_text refusal ++ 10 ∷ [])
-  ran : {config : Config} {lines : List Line} {end : ReplayView} (answers : List Answered)
+  ran : (config : Config) {lines : List Line} (report : Report) (settled : Settled)
       → IsFirstLine text (first_line.Read config)
-      → Checks 1 [] (lines_of text) (Ok lines) → Runs config empty_replay lines end answers
-      → ran_out_of_memory answers ≡ false
-      → ComesTo text Done (report_text answers (counts_of end.session.book))
-  wanted : {config : Config} {lines : List Line} {end : ReplayView} (answers : List Answered)
-      → IsFirstLine text (first_line.Read config)
-      → Checks 1 [] (lines_of text) (Ok lines) → Runs config empty_replay lines end answers
-      → ran_out_of_memory answers ≡ true
-      → ComesTo text CallOutOfMemory (report_text answers (counts_of end.session.book))
+      → Checks 1 [] (lines_of text) (Ok lines)
+      → IsRun (config_line text) (as_nanos config.resolve_timeout) lines report settled
+      → ComesTo text (status_of (ran_out_of_memory report.answers.items))
+      (report_text lines report.answers.items report.counts)
 
 -- all that the script comes to was printed
 pub record IsPrinted (input old new : Option (List ℕ)) (status : Status) : Type 0 where
@@ -69,7 +66,7 @@ pub record IsCutShort (input old new : Option (List ℕ)) : Type 0 where
   pub comes : ComesTo text status output
   pub printed : AppendsBeginning old new output
 
--- how a run with no arguments ends, over the input's bytes and what the output holds before and
+-- how a replay ends, over the input's bytes and what the output holds before and
 -- after. Where the script wasn't read, or the program ran out of memory, nothing was printed
 abbrev pub IsReplay : Option (List ℕ) → Option (List ℕ) → Status → Option (List ℕ) → Type 0
 IsReplay input old Done new = IsPrinted input old new Done
@@ -79,3 +76,22 @@ IsReplay input old OutOfMemory new = Keeps old new
 IsReplay input old ReadFailed new = Keeps old new
 IsReplay input old WriteFailed new = IsCutShort input old new
 IsReplay input old BadArguments new = ⊥
+
+-- what clap has to say of arguments is printed, or a beginning of it where a write failed
+abbrev pub IsTelling : List ℕ → Option (List ℕ) → Status → Option (List ℕ) → Type 0
+IsTelling text old BadArguments new = Appends old new text
+IsTelling text old WriteFailed new = AppendsBeginning old new text
+IsTelling text old Done new = ⊥
+IsTelling text old Refused new = ⊥
+IsTelling text old CallOutOfMemory new = ⊥
+IsTelling text old OutOfMemory new = ⊥
+IsTelling text old ReadFailed new = ⊥
+
+-- What the program comes to under its arguments: a replay, or what is told of arguments that are refused
+-- or that ask for help. It may be out of memory before.
+pub data IsProgram (given : List (List ℕ)) (input old : Option (List ℕ)) : Status → Option (List ℕ) → Type 0 where
+  replayed : {status : Status} {new : Option (List ℕ)} (arguments : Arguments) → AreRead given arguments
+      → IsReplay input old status new → IsProgram given input old status new
+  told : {status : Status} {new : Option (List ℕ)} (text : List ℕ) → AreRefused given
+      → IsTelling text old status new → IsProgram given input old status new
+  no_memory : {new : Option (List ℕ)} → Keeps old new → IsProgram given input old OutOfMemory new

@@ -1,5 +1,5 @@
--- The exit status of each way in which a run ends.
-use Rattle.std.specs.Prelude.{ℕ}
+-- The exit status of each way in which a run ends, and what the error stream is told of it.
+use Rattle.std.specs.Prelude.{ℕ, List, [], codes}
 use Rattle.am_replay.specs.declared.status.Status.{Status}
 use Rattle.am_replay.specs.declared.status.Status.TheVariants.{Done, BadArguments, Refused, CallOutOfMemory, OutOfMemory, ReadFailed, WriteFailed}
 
@@ -12,3 +12,13 @@ exit_status_of CallOutOfMemory = 3
 exit_status_of OutOfMemory = 3
 exit_status_of ReadFailed = 3
 exit_status_of WriteFailed = 3
+
+-- a line that says why it failed, or that nothing was run; nothing where the output says all
+abbrev pub reason_of : Status → List ℕ
+reason_of Done = []
+reason_of Refused = []
+reason_of BadArguments = codes "replay: nothing was run: the arguments are wrong, or ask for help\n"
+reason_of CallOutOfMemory = codes "replay: a call was out of memory, as its line says\n"
+reason_of OutOfMemory = codes "replay: out of memory\n"
+reason_of ReadFailed = codes "replay: the script could not be read\n"
+reason_of WriteFailed = codes "replay: the output could not be written\n"

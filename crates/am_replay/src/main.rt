@@ -4,22 +4,18 @@
 //! It reads and prints, and decides nothing about alerts.
 #![tactic(auto)]
 
-mod answers;
 mod arguments;
-mod consumers;
 mod first_line;
-mod io;
-mod open_subscription;
 mod program;
 mod report;
-mod runner;
-mod session;
+mod script_run;
 mod status;
 #[cfg(test)]
 mod tests;
 
 use crate::program::run;
 use crate::status::Status;
+use am_io::write_text;
 use std::env;
 use std::io::ErrorKind;
 use std::process::ExitCode;
@@ -48,5 +44,7 @@ fn main(rt: HostRuntime) -> ExitCode {
         Ok(arguments) => run(&rt, &arguments, &mut rt.stdin(), &mut rt.stdout()),
         Err(status) => status,
     };
+    // Where the error stream can't be written either, the exit status alone tells it.
+    let _told = write_text(&mut rt.stderr(), status.reason().as_bytes());
     ExitCode::from(status.exit_status())
 }

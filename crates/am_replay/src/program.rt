@@ -1,44 +1,57 @@
 //! A whole run of the program, over any reader and writer.
 
-ghost use Rattle.std.specs.Prelude.{◌≡◌, ◌≢◌, [], Ok, IfOk, IfErr, if◌then◌else◌, string_bytes};
-ghost use Rattle.am_script.specs.Script.{Checks, IsRefused, lines_of};
-ghost use Rattle.std.specs.Io.KnownBytes.{Keeps};
+ghost use Rattle.std.specs.Prelude.{◌≡◌, [], Ok, IfOk, IfErr, map, string_bytes};
+ghost use Rattle.am_script.specs.Script.{Checks, IsRefused, config_line, lines_of};
 ghost use Rattle.am_replay.specs.FirstLines.{IsFirstLine};
-ghost use Rattle.am_replay.specs.Printing.{report_text};
-ghost use Rattle.am_replay.specs.Replays.{ComesTo, IsReplay, ran_out_of_memory};
+ghost use Rattle.am_replay.specs.Printing.{ran_out_of_memory, report_text};
+ghost use Rattle.am_replay.specs.Replays.{ComesTo, IsProgram, IsReplay, IsTelling, status_of};
 
+use crate::arguments::{Arguments, ArgumentsFault};
 use crate::first_line::FirstLine;
-use crate::io::failure::Failure;
-use crate::io::input::read_input;
-use crate::io::output::write_text;
-use crate::report::Report;
-use crate::runner::run_script;
+use crate::script_run::{Ran, run_script};
 use crate::status::Status;
-use am_provider::Book;
+use am_io::{Failure, read_input, write_text};
 use am_routes::Config;
-use am_script::{Fault, Line, Refusal, ScriptFault, read_script};
+use am_script::{Fault, Line, Refusal, ScriptFault, config_line, read_script};
 use std::alloc::{AllocError, Global};
 use std::io::{Read, Write};
+use std::sync::Wait;
+use std::thread::Threads;
 
-/// Reads a script, runs it and prints each answer. Any argument is refused.
-pub fn run<R: AllocGlobal, I: Read, O: Write>(
+/// Reads a script, runs it as the arguments ask, and prints each answer.
+pub fn run<R: AllocGlobal + Threads + Wait + Sync, I: Read, O: Write>(
     rt: &R,
     arguments: &[String],
     input: &mut I,
     out: &mut O,
 ) -> Status
-    ensures bad_arguments { arguments.now ≢ [] → result ≡ Status.BadArguments }
-    ensures nothing { arguments.now ≢ [] → Keeps (O.contents out.old) (O.contents out.new) }
-    ensures replay { arguments.now ≡ []
-        → IsReplay (I.remaining input.old) (O.contents out.old) result (O.contents out.new) }
+    ensures { IsProgram (map string_bytes arguments.now) (I.remaining input.old)
+        (O.contents out.old) result (O.contents out.new) }
 {
-    if !arguments.is_empty() {
-        return Status::BadArguments;
+    match Arguments::read(rt.alloc(), arguments) {
+        Ok(arguments) => replay(rt, rt.alloc(), arguments, input, out),
+        Err(ArgumentsFault::Refused(text)) => tell(out, &text),
+        Err(ArgumentsFault::NoMemory) => Status::OutOfMemory,
     }
-    replay(rt.alloc(), input, out)
 }
 
-fn replay<I: Read, O: Write>(alloc: Global, input: &mut I, out: &mut O) -> Status
+// Prints what is to be said of the arguments.
+fn tell<O: Write>(out: &mut O, text: &str) -> Status
+    ensures { IsTelling text.now (O.contents out.old) result (O.contents out.new) }
+{
+    match write_text(out, text.as_bytes()) {
+        Ok(()) => Status::BadArguments,
+        Err(_) => Status::WriteFailed,
+    }
+}
+
+fn replay<R: Threads + Wait + Sync, I: Read, O: Write>(
+    rt: &R,
+    alloc: Global,
+    arguments: Arguments,
+    input: &mut I,
+    out: &mut O,
+) -> Status
     ensures { IsReplay (I.remaining input.old) (O.contents out.old) result (O.contents out.new) }
 {
     let text = match read_input(alloc, input) {
@@ -46,7 +59,7 @@ fn replay<I: Read, O: Write>(alloc: Global, input: &mut I, out: &mut O) -> Statu
         Err(Failure::OutOfMemory) => return Status::OutOfMemory,
         Err(_) => return Status::ReadFailed,
     };
-    let Ok(outcome) = outcome_of(alloc, text) else {
+    let Ok(outcome) = outcome_of(rt, alloc, arguments, text) else {
         return Status::OutOfMemory;
     };
     let status = match write_text(out, outcome.output.as_bytes()) {
@@ -64,10 +77,15 @@ struct Outcome {
     status: Status,
     output: String,
     // What was run, to be let go after the output was written.
-    ran: Option<(Report, Book)>,
+    ran: Option<Ran>,
 }
 
-fn outcome_of(alloc: Global, text: Vec<u8>) -> Result<Outcome, AllocError>
+fn outcome_of<R: Threads + Wait + Sync>(
+    rt: &R,
+    alloc: Global,
+    arguments: Arguments,
+    text: Vec<u8>,
+) -> Result<Outcome, AllocError>
     ensures { IfOk result
         (λ outcome. ComesTo text.items outcome.status (string_bytes outcome.output)) }
 {
@@ -77,7 +95,7 @@ fn outcome_of(alloc: Global, text: Vec<u8>) -> Result<Outcome, AllocError>
             Ok(refused(format!(in alloc; "{refusal}\n")?))
         }
         FirstLine::Refused(fault) => { Ok(refused(format!(in alloc; "config {fault}\n")?)) }
-        FirstLine::Read(config) => outcome_under(alloc, &config, text),
+        FirstLine::Read(config) => outcome_under(rt, alloc, arguments, &config, text),
     }
 }
 
@@ -99,40 +117,61 @@ fn refused(output: String) -> Outcome
 }
 
 // What a script comes to under its configuration.
-fn outcome_under(alloc: Global, config: &Config, text: Vec<u8>) -> Result<Outcome, AllocError>
+fn outcome_under<R: Threads + Wait + Sync>(
+    rt: &R,
+    alloc: Global,
+    arguments: Arguments,
+    config: &Config,
+    text: Vec<u8>,
+) -> Result<Outcome, AllocError>
     requires { IsFirstLine text.items (FirstLine.Read config.now) }
     ensures { IfOk result
         (λ outcome. ComesTo text.items outcome.status (string_bytes outcome.output)) }
 {
     match take_lines(alloc, text) {
-        Ok(lines) => ran(alloc, run_script(alloc, config, lines)?),
+        Ok((configuration, lines)) => {
+            let timeout = config.resolve_timeout;
+            ran(
+                alloc,
+                run_script(rt, alloc, arguments, timeout, &configuration, lines)?,
+            )
+        }
         Err(ScriptFault::Refused(refusal)) => Ok(refused(format!(in alloc; "{refusal}\n")?)),
         Err(ScriptFault::NoMemory) => Err(AllocError),
     }
 }
 
-// Reads a script, and lets its text go.
-fn take_lines(alloc: Global, text: Vec<u8>) -> Result<Vec<Line>, ScriptFault>
-    ensures read { IfOk result (λ lines. Checks 1 [] (lines_of text.items) (Ok lines.items)) }
+// The configuration's text and the lines of a script, whose text is let go.
+fn take_lines(alloc: Global, text: Vec<u8>) -> Result<(Vec<u8>, Vec<Line>), ScriptFault>
+    ensures configuration { IfOk result (λ taken. taken.0.items ≡ config_line text.items) }
+    ensures read { IfOk result (λ taken. Checks 1 [] (lines_of text.items) (Ok taken.1.items)) }
     ensures refused { IfErr result (IsRefused text.items) }
 {
-    read_script(alloc, &text)
+    let lines = match read_script(alloc, &text) {
+        Ok(lines) => lines,
+        Err(fault) => return Err(fault),
+    };
+    let mut configuration = Vec::new(alloc);
+    match configuration.extend_from_slice(config_line(&text)) {
+        Ok(()) => Ok((configuration, lines)),
+        Err(_) => Err(ScriptFault::NoMemory),
+    }
 }
 
-fn ran(alloc: Global, ran: (Report, Book)) -> Result<Outcome, AllocError>
+fn ran(alloc: Global, ran: Ran) -> Result<Outcome, AllocError>
     ensures output { IfOk result (λ outcome. string_bytes outcome.output
-        ≡ report_text ran.0.answers.items ran.0.counts) }
+        ≡ report_text ran.report.lines.items ran.report.answers.items ran.report.counts) }
     ensures status { IfOk result (λ outcome. outcome.status
-        ≡ (if ran_out_of_memory ran.0.answers.items then Status.CallOutOfMemory else Status.Done)) }
+        ≡ status_of (ran_out_of_memory ran.report.answers.items)) }
 {
-    let status = if ran.0.ran_out_of_memory() {
+    let status = if ran.report.ran_out_of_memory() {
         Status::CallOutOfMemory
     } else {
         Status::Done
     };
     Ok(Outcome {
         status,
-        output: ran.0.text(alloc)?,
+        output: ran.report.text(alloc)?,
         ran: Some(ran),
     })
 }

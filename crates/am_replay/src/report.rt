@@ -1,53 +1,94 @@
-//! What a run of a script came to, and how it is printed.
+//! What a script's run came to, and how it is printed.
 
-ghost use Rattle.std.specs.Prelude.{◌≡◌, ◌++◌, ◌↔◌, IfOk, OnOk, Some, string_bytes};
+ghost use Rattle.std.specs.Prelude.{◌≡◌, ◌++◌, IfOk, OnOk, Some, string_bytes};
 ghost use Rattle.std.specs.List.{list_any};
-ghost use Rattle.am_replay.specs.Answers.{is_out_of_memory};
-ghost use Rattle.am_replay.specs.Printing.{counts_text, lines_text, report_text};
+ghost use Rattle.am_runner.specs.Answers.{is_out_of_memory};
+ghost use Rattle.am_replay.specs.Printing.{answers_text, counts_text, given_at, lines_text};
+ghost use Rattle.am_replay.specs.Printing.{ran_out_of_memory, report_text};
 
-use crate::answers::Answered;
-use am_provider::Counts;
+use am_hub::Counts;
+use am_runner::Answer;
+use am_script::{Line, Thread};
 use std::alloc::{AllocError, Global};
 use std::fmt;
 
 /// What a script's run came to.
-#[derive(Debug, Drop)]
+#[derive(Drop)]
 pub struct Report {
-    /// In the order of the script's lines.
-    pub answers: Vec<Answered>,
+    pub lines: Vec<Line>,
+    /// What each thread answered to each line.
+    pub answers: Vec<Vec<Vec<Answer>>>,
     pub counts: Counts,
 }
 
 impl Report {
     /// Whether some call was out of memory.
     pub fn ran_out_of_memory(&self) -> bool
-        ensures { result ≡ list_any (λ line. is_out_of_memory line.answer) self.now.answers.items }
+        ensures { result ≡ ran_out_of_memory self.now.answers.items }
     {
-        self.answers
-            .iter()
-            .any(|line| line.answer.is_out_of_memory())
+        self.answers.iter().any(|all| has_one_run_out(all))
     }
 
     /// A line for each answer, and the last one.
     pub fn text(&self, alloc: Global) -> Result<String, AllocError>
-        ensures { IfOk result
-            (λ text. string_bytes text ≡ report_text self.now.answers.items self.now.counts) }
+        ensures { IfOk result (λ text. string_bytes text
+            ≡ report_text self.now.lines.items self.now.answers.items self.now.counts) }
     {
         let mut text = String::new(alloc);
-        write_lines(&mut text, &self.answers)?;
+        write_lines(&mut text, &self.lines, &self.answers)?;
         let counts = End(self.counts);
         write!(text, "{counts}\n")?;
         Ok(text)
     }
 }
 
-fn write_lines(text: &mut String, lines: &[Answered]) -> Result<(), AllocError>
-    ensures { OnOk result (string_bytes text.new ≡ string_bytes text.old ++ lines_text lines.now) }
+fn has_one_run_out(all: &[Vec<Answer>]) -> bool
+    ensures { result ≡ list_any (λ given. list_any is_out_of_memory given.items) all.now }
 {
-    for line in lines {
-        write!(text, "{line}\n")?;
+    all.iter().any(|given| has_run_out(given))
+}
+
+fn has_run_out(given: &[Answer]) -> bool
+    ensures { result ≡ list_any is_out_of_memory given.now }
+{
+    given.iter().any(|answer| answer.is_out_of_memory())
+}
+
+fn write_lines(
+    text: &mut String,
+    lines: &[Line],
+    answers: &[Vec<Vec<Answer>>],
+) -> Result<(), AllocError>
+    ensures { OnOk result (string_bytes text.new
+        ≡ string_bytes text.old ++ lines_text answers.now 0 lines.now) }
+{
+    for (place, line) in lines.iter().enumerate() {
+        write_answers(text, line.number, given_at(answers, line.thread, place))?;
     }
     Ok(())
+}
+
+fn write_answers(text: &mut String, number: u32, given: &[Answer]) -> Result<(), AllocError>
+    ensures { OnOk result
+        (string_bytes text.new ≡ string_bytes text.old ++ answers_text number given.now) }
+{
+    for answer in given {
+        write!(text, "{number} {answer}\n")?;
+    }
+    Ok(())
+}
+
+// What a thread answered to the line at a place of the script.
+fn given_at<'a>(answers: &'a [Vec<Vec<Answer>>], thread: Thread, place: usize) -> &'a [Answer]
+    ensures { result.now ≡ given_at answers.now thread place }
+{
+    match answers.get(thread.index()) {
+        Some(all) => match all.get(place) {
+            Some(given) => given.as_slice(),
+            None => &[],
+        },
+        None => &[],
+    }
 }
 
 // The last line of the output.

@@ -1,7 +1,7 @@
 //! How a run of the program ends.
 
 ghost use Rattle.std.specs.Prelude.{◌≡◌};
-ghost use Rattle.am_replay.specs.Statuses.{exit_status_of};
+ghost use Rattle.am_replay.specs.Statuses.{exit_status_of, reason_of};
 
 /// How a run ends.
 #[derive(Clone, Copy, Debug, PartialEq, Eq)]
@@ -35,6 +35,22 @@ impl Status {
             | Status::OutOfMemory
             | Status::ReadFailed
             | Status::WriteFailed => 3,
+        }
+    }
+
+    /// What the error stream is told of a run that failed or wasn't begun; nothing of another one, whose
+    /// output says all.
+    pub fn reason(self) -> &'static str
+        ensures { result.now ≡ reason_of self }
+    {
+        match self {
+            Status::Done | Status::Refused => "",
+            Status::BadArguments =>
+                "replay: nothing was run: the arguments are wrong, or ask for help\n",
+            Status::CallOutOfMemory => "replay: a call was out of memory, as its line says\n",
+            Status::OutOfMemory => "replay: out of memory\n",
+            Status::ReadFailed => "replay: the script could not be read\n",
+            Status::WriteFailed => "replay: the output could not be written\n",
         }
     }
 }

@@ -6,7 +6,9 @@ use crate::program::run;
 use crate::status::Status;
 use std::alloc::Global;
 use std::io::{Error, ErrorKind, Read, Result, Write};
+use std::sync::Wait;
 use std::test::Fail;
+use std::thread::Threads;
 
 const SCRIPT: &str =
     "{\"route\":{\"receiver\":\"ops\"}}\n{\"do\":\"subscribe\",\"thread\":0,\"sub\":\"a\"}\n{\"do\":\"post\",\"thread\":0,\"at\":\"2024-01-01T10:00:00Z\",\"body\":[{\"annotations\":{\"summary\":\"disk is full\"},\"endsAt\":\"2024-01-01T10:04:00.000Z\",\"startsAt\":\"2024-01-01T10:00:00.000Z\",\"generatorURL\":\"http://prom:9090/graph\",\"labels\":{\"alertname\":\"DiskFull\",\"instance\":\"db1\"}}]}\n{\"do\":\"read\",\"thread\":0,\"sub\":\"a\",\"max\":2}\n";
@@ -133,7 +135,7 @@ fn a_failed_read_prints_nothing(rt: HostRuntime) -> std::result::Result<(), Fail
 }
 
 // Whether a run whose writer is in trouble after so many calls ends with a beginning of the output.
-fn cut_short(rt: &HostRuntime, calls: u32, trouble: Trouble) -> bool {
+fn cut_short<R: AllocGlobal + Threads + Wait + Sync>(rt: &R, calls: u32, trouble: Trouble) -> bool {
     let mut out = output(rt.alloc());
     out.calls = calls;
     out.trouble = Some(trouble);

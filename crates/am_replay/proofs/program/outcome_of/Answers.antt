@@ -13,14 +13,14 @@ first_line_of text slice read is same known first =
     subst (λ (l : FirstLine). IsFirstLine text l) known (subst (λ (t : List ℕ). IsFirstLine t read) same first)
 
 pub returns-in_ok-format-in-TooLong : goal.returns-in_ok-format-in-TooLong
-returns-in_ok-format-in-TooLong c =
+returns-in_ok-format-in-TooLong g c =
     let text = c.args.text.items in
     let first = first_line_of text c.deref.result.now c.in_ok-read.field-0 first_line.TooLong c.deref.ensures.value c.in-TooLong.is c.in_ok-read.ensures in
     refused_so text (refusal_text first_line_too_large ++ 10 ∷ []) _ _ (too_long first) c.refused.ensures.status
     (ap string_bytes c.refused.ensures.output ∙ c.in_ok-format-in-TooLong.ensures.ok)
 
 pub returns-in_ok-format-in-Refused : goal.returns-in_ok-format-in-Refused
-returns-in_ok-format-in-Refused c =
+returns-in_ok-format-in-Refused g c =
     let text = c.args.text.items in
     let fault = c.in-Refused.fault in
     let first = first_line_of text c.deref.result.now c.in_ok-read.field-0 (first_line.Refused fault) c.deref.ensures.value c.in-Refused.is c.in_ok-read.ensures in

@@ -1,7 +1,7 @@
-use Rattle.std.proofs.Common.{◌≡◌, ◌++◌, take, string_bytes}
+use Rattle.std.proofs.Common.{◌≡◌, ◌++◌, drop, string_bytes}
 use Rattle.am_replay.specs.Printing.{lines_text}
 use Rattle.am_replay.proofs.report.write_lines.Given as goal
 
--- the lines so far are written
-abbrev pub invariant-loop-line : goal.invariant-loop-line
-invariant-loop-line l = string_bytes l.text ≡ string_bytes l.initial.text ++ lines_text (take l.line-index l.lines)
+-- what is written and what the lines left come to are all
+abbrev pub invariant-loop-place : goal.invariant-loop-place
+invariant-loop-place l = string_bytes l.text ++ lines_text l.answers l.place (drop l.place l.lines) ≡ string_bytes l.initial.text ++ lines_text l.answers 0 l.lines

@@ -1,0 +1,12 @@
+use Rattle.am_replay.specs.Replays.{no_memory, replayed, told}
+use Rattle.am_replay.proofs.Outcomes.{keeps_same}
+use Rattle.am_replay.proofs.program.run.Goals as goal
+
+pub returns-in-Ok : goal.returns-in-Ok
+returns-in-Ok g c = replayed c.in-Ok.arguments c.in-Ok.ensures.read c.replay.ensures
+
+pub returns-in-Err-Refused : goal.returns-in-Err-Refused
+returns-in-Err-Refused g c = told c.deref.result.now (rw c.in-Err-Refused.field-0-is at c.in-Err-Refused.ensures.refused) c.tell.ensures
+
+pub returns-in-Err-NoMemory : goal.returns-in-Err-NoMemory
+returns-in-Err-NoMemory g c = no_memory (keeps_same (g.O.Write.contents c.args.out.now))
