@@ -25,10 +25,9 @@ use Rattle.am_provider.specs.AlertList.{with_alerts, batch_by_list}
 use Rattle.am_provider.specs.Journal.{JournalView, with_call, call_count, until, MayFollow}
 use Rattle.am_provider.specs.Stored.{stored}
 use Rattle.am_provider.specs.Broadcast.{broadcast, items_of, due, IsFront}
-use Rattle.am_provider.specs.BookView as plain
 use Rattle.am_provider.specs.inside.Journals.{journal_of}
 use Rattle.am_provider.specs.inside.Lanes.{lane_at, open_count, IsLowestFree, IsItsOpening}
-use Rattle.am_provider.specs.inside.BookInside.{book_of}
+use Rattle.am_provider.specs.inside.Pages.{book_of}
 use Rattle.am_provider.proofs.Opens.{until_end, until_stays, open_within}
 use Rattle.am_provider.proofs.Kept.{sound_posted, sound_closed, few}
 use Rattle.am_provider.proofs.Flags.{sound_subscribed, sound_left, lane_set, due_of, open_count_cleared, room_to_leave}
@@ -194,20 +193,6 @@ lane_given a counted places lane kept small ne = given (lane_at a.lanes lane) re
     given None here its own = absurd (ne own)
     given (Some one) here its own = (one, here, its, own.1, own.2)
 
--- what a Book for one thread would know the subscription by
-abbrev pub plain_of : ℕ → ℕ → OpenLane → plain.SubscriptionView
-plain_of lane start one = record { lane = lane; at = one.at; start = start; opening = one.opening; count = 0; closed_told = false }
-
-pub belongs : (a : Shelf) (lane start : ℕ) (one : OpenLane) → IsItsOpening (journal_of a.journal) lane one → start ≡ a.journal.places + length (broadcast (until (journal_of a.journal) one.at))
-    → plain.BelongsTo (book_of (pages_of a)) (plain_of lane start one)
-belongs a lane start one its starts = record {
-  given = its.given;
-  opening = its.opening;
-  start = starts;
-  within = omega arith;
-  told = λ told. absurd (let no : false ≡ true = told in cc);
-}
-
 items_alike : (log : List Batch) → all_items log ≡ items_of (sent_in log)
 items_alike [] = refl
 items_alike (x ∷ xs) = ap (λ rest. keys.items_of x ++ rest) (items_alike xs)
@@ -218,7 +203,7 @@ pub due_is : (a : Shelf) (counted places lane start : ℕ) (one : OpenLane) → 
     → one.opening ++ all_items (drop start a.log.tail.log) ≡ due (journal_of a.journal) one.at
 due_is a counted places lane start one kept its starts =
     ap (λ xs. one.opening ++ xs) (items_alike (drop start a.log.tail.log) ∙ ap items_of (sym (drop-map (λ (y : Batch). keys.items_of y) start a.log.tail.log)))
-    ∙ due_of (book_of (pages_of a)) (plain_of lane start one) kept.pages.kept (belongs a lane start one its starts)
+    ∙ due_of (book_of (pages_of a)) start one kept.pages.kept its.opening starts
 
 -- what was taken begins all that there is
 taken_begins : (s : SubscriptionView) (count : ℕ) (rest : List Alert) → IsSubscription s count → IsPrefix (cast.taken s.cursor) rest → IsFront (taken s) (s.opening ++ rest)
@@ -295,11 +280,11 @@ leaving a counted places count s kept of small ne sound began ended =
 pub all_counted : (a : Shelf) (counted places count : ℕ) (s : SubscriptionView) (one : OpenLane) → IsKeptBook a counted places → IsSubscription s count → Leaving a s one
     → length s.opening < 2 ^ 63 → count ≡ length (taken s)
 all_counted a counted places count s one kept of by short =
-    let lane = s.cursor.lane.number in
     let start = s.cursor.lane.start in
-    let small = all_small (book_of (pages_of a)) (plain_of lane start one) kept.pages.limits (omega (arith, ap length by.opening)) in
-    let whole : length (plain.all_of (book_of (pages_of a)) (plain_of lane start one)) ≡ length (due (journal_of a.journal) s.at) =
-    ap length (due_of (book_of (pages_of a)) (plain_of lane start one) kept.pages.kept (belongs a lane start one by.its by.start) ∙ ap (due (journal_of a.journal)) (sym by.at)) in
+    let sent = sent_in a.log.tail.log in
+    let small = all_small sent start one.opening kept.pages.limits (omega (arith, ap length by.opening)) in
+    let whole : length (one.opening ++ items_of (drop start sent)) ≡ length (due (journal_of a.journal) s.at) =
+    ap length (due_of (book_of (pages_of a)) start one kept.pages.kept by.its.opening by.start ∙ ap (due (journal_of a.journal)) (sym by.at)) in
     let parts : length (taken s) + length by.front.0 ≡ length (due (journal_of a.journal) s.at) = sym (length-append (taken s) by.front.0) ∙ ap length by.front.1 in
     let l = length (taken s) in
     let c = of.counted in
@@ -324,7 +309,7 @@ is_given a s one by = ap is_some by.here
 
 pub room_for_left : (a : Shelf) (counted places : ℕ) (s : SubscriptionView) (one : OpenLane) → IsKeptBook a counted places → Leaving a s one → deque_len a.journal.calls < deque_capacity a.journal.calls
 room_for_left a counted places s one kept by =
-    room_to_leave (pages_of a) (plain_of s.cursor.lane.number s.cursor.lane.start one) kept.pages (belongs a s.cursor.lane.number s.cursor.lane.start one by.its by.start)
+    room_to_leave (pages_of a) s.cursor.lane.number one.at kept.pages by.its.given
 
 pub room_for_ending : (a : Shelf) (counted places : ℕ) (s : SubscriptionView) (one : OpenLane) → IsKeptBook a counted places → Leaving a s one → s.cursor.lane.number < 8 → length a.endings < places
 room_for_ending a counted places s one kept by small =
@@ -374,8 +359,7 @@ kept_left a b counted places room s one ended kept by small journal stored tail 
     let lane = s.cursor.lane.number in
     let old = journal_of a.journal in
     let within : lane < length a.lanes = omega (arith, kept.pages.eight) in
-    let of = belongs a lane s.cursor.lane.start one by.its by.start in
-    let pages = sound_left (pages_of a) (pages_of b) (plain_of lane s.cursor.lane.start one) kept.pages of journal stored (ap (λ (t : Tail Batch). sent_in t.log) tail) lanes (ap (λ (t : Tail Batch). t.closed) tail) posts deque in
+    let pages = sound_left (pages_of a) (pages_of b) lane one.at kept.pages by.its.given journal stored (ap (λ (t : Tail Batch). sent_in t.log) tail) lanes (ap (λ (t : Tail Batch). t.closed) tail) posts deque in
     let sent : length (sent_in a.log.tail.log) ≡ length a.log.tail.log = length-map a.log.tail.log (λ (y : Batch). keys.items_of y) in
     let low_places : old.places ≤ length a.log.tail.log = omega (arith, kept.pages.kept.places) in
     let is_open : MayFollow old (Left lane) = sym (kept.pages.lanes lane small) ∙ is_given a s one by in

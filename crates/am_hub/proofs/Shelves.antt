@@ -18,10 +18,10 @@ use Rattle.am_provider.specs.Journal.{JournalView, with_call, call_count, until,
 use Rattle.am_provider.specs.Stored.{Update, updates, updates_of}
 use Rattle.am_provider.specs.Broadcast.{broadcast, batches_of, items_of, due}
 use Rattle.std.specs.VecDeque.{deque_len, deque_capacity}
-use Rattle.am_provider.specs.inside.BookLimits.{IsWithinLogLimits}
+use Rattle.am_provider.specs.inside.LogLimits.{IsWithinLogLimits}
 use Rattle.am_provider.specs.inside.Journals.{journal_of}
 use Rattle.am_provider.specs.inside.Lanes.{lane_at, open_count, IsItsOpening}
-use Rattle.am_provider.specs.inside.BookInside.{Pages, book_of, AgreesWithJournal}
+use Rattle.am_provider.specs.inside.Pages.{Pages, book_of, AgreesWithJournal}
 use Rattle.am_provider.proofs.Journals.{drop_front, due_last, closed_last}
 use Rattle.am_provider.proofs.Opens.{until_stays}
 use Rattle.am_provider.proofs.Growing.{silent}
@@ -195,7 +195,7 @@ agrees_alike a b sound journal long roomy stored sent posts lanes closed =
     let opens : open_count b.lanes ≡ open_count a.lanes = ap open_count lanes in
     let ends : cond {A = ℕ} b.closed 0 1 ≡ cond {A = ℕ} a.closed 0 1 = ap (λ (c : Bool). cond {A = ℕ} c 0 1) closed in
     record {
-      kept = subst Rattle.am_provider.specs.BookView.IsFaithful (sym alike) sound.kept;
+      kept = subst Rattle.am_provider.specs.PlainBook.FollowsJournal (sym alike) sound.kept;
       eight = ap length lanes ∙ sound.eight;
       closed = closed ∙ (sound.closed ∙ sym (ap is_closed journal));
       lanes = λ lane small. ap (λ ls. is_some (lane_at ls lane)) lanes ∙ (sound.lanes lane small ∙ sym (ap (λ j. is_open j lane) journal));

@@ -9,7 +9,7 @@ use Rattle.am_provider.specs.declared.call.Call.TheVariants.{Posted, Collected, 
 use Rattle.am_provider.specs.Journal.{JournalView, call_count, until, is_closed, is_open, IsOpenSubscription}
 use Rattle.am_provider.specs.Stored.{updates, stored}
 use Rattle.am_provider.specs.Broadcast.{broadcast, due}
-use Rattle.am_provider.specs.BookView as one_thread
+use Rattle.am_provider.specs.PlainBook.{PlainBook, FollowsJournal}
 use Rattle.am_hub.specs.declared.answers.Policy.{Policy}
 use Rattle.am_hub.specs.declared.answers.Ended.{Ended}
 use Rattle.am_hub.specs.Batches.{Batch, LogView, sent_in, posts_in}
@@ -30,8 +30,8 @@ pub record BookView : Type 0 where
 abbrev pub batches : BookView → List Batch
 batches book = book.log.tail.log
 
--- the same Book, as it is for one thread
-abbrev pub plain : BookView → one_thread.BookView
+-- the same Book without its lanes and endings
+abbrev pub plain : BookView → PlainBook
 plain book =
     record { stored = book.stored; journal = book.journal; log = sent_in (batches book) }
 
@@ -72,7 +72,7 @@ pub record IsEndingOf (journal : JournalView) (ended : Ended) : Type 0 where
 -- ending follow from the journal, and the journal is legal. There is one ending for each subscription that
 -- was given back, in that order, but for those whose Subscribed was dropped
 pub record IsFaithful (book : BookView) : Type 0 where
-  pub journal : one_thread.IsFaithful (plain book)
+  pub journal : FollowsJournal (plain book)
   pub posts : drop book.journal.places (posts_in (batches book)) ≡ filter sends book.journal.calls
   pub closed : book.log.tail.closed ≡ is_closed book.journal
   pub lanes : (lane : ℕ) → lane < 8 → IsLaneOf book lane

@@ -15,22 +15,55 @@ pub fn moment(seconds: u32) -> Moment {
     }
 }
 
-/// A body with one alert, whose label and start are of this number.
-pub fn body_of(alloc: Global, number: u32) -> Result<String, AllocError> {
-    report_of(alloc, number, number, 4_000_000)
+/// A report as it is posted: its label, and its start and end in seconds after the beginning of 2024.
+/// One without an end gets it from the resolve timeout.
+#[derive(Clone, Copy, Drop)]
+pub struct Report {
+    pub label: u32,
+    pub start: u32,
+    pub end: Option<u32>,
 }
 
-/// A body with one alert of that label, which starts and ends so many seconds after the beginning of
-/// 2024.
-pub fn report_of(alloc: Global, label: u32, start: u32, end: u32) -> Result<String, AllocError> {
-    let mut body = String::new(alloc);
-    let start = moment(start);
-    let end = moment(end);
-    write!(
-        body,
-        "[{{\"labels\":{{\"n\":\"{label}\"}},\"startsAt\":\"{start}\",\"endsAt\":\"{end}\"}}]"
-    )?;
+impl Report {
+    pub fn new(label: u32, start: u32, end: u32) -> Report {
+        Report {
+            label,
+            start,
+            end: Some(end),
+        }
+    }
+
+    fn write_to(&self, body: &mut String) -> Result<(), AllocError> {
+        let label = self.label;
+        let start = moment(self.start);
+        write!(
+            body,
+            "{{\"labels\":{{\"n\":\"{label}\"}},\"startsAt\":\"{start}\""
+        )?;
+        if let Some(end) = self.end {
+            let end = moment(end);
+            write!(body, ",\"endsAt\":\"{end}\"")?;
+        }
+        body.push_str("}")
+    }
+}
+
+/// A body with these reports.
+pub fn reports_body(alloc: Global, reports: &[Report]) -> Result<String, AllocError> {
+    let mut body = String::from_str(alloc, "[")?;
+    let mut comma = "";
+    for report in reports {
+        body.push_str(comma)?;
+        report.write_to(&mut body)?;
+        comma = ",";
+    }
+    body.push_str("]")?;
     Ok(body)
+}
+
+/// A body with one alert, whose label and start are of this number.
+pub fn body_of(alloc: Global, number: u32) -> Result<String, AllocError> {
+    reports_body(alloc, &[Report::new(number, number, 4_000_000)])
 }
 
 /// A body with one alert that starts and ends at the greatest instant.

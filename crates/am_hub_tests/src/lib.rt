@@ -5,6 +5,8 @@
 #[cfg(test)]
 mod bodies;
 #[cfg(test)]
+mod comparison;
+#[cfg(test)]
 mod cut_races;
 #[cfg(test)]
 mod days;
@@ -19,6 +21,14 @@ mod many_threads;
 #[cfg(test)]
 mod one_thread;
 #[cfg(test)]
+mod plain_store;
+#[cfg(test)]
+mod posts;
+#[cfg(test)]
+mod reports;
+#[cfg(test)]
 mod shown;
 #[cfg(test)]
 mod slow_lanes;
+#[cfg(test)]
+mod trims;

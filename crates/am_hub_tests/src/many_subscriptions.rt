@@ -4,7 +4,7 @@
 
 ghost use Rattle.std.specs.Prelude.{◌≡◌};
 
-use crate::bodies::{moment, report_of};
+use crate::bodies::{Report, moment, reports_body};
 use crate::days::Stopped;
 use crate::many_threads::post_one;
 use am_alert::{Alert, Moment};
@@ -86,7 +86,8 @@ fn report<N: Origin, R: Wait>(
     let label = number % LABELS;
     let apart = if number % 17 == 0 { 5_000 } else { 0 };
     let start = 10_000 + label * 10_000 + apart + number % 50;
-    let body = report_of(alloc, label, start, start + 100 + number % 30)?;
+    let end = start + 100 + number % 30;
+    let body = reports_body(alloc, &[Report::new(label, start, end)])?;
     Ok(post_one(rt, provider, pass, body.as_bytes(), moment(number)))
 }
 

@@ -2,6 +2,7 @@
 
 use crate::bodies::{body_of, moment};
 use crate::days::{Day, Settings, Stopped, spend};
+use crate::posts::{Placed, post};
 use am_hub::{
     Counts, Ended, NoGate, Origin, Pass, Policy, PostRefused, Provider, PutFault, Settled, Step,
     Subscription,
@@ -14,7 +15,7 @@ use std::test::Fail;
 /// What the calls of a small day answered.
 #[derive(Clone, Copy, Debug, PartialEq, Eq, Drop)]
 struct Answers {
-    first: (u32, Option<u64>),
+    first: Placed,
     placed: Option<u64>,
     collected: u64,
     ended: Ended,
@@ -51,18 +52,6 @@ impl Day for SmallDay {
             late: provider.collect_resolved(rt, moment(420))?,
         })
     }
-}
-
-// A post of a body, by how many of its alerts were valid and their place.
-fn post<N: Origin, R: Wait>(
-    rt: &R,
-    provider: &Provider<N>,
-    pass: &mut Pass<N>,
-    body: &[u8],
-    at: u32,
-) -> Result<(u32, Option<u64>), PostRefused> {
-    let posted = provider.post(rt, pass, &NoGate, body, moment(at))?;
-    Ok((posted.valid, posted.place))
 }
 
 fn post_and_collect<N: Origin, R: Wait>(

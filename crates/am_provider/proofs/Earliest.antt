@@ -75,11 +75,6 @@ best_next lanes end first next best here earlier = record {
         by None e = let no : Some other ≡ None = sym found ∙ best.none e lane l in (cc)
         by (Some one) e = omega (arith, earlier one e, best.earliest one e lane other l found)
 
-pub lane_past : (lanes : List (Option OpenLane)) (lane : ℕ) → length lanes ≤ lane → lane_at lanes lane ≡ None
-lane_past [] lane h = refl
-lane_past (x ∷ lanes) zero h = absurd (omega arith)
-lane_past (x ∷ lanes) (suc lane) h = lane_past lanes lane (omega arith)
-
 pub lane_here : (lanes : List (Option OpenLane)) (lane : ℕ) (one : OpenLane) → lane_at lanes lane ≡ Some one → lane < length lanes
 lane_here [] lane one e = (cc)
 lane_here (x ∷ lanes) zero one e = omega arith

@@ -8,8 +8,7 @@ use Rattle.std.specs.Option.{option_map}
 use Rattle.std.specs.Map.{keys_of, values_of}
 use Rattle.std.specs.Map as map
 use Rattle.std.proofs.Math.Seq.{take-append_seam}
-use Rattle.std.specs.Prelude.{slice_set}
-use Rattle.std.proofs.lemmas.List.{length-map, take-map}
+use Rattle.std.proofs.lemmas.List.{length-map}
 use Rattle.indexmap.specs.IndexMap.{insert_entry, set_value_at}
 use Rattle.indexmap.proofs.MapLemmas.{Found-position, insert_entry-first}
 use Rattle.am_labels.specs.LabelSets.{Labels, same_labels}
@@ -17,8 +16,6 @@ use Rattle.am_labels.specs.LabelLaws.{labels_decide}
 use Rattle.am_alert.specs.declared.alert.Alert.{Alert}
 use Rattle.am_alert.specs.Merging.{absorbed}
 use Rattle.am_provider.specs.declared.store.absorb.Change.{Change}
-use Rattle.am_provider.specs.declared.store.absorb.Change.TheVariants.{Added, Replaced}
-use Rattle.am_provider.specs.inside.Undone.{undone, all_undone}
 use Rattle.am_provider.specs.AlertList.{lookup, with_alert, absorb_into, batch_by_list}
 use Rattle.am_provider.specs.Shared.{alerts_in}
 use Rattle.am_provider.specs.inside.Shared.{stored_in, AreKeptByLabels, taken_back, all_taken_back}
@@ -135,21 +132,3 @@ length_batch now (new ∷ news) olds = ap suc (length_batch now news (absorb_int
 
 pub length_became : (shared : List (Arc Alert Global)) (now : ℕ) (news olds : List Alert) → alerts_in shared ≡ batch_by_list now news olds → length shared ≡ length news
 length_became shared now news olds is = sym (length-map shared arc_value) ∙ (ap length is ∙ length_batch now news olds)
-
--- ---- what was changed, on the list of alerts
-
-set_back : (entries : List (Labels × Arc Alert Global)) (at : ℕ) (before : Arc Alert Global) → stored_in (set_value_at entries at before) ≡ slice_set (stored_in entries) at (arc_value before)
-set_back [] at before = refl
-set_back (entry ∷ entries) zero before = refl
-set_back (entry ∷ entries) (suc at) before = ap (λ rest. arc_value entry.1 ∷ rest) (set_back entries at before)
-
-undone_stored : (change : Change) (entries : List (Labels × Arc Alert Global)) → stored_in (taken_back change entries) ≡ undone change (stored_in entries)
-undone_stored Added entries =
-    sym (take-map (λ (entry : Labels × Arc Alert Global). arc_value entry.1) (length entries - 1) entries)
-    ∙ ap (λ n. take (n - 1) (stored_in entries)) (sym (length-map entries (λ (entry : Labels × Arc Alert Global). arc_value entry.1)))
-undone_stored (Replaced at before) entries = set_back entries at before
-
-pub all_undone_stored : (changes : List Change) (entries : List (Labels × Arc Alert Global)) → stored_in (all_taken_back changes entries) ≡ all_undone changes (stored_in entries)
-all_undone_stored [] entries = refl
-all_undone_stored (change ∷ changes) entries =
-    undone_stored change (all_taken_back changes entries) ∙ ap (undone change) (all_undone_stored changes entries)

@@ -8,7 +8,7 @@ use Rattle.std.proofs.Math.Seq.{drop-nil}
 use Rattle.am_provider.specs.declared.call.Call.{Call}
 use Rattle.am_provider.specs.Stored.{Update, updates_of, call_updates, first_reports, updates, stored}
 use Rattle.am_provider.specs.Broadcast.{batches_of, broadcast_from, broadcast, items_of, due}
-use Rattle.am_provider.specs.Journal.{JournalView, new_journal, with_call, call_count, first_calls, until, since, closes, is_closed, is_post, posts_of, open_after, open_from, has_lane, is_open, MayFollow, IsLegal}
+use Rattle.am_provider.specs.Journal.{JournalView, with_call, call_count, first_calls, until, since, closes, is_closed, is_post, posts_of, open_after, open_from, has_lane, is_open, MayFollow, IsLegal}
 
 -- ---- lists
 
@@ -126,9 +126,6 @@ pub first_stays : (journal : JournalView) (c : Call) (k : ℕ) → k ≤ length 
 first_stays journal c k h = ap (λ (calls : List Call). record journal { calls = calls }) (take-append-le k journal.calls (c ∷ []) h)
 
 -- ---- a legal journal stays legal
-
-pub legal_new : IsLegal new_journal
-legal_new k c e = (cc)
 
 pub legal_last : (journal : JournalView) (c : Call) → IsLegal journal → MayFollow journal c → IsLegal (with_call journal c)
 legal_last journal c legal may k d e =

@@ -1,28 +1,25 @@
 -- A book stays sound as a call comes.
-use Rattle.std.proofs.Common.{◌≡◌, ℕ, zero, suc, ◌+◌, ◌<◌, ◌≤◌, Bool, true, false, not, cond, ◌||◌, nat_eq, List, [], ◌∷◌, ◌++◌, length, drop, get_or, Option, None, Some, refl, sym, ap, subst, ◌∙◌, arith, filter, length-append, ◌^◌}
+use Rattle.std.proofs.Common.{◌≡◌, ℕ, zero, suc, ◌+◌, ◌<◌, ◌≤◌, Bool, true, false, not, cond, ◌||◌, nat_eq, List, [], ◌∷◌, ◌++◌, length, drop, get_or, Option, None, Some, refl, sym, ap, subst, ◌∙◌, arith, filter, length-append}
 use Rattle.std.specs.Option.{is_some, IfSome}
 use Rattle.std.specs.VecDeque.{deque_len, deque_capacity}
 use Rattle.am_provider.specs.declared.lanes.OpenLane.{OpenLane}
-use Rattle.am_provider.specs.declared.journal.TheConstants.{MAX_BEFORE}
 use Rattle.am_provider.specs.inside.Journals.{journal_of}
 use Rattle.am_provider.specs.inside.Lanes.{lane_at, open_count, IsItsOpening}
 use Rattle.std.proofs.lemmas.List.{append-nil}
 use Rattle.std.proofs.lemmas.List.Elements.{All-append}
 use Rattle.std.specs.List.{count_by}
-use Rattle.std.proofs.lemmas.List.Sums.{count_by-le-length}
 use Rattle.am_alert.specs.declared.alert.Alert.{Alert}
 use Rattle.am_alert.specs.Merging.{is_resolved_at}
 use Rattle.am_provider.specs.declared.call.Call.{Call}
 use Rattle.am_provider.specs.declared.call.Call.TheVariants.{Posted, Collected, Closed}
 use Rattle.am_alert.specs.declared.post.TheConstants.{MAX_ALERTS}
-use Rattle.am_provider.specs.declared.book.TheConstants.{LOG_END}
 use Rattle.am_provider.specs.Stored.{Update, updates_of, updates, stored}
 use Rattle.am_provider.specs.Broadcast.{batch_of, batches_of}
 use Rattle.am_provider.specs.Journal.{JournalView, with_call, closes, is_closed, is_post, posts_of, open_after, is_open, MayFollow}
 use Rattle.am_provider.specs.AlertList.{with_alerts, batch_by_list}
-use Rattle.am_provider.specs.inside.BookLimits.{IsWithinLogLimits}
-use Rattle.am_provider.specs.BookView.{IsFaithful}
-use Rattle.am_provider.specs.inside.BookInside.{Pages, AgreesWithJournal}
+use Rattle.am_provider.specs.inside.LogLimits.{most_batches, IsWithinLogLimits}
+use Rattle.am_provider.specs.PlainBook.{FollowsJournal}
+use Rattle.am_provider.specs.inside.Pages.{Pages, AgreesWithJournal}
 use Rattle.am_provider.proofs.Stored.{stored_post, batch_of_post, stored_collect}
 use Rattle.am_provider.proofs.Journals.{drop_front, updates_last, broadcast_last, posts_last, closed_last, open_last, legal_last}
 use Rattle.am_provider.proofs.Opens.{until_stays, open_stays}
@@ -39,9 +36,9 @@ pub record Grows (a b : Pages) (c : Call) : Type 0 where
   pub limits : IsWithinLogLimits b.sent
   pub room : deque_len b.journal.calls + open_count b.lanes + cond b.closed 0 1 ≤ deque_capacity b.journal.calls
 
-faithful_grown : (a b : Pages) (c : Call) → AgreesWithJournal a → MayFollow (journal_of a.journal) c → Grows a b c
-    → IsFaithful (record { stored = b.stored; journal = with_call (journal_of a.journal) c; log = b.sent })
-faithful_grown a b c sound may grows =
+follows_grown : (a b : Pages) (c : Call) → AgreesWithJournal a → MayFollow (journal_of a.journal) c → Grows a b c
+    → FollowsJournal (record { stored = b.stored; journal = with_call (journal_of a.journal) c; log = b.sent })
+follows_grown a b c sound may grows =
     let journal = journal_of a.journal in
     let sent = batches_of (updates journal) c in
     record {
@@ -62,7 +59,7 @@ sound_grown a b c sound may grows =
     let posts : b.journal.posts ≡ a.journal.posts = ap (λ (j : JournalView). j.posts) grows.journal in
     let before : b.journal.before ≡ a.journal.before = ap (λ (j : JournalView). j.before) grows.journal in
     record {
-      kept = subst (λ j. IsFaithful (record { stored = b.stored; journal = j; log = b.sent })) (sym grows.journal) (faithful_grown a b c sound may grows);
+      kept = subst (λ j. FollowsJournal (record { stored = b.stored; journal = j; log = b.sent })) (sym grows.journal) (follows_grown a b c sound may grows);
       eight = grows.eight ∙ sound.eight;
       closed = grows.closed ∙ (ap (λ b. b || closes c) sound.closed ∙ sym (ap is_closed grows.journal ∙ closed_last journal c));
       lanes = λ lane h. grows.lanes lane h ∙ (ap (λ was. open_after lane was c) (sound.lanes lane h) ∙ sym (ap (λ j. is_open j lane) grows.journal ∙ open_last journal c lane));
@@ -130,11 +127,11 @@ at_most : (k : ℕ) (d batch : List Alert) → length batch ≤ MAX_ALERTS → k
 at_most zero d batch h l = h
 at_most (suc k) d batch h l = absurd (omega arith)
 
-limits_grown : (log : List (List Alert)) (batch : List Alert) → IsWithinLogLimits log → length batch ≤ MAX_ALERTS → (0 < length batch → length log < LOG_END)
+limits_grown : (log : List (List Alert)) (batch : List Alert) → IsWithinLogLimits log → length batch ≤ MAX_ALERTS → (0 < length batch → length log < most_batches)
     → IsWithinLogLimits (cond (nat_eq (length batch) 0) log (log ++ batch ∷ []))
 limits_grown log [] limits few fits = limits
 limits_grown log (x ∷ xs) limits few fits =
-    let below : length log < LOG_END = fits (omega arith) in
+    let below : length log < most_batches = fits (omega arith) in
     let grown : IsWithinLogLimits (log ++ (x ∷ xs) ∷ []) = record {
       batches = All-append (λ batch. length batch ≤ MAX_ALERTS) log ((x ∷ xs) ∷ []) limits.batches (λ k d h. at_most k d (x ∷ xs) few h);
       places = omega (arith, length-append log ((x ∷ xs) ∷ []), below);
@@ -144,14 +141,6 @@ limits_grown log (x ∷ xs) limits few fits =
 pub limits_same : (a b : Pages) → AgreesWithJournal a → b.sent ≡ a.sent → IsWithinLogLimits b.sent
 limits_same a b sound log = subst IsWithinLogLimits (sym log) sound.limits
 
-pub posts_small : (a : Pages) → AgreesWithJournal a → a.posts + 1 < 2 ^ 64
-posts_small a sound =
-    let le : count_by is_post a.journal.calls.items ≤ length a.journal.calls.items = count_by-le-length is_post a.journal.calls.items in
-    let long : deque_len a.journal.calls ≡ length a.journal.calls.items = a.journal.calls.ok.0 in
-    let small = a.journal.calls.small in
-    let before : a.journal.before ≤ MAX_BEFORE = sound.dropped.before in
-    omega (arith, sound.posts, sound.dropped.posts, before, le, long, small)
-
 -- ---- a post
 
 pub sound_posted : (a b : Pages) (now : ℕ) (news batch : List Alert) → AgreesWithJournal a → a.closed ≡ false
@@ -159,12 +148,12 @@ pub sound_posted : (a b : Pages) (now : ℕ) (news batch : List Alert) → Agree
     → b.stored ≡ with_alerts batch a.stored
     → b.sent ≡ cond (nat_eq (length batch) 0) a.sent (a.sent ++ batch ∷ [])
     → batch ≡ batch_by_list now news a.stored
-    → length batch ≡ length news → length news ≤ MAX_ALERTS → (0 < length news → length a.sent < LOG_END)
+    → length batch ≡ length news → length news ≤ MAX_ALERTS → (0 < length news → length a.sent < most_batches)
     → b.closed ≡ a.closed → b.lanes ≡ a.lanes → b.posts ≡ a.posts + 1 → deque_len b.journal.calls + 9 ≤ deque_capacity b.journal.calls → AgreesWithJournal b
 sound_posted a b now news batch sound still journal store log sent long few fits closed lanes posts room =
     let same = batch_of_post (updates (journal_of a.journal)) now news ∙ ap (batch_by_list now news) (sym sound.kept.stored) in
     let short : length batch ≤ MAX_ALERTS = omega arith in
-    let below : 0 < length batch → length a.sent < LOG_END = λ h. fits (omega arith) in
+    let below : 0 < length batch → length a.sent < most_batches = λ h. fits (omega arith) in
     sound_grown a b (Posted now news) sound (sym sound.closed ∙ still) (record {
       journal = journal;
       stored = store ∙ (ap (λ batch. with_alerts batch a.stored) sent ∙ sym (stored_post (updates (journal_of a.journal)) now news ∙ ap (λ olds. with_alerts (batch_by_list now news olds) olds) (sym sound.kept.stored)));

@@ -1,22 +1,19 @@
 -- A Book's fields as its journal is trimmed.
-use Rattle.std.proofs.Common.{◌≡◌, ◌↔◌, ℕ, ◌+◌, ◌-◌, ◌<◌, ◌≤◌, Bool, true, cond, length, Option, None, Some, Result, Ok, Err, IfOk, refl, sym, ap, subst, ◌∙◌, arith, length-drop, inl, inr}
-use borrow.Author.Tests.{le-leb, lt-leb}
+use Rattle.std.proofs.Common.{◌≡◌, ℕ, ◌+◌, ◌-◌, ◌≤◌, Bool, true, cond, length, Option, None, Some, Result, Ok, Err, IfOk, refl, sym, ap, subst, ◌∙◌, arith, length-drop, inl, inr}
 use Rattle.std.specs.Option.{is_some, IfSome}
 use Rattle.std.specs.VecDeque.{deque_len, deque_capacity}
 use Rattle.am_provider.specs.declared.lanes.OpenLane.{OpenLane}
-use Rattle.am_provider.specs.declared.journal.TheConstants.{MAX_BEFORE}
-use Rattle.am_provider.specs.Journal.{JournalView, first_calls, IsOpenSubscription}
+use Rattle.am_provider.specs.Journal.{first_calls, IsOpenSubscription}
 use Rattle.am_provider.specs.Stored.{updates, stored}
-use Rattle.am_provider.specs.Trims.{AreBeforeOpen, Drops, IsTrimmed}
-use Rattle.am_provider.specs.BookView.{BookView, SubscriptionView, BelongsTo}
-use Rattle.am_provider.specs.inside.BookLimits.{IsWithinLogLimits}
+use Rattle.am_provider.specs.Trims.{AreBeforeOpen, IsTrimmed}
+use Rattle.am_provider.specs.inside.LogLimits.{IsWithinLogLimits}
 use Rattle.am_provider.specs.inside.Journals.{journal_of, AreCounted}
 use Rattle.am_provider.specs.inside.Lanes.{lane_at, open_count, IsEarliest, IsItsOpening}
-use Rattle.am_provider.specs.inside.BookInside.{Pages, book_of, AgreesWithJournal}
+use Rattle.am_provider.specs.inside.Pages.{Pages, book_of, AgreesWithJournal}
 use Rattle.am_provider.proofs.Journals.{first_all}
 use Rattle.am_provider.proofs.Opens.{is_still_open, lane_low, one_open, open_within}
 use Rattle.am_provider.proofs.Kept.{if_some}
-use Rattle.am_provider.proofs.Trims.{trimmed_open, trimmed_closed, trimmed_posts, until_stored, open_trimmed, faithful_trimmed, belongs_trimmed, belongs_whole, one_trim}
+use Rattle.am_provider.proofs.Trims.{trimmed_open, trimmed_closed, trimmed_posts, until_stored, open_trimmed, follows_trimmed, one_trim}
 
 -- what a lane has, where its flag says so
 found : {P : OpenLane → Type 0} (o : Option OpenLane) → is_some o ≡ true → IfSome o P → (one : OpenLane) × ((o ≡ Some one) × P one)
@@ -95,7 +92,7 @@ sound_trimmed a b count sound fits of counted store log lanes closed posts capac
     let count_same : open_count b.lanes ≡ open_count a.lanes = ap open_count lanes in
     let flag_same : cond {A = ℕ} b.closed 0 1 ≡ cond {A = ℕ} a.closed 0 1 = ap (λ (b : Bool). cond {A = ℕ} b 0 1) closed in
     record {
-      kept = faithful_trimmed (book_of a) (book_of b) count of log store sound.kept;
+      kept = follows_trimmed (book_of a) (book_of b) count of log store sound.kept;
       eight = ap length lanes ∙ sound.eight;
       closed = closed ∙ (sound.closed ∙ sym (trimmed_closed old new count of));
       lanes = λ lane h. ap (λ lanes. is_some (lane_at lanes lane)) lanes ∙ (sound.lanes lane h ∙ sym (trimmed_open old new count of lane));
@@ -112,20 +109,3 @@ sound_trimmed a b count sound fits of counted store log lanes closed posts capac
       limits = subst IsWithinLogLimits (sym log) sound.limits;
       room = omega (arith, sound.room, was, is, fewer, count_same, flag_same, capacity);
     }
-
--- the same subscriptions belong
-pub belongs_both : (old new : BookView) (count : ℕ) → AreBeforeOpen old.journal count → IsTrimmed old.journal count new.journal → new.log ≡ old.log
-    → (sub : SubscriptionView) → BelongsTo old sub ↔ BelongsTo new sub
-belongs_both old new count fits of log sub = (
-  λ given. belongs_trimmed old new count of log sub (omega (arith, of.before, fits.kept sub.lane sub.at given.given)) given,
-  belongs_whole old new count of log sub,
-)
-
--- what is dropped is answered
-pub drops_all : (journal : JournalView) (count : ℕ) → AreBeforeOpen journal count → journal.before + count ≤ MAX_BEFORE → Drops journal count
-drops_all journal count fits small =
-    (count, fits, sym (ap (λ b. cond b count 0) (le-leb (journal.before + count) MAX_BEFORE small)))
-
-pub drops_none : (journal : JournalView) (count : ℕ) → AreBeforeOpen journal count → MAX_BEFORE < journal.before + count → Drops journal 0
-drops_none journal count fits large =
-    (count, fits, sym (ap (λ b. cond b count 0) (lt-leb (journal.before + count) MAX_BEFORE large)))

@@ -10,7 +10,7 @@ use Rattle.am_labels.specs.LabelLaws.{labels_equiv}
 use Rattle.am_provider.specs.declared.call.Call.{Call}
 use Rattle.am_provider.specs.declared.call.Call.TheVariants.{Posted, Collected, Subscribed, Left, Closed}
 use Rattle.am_provider.specs.Journal.{JournalView, first_calls, until, since, closes, is_closed, posts_of, open_from, has_lane, is_open, IsLowestIdle, MayFollow, IsKept, IsOpenSubscription, IsLegal}
-use Rattle.am_provider.specs.BookView.{BookView, IsFaithful, SubscriptionView, BelongsTo, all_of}
+use Rattle.am_provider.specs.PlainBook.{PlainBook, FollowsJournal}
 use Rattle.am_provider.specs.Stored.{Update, Report, Collect, updates_of, call_updates, first_reports, updates, stored}
 use Rattle.am_provider.specs.Broadcast.{batches_of, broadcast_from, broadcast, items_of, due}
 use Rattle.am_provider.specs.AlertList.{lookup, absorb_into, absent, AreDistinct, batch_by_list}
@@ -286,16 +286,6 @@ open_trimmed whole trimmed count lane at of h opened = record {
   kept = subst (IsKept lane) (sym (since_same whole trimmed count of at h)) opened.kept;
 }
 
-pub open_whole : (whole trimmed : JournalView) (count lane at : ℕ) → IsTrimmed whole count trimmed → IsOpenSubscription trimmed lane at → IsOpenSubscription whole lane at
-open_whole whole trimmed count lane at of opened =
-    let h = opened.begun in
-    record {
-      begun = omega (arith, of.before, h);
-      entry = ap (slice_get whole.calls) (sym (moved whole trimmed count of at h))
-          ∙ (sym (get_drop count whole.calls (at - trimmed.before)) ∙ (ap (λ calls. slice_get calls (at - trimmed.before)) (sym of.calls) ∙ opened.entry));
-      kept = subst (IsKept lane) (since_same whole trimmed count of at h) opened.kept;
-    }
-
 -- how many batches there were by a call is the same in both
 pub sent_until : (whole trimmed : JournalView) (count at : ℕ) → IsTrimmed whole count trimmed → trimmed.before ≤ at
     → trimmed.places + length (broadcast (until trimmed at)) ≡ whole.places + length (broadcast (until whole at))
@@ -306,9 +296,9 @@ sent_until whole trimmed count at of h =
     let here : length (broadcast (first_calls (count + k) whole)) ≡ length (broadcast (until whole at)) = ap (λ n. length (broadcast (first_calls n whole))) (moved whole trimmed count of at h) in
     omega (arith, of.places, both, here)
 
-module _ (old new : BookView) (count : ℕ) (of : IsTrimmed old.journal count new.journal) (log : new.log ≡ old.log) where
-  pub faithful_trimmed : new.stored ≡ old.stored → IsFaithful old → IsFaithful new
-  faithful_trimmed stored kept =
+module _ (old new : PlainBook) (count : ℕ) (of : IsTrimmed old.journal count new.journal) (log : new.log ≡ old.log) where
+  pub follows_trimmed : new.stored ≡ old.stored → FollowsJournal old → FollowsJournal new
+  follows_trimmed stored kept =
       let front = broadcast (first_calls count old.journal) in
       let sent = trimmed_sent old.journal new.journal count of in
       let all : length old.log - old.journal.places ≡ length front + length (broadcast new.journal) =
@@ -322,35 +312,6 @@ module _ (old new : BookView) (count : ℕ) (of : IsTrimmed old.journal count ne
         places = omega (arith, of.places, all, ap length log, kept.places);
         base = subst AreDistinct (sym of.store) (agrees (updates (first_calls count old.journal))).distinct;
         legal = trimmed_legal old.journal new.journal count of kept.legal;
-      }
-
-  all_same : (sub : SubscriptionView) → all_of new sub ≡ all_of old sub
-  all_same sub = ap (λ batches. sub.opening ++ items_of (drop sub.start batches)) log
-
-  pub belongs_trimmed : (sub : SubscriptionView) → new.journal.before ≤ sub.at → BelongsTo old sub → BelongsTo new sub
-  belongs_trimmed sub h given = record {
-    given = open_trimmed old.journal new.journal count sub.lane sub.at of h given.given;
-    opening = given.opening ∙ sym (until_stored old.journal new.journal count of sub.at h);
-    start = given.start ∙ sym (sent_until old.journal new.journal count sub.at of h);
-    within = omega (arith, given.within, ap length (all_same sub));
-    told = λ told. record {
-      ended = trimmed_closed old.journal new.journal count of ∙ (given.told told).ended;
-      all = (given.told told).all ∙ sym (ap length (all_same sub));
-    };
-  }
-
-  pub belongs_whole : (sub : SubscriptionView) → BelongsTo new sub → BelongsTo old sub
-  belongs_whole sub given =
-      let h = given.given.begun in
-      record {
-        given = open_whole old.journal new.journal count sub.lane sub.at of given.given;
-        opening = given.opening ∙ until_stored old.journal new.journal count of sub.at h;
-        start = given.start ∙ sent_until old.journal new.journal count sub.at of h;
-        within = omega (arith, given.within, ap length (all_same sub));
-        told = λ told. record {
-          ended = sym (trimmed_closed old.journal new.journal count of) ∙ (given.told told).ended;
-          all = (given.told told).all ∙ ap length (all_same sub);
-        };
       }
 
 -- a trim that drops nothing

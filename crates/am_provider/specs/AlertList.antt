@@ -1,6 +1,5 @@
 -- The stored alerts as a list that reports are absorbed into, one after another.
-use Rattle.std.specs.Prelude.{◌≡◌, ℕ, Bool, true, not, ◌&&◌, if◌then◌else◌, List, [], ◌∷◌, Option, Some, None, ◌<◌, take, length}
-use Rattle.std.specs.List.{HoldsAt}
+use Rattle.std.specs.Prelude.{◌≡◌, ℕ, Bool, true, not, ◌&&◌, if◌then◌else◌, List, [], ◌∷◌, Option, Some, None}
 use Rattle.am_alert.specs.declared.alert.Alert.{Alert}
 use Rattle.am_labels.specs.LabelSets.{Labels, same_labels}
 use Rattle.am_alert.specs.Merging.{absorbed}
@@ -41,9 +40,3 @@ absent labels (old ∷ olds) = not (same_labels labels old.labels) && absent lab
 abbrev pub AreDistinct : List Alert → Type 0
 AreDistinct [] = Unit {0}
 AreDistinct (old ∷ olds) = (absent old.labels olds ≡ true) × AreDistinct olds
-
--- a label set's alert stands at an index, and none of it before
-pub record IsPositionOf (labels : Labels) (olds : List Alert) (at : ℕ) : Type 0 where
-  pub before : absent labels (take at olds) ≡ true
-  pub within : at < length olds
-  pub here : HoldsAt (λ old. same_labels labels old.labels ≡ true) olds at

@@ -1,11 +1,9 @@
 -- The journal of accepted calls: when its log is closed, which lanes are open, and which call may
 -- come next. Its first calls may have been dropped; what they left stands in their place.
-use Rattle.std.specs.Prelude.{◌≡◌, ℕ, ◌+◌, ◌-◌, ◌<◌, ◌≤◌, Bool, true, false, ◌||◌, if◌then◌else◌, nat_eq, List, [], ◌∷◌, ◌++◌, length, take, drop, slice_get, Some, refl}
+use Rattle.std.specs.Prelude.{◌≡◌, ℕ, ◌+◌, ◌-◌, ◌<◌, ◌≤◌, Bool, true, false, ◌||◌, if◌then◌else◌, nat_eq, List, [], ◌∷◌, ◌++◌, length, take, drop, slice_get, Some}
 use Rattle.std.specs.Int.{bit_at}
 use Rattle.std.specs.List.{All, count_by, list_any}
-use Rattle.std.specs.Coded.{Coded, code_by, coded×, coded_list, coded_ℕ, coded_bool}
 use Rattle.am_alert.specs.declared.alert.Alert.{Alert}
-use Rattle.am_alert.specs.Alerts.{coded_alert}
 use Rattle.am_provider.specs.declared.call.Call.{Call}
 use Rattle.am_provider.specs.declared.call.Call.TheVariants.{Posted, Collected, Subscribed, Left, Closed}
 
@@ -20,24 +18,6 @@ pub record JournalView : Type 0 where
   pub lanes : ℕ
   pub closed : Bool
   pub calls : List Call
-
--- it is stored as the tuple of its fields
-abbrev pub coded_journal : Coded Call → Coded JournalView
-coded_journal call =
-    code_by (ℕ × (ℕ × (ℕ × (List Alert × (ℕ × (Bool × List Call))))))
-    (coded× coded_ℕ (coded× coded_ℕ (coded× coded_ℕ
-    (coded× (coded_list coded_alert) (coded× coded_ℕ (coded× coded_bool (coded_list call)))))))
-    (λ j. (j.before, (j.places, (j.posts, (j.store, (j.lanes, (j.closed, j.calls)))))))
-    (λ p. record {
-      before = p.0;
-      places = p.1.0;
-      posts = p.1.1.0;
-      store = p.1.1.1.0;
-      lanes = p.1.1.1.1.0;
-      closed = p.1.1.1.1.1.0;
-      calls = p.1.1.1.1.1.1;
-    })
-    (λ _. refl)
 
 -- the journal before any call
 abbrev pub new_journal : JournalView

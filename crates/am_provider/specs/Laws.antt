@@ -5,21 +5,19 @@ use Rattle.am_alert.specs.declared.alert.Alert.{Alert}
 use Rattle.am_labels.specs.LabelSets.{Labels}
 use Rattle.am_provider.specs.declared.call.Call.{Call}
 use Rattle.am_provider.specs.declared.call.Call.TheVariants.{Posted, Collected, Subscribed, Left, Closed}
-use Rattle.am_provider.specs.Journal.{JournalView, with_call, call_count, is_closed, posts_of, open_after, is_open, IsOpenSubscription, MayFollow}
+use Rattle.am_provider.specs.Journal.{JournalView, with_call, call_count, until, is_closed, posts_of, open_after, is_open, IsOpenSubscription, MayFollow}
 use Rattle.am_provider.specs.Stored.{Update, Holding, holding_of, first_reports, updates, stored}
 use Rattle.am_provider.specs.Broadcast.{broadcast, due, IsFront}
 use Rattle.am_provider.specs.Trims.{AreBeforeOpen, IsTrimmed}
 use Rattle.am_provider.specs.AlertList.{lookup, AreDistinct}
-use Rattle.am_provider.specs.BookView.{BookView, IsFaithful, SubscriptionView, taken, BelongsTo}
 
--- a subscription stays its Book's, and has taken the same, as a call comes that doesn't leave its
--- lane
-abbrev pub StaysGiven : Type 0
-StaysGiven =
-    (old new : BookView) (subscription : SubscriptionView) (call : Call)
-    → IsFaithful old → IsFaithful new → BelongsTo old subscription
-    → new.journal ≡ with_call old.journal call → open_after subscription.lane true call ≡ true
-    → BelongsTo new subscription × (taken new subscription ≡ taken old subscription)
+-- a subscription stays open, over the same calls before it, as a call comes that doesn't leave its lane
+abbrev pub StaysOpen : Type 0
+StaysOpen =
+    (journal : JournalView) (lane at : ℕ) (call : Call)
+    → IsOpenSubscription journal lane at → open_after lane true call ≡ true
+    → IsOpenSubscription (with_call journal call) lane at
+    × (until (with_call journal call) at ≡ until journal at)
 
 -- the lane of an open subscription is open
 abbrev pub OpenLanesAreOpen : Type 0
@@ -27,20 +25,24 @@ OpenLanesAreOpen =
     (journal : JournalView) (lane at : ℕ) → IsOpenSubscription journal lane at
     → is_open journal lane ≡ true
 
--- a subscription whose lane is left belongs to the Book no more, whoever takes the lane later
+-- a subscription whose lane is left is open no more, whoever takes the lane later
 abbrev pub LeavingEnds : Type 0
 LeavingEnds =
-    (old new : BookView) (subscription : SubscriptionView) (later : List Call)
-    → BelongsTo old subscription
-    → new.journal
-    ≡ record old.journal { calls = old.journal.calls ++ Left subscription.lane ∷ later }
-    → BelongsTo new subscription → ⊥
+    (journal : JournalView) (lane at : ℕ) (later : List Call) → IsOpenSubscription journal lane at
+    → IsOpenSubscription (record journal { calls = journal.calls ++ Left lane ∷ later }) lane at → ⊥
 
 -- what begins what is due still does when a call comes
 abbrev pub StaysFront : Type 0
 StaysFront =
     (journal : JournalView) (call : Call) (at : ℕ) (front : List Alert) → at ≤ call_count journal
     → IsFront front (due journal at) → IsFront front (due (with_call journal call) at)
+
+-- once the log was ended, no call makes more due
+abbrev pub EndedOwesNoMore : Type 0
+EndedOwesNoMore =
+    (journal : JournalView) (call : Call) (at : ℕ) → at ≤ call_count journal
+    → is_closed journal ≡ true → MayFollow journal call
+    → due (with_call journal call) at ≡ due journal at
 
 -- the label sets of a batch
 abbrev pub labels_of_batch : List Alert → List Labels

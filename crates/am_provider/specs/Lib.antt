@@ -11,8 +11,6 @@ pub mod Stored
 pub mod Broadcast
 pub mod Trims
 pub mod AlertList
-pub mod BookView
-pub mod Showings
+pub mod PlainBook
 pub mod Laws
-pub mod FaultTexts
 pub mod inside

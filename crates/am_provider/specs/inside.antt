@@ -1,10 +1,6 @@
--- Definitions over private fields, which only code of this crate cites.
+-- Definitions over fields, for the code of this crate and of the provider over it.
 pub mod Shared
-pub mod Undone
-pub mod Cuts
-pub mod Batches
 pub mod Journals
 pub mod Lanes
-pub mod BookLimits
-pub mod BookInside
-pub mod Advances
+pub mod LogLimits
+pub mod Pages

@@ -1,9 +1,9 @@
-//! The entries of a Book's journal.
+//! The entries of the journal.
 
 use crate::shared_alerts::SharedAlerts;
 use am_alert::Moment;
 
-/// An accepted call of the Book.
+/// An accepted call of the provider.
 #[derive(Debug, Drop)]
 pub enum Call {
     /// The valid alerts of a post, as they were posted.

@@ -1,4 +1,4 @@
-//! The journal of a Book's accepted calls. Its first calls can be dropped, once no open
+//! The journal of the accepted calls. Its first calls can be dropped, once no open
 //! subscription needs them: what they left stands in their place.
 
 ghost use Rattle.std.specs.Prelude.{◌≡◌, ◌<◌, ◌≤◌, ◌+◌, ◌^◌, IfOk, length};
@@ -16,7 +16,7 @@ use std::collections::VecDeque;
 /// How many calls can be dropped from a journal in all.
 pub const MAX_BEFORE: u64 = 9_223_372_036_854_775_807;
 
-/// The accepted calls of a Book, of which the first may have been dropped.
+/// The accepted calls, of which the first may have been dropped.
 #[derive(Drop)]
 pub struct Journal {
     /// How many calls were dropped.

@@ -1,4 +1,4 @@
-//! The lanes of subscriptions, as a Book keeps them.
+//! The lanes of subscriptions: which are open, since when, and which to give out next.
 
 ghost use Rattle.std.specs.Prelude.{◌≡◌, ◌<◌, None, IsSome, IfSome, IfNone, ℕ};
 ghost use Rattle.am_provider.specs.inside.Lanes.{lane_at, IsLowestFree, IsEarliest};

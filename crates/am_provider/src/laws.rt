@@ -1,19 +1,20 @@
 //! Laws over journals that callers may cite.
 
 ghost use Rattle.am_provider.specs.Laws.{BatchesAnswerPosts, LeavingEnds, OpenLanesAreOpen};
-ghost use Rattle.am_provider.specs.Laws.{StaysFront, StaysGiven};
+ghost use Rattle.am_provider.specs.Laws.{EndedOwesNoMore, StaysFront, StaysOpen};
 ghost use Rattle.am_provider.specs.Laws.{StartsWithBase, StoredIsDistinct, StoredIsOfEach};
 ghost use Rattle.am_provider.specs.Laws.{OneTrim, TrimmedGivesTheSame, TrimmedGrows, TrimmedTwice};
 
-/// A subscription stays its Book's as calls come, until it is left, and what begins what is due
-/// still does. Each post with an alert sends out one batch, with one alert for each of its own, of
-/// that alert's label set and in its order. The stored list has of each label set what that label
-/// set's own reports and collections made of it, once.
+/// A subscription stays open as calls come, until its lane is left; what begins what is due to it
+/// still does, and nothing more is due once the log was ended. Each post with an alert sends out one
+/// batch, with one alert for each of its own, of that alert's label set and in its order. The stored
+/// list has of each label set what that label set's own reports and collections made of it, once.
 pub fn journal_laws()
-    ensures given { StaysGiven }
+    ensures stays { StaysOpen }
     ensures lanes { OpenLanesAreOpen }
     ensures ended { LeavingEnds }
     ensures front { StaysFront }
+    ensures quiet { EndedOwesNoMore }
     ensures batches { BatchesAnswerPosts }
     ensures of_each { StoredIsOfEach }
     ensures distinct { StoredIsDistinct }

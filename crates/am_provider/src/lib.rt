@@ -1,41 +1,35 @@
-//! The in-memory alert provider for one thread: the Book, its journal, and the subscriptions to it.
+//! What an alert provider keeps: the stored alerts, the journal of the calls that it accepted, and
+//! its lanes.
 //!
-//! A post's valid alerts are merged with what is stored, enter the journal, and go out as one batch
-//! of the log. A subscriber is shown what was stored when it came and then each batch since, one
-//! alert a call: a slow one finds all of it later, since the log keeps every batch. After `close` no
-//! post and no subscriber is taken; a subscriber is told `Closed` once it was shown everything.
+//! The store has one alert for each label set, in the order in which the label sets were first
+//! reported. The reports of a post are merged into it one after another (`store::absorb`), and the
+//! changes that they made are answered too: a post that is refused further on is taken back by them,
+//! so that it leaves no trace. `am_alert` says what two reports of one label set become.
 //!
-//!     let (mut book, mut passes) = Book::begin(alloc, 256, 1)?;
-//!     let mut subscription = book.subscribe()?;
-//!     book.post(&mut passes[0], post, now)?;
-//!     while let Step::Item(alert) = subscription.next(&book) {
-//!         ..
-//!     }
-//!     let ended = book.leave(subscription);
+//! The journal has each accepted call with what was posted, and what is stored and what is owed to a
+//! subscriber follow from it alone. Calls that no open subscription needs any more can be dropped
+//! from its front: what they left stands in their place, and nobody can tell (`trimming_laws`).
 //!
-//! This crate decides nothing about alerts: `am_alert` says what two reports of one label set
-//! become.
+//! A lane is a subscriber's slot, of which there are eight. An open one keeps when it was subscribed
+//! and what was stored then, so that the journal can be shortened up to the earliest of them.
+//!
+//!     let alerts = SharedAlerts::new(alloc, valid)?;            // the valid alerts of a post
+//!     let Absorbed { batch, undo } = absorb_each(&mut stored, alerts.as_slice(), now)?;
+//!     ..                                                        // `batch` goes out, or else:
+//!     take_back(&mut stored, undo);
+//!
+//! The store, the journal, what goes out and what late subscribers are shown have each alert in
+//! common: none of them copies one.
 #![tactic(auto)]
 
-mod answers;
-mod book;
 mod call;
-mod faults;
 mod journal;
 pub mod lanes;
 mod laws;
-mod log;
-mod pass;
 mod shared_alerts;
 pub mod store;
-mod subscription;
 
-pub use answers::{Counts, Ended, Posted, Step};
-pub use book::{Book, LOG_END};
 pub use call::Call;
-pub use faults::{AlreadyClosed, PutFault, SubFault};
 pub use journal::{Journal, MAX_BEFORE};
 pub use laws::{journal_laws, trimming_laws};
-pub use pass::Pass;
 pub use shared_alerts::{SharedAlert, SharedAlerts, StoredAlerts};
-pub use subscription::Subscription;

@@ -54,7 +54,7 @@ impl SharedAlerts {
 }
 
 /// What was stored at one moment, seen by contracts as the list of the alerts. It is shared as a
-/// whole, so that a subscription, its Book and the journal have one list in common.
+/// whole, so that a subscription, its lane and the journal have one list in common.
 #[derive(Debug, Drop)]
 pub struct StoredAlerts {
     alerts: Arc<Vec<SharedAlert>, Global>,

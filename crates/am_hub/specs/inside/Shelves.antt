@@ -12,7 +12,7 @@ use Rattle.am_provider.specs.Journal.{JournalView, until}
 use Rattle.am_provider.specs.Broadcast.{broadcast}
 use Rattle.am_provider.specs.inside.Journals.{journal_of}
 use Rattle.am_provider.specs.inside.Lanes.{lane_at, open_count}
-use Rattle.am_provider.specs.inside.BookInside.{Pages, AgreesWithJournal}
+use Rattle.am_provider.specs.inside.Pages.{Pages, AgreesWithJournal}
 use Rattle.am_hub.specs.declared.answers.Policy.{Policy}
 use Rattle.am_hub.specs.declared.answers.Ended.{Ended}
 use Rattle.am_hub.specs.Batches.{LogView, sent_in, posts_in}
@@ -40,7 +40,7 @@ view_of shelf = record {
   policy = shelf.policy;
 }
 
--- what a Book for one thread has too
+-- what it has beside what the log knows of its lanes
 abbrev pub pages_of : Shelf → Pages
 pages_of shelf = record {
   stored = shelf.stored;

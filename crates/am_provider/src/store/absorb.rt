@@ -9,7 +9,6 @@ ghost use Rattle.am_provider.specs.AlertList.{lookup, with_alert, with_alerts, b
 ghost use Rattle.am_provider.specs.Shared.{alerts_in};
 ghost use Rattle.am_provider.specs.inside.Shared.{stored_in, AreKeptByLabels};
 ghost use Rattle.am_provider.specs.inside.Shared.{taken_back, all_taken_back};
-ghost use Rattle.am_provider.specs.inside.Undone.{all_undone};
 
 use crate::shared_alerts::SharedAlert;
 use crate::store::AlertMap;
@@ -47,8 +46,6 @@ pub fn absorb_each(
     ensures batch { IfOk result (λ done.
         alerts_in done.batch.items
         ≡ batch_by_list now (alerts_in news.now) (stored_in alerts.old.entries)) }
-    ensures undo { IfOk result (λ done. all_undone done.undo.items (stored_in alerts.new.entries)
-        ≡ stored_in alerts.old.entries) }
     ensures back { IfOk result (λ done.
         all_taken_back done.undo.items alerts.new.entries ≡ alerts.old.entries) }
     ensures stored { OnOk result (stored_in alerts.new.entries

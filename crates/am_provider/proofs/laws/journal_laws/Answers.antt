@@ -1,4 +1,4 @@
-use Rattle.am_provider.proofs.Growing.{stays_given, leaving_ends, stays_front}
+use Rattle.am_provider.proofs.Growing.{stays_open, leaving_ends, stays_front, ended_owes_no_more}
 use Rattle.am_provider.proofs.Opens.{is_still_open}
 use Rattle.am_provider.proofs.Sent.{batches_answer_posts}
 use Rattle.am_provider.proofs.Stored.{agrees}
@@ -6,10 +6,11 @@ use Rattle.am_provider.proofs.laws.journal_laws.Goals as goal
 
 pub returns : goal.returns
 returns c = record {
-  given = stays_given;
+  stays = stays_open;
   lanes = is_still_open;
   ended = leaving_ends;
   front = stays_front;
+  quiet = ended_owes_no_more;
   batches = batches_answer_posts;
   of_each = λ labels all. (agrees all).found labels;
   distinct = λ all. (agrees all).distinct;

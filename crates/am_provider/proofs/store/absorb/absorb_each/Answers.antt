@@ -5,8 +5,8 @@ use Rattle.am_alert.specs.Merging.{absorbed}
 use Rattle.am_provider.specs.AlertList.{lookup, with_alert, with_alerts, batch_by_list}
 use Rattle.am_provider.specs.Shared.{alerts_in}
 use Rattle.am_provider.specs.inside.Shared.{stored_in, all_taken_back}
-use Rattle.am_provider.proofs.Places.{with_alerts_last, batch_more}
-use Rattle.am_provider.proofs.Entries.{all_back_last, alerts_in_last, all_undone_stored}
+use Rattle.am_provider.proofs.Absorbing.{with_alerts_last, batch_more}
+use Rattle.am_provider.proofs.Entries.{all_back_last, alerts_in_last}
 use Rattle.am_provider.proofs.store.absorb.absorb_each.Goals as goal
 
 pub loop-new-preserved : goal.loop-new-preserved
@@ -42,7 +42,3 @@ loop-new-preserved c =
       room = omega (arith, so_far.room, c.push_reserved.ensures.len, c.push_reserved.ensures.capacity, left);
       changes = omega (arith, so_far.changes, c.push_reserved-in-Ok.ensures.len, c.push_reserved-in-Ok.ensures.capacity, left);
     }
-
-pub returns-clause-undo : goal.returns-clause-undo
-returns-clause-undo c =
-    sym (all_undone_stored c.loop-new.changes.items c.loop-new.alerts.entries) ∙ ap stored_in c.loop-new.invariant.before

@@ -1,17 +1,15 @@
--- What a Book keeps, and what always holds of it.
+-- What a Book keeps beside its log, and what always holds of it.
 use Rattle.std.specs.Prelude.{◌≡◌, ℕ, ◌<◌, ◌≤◌, ◌+◌, Bool, List, Option, if◌then◌else◌, length}
 use Rattle.std.specs.Option.{is_some, IfSome}
 use Rattle.std.specs.VecDeque.{deque_len, deque_capacity}
 use Rattle.am_alert.specs.declared.alert.Alert.{Alert}
-use Rattle.am_provider.specs.declared.book.Book.TheInside.{Inside}
 use Rattle.am_provider.specs.declared.journal.Journal.{Journal}
 use Rattle.am_provider.specs.declared.lanes.OpenLane.{OpenLane}
 use Rattle.am_provider.specs.Journal.{is_closed, is_open, posts_of}
-use Rattle.am_provider.specs.BookView.{BookView, IsFaithful}
+use Rattle.am_provider.specs.PlainBook.{PlainBook, FollowsJournal}
 use Rattle.am_provider.specs.inside.Journals.{journal_of, AreCounted}
 use Rattle.am_provider.specs.inside.Lanes.{lane_at, IsItsOpening, open_count}
-use Rattle.am_provider.specs.inside.Batches.{batches_in, AreEnds}
-use Rattle.am_provider.specs.inside.BookLimits.{IsWithinLogLimits}
+use Rattle.am_provider.specs.inside.LogLimits.{IsWithinLogLimits}
 
 -- what a Book keeps: its stored alerts, its journal, the batches sent out, how many posts there were,
 -- what each lane has, and whether the log was ended
@@ -24,7 +22,7 @@ pub record Pages : Type 0 where
   pub closed : Bool
 
 -- as contracts see it
-abbrev pub book_of : Pages → BookView
+abbrev pub book_of : Pages → PlainBook
 book_of pages = record {
   stored = pages.stored;
   journal = journal_of pages.journal;
@@ -34,7 +32,7 @@ book_of pages = record {
 -- it agrees with the journal, which has room for what may come without memory: a Left for each open
 -- lane and a Closed
 pub record AgreesWithJournal (pages : Pages) : Type 0 where
-  pub kept : IsFaithful (book_of pages)
+  pub kept : FollowsJournal (book_of pages)
   pub eight : length pages.lanes ≡ 8
   pub closed : pages.closed ≡ is_closed (journal_of pages.journal)
   pub lanes : (lane : ℕ) → lane < 8
@@ -46,22 +44,3 @@ pub record AgreesWithJournal (pages : Pages) : Type 0 where
   pub limits : IsWithinLogLimits pages.sent
   pub room : deque_len pages.journal.calls + open_count pages.lanes
       + (if pages.closed then 0 else 1) ≤ deque_capacity pages.journal.calls
-
--- the fields of a Book for one thread
-abbrev pub pages_of : Inside → Pages
-pages_of fields = record {
-  stored = fields.stored;
-  journal = fields.journal;
-  sent = batches_in fields.log;
-  posts = fields.posts;
-  lanes = fields.lanes;
-  closed = fields.closed;
-}
-
-abbrev pub view_of : Inside → BookView
-view_of fields = book_of (pages_of fields)
-
--- they agree with the journal, and each alert of the log is in a batch
-pub record IsKeptBook (fields : Inside) : Type 0 where
-  pub pages : AgreesWithJournal (pages_of fields)
-  pub ends : AreEnds fields.log
