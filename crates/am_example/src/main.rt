@@ -7,7 +7,7 @@
 ghost use Rattle.std.specs.Prelude.{◌≡◌};
 
 use am_alert::Moment;
-use am_hub::{NoGate, Origin, Parts, Pass, Policy, Provider, Step, Subscription};
+use am_provider::{NoGate, Origin, Parts, Pass, Policy, Provider, Step, Subscription};
 use std::alloc::{AllocError, Global};
 use std::marker::Brand;
 use std::process::ExitCode;

@@ -1,111 +1,120 @@
 -- A Book's fields as its journal is trimmed.
-use Rattle.std.proofs.Common.{◌≡◌, ℕ, ◌+◌, ◌-◌, ◌≤◌, Bool, true, cond, length, Option, None, Some, Result, Ok, Err, IfOk, refl, sym, ap, subst, ◌∙◌, arith, length-drop, inl, inr}
-use Rattle.std.specs.Option.{is_some, IfSome}
-use Rattle.std.specs.VecDeque.{deque_len, deque_capacity}
-use Rattle.am_provider.specs.declared.lanes.OpenLane.{OpenLane}
-use Rattle.am_provider.specs.Journal.{first_calls, IsOpenSubscription}
-use Rattle.am_provider.specs.Stored.{updates, stored}
-use Rattle.am_provider.specs.Trims.{AreBeforeOpen, IsTrimmed}
-use Rattle.am_provider.specs.inside.LogLimits.{IsWithinLogLimits}
-use Rattle.am_provider.specs.inside.Journals.{journal_of, AreCounted}
-use Rattle.am_provider.specs.inside.Lanes.{lane_at, open_count, IsEarliest, IsItsOpening}
-use Rattle.am_provider.specs.inside.Pages.{Pages, book_of, AgreesWithJournal}
-use Rattle.am_provider.proofs.Journals.{first_all}
-use Rattle.am_provider.proofs.Opens.{is_still_open, lane_low, one_open, open_within}
-use Rattle.am_provider.proofs.Kept.{if_some}
-use Rattle.am_provider.proofs.Trims.{trimmed_open, trimmed_closed, trimmed_posts, until_stored, open_trimmed, follows_trimmed, one_trim}
+use Rattle.std.proofs.Common.{◌≡◌, ℕ, zero, suc, ◌+◌, ◌-◌, ◌≤◌, Bool, true, false, cond, nat_le, List, [], ◌∷◌, ◌++◌, length, take, drop, map, filter, Option, None, Some, All, refl, sym, ap, subst, ◌∙◌, arith, length-drop, inl, inr}
+use Rattle.std.specs.Option.{IfSome}
+use Rattle.std.specs.VecDeque.{deque_capacity}
+use Rattle.std.proofs.lemmas.List.{take-append-drop}
+use Rattle.std.proofs.lemmas.List.Elements.{filter-append}
+use Rattle.std.proofs.Math.Seq.{drop-append_seam}
+use borrow.Author.Tests.{le-leb, lt-leb}
+use Rattle.am_alert.specs.declared.alert.Alert.{Alert}
+use Rattle.am_segment.specs.Segments.{KeyView}
+use Rattle.am_cast.specs.declared.views.Account.{Account}
+use Rattle.am_cast.specs.Seats.{account_of}
+use Rattle.am_store.specs.declared.call.Call.{Call}
+use Rattle.am_store.specs.declared.call.Call.TheVariants.{Posted, Collected, Subscribed, Left, Closed}
+use Rattle.am_store.specs.declared.lanes.OpenLane.{OpenLane}
+use Rattle.am_store.specs.Journal.{JournalView}
+use Rattle.am_store.specs.Stored.{Update, updates_of, first_reports}
+use Rattle.am_store.specs.Broadcast.{broadcast_from, due}
+use Rattle.am_store.specs.Trims.{AreBeforeOpen, IsTrimmed}
+use Rattle.am_store.specs.inside.Journals.{journal_of, AreCounted}
+use Rattle.am_store.specs.inside.Lanes.{lane_at, IsItsOpening}
+use Rattle.std.proofs.lemmas.Bool.{cases_lt}
+use Rattle.am_store.proofs.Stored.{by_bool}
+use Rattle.am_store.proofs.Journals.{drop_twice}
+use Rattle.am_store.proofs.Trims.{sent_until, trimmed_gives_the_same}
+use Rattle.am_store.proofs.Trimming.{sound_trimmed}
+use Rattle.am_provider.specs.declared.answers.Ended.{Ended}
+use Rattle.am_provider.specs.Batches.{LogView, posts_in, sent_in}
+use Rattle.am_provider.specs.BookView.{sends, IsEndingOf}
+use Rattle.am_provider.proofs.Lefts.{lefts_trimmed, ats_kept}
+use Rattle.am_provider.specs.inside.Shelves.{Shelf, pages_of, IsKeptLane, IsKeptBook}
 
--- what a lane has, where its flag says so
-found : {P : OpenLane → Type 0} (o : Option OpenLane) → is_some o ≡ true → IfSome o P → (one : OpenLane) × ((o ≡ Some one) × P one)
-found None e p = (cc)
-found (Some one) e p = (one, (refl, p))
+-- as many batches go out as calls send one
+sent_each : (before : List Update) (calls : List Call) → length (broadcast_from before calls) ≡ length (filter sends calls)
+sent_each before [] = refl
+sent_each before (Posted now [] ∷ calls) = sent_each (before ++ updates_of (Posted now [])) calls
+sent_each before (Posted now (alert ∷ alerts) ∷ calls) = ap suc (sent_each (before ++ updates_of (Posted now (alert ∷ alerts))) calls)
+sent_each before (Collected now ∷ calls) = sent_each (before ++ updates_of (Collected now)) calls
+sent_each before (Subscribed lane ∷ calls) = sent_each (before ++ updates_of (Subscribed lane)) calls
+sent_each before (Left lane ∷ calls) = sent_each (before ++ updates_of (Left lane)) calls
+sent_each before (Closed ∷ calls) = sent_each (before ++ updates_of Closed) calls
 
--- what the Book keeps for an open subscription
-pub kept_for : (a : Pages) (lane at : ℕ) → AgreesWithJournal a → IsOpenSubscription (journal_of a.journal) lane at → (one : OpenLane) × ((lane_at a.lanes lane ≡ Some one) × (one.at ≡ at))
-kept_for a lane at sound of =
-    let journal = journal_of a.journal in
-    let low = lane_low journal lane at sound.kept.legal of in
-    let one = found (lane_at a.lanes lane) (sound.lanes lane low ∙ is_still_open journal lane at of) (sound.openings lane) in
-    (one.0, (one.1.0, one_open journal lane one.0.at at sound.kept.legal one.1.1.given of))
+posts_trimmed : (old new : JournalView) (count : ℕ) (posts : List Call) → IsTrimmed old count new → drop old.places posts ≡ filter sends old.calls → drop new.places posts ≡ filter sends new.calls
+posts_trimmed old new count posts of was =
+    let front = filter sends (take count old.calls) in
+    let rest = filter sends (drop count old.calls) in
+    let parts : filter sends old.calls ≡ front ++ rest = ap (filter sends) (sym (take-append-drop count old.calls)) ∙ filter-append sends (take count old.calls) (drop count old.calls) in
+    let places : new.places ≡ old.places + length front = of.places ∙ ap (λ n. old.places + n) (sent_each (first_reports old.store) (take count old.calls)) in
+    ap (λ n. drop n posts) places ∙ (sym (drop_twice old.places (length front) posts) ∙ (ap (drop (length front)) (was ∙ parts) ∙ (drop-append_seam front rest ∙ ap (filter sends) (sym of.calls))))
 
-opening_of : (a : Pages) (lane : ℕ) (one : OpenLane) → AgreesWithJournal a → lane_at a.lanes lane ≡ Some one → IsItsOpening (journal_of a.journal) lane one
-opening_of a lane one sound here = subst (λ o. IfSome o (IsItsOpening (journal_of a.journal) lane)) here (sound.openings lane)
+-- ---- what a filter keeps
 
-if_here : (P : OpenLane → Type 0) (o : Option OpenLane) (one : OpenLane) → o ≡ Some one → IfSome o P → P one
-if_here P o one e p = subst (λ o. IfSome o P) e p
+all_cons : {A : Type 0} (Q : A → Type 0) (x : A) (xs : List A) → Q x → All Q xs → All Q (x ∷ xs)
+all_cons Q x xs own all zero d h = own
+all_cons Q x xs own all (suc k) d h = all k d (omega arith)
 
--- the calls before the earliest open lane
-pub before_earliest : (a : Pages) (one : OpenLane) → AgreesWithJournal a → IsEarliest a.lanes one → AreBeforeOpen (journal_of a.journal) (one.at - a.journal.before)
-before_earliest a one sound first =
-    let its = opening_of a first.there.0 one sound first.there.1 in
-    let within = open_within (journal_of a.journal) first.there.0 one.at its.given in
-    let back : one.at ≡ a.journal.before + (one.at - a.journal.before) = omega (arith, its.given.begun) in
+filter_all : {A : Type 0} (q : A → Bool) (P Q : A → Type 0) (xs : List A) → ((x : A) → q x ≡ true → P x → Q x) → All P xs → All Q (filter q xs)
+filter_all q P Q [] f all = λ k d h. absurd (omega arith)
+filter_all q P Q (x ∷ xs) f all =
+    let rest = filter_all q P Q xs f (λ k d h. all (suc k) d (omega arith)) in
+    by_bool {P = All Q (filter q (x ∷ xs))} (q x)
+    (λ t. subst (λ b. All Q (cond b (x ∷ filter q xs) (filter q xs))) (sym t) (all_cons Q x (filter q xs) (f x t (all 0 x (omega arith))) rest))
+    (λ n. subst (λ b. All Q (cond b (x ∷ filter q xs) (filter q xs))) (sym n) rest)
+
+pub filter_same : {A : Type 0} (q : A → Bool) (P : A → Type 0) (xs : List A) → ((x : A) → P x → q x ≡ true) → All P xs → filter q xs ≡ xs
+filter_same q P [] f all = refl
+filter_same q P (x ∷ xs) f all =
+    ap (λ b. cond b (x ∷ filter q xs) (filter q xs)) (f x (all 0 x (omega arith)))
+    ∙ ap (λ rest. x ∷ rest) (filter_same q P xs f (λ k d h. all (suc k) d (omega arith)))
+
+le_true : (m n : ℕ) → nat_le m n ≡ true → m ≤ n
+le_true m n t = elim (cases_lt n m) [ inl less ↦ absurd (let no : true ≡ false = sym t ∙ lt-leb m n less in cc) | inr le ↦ le ]
+
+pub none_gone : (journal : JournalView) (endings : List Ended) → All (IsEndingOf journal) endings → filter (λ (e : Ended). nat_le journal.before e.at) endings ≡ endings
+none_gone journal endings all = filter_same (λ (e : Ended). nat_le journal.before e.at) (IsEndingOf journal) endings (λ e of. le-leb journal.before e.at of.low) all
+
+-- ---- a trim
+
+ending_trimmed : (old new : JournalView) (count : ℕ) (e : Ended) → count ≤ length old.calls → IsTrimmed old count new → nat_le new.before e.at ≡ true → IsEndingOf old e → IsEndingOf new e
+ending_trimmed old new count e within of late was =
+    let same = trimmed_gives_the_same old new count within of in
+    let h = le_true new.before e.at late in
+    let owed : length (due new e.at) ≡ length (due old e.at) = ap length (same.due e.at h) in
+    let calls : length new.calls ≡ length old.calls - count = ap length of.calls ∙ length-drop count old.calls in
     record {
-      within = omega arith;
-      kept = λ lane at of.
-          let other = kept_for a lane at sound of in
-          let earlier : one.at ≤ other.0.at = if_here (λ (x : OpenLane). one.at ≤ x.at) (lane_at a.lanes lane) other.0 other.1.0 (first.earliest lane) in
-          omega (arith, other.1.1, earlier, its.given.begun);
-      most = inr (first.there.0, subst (IsOpenSubscription (journal_of a.journal) first.there.0) back its.given);
+      within = omega (arith, was.within, owed);
+      complete = λ told. was.complete told ∙ sym owed;
+      closed = λ told. same.closed ∙ was.closed told;
+      low = h;
+      high = omega (arith, was.high, calls, of.before, within);
     }
 
--- all calls, where no lane is open
-pub before_none : (a : Pages) → AgreesWithJournal a → ((lane : ℕ) → lane_at a.lanes lane ≡ None) → AreBeforeOpen (journal_of a.journal) (length a.journal.calls.items)
-before_none a sound none = record {
-  within = omega arith;
-  kept = λ lane at of.
-      let one = kept_for a lane at sound of in
-      absurd (let no : None ≡ Some one.0 = sym (none lane) ∙ one.1.0 in (cc));
-  most = inl refl;
-}
+lane_trimmed : (old new : JournalView) (count lane : ℕ) (account : Account (KeyView Alert) OpenLane) (o : Option OpenLane) → AreBeforeOpen old count → IsTrimmed old count new → IfSome o (IsItsOpening old lane)
+    → IsKeptLane old account o → IsKeptLane new account o
+lane_trimmed old new count lane account None fits of its kept = kept
+lane_trimmed old new count lane account (Some one) fits of its kept =
+    let h : new.before ≤ one.at = omega (arith, of.before, fits.kept lane one.at its.given) in
+    (kept.0, kept.1, kept.2 ∙ sym (sent_until old new count one.at of h))
 
--- what was stored when the earliest open lane was subscribed
-pub store_then : (a : Pages) (one : OpenLane) → AgreesWithJournal a → IsEarliest a.lanes one
-    → (count : ℕ) → AreBeforeOpen (journal_of a.journal) count → one.opening ≡ stored (updates (first_calls count (journal_of a.journal)))
-store_then a one sound first count before =
-    (opening_of a first.there.0 one sound first.there.1).opening
-    ∙ ap (λ n. stored (updates (first_calls n (journal_of a.journal))))
-    (one_trim (journal_of a.journal) (one.at - a.journal.before) count (before_earliest a one sound first) before)
-
--- what is stored now, where no lane is open
-pub store_now : (a : Pages) → AgreesWithJournal a → ((lane : ℕ) → lane_at a.lanes lane ≡ None)
-    → (count : ℕ) → AreBeforeOpen (journal_of a.journal) count → a.stored ≡ stored (updates (first_calls count (journal_of a.journal)))
-store_now a sound none count before =
-    sound.kept.stored
-    ∙ (sym (ap (λ j. stored (updates j)) (first_all (journal_of a.journal)))
-    ∙ ap (λ n. stored (updates (first_calls n (journal_of a.journal))))
-    (one_trim (journal_of a.journal) (length a.journal.calls.items) count (before_none a sound none) before))
-
-pub if_ok : {A E : Type 0} (P Q : A → Type 0) (r : Result A E) → ((x : A) → P x → Q x) → IfOk r P → IfOk r Q
-if_ok P Q (Ok x) f p = f x p
-if_ok P Q (Err e) f p = tt
-
--- a trim keeps the Book sound
-pub sound_trimmed : (a b : Pages) (count : ℕ) → AgreesWithJournal a → AreBeforeOpen (journal_of a.journal) count → IsTrimmed (journal_of a.journal) count (journal_of b.journal) → AreCounted b.journal
-    → b.stored ≡ a.stored → b.sent ≡ a.sent → b.lanes ≡ a.lanes → b.closed ≡ a.closed → b.posts ≡ a.posts → deque_capacity b.journal.calls ≡ deque_capacity a.journal.calls → AgreesWithJournal b
-sound_trimmed a b count sound fits of counted store log lanes closed posts capacity =
+pub kept_trimmed : (a b : Shelf) (counted places count : ℕ) → IsKeptBook a counted places → AreBeforeOpen (journal_of a.journal) count → IsTrimmed (journal_of a.journal) count (journal_of b.journal) → AreCounted b.journal
+    → b.stored ≡ a.stored → b.log ≡ a.log → b.lanes ≡ a.lanes → b.posts ≡ a.posts → deque_capacity b.journal.calls ≡ deque_capacity a.journal.calls
+    → b.endings ≡ filter (λ (e : Ended). nat_le b.journal.before e.at) a.endings → length b.endings ≤ length a.endings → IsKeptBook b counted places
+kept_trimmed a b counted places count kept fits of counts stored log lanes posts capacity endings fewer =
     let old = journal_of a.journal in
     let new = journal_of b.journal in
-    let was : deque_len a.journal.calls ≡ length a.journal.calls.items = a.journal.calls.ok.0 in
-    let is : deque_len b.journal.calls ≡ length b.journal.calls.items = b.journal.calls.ok.0 in
-    let fewer : length b.journal.calls.items ≡ length a.journal.calls.items - count = ap length of.calls ∙ length-drop count a.journal.calls.items in
-    let count_same : open_count b.lanes ≡ open_count a.lanes = ap open_count lanes in
-    let flag_same : cond {A = ℕ} b.closed 0 1 ≡ cond {A = ℕ} a.closed 0 1 = ap (λ (b : Bool). cond {A = ℕ} b 0 1) closed in
     record {
-      kept = follows_trimmed (book_of a) (book_of b) count of log store sound.kept;
-      eight = ap length lanes ∙ sound.eight;
-      closed = closed ∙ (sound.closed ∙ sym (trimmed_closed old new count of));
-      lanes = λ lane h. ap (λ lanes. is_some (lane_at lanes lane)) lanes ∙ (sound.lanes lane h ∙ sym (trimmed_open old new count of lane));
-      openings = λ lane.
-          subst (λ lanes. IfSome (lane_at lanes lane) (IsItsOpening new lane)) (sym lanes)
-          (if_some (lane_at a.lanes lane) (λ one here its.
-          let h : new.before ≤ one.at = omega (arith, of.before, fits.kept lane one.at its.given) in
-          record {
-            given = open_trimmed old new count lane one.at of h its.given;
-            opening = its.opening ∙ sym (until_stored old new count of one.at h);
-          }) (sound.openings lane));
-      posts = posts ∙ (sound.posts ∙ sym (trimmed_posts old new count of));
-      dropped = counted;
-      limits = subst IsWithinLogLimits (sym log) sound.limits;
-      room = omega (arith, sound.room, was, is, fewer, count_same, flag_same, capacity);
+      pages = sound_trimmed (pages_of a) (pages_of b) count kept.pages fits of counts stored (ap (λ (q : LogView). sent_in q.tail.log) log) lanes (ap (λ (q : LogView). q.tail.closed) log) posts capacity;
+      posts = ap (λ (q : LogView). drop b.journal.places (posts_in q.tail.log)) log ∙ posts_trimmed old new count (posts_in a.log.tail.log) of kept.posts;
+      lanes = λ lane small.
+          subst (λ (q : LogView). IsKeptLane new (account_of q lane) (lane_at b.lanes lane)) (sym log)
+          (subst (λ ls. IsKeptLane new (account_of a.log lane) (lane_at ls lane)) (sym lanes)
+          (lane_trimmed old new count lane (account_of a.log lane) (lane_at a.lanes lane) fits of (kept.pages.openings lane) (kept.lanes lane small)));
+      endings = subst (All (IsEndingOf new)) (sym endings) (filter_all (λ (e : Ended). nat_le b.journal.before e.at) (IsEndingOf old) (IsEndingOf new) a.endings (λ e late was. ending_trimmed old new count e fits.within of late was) kept.endings);
+      lefts = ap (map (λ (e : Ended). e.at)) endings ∙ (ats_kept b.journal.before a.endings ∙ (ap (filter (nat_le b.journal.before)) kept.lefts ∙ lefts_trimmed old new count of));
+      total = kept.total ∙ sym (ap (λ (q : LogView). length q.tail.log) log);
+      room = let r = kept.room in omega (arith, fewer, ap Rattle.am_store.specs.inside.Lanes.open_count lanes);
     }
+
+pub kept_room : {a : Shelf} {counted places room : ℕ} → IsKeptBook a counted places → places ≡ room → IsKeptBook a counted room
+kept_room {a} {counted} kept same = subst (IsKeptBook a counted) same kept

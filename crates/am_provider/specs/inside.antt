@@ -1,6 +1,4 @@
--- Definitions over fields, for the code of this crate and of the provider over it.
-pub mod Shared
-pub mod Journals
-pub mod Lanes
-pub mod LogLimits
-pub mod Pages
+-- Definitions over private fields, which only code of this crate cites.
+pub mod Subscribed
+pub mod Advances
+pub mod Shelves

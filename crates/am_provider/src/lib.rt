@@ -1,35 +1,61 @@
-//! What an alert provider keeps: the stored alerts, the journal of the calls that it accepted, and
-//! its lanes.
+//! The alert provider for threads: the Book over the log without a lock, and the subscriptions that
+//! read it.
 //!
-//! The store has one alert for each label set, in the order in which the label sets were first
-//! reported. The reports of a post are merged into it one after another (`store::absorb`), and the
-//! changes that they made are answered too: a post that is refused further on is taken back by them,
-//! so that it leaves no trace. `am_alert` says what two reports of one label set become.
+//! > Whatever posts, subscriptions, reads, leaves, collections and close come, from whichever
+//! > threads and in whatever interleaving, what a subscription has taken begins the alerts stored at
+//! > its subscription followed by every alert accepted since, merged as stored, each once and in
+//! > journal order; one that was told 'closed' has taken them all; and no segment is freed that an
+//! > open cursor has not passed.
 //!
-//! The journal has each accepted call with what was posted, and what is stored and what is owed to a
-//! subscriber follow from it alone. Calls that no open subscription needs any more can be dropped
-//! from its front: what they left stands in their place, and nobody can tell (`trimming_laws`).
+//! # What a slow subscriber gets
 //!
-//! A lane is a subscriber's slot, of which there are eight. An open one keeps when it was subscribed
-//! and what was stored then, so that the journal can be shortened up to the earliest of them.
+//! All of it, in its own time, as long as it is less than `places` posts behind. One that is as far
+//! behind holds the next post up: under `Policy::Refuse` that post is refused and names the lane;
+//! under `Policy::Cut` the subscriber is cut, is told `Cut` after the alerts that it has in hand,
+//! and everyone else goes on.
 //!
-//!     let alerts = SharedAlerts::new(alloc, valid)?;            // the valid alerts of a post
-//!     let Absorbed { batch, undo } = absorb_each(&mut stored, alerts.as_slice(), now)?;
-//!     ..                                                        // `batch` goes out, or else:
-//!     take_back(&mut stored, undo);
+//! # What closing means
 //!
-//! The store, the journal, what goes out and what late subscribers are shown have each alert in
-//! common: none of them copies one.
+//! After `close` no post and no subscriber is taken. Who is there reads on, and is told `Closed`
+//! once it was shown everything.
+//!
+//! # A caller
+//!
+//!     let parts = Parts::make(alloc, 256, 2)?;                  // 256 places, 2 posters
+//!     let Begun { cast, mut book, mut passes } = Book::begin::<Brand>(alloc, parts, Policy::Refuse)?;
+//!     let mut subscription = book.subscribe(&cast)?;
+//!     book.post(&cast, &mut passes[0], post, now)?;
+//!     while let Step::Item(alert) = subscription.next() {       // no lock, no memory, no waiting
+//!         ..
+//!     }
+//!     let ended = book.leave(&cast, subscription);
 #![tactic(auto)]
 
-mod call;
-mod journal;
-pub mod lanes;
-mod laws;
-mod shared_alerts;
-pub mod store;
+mod answers;
+mod begin;
+mod book;
+mod faults;
+mod feed;
+mod gate;
+mod item;
+mod lends;
+mod parts;
+mod pass;
+mod provider;
+mod sending;
+mod settle;
+mod settled;
+mod subscription;
 
-pub use call::Call;
-pub use journal::{Journal, MAX_BEFORE};
-pub use laws::{journal_laws, trimming_laws};
-pub use shared_alerts::{SharedAlert, SharedAlerts, StoredAlerts};
+pub use am_cast::AlreadyClosed;
+pub use answers::{Counts, Ended, Policy, Posted, Step};
+pub use book::Book;
+pub use faults::{PostRefused, PutFault, SubFault};
+pub use feed::{Cast, Origin};
+pub use gate::{Gate, NoGate};
+pub use item::Item;
+pub use parts::{Begun, Parts};
+pub use pass::Pass;
+pub use provider::Provider;
+pub use settled::Settled;
+pub use subscription::Subscription;

@@ -22,7 +22,7 @@ use Rattle.clap.specs.Simple.{app_of, new_app, on_top, with_rule}
 use Rattle.clap.specs.declared.builder.value_parser.ValueParser.TheVariants as value
 use Rattle.clap.proofs.CallerLemmas.{added_plain, default_present, entry_by_id, same_rules_by_id}
 use Rattle.clap.proofs.WalkLemmas.{list_any-map}
-use Rattle.am_hub.specs.declared.answers.Policy.TheVariants.{Refuse, Cut}
+use Rattle.am_provider.specs.declared.answers.Policy.TheVariants.{Refuse, Cut}
 use Rattle.am_replay.specs.declared.arguments.TheConstants.{MOST_PLACES}
 use Rattle.am_replay.specs.Options.{AreModes, ArePolicies, HasOptions, IsCommandOf, IsOption, Names, mode_name, options_of, policy_name}
 use Rattle.am_replay.specs.declared.arguments.Mode.TheVariants.{Ordered, Free}

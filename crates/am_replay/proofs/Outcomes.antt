@@ -6,11 +6,11 @@ use Rattle.std.specs.declared.alloc.AllocError.{AllocError}
 use Rattle.std.specs.Duration.{as_nanos}
 use Rattle.std.specs.Io.KnownBytes.{Keeps}
 use Rattle.am_alert.specs.declared.alert.Alert.{Alert}
-use Rattle.am_provider.specs.declared.call.Call.{Call}
+use Rattle.am_store.specs.declared.call.Call.{Call}
 use Rattle.am_cast.specs.Posters.{PassView}
-use Rattle.am_hub.specs.Settling.{IsSettled, own_of}
-use Rattle.am_hub.specs.declared.answers.Counts.{Counts}
-use Rattle.am_hub.specs.declared.settled.Settled.{Settled}
+use Rattle.am_provider.specs.Settling.{IsSettled, own_of}
+use Rattle.am_provider.specs.declared.answers.Counts.{Counts}
+use Rattle.am_provider.specs.declared.settled.Settled.{Settled}
 use Rattle.am_runner.specs.Working.{AreWork, none, one_more_thread}
 use Rattle.am_runner.specs.declared.answer.Answer.{Answer}
 use Rattle.am_replay.specs.Printing.{report_text, ran_out_of_memory}

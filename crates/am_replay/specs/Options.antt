@@ -14,8 +14,8 @@ use Rattle.clap.specs.declared.builder.value_parser.ValueParser.{ValueParser}
 use Rattle.clap.specs.declared.builder.value_parser.ValueParser.TheVariants as value
 use Rattle.clap.specs.declared.parser.matches.ArgMatches.{ArgMatches}
 use Rattle.clap.specs.declared.parser.matches.Found.{Found}
-use Rattle.am_hub.specs.declared.answers.Policy.{Policy}
-use Rattle.am_hub.specs.declared.answers.Policy.TheVariants.{Refuse, Cut}
+use Rattle.am_provider.specs.declared.answers.Policy.{Policy}
+use Rattle.am_provider.specs.declared.answers.Policy.TheVariants.{Refuse, Cut}
 use Rattle.am_replay.specs.declared.arguments.TheConstants.{MOST_PLACES}
 use Rattle.am_replay.specs.declared.arguments.Mode.{Mode}
 use Rattle.am_replay.specs.declared.arguments.Mode.TheVariants.{Ordered, Free}

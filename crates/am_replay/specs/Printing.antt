@@ -4,7 +4,7 @@ use Rattle.std.specs.Global.{Vec}
 use Rattle.std.specs.Option.{option_and_then}
 use Rattle.std.specs.List.{list_any}
 use Rattle.std.specs.Fmt.{decimal}
-use Rattle.am_hub.specs.declared.answers.Counts.{Counts}
+use Rattle.am_provider.specs.declared.answers.Counts.{Counts}
 use Rattle.am_runner.specs.Answers.{is_out_of_memory}
 use Rattle.am_runner.specs.Printing.{answer_text}
 use Rattle.am_runner.specs.declared.answer.Answer.{Answer}

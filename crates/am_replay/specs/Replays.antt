@@ -10,7 +10,7 @@ use Rattle.am_replay.specs.Runs.{IsRun}
 use Rattle.am_replay.specs.Arguments.{AreRead, AreRefused}
 use Rattle.am_replay.specs.declared.arguments.Arguments.{Arguments}
 use Rattle.am_replay.specs.declared.report.Report.{Report}
-use Rattle.am_hub.specs.declared.settled.Settled.{Settled}
+use Rattle.am_provider.specs.declared.settled.Settled.{Settled}
 use Rattle.am_script.specs.Script.{Checks, config_line, lines_of}
 use Rattle.am_script.specs.declared.command.Line.{Line}
 use Rattle.am_script.specs.declared.script.Fault.TheVariants.{TooLarge}

@@ -3,14 +3,14 @@ use Rattle.std.specs.Prelude.{◌≡◌, ℕ, true, List, map, length, Result, O
 use Rattle.std.specs.Global.{Vec}
 use Rattle.std.specs.declared.alloc.AllocError.{AllocError}
 use Rattle.am_alert.specs.declared.alert.Alert.{Alert}
-use Rattle.am_provider.specs.declared.call.Call.{Call}
+use Rattle.am_store.specs.declared.call.Call.{Call}
 use Rattle.am_cast.specs.Posters.{PassView}
-use Rattle.am_provider.specs.Journal.{posts_of}
-use Rattle.am_provider.specs.inside.Journals.{journal_of}
-use Rattle.am_hub.specs.BookView.{places_of}
-use Rattle.am_hub.specs.Settling.{IsSettled, own_of}
-use Rattle.am_hub.specs.declared.answers.Counts.{Counts}
-use Rattle.am_hub.specs.declared.settled.Settled.{Settled}
+use Rattle.am_store.specs.Journal.{posts_of}
+use Rattle.am_store.specs.inside.Journals.{journal_of}
+use Rattle.am_provider.specs.BookView.{places_of}
+use Rattle.am_provider.specs.Settling.{IsSettled, own_of}
+use Rattle.am_provider.specs.declared.answers.Counts.{Counts}
+use Rattle.am_provider.specs.declared.settled.Settled.{Settled}
 use Rattle.am_runner.specs.Working.{AreWork}
 use Rattle.am_runner.specs.declared.answer.Answer.{Answer}
 use Rattle.am_script.specs.declared.command.Line.{Line}

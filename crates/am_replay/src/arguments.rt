@@ -6,7 +6,7 @@ ghost use Rattle.am_replay.specs.declared.arguments.TheConstants.{MOST_PLACES};
 ghost use Rattle.am_replay.specs.Options.{AreModes, ArePolicies, HasOptions, IsCommandOf, IsOption};
 ghost use Rattle.am_replay.specs.ArgumentsFaults.{IsTold};
 
-use am_hub::Policy;
+use am_provider::Policy;
 use clap::builder::ValueParser;
 use clap::error::ErrorKind;
 use clap::{Arg, ArgAction, ArgMatches, Command, Error};

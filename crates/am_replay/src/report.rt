@@ -6,7 +6,7 @@ ghost use Rattle.am_runner.specs.Answers.{is_out_of_memory};
 ghost use Rattle.am_replay.specs.Printing.{answers_text, counts_text, given_at, lines_text};
 ghost use Rattle.am_replay.specs.Printing.{ran_out_of_memory, report_text};
 
-use am_hub::Counts;
+use am_provider::Counts;
 use am_runner::Answer;
 use am_script::{Line, Thread};
 use std::alloc::{AllocError, Global};

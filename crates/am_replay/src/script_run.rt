@@ -7,7 +7,7 @@ ghost use Rattle.am_replay.specs.Runs.{IsRun};
 
 use crate::arguments::{Arguments, Mode};
 use crate::report::Report;
-use am_hub::{Origin, Parts, Pass, Policy, Provider, Settled};
+use am_provider::{Origin, Parts, Pass, Policy, Provider, Settled};
 use am_runner::{Answer, Freely, InOrder, Outcome, Turns, run_threads};
 use am_script::{Line, THREADS};
 use std::alloc::{AllocError, Global};

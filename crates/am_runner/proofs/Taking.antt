@@ -3,9 +3,9 @@ use Rattle.std.proofs.Common.{◌≡◌, ℕ, Bool, true, false, List, [], ◌�
 use Rattle.std.proofs.lemmas.Bool.{false≢true}
 use Rattle.std.proofs.lemmas.List.Elements.{filter_map-append}
 use Rattle.am_alert.specs.declared.alert.Alert.{Alert}
-use Rattle.am_hub.specs.Subscriptions.{SubscriptionView, taken}
+use Rattle.am_provider.specs.Subscriptions.{SubscriptionView, taken}
 use Rattle.am_cast.specs.Cursors as cast
-use Rattle.am_hub.specs.Showings.{ShowsItem, ShowsNone}
+use Rattle.am_provider.specs.Showings.{ShowsItem, ShowsNone}
 use Rattle.am_inhibit.proofs.Muting.{last_alerts_go_on}
 use Rattle.am_inhibit.specs.LastAlerts.{last_alerts}
 use Rattle.am_routes.specs.Groups.{Take, Sweep}

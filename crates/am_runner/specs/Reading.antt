@@ -1,9 +1,9 @@
 -- An open subscription with the consumer beside it, and what reading it answers.
 use Rattle.std.specs.Prelude.{◌≡◌, ℕ, ◌+◌, ◌<◌, Bool, true, false, List, [], ◌∷◌, ◌++◌, Option, Some, None, IfSome}
 use Rattle.am_alert.specs.declared.alert.Alert.{Alert}
-use Rattle.am_hub.specs.Subscriptions.{SubscriptionView, taken}
-use Rattle.am_hub.specs.Showings.{ShowsItem, Shows}
-use Rattle.am_hub.specs.declared.answers.Step.TheVariants as step
+use Rattle.am_provider.specs.Subscriptions.{SubscriptionView, taken}
+use Rattle.am_provider.specs.Showings.{ShowsItem, Shows}
+use Rattle.am_provider.specs.declared.answers.Step.TheVariants as step
 use Rattle.am_runner.specs.Answers.{is_item}
 use Rattle.am_runner.specs.Consuming.{TakesAlert, HasTaken, answers_of_groups}
 use Rattle.am_script.specs.declared.command.Verb.TheVariants as verb

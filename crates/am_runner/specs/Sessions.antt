@@ -3,16 +3,16 @@ use Rattle.std.specs.Prelude.{◌≡◌, ℕ, zero, suc, List, [], ◌∷◌, �
 use Rattle.std.specs.Option.{option_and_then}
 use Rattle.std.specs.Str.{bytes_eq}
 use Rattle.am_alert.specs.declared.alert.Alert.{Alert}
-use Rattle.am_provider.specs.declared.call.Call.{Call}
-use Rattle.am_provider.specs.Journal.{has_lane}
+use Rattle.am_store.specs.declared.call.Call.{Call}
+use Rattle.am_store.specs.Journal.{has_lane}
 use Rattle.am_cast.specs.Posters.{PassView}
-use Rattle.am_hub.specs.Posts.{HasMet}
-use Rattle.am_hub.specs.Provided.{IsPostedAs, IsUnread}
-use Rattle.am_hub.specs.Subscriptions.{taken}
-use Rattle.am_hub.specs.declared.answers.Ended.{Ended}
-use Rattle.am_hub.specs.declared.answers.Posted.{Posted}
-use Rattle.am_hub.specs.declared.faults.PostRefused.{PostRefused}
-use Rattle.am_hub.specs.declared.faults.SubFault.{SubFault}
+use Rattle.am_provider.specs.Posts.{HasMet}
+use Rattle.am_provider.specs.Provided.{IsPostedAs, IsUnread}
+use Rattle.am_provider.specs.Subscriptions.{taken}
+use Rattle.am_provider.specs.declared.answers.Ended.{Ended}
+use Rattle.am_provider.specs.declared.answers.Posted.{Posted}
+use Rattle.am_provider.specs.declared.faults.PostRefused.{PostRefused}
+use Rattle.am_provider.specs.declared.faults.SubFault.{SubFault}
 use Rattle.am_labels.specs.LabelSets.{Labels}
 use Rattle.am_script.specs.declared.kind.Kind.{Kind}
 use Rattle.am_routes.specs.declared.config.Config.{Config}

@@ -7,8 +7,8 @@ ghost use Rattle.am_runner.specs.Printing.{answer_text, group_text, left_text};
 ghost use Rattle.am_runner.specs.Printing.{posted_text, swept_text};
 
 use am_alert::{Alert, AlertFault, PostFault};
-use am_hub::{PostRefused, PutFault, SubFault};
 use am_labels::{LabelSet, Quoted, Text};
+use am_provider::{PostRefused, PutFault, SubFault};
 use am_routes::Swept;
 use am_script::Verb;
 use std::alloc::{AllocError, Global};

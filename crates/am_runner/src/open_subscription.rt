@@ -2,7 +2,7 @@
 
 ghost use Rattle.std.specs.Prelude.{◌≡◌, ℕ, List, false, true, [], IfOk, IfSome, OnErr, OnOk};
 ghost use Rattle.std.specs.Str.{bytes_eq};
-ghost use Rattle.am_hub.specs.Subscriptions.{taken};
+ghost use Rattle.am_provider.specs.Subscriptions.{taken};
 ghost use Rattle.am_runner.specs.Consuming.{HasTaken, IsAsked, IsSwept};
 ghost use Rattle.am_alert.specs.declared.alert.Alert.{Alert};
 ghost use Rattle.am_runner.specs.Answers.{is_item};
@@ -12,8 +12,8 @@ ghost use Rattle.am_runner.specs.Reading.{ReadsOne, TakenBeside, TookAll, groups
 use crate::answer::{Answer, one};
 use crate::consumer::Consumer;
 use am_alert::{Alert, Moment};
-use am_hub::{Origin, Step, Subscription};
 use am_labels::{LabelSet, Text};
+use am_provider::{Origin, Step, Subscription};
 use am_script::Verb;
 use std::alloc::{AllocError, Global};
 use std::marker::Model;
@@ -31,8 +31,8 @@ pub struct OpenSubscription<'p, 'c, N: Origin> {
 impl<'p, 'c, N: Origin> Model for OpenSubscription<'p, 'c, N> {
     ghost use Rattle.std.specs.Coded.{codes};
     ghost use Rattle.am_alert.specs.Alerts.{coded_alert};
-    ghost use Rattle.am_provider.specs.contracts.call.Call as call;
-    ghost use Rattle.am_provider.specs.contracts.lanes.OpenLane as lane;
+    ghost use Rattle.am_store.specs.contracts.call.Call as call;
+    ghost use Rattle.am_store.specs.contracts.lanes.OpenLane as lane;
     ghost use Rattle.am_runner.specs.contracts.consumer.Consumer as beside;
     ghost use Rattle.std.specs.Prelude.{[]};
     ghost use mir.Syntax.{named};

@@ -2,7 +2,7 @@
 
 ghost use Rattle.std.specs.Prelude.{◌≡◌, ◌<◌, ◌++◌, ◌∷◌, [], ℕ, IfOk, OnOk, length, map};
 ghost use Rattle.std.specs.Duration.{as_nanos};
-ghost use Rattle.am_provider.specs.Journal.{has_lane};
+ghost use Rattle.am_store.specs.Journal.{has_lane};
 ghost use Rattle.am_runner.specs.Sessions.{AsksNamed, Does, LeavesAt, ReadsNamed, SessionView};
 ghost use Rattle.am_runner.specs.Sessions.{SweepsNamed, cut_below, groups_told, named_in};
 ghost use Rattle.am_runner.specs.Sessions.{place_of, posted_answers};
@@ -11,8 +11,8 @@ use crate::answer::{Answer, one};
 use crate::consumer::Consumer;
 use crate::open_subscription::OpenSubscription;
 use am_alert::{AlertFault, Moment};
-use am_hub::{AlreadyClosed, Ended, Gate, Origin, Pass, Posted, Provider};
 use am_labels::{LabelSet, Text};
+use am_provider::{AlreadyClosed, Ended, Gate, Origin, Pass, Posted, Provider};
 use am_routes::Config;
 use am_script::{Command, Kind, Verb};
 use std::alloc::{AllocError, Global};
@@ -28,8 +28,8 @@ pub struct Session<'p, 'c, N: Origin> {
 impl<'p, 'c, N: Origin> Model for Session<'p, 'c, N> {
     ghost use Rattle.std.specs.Coded.{codes};
     ghost use Rattle.am_alert.specs.Alerts.{coded_alert};
-    ghost use Rattle.am_provider.specs.contracts.call.Call as call;
-    ghost use Rattle.am_provider.specs.contracts.lanes.OpenLane as lane;
+    ghost use Rattle.am_store.specs.contracts.call.Call as call;
+    ghost use Rattle.am_store.specs.contracts.lanes.OpenLane as lane;
     ghost use Rattle.am_runner.specs.contracts.consumer.Consumer as beside;
     ghost use Rattle.std.specs.Prelude.{[]};
     ghost use mir.Syntax.{named};

@@ -10,7 +10,7 @@ use crate::answer::Answer;
 use crate::start::Start;
 use crate::turns::Turns;
 use crate::work::work;
-use am_hub::{Origin, Pass, Provider};
+use am_provider::{Origin, Pass, Provider};
 use am_routes::Config;
 use am_script::{Line, THREADS, Thread};
 use std::alloc::{AllocError, Global};

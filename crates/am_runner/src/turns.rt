@@ -1,6 +1,6 @@
 //! Who may run a line when.
 
-use am_hub::Gate;
+use am_provider::Gate;
 use am_script::{Line, Thread};
 use std::alloc::{AllocError, Global};
 use std::sync::{Condvar, Mutex, Wait};

@@ -9,7 +9,7 @@ use crate::answer::Answer;
 use crate::session::Session;
 use crate::threads::Outcome;
 use crate::turns::{Turn, Turns};
-use am_hub::{Origin, Pass, Provider};
+use am_provider::{Origin, Pass, Provider};
 use am_routes::Config;
 use am_script::{Line, Thread};
 use std::alloc::{AllocError, Global};

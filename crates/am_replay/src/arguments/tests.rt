@@ -1,7 +1,7 @@
 //! The arguments that users give, and what they are told of those that are refused.
 
 use super::{Arguments, ArgumentsFault, Mode};
-use am_hub::Policy;
+use am_provider::Policy;
 use std::alloc::{AllocError, Global};
 use std::test::Fail;
 

@@ -3,7 +3,7 @@ use Rattle.std.proofs.lemmas.Result.{IfOk-weaker}
 use Rattle.clap.specs.Simple.{app_of, app_of_fields, new_app, on_top}
 use Rattle.clap.specs.declared.builder.value_parser.ValueParser.{ValueParser}
 use Rattle.clap.specs.declared.builder.value_parser.ValueParser.TheVariants as value
-use Rattle.am_hub.specs.declared.answers.Policy.TheVariants.{Refuse}
+use Rattle.am_provider.specs.declared.answers.Policy.TheVariants.{Refuse}
 use Rattle.am_replay.specs.declared.arguments.Mode.TheVariants.{Ordered}
 use Rattle.am_replay.specs.declared.arguments.TheConstants.{MOST_PLACES}
 use Rattle.am_replay.specs.Options.{IsOption, mode_name, policy_name}

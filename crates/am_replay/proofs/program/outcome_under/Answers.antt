@@ -1,4 +1,4 @@
-use Rattle.std.proofs.Common.{[], ◌∷◌, ◌++◌, ap, sym, ◌∙◌, string_bytes}
+use Rattle.std.proofs.Common.{[], ◌∷◌, ◌++◌, ap, ◌∙◌, string_bytes}
 use Rattle.am_script.specs.ScriptTexts.{refusal_text}
 use Rattle.am_script.specs.declared.script.Refusal.{Refusal}
 use Rattle.am_replay.specs.Replays.{refused}
@@ -18,4 +18,4 @@ returns-in_ok-format-in-Err-Refused g c =
     let checks = rw c.in-Err-Refused.field-0-is at c.in-Err-Refused.ensures.refused in
     let words = refusal_text c.in-Err-Refused.refusal ++ 10 ∷ [] in
     refused_so text words _ _ (refused c.args.config.now c.in-Err-Refused.refusal c.requires checks) c.refused.ensures.status
-    (ap string_bytes c.refused.ensures.output ∙ (c.in_ok-format-in-Err-Refused.ensures.ok ∙ ap (λ (r : Refusal). refusal_text r ++ 10 ∷ []) (sym c.in-Err-Refused.refusal-is)))
+    (ap string_bytes c.refused.ensures.output ∙ (c.in_ok-format-in-Err-Refused.ensures.ok ∙ ap (λ (r : Refusal). refusal_text r ++ 10 ∷ []) c.in-Err-Refused.refusal-is))

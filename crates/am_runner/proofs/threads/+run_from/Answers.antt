@@ -2,7 +2,7 @@ use Rattle.std.proofs.Common.{◌≡◌, ◌∙◌, ◌+◌, ◌++◌, ◌∷◌
 use Rattle.std.proofs.lemmas.List.{get_or_append_left, length-append}
 use Rattle.std.specs.Duration.{as_nanos}
 use Rattle.am_alert.specs.declared.alert.Alert.{Alert}
-use Rattle.am_provider.specs.declared.call.Call.{Call}
+use Rattle.am_store.specs.declared.call.Call.{Call}
 use Rattle.am_cast.specs.Posters.{PassView}
 use Rattle.am_runner.specs.Working.{AreWork, IsWorkUnder, none, one_more_thread}
 use Rattle.am_runner.specs.declared.threads.RunsLines.{RunsLines}

@@ -1,4 +1,4 @@
-use Rattle.am_hub.specs.Subscriptions.{taken}
+use Rattle.am_provider.specs.Subscriptions.{taken}
 use Rattle.am_runner.proofs.open_subscription.OpenSubscription.mutes.Goals as goal
 
 pub invariant_of-self : goal.invariant_of-self

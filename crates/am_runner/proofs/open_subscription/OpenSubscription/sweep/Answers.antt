@@ -1,4 +1,4 @@
-use Rattle.am_hub.specs.Subscriptions.{taken}
+use Rattle.am_provider.specs.Subscriptions.{taken}
 use Rattle.am_runner.specs.declared.answer.Answer.TheVariants.{NotOpen}
 use Rattle.am_script.specs.declared.command.Verb.TheVariants.{Sweep}
 use Rattle.am_runner.proofs.Taking.{beside_swept}

@@ -1,9 +1,9 @@
 use Rattle.std.proofs.Common.{◌∙◌, ◌∷◌, [], ℕ, List, sym, subst}
 use Rattle.std.specs.Duration.{as_nanos}
 use Rattle.am_alert.specs.declared.alert.Alert.{Alert}
-use Rattle.am_provider.specs.declared.call.Call.{Call}
+use Rattle.am_store.specs.declared.call.Call.{Call}
 use Rattle.am_cast.specs.Posters.{PassView}
-use Rattle.am_hub.specs.Provided.{IsPostedAs, IsUnread}
+use Rattle.am_provider.specs.Provided.{IsPostedAs, IsUnread}
 use Rattle.am_runner.specs.Sessions.{SessionView, Does, posted, post_refused, posted_answers}
 use Rattle.am_runner.specs.declared.answer.Answer.{Answer}
 use Rattle.am_runner.specs.declared.answer.Answer.TheVariants.{PostRefused}

@@ -1,5 +1,5 @@
 use Rattle.std.proofs.Common.{◌≡◌, ◌∙◌, ◌∷◌, ◌++◌, [], List, Option, IfSome, ap, sym, subst, length}
-use Rattle.am_hub.specs.Subscriptions.{SubscriptionView, taken}
+use Rattle.am_provider.specs.Subscriptions.{SubscriptionView, taken}
 use Rattle.am_runner.specs.Consuming.{HasTaken, fresh_consumer}
 use Rattle.am_runner.specs.Reading.{OpenView}
 use Rattle.am_runner.specs.Sessions.{SessionView, Does, subscribe_refused}

@@ -1,4 +1,0 @@
--- Definitions over private fields, which only code of this crate cites.
-pub mod Subscribed
-pub mod Advances
-pub mod Shelves

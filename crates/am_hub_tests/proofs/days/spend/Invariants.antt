@@ -1,7 +1,0 @@
-use Rattle.am_hub_tests.proofs.days.spend.Given as goal
-
-abbrev pub ghosts-spend_over-N-Feed : goal.ghosts-spend_over-N-Feed
-ghosts-spend_over-N-Feed g a = record { table = a.parts.log.board.shared.table_id }
-
-abbrev pub ghosts-spend_over-N-Ledger : goal.ghosts-spend_over-N-Ledger
-ghosts-spend_over-N-Ledger g a = record { name = a.parts.ledger.name; parts = a.parts.ledger.parts }

@@ -1,0 +1,13 @@
+use Rattle.std.proofs.Common.{length, sym, subst}
+use Rattle.am_cast.specs.Seats.{account_of}
+use Rattle.am_cast.specs.Writers.{IsCutAs}
+use Rattle.am_provider.proofs.book.Book.post.Goals as goal
+
+pub returns-clause-cut : goal.returns-clause-cut
+returns-clause-cut g c =
+    let cut = c.in_ok-place.ensures.cut in
+    record {
+      lanes = cut.lanes;
+      cuts = λ lane small. subst (IsCutAs (length c.args.self.now.log.tail.log) c.args.self.now.log.tail.places (account_of c.args.self.now.log lane) (account_of c.post_some.new.self.log lane)) (sym (c.bits_of.ensures.bits lane small)) (cut.cuts lane small);
+      none = λ policy. c.bits_of.ensures.none (cut.none policy);
+    }

@@ -1,0 +1,102 @@
+use Rattle.std.proofs.Common.{◌≡◌, ◌+◌, ◌≤◌, ◌<◌, ◌++◌, ◌∷◌, [], List, length, refl, sym, ap, subst, ◌∙◌, ℕ, false, rules, arith}
+use Rattle.std.specs.VecDeque.{deque_len, deque_capacity}
+use mathlib.Core.List.{IsPrefix}
+use Rattle.am_store.specs.declared.call.Call.{Call}
+use Rattle.am_store.specs.declared.call.Call.TheVariants.{Posted}
+use Rattle.am_store.specs.Journal.{with_call, is_closed}
+use Rattle.am_store.specs.Shared.{alerts_in}
+use Rattle.am_store.specs.AlertList.{with_alerts, batch_by_list}
+use Rattle.am_store.specs.inside.Journals.{journal_of}
+use Rattle.am_store.specs.inside.Shared.{stored_in, AreKeptByLabels}
+use Rattle.am_store.proofs.Entries.{length_batch, length_became}
+use Rattle.am_alert.specs.declared.alert.Alert.{Alert}
+use Rattle.am_cast.specs.declared.views.Tail.{Tail}
+use Rattle.am_cast.specs.Rule.{most}
+use Rattle.am_cast.specs.Changes.{longer_tail, own_at}
+use Rattle.am_cast.specs.Seats.{account_of}
+use Rattle.am_cast.specs.Posters.{PassView}
+use Rattle.am_provider.specs.Batches.{Batch}
+use Rattle.am_provider.specs.BookView.{BookView}
+use Rattle.am_provider.proofs.Shelves.{GoesOnAs, stays_as, cut_as, goes_on_twice, kept_alike}
+use Rattle.am_provider.proofs.Calls.{kept_posted}
+use Rattle.am_provider.proofs.book.Book.post_some.Given.{Over}
+use Rattle.am_provider.proofs.book.Book.post_some.Goals as goal
+
+pub send_batch-requires-clause-some : goal.send_batch-requires-clause-some
+send_batch-requires-clause-some g c =
+    let olds = stored_in c.self.inside.stored.entries in
+    let news = alerts_in c.as_slice.result.now in
+    let count : length c.in_ok-batch.field-0.batch.items ≡ length news = length_became c.in_ok-batch.field-0.batch.items c.args.now news olds c.in_ok-batch.ensures.batch in
+    let same : news ≡ c.args.valid = search rules in
+    omega (arith, c.requires.some, count, ap length same)
+
+-- what the log knows of a lane goes on through the harvest and the batch
+lanes_on : (g : Over) (c : goal.After-drop-undo g) (lane : ℕ) → lane < 8 → GoesOnAs (account_of c.self.inside.log lane) (account_of c.send_batch.new.writer lane)
+lanes_on g c lane small =
+    let sent = c.in-Ok.ensures.sent in
+    goes_on_twice (account_of c.self.inside.log lane) (account_of c.harvest-full.new.self lane) (account_of c.send_batch.new.writer lane)
+    (stays_as _ _ (c.harvest-full.ensures.harvested.each lane small)) (cut_as _ _ _ _ _ (sent.lanes lane small) (sent.cuts lane small))
+
+pub invariant_of-self-in-Ok-1 : goal.invariant_of-self-in-Ok-1
+invariant_of-self-in-Ok-1 g c =
+    let kept = c.self.invariant.1 in
+    let olds = stored_in c.self.inside.stored.entries in
+    let valid = c.args.valid in
+    let batch = alerts_in c.in_ok-batch.field-0.batch.items in
+    let same : alerts_in c.as_slice.result.now ≡ valid = search rules in
+    let became : batch ≡ batch_by_list c.args.now valid olds = c.in_ok-batch.ensures.batch ∙ ap (λ news. batch_by_list c.args.now news olds) same in
+    let stored : stored_in c.absorb_each.new.alerts.entries ≡ with_alerts batch olds =
+    c.in_ok-batch.ensures.stored ∙ (ap (λ news. with_alerts (batch_by_list c.args.now news olds) olds) same ∙ ap (λ b. with_alerts b olds) (sym became)) in
+    let tail = c.harvest-full.ensures.harvested.tail in
+    let sent = c.in-Ok.ensures.sent in
+    let x = sent.batch in
+    let still : c.self.inside.log.tail.closed ≡ false = kept.pages.closed ∙ (ap (λ (b : BookView). is_closed b.journal) c.self.view_is ∙ c.requires.open) in
+    let posted : x.0.post ≡ Posted c.args.now valid = x.1 ∙ ap (Posted c.args.now) c.in_ok-alerts.ensures in
+    let few : length c.self.inside.log.tail.log < most = omega (arith, c.if-len-ge-MOST_PLACES.false, c.len.ensures.0, ap (λ (t : Tail Batch). length t.log) tail) in
+    let room : deque_len c.push_back_reserved.new.self + 9 ≤ deque_capacity c.push_back_reserved.new.self = omega (arith, c.in_ok-reserve.ensures.ok, c.push_back_reserved.ensures.len, c.push_back_reserved.ensures.capacity) in
+    let calls : c.push_back_reserved.new.self.items ≡ c.self.inside.journal.calls.items ++ Posted c.args.now valid ∷ [] =
+    c.push_back_reserved.ensures.items ∙ (ap (λ (calls : List Call). calls ++ Posted c.args.now c.in_ok-alerts.alerts ∷ []) c.in_ok-reserve.ensures.items ∙ ap (λ alerts. c.self.inside.journal.calls.items ++ Posted c.args.now alerts ∷ []) c.in_ok-alerts.ensures) in
+    let journal : journal_of (record c.self.inside.journal { calls = c.push_back_reserved.new.self }) ≡ with_call (journal_of c.self.inside.journal) (Posted c.args.now valid) =
+    ap (λ (calls : List Call). record (journal_of c.self.inside.journal) { calls = calls }) calls in (
+      c.in_ok-batch.ensures.kept,
+      kept_posted _ _ _ _ _ c.args.now valid batch x.0 kept still journal stored became (ap length became ∙ length_batch c.args.now valid olds) c.requires.few c.requires.some few
+          posted x.2 (x.3 ∙ ap (longer_tail x.0) tail) (lanes_on g c) refl refl refl c.add.ensures.total room,
+      c.self.invariant.2,
+      c.self.invariant.3,
+    )
+
+pub invariant_of-self-in-Err : goal.invariant_of-self-in-Err
+invariant_of-self-in-Err g c =
+    let entries : c.take_back.new.alerts.entries ≡ c.self.inside.stored.entries = c.take_back.ensures ∙ c.in_ok-batch.ensures.back in
+    let unsent = c.in-Err.ensures.unsent in
+    let journal : journal_of (record c.self.inside.journal { calls = c.reserve.new.self }) ≡ journal_of c.self.inside.journal =
+    ap (λ (calls : List Call). record (journal_of c.self.inside.journal) { calls = calls }) c.in_ok-reserve.ensures.items in (
+      subst AreKeptByLabels (sym entries) c.self.invariant.0,
+      kept_alike _ _ _ _ c.self.invariant.1 journal c.in_ok-reserve.ensures.len (omega (arith, c.in_ok-reserve.ensures.capacity)) (ap stored_in entries) (unsent.tail ∙ c.harvest-full.ensures.harvested.tail)
+          (λ lane small. goes_on_twice (account_of c.self.inside.log lane) (account_of c.harvest-full.new.self lane) (account_of c.send_batch.new.writer lane)
+          (stays_as _ _ (c.harvest-full.ensures.harvested.each lane small)) (stays_as _ _ (unsent.lanes lane small))) refl refl refl,
+      c.self.invariant.2,
+      c.self.invariant.3,
+    )
+
+pub returns-in-Ok-clause-own : goal.returns-in-Ok-clause-own
+returns-in-Ok-clause-own g c =
+    let sent = c.in-Ok.ensures.sent in
+    let x = sent.batch in
+    let long : length c.harvest-full.new.self.tail.log ≡ length c.args.self.now.log.tail.log =
+    ap (λ (t : Tail Batch). length t.log) c.harvest-full.ensures.harvested.tail ∙ ap (λ (b : BookView). length b.log.tail.log) c.self.view_is in (
+      sent.next ∙ long,
+      (
+        (x.0, x.1 ∙ ap (Posted c.args.now) c.in_ok-alerts.ensures, x.4 ∙ ap (λ (p : PassView Alert Call). p.own ++ own_at c.in-Ok.sent.place x.0 ∷ []) c.pass.view_is),
+        sent.known.0,
+        subst (λ (p : PassView Alert Call). IsPrefix p.noted c.send_batch.new.pass.noted) c.pass.view_is sent.known.1,
+      ),
+    )
+
+pub returns-in-Ok-clause-log : goal.returns-in-Ok-clause-log
+returns-in-Ok-clause-log g c =
+    let x = c.in-Ok.ensures.sent.batch in (
+      x.0 ∷ [],
+      ap (λ (b : BookView). b.log.tail.log ++ x.0 ∷ []) (sym c.self.view_is)
+          ∙ (ap (λ (t : Tail Batch). t.log ++ x.0 ∷ []) (sym c.harvest-full.ensures.harvested.tail) ∙ ap (λ (t : Tail Batch). t.log) (sym x.3)),
+    )

@@ -1,5 +1,0 @@
-use Rattle.am_provider.specs.inside.Journals.{AreDropped}
-use Rattle.am_provider.proofs.journal.Journal.drop_first.Given as goal
-
-abbrev pub invariant-loop : goal.invariant-loop
-invariant-loop l = AreDropped l.fn.self l.counter l.self

@@ -1,0 +1,80 @@
+-- What contracts see of a Book over the log.
+use Rattle.std.specs.Prelude.{◌≡◌, ◌≢◌, ℕ, ◌+◌, ◌≤◌, ◌<◌, Bool, true, false, List, [], ◌∷◌, Some, length, map, drop, filter}
+use Rattle.std.specs.List.{All}
+use Rattle.am_alert.specs.declared.alert.Alert.{Alert}
+use Rattle.am_cast.specs.Rule.{idle}
+use Rattle.am_cast.specs.Seats.{account_of}
+use Rattle.am_store.specs.declared.call.Call.{Call}
+use Rattle.am_store.specs.declared.call.Call.TheVariants.{Posted, Collected, Subscribed, Left, Closed}
+use Rattle.am_store.specs.Journal.{JournalView, call_count, until, is_closed, is_open, IsOpenSubscription}
+use Rattle.am_store.specs.Stored.{updates, stored}
+use Rattle.am_store.specs.Broadcast.{broadcast, due}
+use Rattle.am_store.specs.PlainBook.{PlainBook, FollowsJournal}
+use Rattle.am_provider.specs.declared.answers.Policy.{Policy}
+use Rattle.am_provider.specs.declared.answers.Ended.{Ended}
+use Rattle.am_provider.specs.Batches.{Batch, LogView, sent_in, posts_in}
+use Rattle.am_provider.specs.Lefts.{left_ats}
+
+-- a Book: its stored alerts in order, its journal of accepted calls, the log as its writer knows it,
+-- what each subscription that was given back came to and how many of these were dropped, and what it
+-- does where the log is full
+pub record BookView : Type 0 where
+  pub stored : List Alert
+  pub journal : JournalView
+  pub log : LogView
+  pub endings : List Ended
+  pub early : ℕ
+  pub policy : Policy
+
+-- the batches that were sent out, with what sent them
+abbrev pub batches : BookView → List Batch
+batches book = book.log.tail.log
+
+-- the same Book without its lanes and endings
+abbrev pub plain : BookView → PlainBook
+plain book =
+    record { stored = book.stored; journal = book.journal; log = sent_in (batches book) }
+
+-- whether a call sends a batch out
+abbrev pub sends : Call → Bool
+sends (Posted now []) = false
+sends (Posted now (alert ∷ alerts)) = true
+sends (Collected now) = false
+sends (Subscribed lane) = false
+sends (Left lane) = false
+sends Closed = false
+
+-- how many batches the calls of a journal sent out, those that were dropped too
+abbrev pub places_of : JournalView → ℕ
+places_of journal = journal.places + length (broadcast journal)
+
+-- what the log has of a lane agrees with the journal: an idle lane isn't open; an open one reads the
+-- log from the batches before its subscription on, with a note of when it was subscribed and what was
+-- stored then
+pub record IsLaneOf (book : BookView) (lane : ℕ) : Type 0 where
+  pub shut : is_open book.journal lane ≡ false → (account_of book.log lane).stand ≡ idle
+  pub given : is_open book.journal lane ≡ true → (account_of book.log lane).stand ≢ idle
+  pub start : (at : ℕ) → IsOpenSubscription book.journal lane at → (account_of book.log lane).start
+      ≡ places_of (until book.journal at)
+  pub note : (at : ℕ) → IsOpenSubscription book.journal lane at → (account_of book.log lane).note
+      ≡ Some (record { at = at; opening = stored (updates (until book.journal at)) })
+
+-- what a subscription came to: it took no more than was due to it, and all of it where it was told that
+-- no more will come
+pub record IsEndingOf (journal : JournalView) (ended : Ended) : Type 0 where
+  pub within : ended.taken ≤ length (due journal ended.at)
+  pub complete : ended.closed ≡ true → ended.taken ≡ length (due journal ended.at)
+  pub closed : ended.closed ≡ true → is_closed journal ≡ true
+  pub low : journal.before ≤ ended.at
+  pub high : ended.at ≤ call_count journal
+
+-- what is stored, what was sent out and by which post, whether the log is closed, each lane and each
+-- ending follow from the journal, and the journal is legal. There is one ending for each subscription that
+-- was given back, in that order, but for those whose Subscribed was dropped
+pub record IsFaithful (book : BookView) : Type 0 where
+  pub journal : FollowsJournal (plain book)
+  pub posts : drop book.journal.places (posts_in (batches book)) ≡ filter sends book.journal.calls
+  pub closed : book.log.tail.closed ≡ is_closed book.journal
+  pub lanes : (lane : ℕ) → lane < 8 → IsLaneOf book lane
+  pub endings : All (IsEndingOf book.journal) book.endings
+  pub lefts : map (λ (ended : Ended). ended.at) book.endings ≡ left_ats book.journal

@@ -1,0 +1,77 @@
+-- What a post does to its pass, to the lanes and to the log, and why it is refused.
+use Rattle.std.specs.Prelude.{◌≡◌, ℕ, ◌<◌, Bool, true, false, List, [], ◌∷◌, ◌++◌, Option, None, Some, length, slice_index_or}
+use mathlib.Core.Option.{some}
+use mathlib.Core.List.{IsPrefix}
+use lib.ListN.{get_elem?}
+use Rattle.am_alert.specs.declared.alert.Alert.{Alert}
+use Rattle.am_store.specs.declared.call.Call.{Call}
+use Rattle.am_store.specs.declared.call.Call.TheVariants.{Posted}
+use Rattle.am_store.specs.Journal.{is_closed, has_lane}
+use Rattle.am_cast.specs.declared.views.Own.{Own}
+use Rattle.am_cast.specs.Rule.{live}
+use Rattle.am_cast.specs.Changes.{Stand, own_at}
+use Rattle.am_cast.specs.Seats.{account_of}
+use Rattle.am_cast.specs.Posters.{PassView}
+use Rattle.am_cast.specs.Writers.{StaysAs, SameAdmission, IsCutAs}
+use Rattle.am_provider.specs.declared.answers.Policy.TheVariants.{Refuse}
+use Rattle.am_provider.specs.declared.faults.PutFault.{PutFault}
+use Rattle.am_provider.specs.declared.faults.PutFault.TheVariants as put_fault
+use Rattle.am_provider.specs.Batches.{Batch, LogView}
+use Rattle.am_provider.specs.BookView.{BookView, batches}
+use Rattle.am_provider.specs.Sending.{IsLogCause}
+
+-- a post with a place is one own post more of its pass, at that place and with what was posted when;
+-- one without leaves the pass as it was
+abbrev pub AddsOwn : PassView Alert Call → ℕ → List Alert → Option ℕ → PassView Alert Call → Type 0
+AddsOwn was now posted None is = is ≡ was
+AddsOwn was now posted (Some place) is =
+    ((x : Batch) × (x.post ≡ Posted now posted) × (is.own ≡ was.own ++ own_at place x ∷ []))
+    × Stand is.own is.noted × IsPrefix was.noted is.noted
+
+-- a pass met a subscription that has seen so much of the log: each of the pass's own posts that was seen
+-- stands at its place there, and the pass, which owns what it did, knows all that was seen
+pub record HasMet (seen : List Batch) (was is : PassView Alert Call) : Type 0 where
+  pub own : is.own ≡ was.own
+  pub stand : (k : ℕ) (o : Own Batch) → get_elem? was.own k ≡ some o → o.place < length seen
+      → get_elem? seen o.place ≡ some o.name
+  pub noted : IsPrefix was.noted is.noted × IsPrefix seen is.noted × Stand was.own is.noted
+
+-- which lanes a post cut: those that were as many places behind as the log has, and none where the
+-- policy is to refuse
+pub record IsCutBy (old new : BookView) (bits : ℕ) : Type 0 where
+  pub lanes : (lane : ℕ) → lane < 8 → SameAdmission (account_of old.log lane) (account_of new.log lane)
+  pub cuts : (lane : ℕ) → lane < 8 → IsCutAs (length (batches old)) old.log.tail.places
+      (account_of old.log lane) (account_of new.log lane) (has_lane bits lane)
+  pub none : old.policy ≡ Refuse → bits ≡ 0
+
+-- the same of a flag for each lane
+pub record IsCutTo (old new : BookView) (flags : List Bool) : Type 0 where
+  pub lanes : (lane : ℕ) → lane < 8 → SameAdmission (account_of old.log lane) (account_of new.log lane)
+  pub cuts : (lane : ℕ) → lane < 8 → IsCutAs (length (batches old)) old.log.tail.places
+      (account_of old.log lane) (account_of new.log lane) (slice_index_or flags lane false)
+  pub none : old.policy ≡ Refuse → (lane : ℕ) → slice_index_or flags lane false ≡ false
+
+-- each live lane's word was loaded
+abbrev pub Loads : LogView → LogView → Type 0
+Loads old new = (lane : ℕ) → lane < 8 → (account_of old lane).stand ≡ live
+    → (account_of old lane).loads < (account_of new lane).loads
+
+-- the stored alerts, the journal, the batches and the endings are as before, and no lane was given out,
+-- left or cut
+pub record IsAsBefore (old new : BookView) : Type 0 where
+  pub stored : new.stored ≡ old.stored
+  pub journal : new.journal ≡ old.journal
+  pub tail : new.log.tail ≡ old.log.tail
+  pub lanes : (lane : ℕ) → lane < 8 → StaysAs (account_of old.log lane) (account_of new.log lane)
+  pub endings : (new.endings ≡ old.endings) × (new.early ≡ old.early)
+  pub policy : new.policy ≡ old.policy
+
+-- why a post of so many valid alerts is refused: the first cause in this order. One without an alert
+-- needs no place
+abbrev pub IsPutCause : BookView → BookView → ℕ → PutFault → Type 0
+IsPutCause old new count put_fault.Closed = is_closed old.journal ≡ true
+IsPutCause old new count put_fault.NoMemory =
+    (is_closed old.journal ≡ false)
+    × (0 < count → IsLogCause old.policy old.log new.log put_fault.NoMemory)
+IsPutCause old new count fault =
+    (is_closed old.journal ≡ false) × (0 < count) × IsLogCause old.policy old.log new.log fault

@@ -1,0 +1,519 @@
+//! The Book: the stored alerts, the journal, and the writer of the log. It stands under the lock.
+//!
+//! What a Book promises: whatever posts, subscriptions, collections and ends come, the stored alerts
+//! and the log are those that its journal of accepted calls gives, and the journal is legal. A post
+//! goes out as one batch, with what each of its alerts became. What a subscription has taken begins
+//! what the journal owes it, and is all of it where it was told that no more will come. A refused call
+//! changes nothing but how far the writer knows its readers.
+
+ghost use Rattle.std.specs.Prelude.{◌≡◌, ◌≢◌, ◌↔◌, ◌≤◌, ◌<◌, ◌+◌, ◌++◌, ◌∷◌, IsTrue, IfOk, IfErr, OnOk, OnErr, IsErr, IsErrOf};
+ghost use Rattle.std.specs.Prelude.{ℕ, ◌-◌, None, Some, true, false, [], length, nat_eq, if◌then◌else◌, not, filter, count_by, nat_le, min, ◌^◌, vec_capacity};
+ghost use Rattle.std.specs.List.{All};
+ghost use mathlib.Core.List.{IsPrefix};
+ghost use Rattle.am_alert.specs.Merging.{is_resolved_at};
+ghost use Rattle.am_alert.specs.declared.post.TheConstants.{MAX_ALERTS};
+ghost use Rattle.std.specs.VecDeque.{deque_capacity};
+ghost use Rattle.am_cast.specs.Rule.{cut, idle, live};
+ghost use Rattle.am_cast.specs.Seats.{account_of};
+ghost use Rattle.am_store.specs.Journal.{with_call, call_count, first_calls, is_closed};
+ghost use Rattle.am_store.specs.Journal.{posts_of, has_lane, AreAllOpen, new_journal};
+ghost use Rattle.am_store.specs.inside.Journals.{journal_of};
+ghost use Rattle.am_store.specs.inside.Shared.{stored_in};
+ghost use Rattle.am_store.specs.Broadcast.{due, IsFront};
+ghost use Rattle.am_store.specs.Trims.{AreBeforeOpen, Drops, IsTrimmed};
+ghost use Rattle.am_store.specs.Stored.{updates, stored};
+ghost use Rattle.am_provider.specs.BookView.{IsFaithful, batches};
+ghost use Rattle.am_provider.specs.Subscriptions.{taken};
+ghost use Rattle.am_provider.specs.Posts.{AddsOwn, IsCutBy, IsCutTo, IsPutCause, IsAsBefore, Loads};
+
+use crate::answers::{Counts, Ended, Policy, Posted};
+use crate::faults::{PutFault, SubFault};
+use crate::feed::{Cast, Origin, Writer};
+use crate::parts::{Begun, Parts};
+use crate::pass::Pass;
+use crate::sending::{bits_of, send_batch};
+use crate::subscription::Subscription;
+use am_alert::{Alerts, Moment, Post};
+use am_cast::{AlreadyClosed, MOST_PLACES, Published};
+use am_store::lanes::{LANES, Lanes, OpenLane, earliest, idle_lane};
+use am_store::store::absorb::{Absorbed, absorb_each, take_back};
+use am_store::store::{AlertMap, remove_resolved, share_all};
+use am_store::{Call, Journal, MAX_BEFORE, SharedAlerts, StoredAlerts};
+use std::alloc::{AllocError, Global};
+use std::marker::Model;
+use std::snapshot::Snapshot;
+use std::sync::ledger;
+
+// An entry of the journal, one to end each lane, and one to end the log.
+const ENTRIES: usize = LANES + 2;
+
+/// What lies under the lock: the stored alerts, the journal, and the writer of the log.
+pub struct Book<N: Origin> {
+    stored: AlertMap,
+    // Its calls have room for a Left of each open lane and, until the log is ended, for a Closed.
+    journal: Journal,
+    log: Writer<N>,
+    // How many posts the journal has.
+    posts: u64,
+    lanes: Lanes,
+    // It has room for the ending of each open lane.
+    endings: Vec<Ended>,
+    // How many endings were dropped.
+    early: u64,
+    policy: Policy,
+    // How many passes there are.
+    posters: u32,
+    // It counts the places of all passes.
+    total: ledger::Book<N>,
+}
+
+impl<N: Origin> Model for Book<N> {
+    ghost use Rattle.std.specs.Coded.{codes};
+    ghost use Rattle.std.specs.Prelude.{◌≡◌, ◌≤◌, vec_capacity};
+    ghost use Rattle.am_alert.specs.Alerts.{coded_alert};
+    ghost use Rattle.am_store.specs.contracts.call.Call as call;
+    ghost use Rattle.am_store.specs.contracts.lanes.OpenLane as lane;
+    ghost use Rattle.am_store.specs.inside.Shared.{stored_in, AreKeptByLabels};
+    ghost use Rattle.am_provider.specs.BookView.{BookView};
+    ghost use Rattle.am_provider.specs.inside.Shelves.{view_of, IsKeptBook};
+
+    ghost Value = { BookView };
+
+    ghost coded = { Prim.hlevel (codes, coded_alert, call.the_row.coded, lane.the_row.coded) };
+
+    ghost view = { λ b. view_of (record {
+      stored = stored_in b.stored.entries;
+      journal = b.journal;
+      log = b.log;
+      posts = b.posts;
+      lanes = b.lanes;
+      endings = b.endings.items;
+      early = b.early;
+      policy = b.policy;
+    }) };
+
+    ghost invariant = { λ b. AreKeptByLabels b.stored.entries × IsKeptBook (record {
+      stored = stored_in b.stored.entries;
+      journal = b.journal;
+      log = b.log;
+      posts = b.posts;
+      lanes = b.lanes;
+      endings = b.endings.items;
+      early = b.early;
+      policy = b.policy;
+    }) b.total.total (vec_capacity b.endings) × (b.posters ≡ N.parts) × (1 ≤ b.posters) };
+}
+
+impl<N: Origin> Book<N> {
+    // An empty Book over a log's writer. The writer comes back where there is no memory.
+    pub(crate) fn over(
+        alloc: Global,
+        log: Writer<N>,
+        total: ledger::Book<N>,
+        posters: u32,
+        policy: Policy,
+    ) -> Result<Book<N>, Writer<N>>
+        requires posters { (posters ≡ N.parts) × (1 ≤ posters) }
+        requires empty { (log.tail.log ≡ []) × (log.tail.closed ≡ false) }
+        requires idle { (lane : ℕ) → lane < 8 → (account_of log lane).stand ≡ idle }
+        requires total { total.total ≡ 0 }
+        ensures stored { IfOk result (λ book. book.stored ≡ []) }
+        ensures journal { IfOk result (λ book. book.journal ≡ new_journal) }
+        ensures log { IfOk result (λ book. book.log ≡ log) }
+        ensures endings { IfOk result (λ book.
+            (book.endings ≡ []) × (book.early ≡ 0) × (book.policy ≡ policy)) }
+        ensures err { IfErr result (λ back. back ≡ log) }
+    {
+        let (journal, endings) = match room_for_calls(alloc) {
+            Ok(room) => room,
+            Err(_) => return Err(log),
+        };
+        Ok(Book {
+            stored: AlertMap::new(alloc),
+            journal,
+            log,
+            posts: 0,
+            lanes: [None, None, None, None, None, None, None, None],
+            endings,
+            early: 0,
+            policy,
+            posters,
+            total,
+        })
+    }
+
+    // The journal, the stored alerts, the endings, how many endings were dropped, how many passes there
+    // are, the writer and the ledger.
+    pub(crate) fn into_parts(
+        self,
+    ) -> (
+        Journal,
+        AlertMap,
+        Vec<Ended>,
+        u64,
+        u32,
+        Writer<N>,
+        ledger::Book<N>,
+    )
+        ensures journal { (journal_of result.0 ≡ self.journal) × (stored_in result.1.entries ≡ self.stored) }
+        ensures endings { (result.2.items ≡ self.endings) × (result.3 ≡ self.early) }
+        ensures posters { (result.4 ≡ N.parts) × (1 ≤ result.4) }
+        ensures log { (result.5 ≡ self.log) × (result.6.total ≡ length (batches self)) }
+        ensures faithful { IsFaithful self }
+    {
+        let Book {
+            stored,
+            journal,
+            log,
+            posts: _,
+            lanes: _,
+            endings,
+            early,
+            policy: _,
+            posters,
+            total,
+        } = self;
+        (journal, stored, endings, early, posters, log, total)
+    }
+
+    /// Stores the valid alerts of a post, each into what those before it left, and sends out what
+    /// they became as one batch, which the pass then owns. A post with no valid alert is accepted and
+    /// sends nothing out.
+    pub fn post(
+        &mut self,
+        cast: &Cast<N>,
+        pass: &mut Pass<N>,
+        post: Post,
+        now: Moment,
+    ) -> Result<Posted, PutFault>
+        ensures journal { OnOk result
+            (self.new.journal ≡ with_call self.old.journal (Call.Posted now post.valid)) }
+        ensures valid { IfOk result (λ posted. posted.valid ≡ length post.valid) }
+        ensures faults { IfOk result (λ posted. posted.faults ≡ post.faults) }
+        ensures place { IfOk result (λ posted. posted.place
+            ≡ (if nat_eq (length post.valid) 0 then None else Some (length (batches self.old)))) }
+        ensures own { IfOk result (λ posted.
+            AddsOwn pass.old now post.valid posted.place pass.new) }
+
+        ensures log { IsPrefix (batches self.old) (batches self.new) }
+        ensures cut { IfOk result (λ posted. IsCutBy self.old self.new posted.cut) }
+        ensures loads { 0 < length post.valid → is_closed self.old.journal ≡ false
+            → Loads self.old.log self.new.log }
+        ensures endings { (self.new.endings ≡ self.old.endings) × (self.new.early ≡ self.old.early) }
+
+        ensures closed { IsErrOf result PutFault.Closed ↔ IsTrue (is_closed self.old.journal) }
+        ensures refused { IfErr result (IsPutCause self.old self.new (length post.valid)) }
+        ensures err { OnErr result (IsAsBefore self.old self.new × (pass.new ≡ pass.old)) }
+    {
+        if self.log.is_closed() {
+            return Err(PutFault::Closed);
+        }
+        let Post { valid, faults } = post;
+        if valid.as_slice().is_empty() {
+            self.post_nothing(valid, now)?;
+            return Ok(Posted {
+                valid: 0,
+                place: None,
+                cut: 0,
+                faults,
+            });
+        }
+        let valid_count = valid.as_slice().len() as u32;
+        let Published { place, cut } = self.post_some(cast, pass, valid, now)?;
+        Ok(Posted {
+            valid: valid_count,
+            place: Some(place),
+            cut: bits_of(&cut),
+            faults,
+        })
+    }
+
+    // Takes a post with no valid alert.
+    fn post_nothing(&mut self, none: Alerts, now: Moment) -> Result<(), AllocError>
+        requires open { is_closed self.old.journal ≡ false }
+        requires none { none ≡ [] }
+        ensures journal { OnOk result
+            (self.new.journal ≡ with_call self.old.journal (Call.Posted now [])) }
+        ensures log { self.new.log ≡ self.old.log }
+        ensures endings { (self.new.endings ≡ self.old.endings) × (self.new.early ≡ self.old.early)
+            × (self.new.policy ≡ self.old.policy) }
+        ensures err { OnErr result (self.new ≡ self.old) }
+    {
+        self.journal.calls.reserve(ENTRIES)?;
+        let alerts = SharedAlerts::new(*self.journal.calls.allocator(), none)?;
+        self.journal
+            .calls
+            .push_back_reserved(Call::Posted { now, alerts });
+        self.posts += 1;
+        Ok(())
+    }
+
+    // Takes a post with valid alerts: room first, then the store, then the log; the store is taken back
+    // where the log refuses.
+    fn post_some(
+        &mut self,
+        cast: &Cast<N>,
+        pass: &mut Pass<N>,
+        valid: Alerts,
+        now: Moment,
+    ) -> Result<Published, PutFault>
+        requires open { is_closed self.old.journal ≡ false }
+        requires some { 0 < length valid }
+        requires few { length valid ≤ MAX_ALERTS }
+        ensures journal { OnOk result
+            (self.new.journal ≡ with_call self.old.journal (Call.Posted now valid)) }
+        ensures own { IfOk result (λ sent. (sent.place ≡ length (batches self.old))
+            × AddsOwn pass.old now valid (Some sent.place) pass.new) }
+        ensures log { IsPrefix (batches self.old) (batches self.new) }
+        ensures cut { IfOk result (λ sent. IsCutTo self.old self.new sent.cut) }
+        ensures loads { Loads self.old.log self.new.log }
+        ensures endings { (self.new.endings ≡ self.old.endings) × (self.new.early ≡ self.old.early) }
+
+        ensures refused { IfErr result (IsPutCause self.old self.new (length valid)) }
+        ensures err { OnErr result (IsAsBefore self.old self.new × (pass.new ≡ pass.old)) }
+    {
+        let full = self.log.harvest(cast);
+        if self.log.len() >= MOST_PLACES {
+            return Err(PutFault::LogEnd);
+        }
+        if let (Policy::Refuse, Some((lane, passed))) = (self.policy, full) {
+            return Err(PutFault::Full {
+                lane: lane as u32,
+                passed,
+            });
+        }
+        self.journal.calls.reserve(ENTRIES)?;
+        let alloc = *self.journal.calls.allocator();
+        let alerts = SharedAlerts::new(alloc, valid)?;
+        let Absorbed { batch, undo } = absorb_each(&mut self.stored, alerts.as_slice(), now)?;
+        let call = Call::Posted { now, alerts };
+        match send_batch(
+            &mut self.log,
+            cast,
+            self.policy,
+            batch,
+            &call,
+            &mut pass.pass,
+        ) {
+            Ok(sent) => {
+                self.total.add(&mut pass.share, 1);
+                self.journal.calls.push_back_reserved(call);
+                self.posts += 1;
+                Ok(sent)
+            }
+            Err(fault) => {
+                take_back(&mut self.stored, undo);
+                Err(fault)
+            }
+        }
+    }
+
+    /// A subscription on the lowest lane that isn't open, to what is stored and to what comes from
+    /// now on.
+    pub fn subscribe<'a>(&mut self, cast: &'a Cast<N>) -> Result<Subscription<'a, N>, SubFault>
+        ensures journal { IfOk result (λ made. self.new.journal
+            ≡ with_call self.old.journal (Call.Subscribed made.cursor.lane.number)) }
+        ensures at { IfOk result (λ made. made.at ≡ call_count self.old.journal) }
+        ensures opening { IfOk result (λ made. made.opening ≡ self.old.stored) }
+        ensures fresh { IfOk result (λ made. (taken made ≡ []) × (made.closed_told ≡ false)) }
+        ensures start { IfOk result (λ made.
+            made.cursor.lane.start ≡ length (batches self.old)) }
+        ensures log { self.new.log.tail ≡ self.old.log.tail }
+        ensures stored { self.new.stored ≡ self.old.stored }
+        ensures endings { (self.new.endings ≡ self.old.endings) × (self.new.early ≡ self.old.early) }
+
+        ensures closed { IsErrOf result SubFault.Closed ↔ IsTrue (is_closed self.old.journal) }
+        ensures no_lane { IsErrOf result SubFault.NoLane
+            ↔ ((is_closed self.old.journal ≡ false) × AreAllOpen self.old.journal) }
+        ensures err { OnErr result (self.new ≡ self.old) }
+    {
+        if self.log.is_closed() {
+            return Err(SubFault::Closed);
+        }
+        if idle_lane(&self.lanes).is_none() {
+            return Err(SubFault::NoLane);
+        }
+        let opening = share_all(&self.stored)?;
+        let kept = opening.share()?;
+        self.journal.calls.reserve(ENTRIES)?;
+        self.endings.reserve(LANES)?;
+        let at = self.journal.call_count();
+        let open = OpenLane { at, opening: kept };
+        let Ok(cursor) = self.log.admit(cast, Snapshot::of(&open)) else {
+            unreachable!()
+        };
+        let lane = cursor.lane();
+        self.lanes[lane] = Some(open);
+        self.journal
+            .calls
+            .push_back_reserved(Call::Subscribed(lane as u32));
+        Ok(Subscription::begin(at, opening, cursor))
+    }
+
+    /// Takes a subscription back, and answers what it came to.
+    pub fn leave(&mut self, cast: &Cast<N>, subscription: Subscription<'_, N>) -> Ended
+        ensures journal { self.new.journal
+            ≡ with_call self.old.journal (Call.Left subscription.entry.cursor.lane.number) }
+        ensures at { result.at ≡ subscription.entry.at }
+        ensures taken { result.taken ≡ length (taken subscription.entry) }
+        ensures closed { result.closed ≡ subscription.entry.closed_told }
+        ensures cut { IsTrue result.cut
+            ↔ ((account_of self.old.log subscription.entry.cursor.lane.number).stand ≡ cut) }
+
+        // What was taken begins what was due, and is all of it where no more was to come.
+        ensures front { IsFront (taken subscription.entry)
+            (due self.old.journal subscription.entry.at) }
+        ensures complete { IsTrue subscription.entry.closed_told
+            → taken subscription.entry ≡ due self.old.journal subscription.entry.at }
+
+        ensures endings { (self.new.endings ≡ self.old.endings ++ result ∷ [])
+            × (self.new.early ≡ self.old.early) }
+        ensures log { self.new.log.tail ≡ self.old.log.tail }
+        ensures stored { self.new.stored ≡ self.old.stored }
+    {
+        let (at, taken, closed, cursor) = subscription.into_parts();
+        let lane = cursor.lane();
+        let ended = Ended {
+            at,
+            taken,
+            closed,
+            cut: self.log.is_cut(lane),
+        };
+        self.log.retire(cast, cursor);
+        self.lanes[lane] = None;
+        self.journal
+            .calls
+            .push_back_reserved(Call::Left(lane as u32));
+        self.endings.push_reserved(ended);
+        ended
+    }
+
+    /// Ends the log: no post and no subscription is accepted from now on.
+    pub fn close(&mut self, cast: &Cast<N>) -> Result<(), AlreadyClosed>
+        ensures journal { OnOk result (self.new.journal ≡ with_call self.old.journal Call.Closed) }
+        ensures stored { self.new.stored ≡ self.old.stored }
+        ensures log { batches self.new ≡ batches self.old }
+        ensures endings { (self.new.endings ≡ self.old.endings) × (self.new.early ≡ self.old.early) }
+
+        ensures closed { IsErr result ↔ IsTrue (is_closed self.old.journal) }
+        ensures err { OnErr result (self.new ≡ self.old) }
+    {
+        match self.log.close(cast) {
+            Ok(()) => {
+                self.journal.calls.push_back_reserved(Call::Closed);
+                Ok(())
+            }
+            Err(AlreadyClosed) => Err(AlreadyClosed),
+        }
+    }
+
+    /// Removes the stored alerts that are resolved, and answers how many. Subscribers are not told.
+    /// It is accepted after the log's end too.
+    pub fn collect_resolved(&mut self, now: Moment) -> Result<u64, AllocError>
+        ensures journal { OnOk result
+            (self.new.journal ≡ with_call self.old.journal (Call.Collected now)) }
+        ensures removed { IfOk result
+            (λ removed. removed ≡ count_by (is_resolved_at now) self.old.stored) }
+        ensures stored { OnOk result
+            (self.new.stored ≡ filter (λ alert. not (is_resolved_at now alert)) self.old.stored) }
+        ensures log { self.new.log ≡ self.old.log }
+        ensures endings { (self.new.endings ≡ self.old.endings) × (self.new.early ≡ self.old.early) }
+        ensures err { OnErr result (self.new ≡ self.old) }
+    {
+        self.journal.calls.reserve(ENTRIES)?;
+        let removed = remove_resolved(&mut self.stored, now);
+        self.journal.calls.push_back_reserved(Call::Collected(now));
+        Ok(removed)
+    }
+
+    /// Drops the calls before the earliest open subscription from the journal, or all where none is
+    /// open, and answers how many. The endings of the subscriptions among them go too, and are
+    /// counted. Nothing else changes. It is no call of the journal, and is allowed after the log's
+    /// end.
+    pub fn trim(&mut self) -> Result<u64, AllocError>
+        ensures dropped { IfOk result (Drops self.old.journal) }
+        ensures journal { IfOk result (λ dropped.
+            IsTrimmed self.old.journal dropped self.new.journal) }
+        ensures endings { self.new.endings
+            ≡ filter (λ ended. nat_le self.new.journal.before ended.at) self.old.endings }
+        ensures early { self.new.early ≡ min (self.old.early
+            + (length self.old.endings - length self.new.endings)) (2 ^ 64 - 1) }
+        ensures stored { self.new.stored ≡ self.old.stored }
+        ensures log { self.new.log ≡ self.old.log }
+
+        ensures err { OnErr result (self.new ≡ self.old) }
+    {
+        let count = self.owed_from() - self.journal.before;
+        if count == 0 || count > MAX_BEFORE - self.journal.before {
+            return Ok(0);
+        }
+        let store = self.stored_then()?;
+        self.journal.drop_first(count as usize, store);
+        let gone = drop_before(&mut self.endings, self.journal.before);
+        self.early = self.early.saturating_add(gone as u64);
+        Ok(count)
+    }
+
+    // How many calls there had been before the earliest open subscription, or in all where none is
+    // open.
+    fn owed_from(&self) -> u64
+        ensures within { self.now.journal.before ≤ result }
+        ensures before { AreBeforeOpen self.now.journal (result - self.now.journal.before) }
+    {
+        match earliest(&self.lanes) {
+            Some(open) => open.at,
+            None => self.journal.call_count(),
+        }
+    }
+
+    // What was stored then.
+    fn stored_then(&self) -> Result<StoredAlerts, AllocError>
+        ensures { IfOk result (λ store. (count : ℕ) → AreBeforeOpen self.now.journal count
+            → store ≡ stored (updates (first_calls count self.now.journal))) }
+    {
+        match earliest(&self.lanes) {
+            Some(open) => open.opening.share(),
+            None => share_all(&self.stored),
+        }
+    }
+
+    /// How many places, posts and stored alerts there are. Whatever Book it is asked of, what is
+    /// stored, what was sent out and what its subscriptions came to are what its journal gives.
+    pub fn counts(&self) -> Counts
+        ensures kept { IsFaithful self.now }
+        ensures places { result.places ≡ length (batches self.now) }
+        ensures posts { result.posts ≡ posts_of self.now.journal }
+        ensures stored { result.stored ≡ length self.now.stored }
+    {
+        Counts {
+            places: self.log.len(),
+            posts: self.posts,
+            stored: self.stored.len() as u64,
+        }
+    }
+}
+
+// A journal without a call, and no endings, with room for what may come.
+fn room_for_calls(alloc: Global) -> Result<(Journal, Vec<Ended>), AllocError>
+    ensures journal { IfOk result (λ made. (journal_of made.0 ≡ new_journal)
+        × (1 ≤ deque_capacity made.0.calls)) }
+    ensures endings { IfOk result (λ made. made.1.items ≡ []) }
+{
+    let mut journal = Journal::new(alloc)?;
+    journal.calls.reserve(ENTRIES)?;
+    let endings = Vec::with_capacity(alloc, LANES)?;
+    Ok((journal, endings))
+}
+
+// Drops the endings of subscriptions before a call, and answers how many.
+fn drop_before(endings: &mut Vec<Ended>, before: u64) -> usize
+    ensures kept { endings.new.items
+        ≡ filter (λ ended. nat_le before ended.at) endings.old.items }
+    ensures dropped { result ≡ length endings.old.items - length endings.new.items }
+    ensures fewer { length endings.new.items ≤ length endings.old.items }
+    ensures capacity { vec_capacity endings.new ≡ vec_capacity endings.old }
+{
+    let had = endings.len();
+    endings.retain(|ended| before <= ended.at);
+    had - endings.len()
+}

@@ -1,0 +1,20 @@
+//! Which provider a value belongs to.
+
+use crate::item::Item;
+use am_store::Call;
+use am_store::lanes::OpenLane;
+use std::marker::Brand;
+use std::sync::ledger::Ledger;
+
+/// A provider's log and the ledger of its posts, for contracts alone. What carries one `Origin` is of
+/// one provider, so that a pass or a subscription of another one doesn't compile.
+pub trait Origin: am_cast::Feed + Ledger {}
+
+impl Origin for Brand {}
+
+/// The log of one provider, from which its subscriptions read.
+pub type Cast<N> = am_cast::Cast<Item, Call, OpenLane, N>;
+
+pub(crate) type Writer<N> = am_cast::Writer<Item, Call, OpenLane, N>;
+
+pub(crate) type Cursor<'a, N> = am_cast::Cursor<'a, Item, Call, OpenLane, N>;

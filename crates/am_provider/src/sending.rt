@@ -1,0 +1,130 @@
+//! Sending a batch out: the segment of its alerts, and its place in the log.
+
+ghost use Rattle.std.specs.Prelude.{◌≡◌, ◌≢◌, ◌<◌, ◌+◌, ◌++◌, ◌∷◌, [], ℕ, false, length, drop, slice_index_or, IfOk, IfErr, OnErr};
+ghost use Rattle.std.specs.Arc.{arc_value};
+ghost use Rattle.am_store.specs.Shared.{alerts_in};
+ghost use Rattle.am_cast.specs.Rule.{most};
+ghost use Rattle.am_cast.specs.Writers.{HasRoom};
+ghost use Rattle.am_store.specs.Journal.{has_lane};
+ghost use Rattle.am_provider.specs.declared.answers.Policy.TheVariants.{Refuse};
+ghost use Rattle.am_provider.specs.Sending.{IsSent, IsUnsent, NamesALane, fault_of};
+
+use crate::answers::Policy;
+use crate::faults::PutFault;
+use crate::feed::{Cast, Origin, Writer};
+use crate::item::Item;
+use am_cast::{PublishFault, Published, Refused};
+use am_segment::SegmentBuilder;
+use am_store::lanes::OpenLane;
+use am_store::{Call, SharedAlert};
+use std::alloc::{AllocError, Global};
+use std::snapshot::Snapshot;
+
+/// The pass as the log has it.
+pub(crate) type LogPass<N> = am_cast::Pass<Item, Call, OpenLane, N>;
+
+// A segment of these alerts.
+fn segment_of(alloc: Global, batch: Vec<SharedAlert>) -> Result<SegmentBuilder<Item>, AllocError>
+    requires { 0 < length batch.items }
+    ensures { IfOk result (λ segment. segment.items ≡ alerts_in batch.items) }
+{
+    let mut segment = SegmentBuilder::with_places(alloc, batch.len())?;
+    for alert in batch {
+        match segment.push(Item::new(alert)) {
+            Ok(()) => {}
+            Err(_) => unreachable!(),
+        }
+    }
+    Ok(segment)
+}
+
+/// Sends a batch of alerts out, or says why the log doesn't take it.
+pub(crate) fn send_batch<N: Origin>(
+    writer: &mut Writer<N>,
+    cast: &Cast<N>,
+    policy: Policy,
+    batch: Vec<SharedAlert>,
+    call: &Call,
+    pass: &mut LogPass<N>,
+) -> Result<Published, PutFault>
+    requires some { 0 < length batch.items }
+    requires open { (writer.old.tail.closed ≡ false) × (length writer.old.tail.log < most) }
+    requires room { policy ≡ Refuse → HasRoom writer.old 8 }
+    ensures sent { IfOk result (λ sent. IsSent policy writer.old writer.new pass.old pass.new call.now (alerts_in batch.items) sent.place sent.cut) }
+    ensures unsent { IfErr result (λ fault. IsUnsent policy writer.old writer.new fault) }
+    ensures err { OnErr result (pass.new ≡ pass.old) }
+{
+    let segment = segment_of(*batch.allocator(), batch)?;
+    send(writer, cast, policy, segment, call, pass)
+}
+
+/// The lanes that are flagged, lane `l` in bit `l`.
+pub(crate) fn bits_of(flags: &[bool; 8]) -> u8
+    ensures bits { (lane : ℕ) → lane < 8 → has_lane result lane ≡ slice_index_or flags.now lane false }
+    ensures none { ((lane : ℕ) → slice_index_or flags.now lane false ≡ false) → result ≡ 0 }
+{
+    let mut bits = 0;
+    for lane in 0..8u32 {
+        bits = with_bit(bits, lane, flags[lane as usize]);
+    }
+    bits
+}
+
+// The bits with one more, where it is set.
+fn with_bit(bits: u8, lane: u32, set: bool) -> u8
+    requires { (lane < 8) × (has_lane bits lane ≡ false) }
+    ensures here { has_lane result lane ≡ set }
+    ensures others { (other : ℕ) → other ≢ lane → has_lane result other ≡ has_lane bits other }
+    ensures same { set ≡ false → result ≡ bits }
+{
+    if set { bits | 1 << lane } else { bits }
+}
+
+// The batch goes out as the log's next place, which becomes the pass's own, or it is dropped and says
+// why.
+fn send<N: Origin>(
+    writer: &mut Writer<N>,
+    cast: &Cast<N>,
+    policy: Policy,
+    batch: SegmentBuilder<Item>,
+    call: &Call,
+    pass: &mut LogPass<N>,
+) -> Result<Published, PutFault>
+    requires { 0 < length batch.items }
+    ensures sent { IfOk result (λ sent. IsSent policy writer.old writer.new pass.old pass.new call.now batch.items sent.place sent.cut) }
+    ensures unsent { IfErr result (λ fault. IsUnsent policy writer.old writer.new fault) }
+    ensures err { OnErr result (pass.new ≡ pass.old) }
+{
+    let post = Snapshot::of(call);
+    match policy {
+        Policy::Refuse => match writer.publish(cast, batch, post, pass) {
+            Ok(place) => Ok(Published {
+                place,
+                cut: [false; 8],
+            }),
+            Err(refused) => Err(give_up(refused)),
+        },
+        Policy::Cut => match writer.publish_cutting(cast, batch, post, pass) {
+            Ok(sent) => Ok(sent),
+            Err(refused) => Err(give_up(refused)),
+        },
+    }
+}
+
+// Drops a batch that the log refused, and answers why in the provider's words.
+fn give_up(refused: Refused<Item>) -> PutFault
+    requires { NamesALane refused.fault }
+    ensures { result ≡ fault_of refused.fault }
+{
+    let Refused { fault, batch } = refused;
+    batch.discard();
+    match fault {
+        PublishFault::NoMemory => PutFault::NoMemory,
+        PublishFault::Closed => PutFault::Closed,
+        PublishFault::LogEnd => PutFault::LogEnd,
+        PublishFault::Full { lane, passed } => PutFault::Full {
+            lane: lane as u32,
+            passed,
+        },
+    }
+}

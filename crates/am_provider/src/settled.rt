@@ -1,0 +1,44 @@
+//! What a provider came to.
+
+ghost use Rattle.std.specs.Prelude.{◌≡◌, length};
+ghost use Rattle.am_store.specs.Journal.{posts_of};
+ghost use Rattle.am_store.specs.inside.Journals.{journal_of};
+ghost use Rattle.am_provider.specs.BookView.{places_of};
+
+use crate::answers::{Counts, Ended};
+use am_store::Journal;
+use am_store::store::AlertMap;
+
+/// What a provider came to.
+#[derive(Drop)]
+pub struct Settled {
+    /// Its accepted calls, in order.
+    pub journal: Journal,
+    /// What is stored.
+    pub store: AlertMap,
+    /// What each subscription that was given back came to, in order.
+    pub ended: Vec<Ended>,
+    /// How many endings were dropped with the calls of the journal that a trim dropped.
+    pub early: u64,
+    /// Whether all passes were given. Then their own posts are all places of the log.
+    pub complete: bool,
+    pub(crate) places: u64,
+    pub(crate) posts: u64,
+    ghost places_of_journal: { places ≡ places_of (journal_of journal) },
+    ghost posts_of_journal: { posts ≡ posts_of (journal_of journal) },
+}
+
+impl Settled {
+    /// How many places, posts and stored alerts there are, by the journal and the store.
+    pub fn counts(&self) -> Counts
+        ensures places { result.places ≡ places_of (journal_of self.now.journal) }
+        ensures posts { result.posts ≡ posts_of (journal_of self.now.journal) }
+        ensures stored { result.stored ≡ length self.now.store.entries }
+    {
+        Counts {
+            places: self.places,
+            posts: self.posts,
+            stored: self.store.len() as u64,
+        }
+    }
+}

@@ -1,0 +1,257 @@
+//! A poster against one reader, at one place in a log that cuts who is slow: however the two meet, the
+//! reader is shown the first of what was posted, and then at most one cut.
+
+ghost use Rattle.std.specs.Prelude.{◌≡◌};
+
+use crate::bodies::{body_of, moment};
+use crate::days::Stopped;
+use crate::shown::is_front;
+use am_alert::Moment;
+use am_provider::{NoGate, Origin, Parts, Pass, Policy, Provider, Settled, Step, Subscription};
+use std::alloc::{AllocError, Global};
+use std::marker::Brand;
+use std::sync::Wait;
+use std::sync::atomic::{AtomicU8, Ordering};
+use std::test::Fail;
+use std::thread;
+use std::thread::Threads;
+use std::time::Duration;
+
+const ROUNDS: u32 = 10_000;
+
+/// What a reader was told last.
+#[derive(Clone, Copy, Debug, PartialEq, Eq, Drop)]
+enum End {
+    Cut,
+    Closed,
+    Nothing,
+}
+
+/// What a reader was shown, by the starts of its alerts, and what it was told then.
+#[derive(Drop)]
+struct Told {
+    starts: Vec<Moment>,
+    end: End,
+}
+
+/// What one round came to.
+#[derive(Drop)]
+struct Round {
+    told: Told,
+    // Whether the end stayed as it was told.
+    stays: bool,
+    // How many alerts were posted, and how many posts cut the reader.
+    placed: usize,
+    cuts: usize,
+    // Whether the reader was cut, told or not.
+    ended_cut: bool,
+}
+
+// Waits for the reader to begin, but not for long, and then for so many turns more.
+fn wait_for(began: &AtomicU8, turns: u32) {
+    for _turn in 0..100_000u32 {
+        if began.load(Ordering::SeqCst) == 1 {
+            break;
+        }
+    }
+    for _turn in 0..turns {
+        let _began = began.load(Ordering::SeqCst);
+    }
+}
+
+// Posts these bodies, and closes. Answers how many were accepted, and how many of them cut the reader.
+fn post_all<N: Origin, R: Wait>(
+    rt: &R,
+    provider: &Provider<N>,
+    pass: &mut Pass<N>,
+    bodies: &[String],
+    began: &AtomicU8,
+    turns: u32,
+) -> (usize, usize) {
+    let mut placed: usize = 0;
+    let mut cuts: usize = 0;
+    for body in bodies {
+        wait_for(began, turns);
+        if let Ok(posted) = provider.post(rt, pass, &NoGate, body.as_bytes(), moment(9)) {
+            placed = placed.wrapping_add(1);
+            if posted.cut == 1 {
+                cuts = cuts.wrapping_add(1);
+            }
+        }
+    }
+    let _closed = provider.close(rt);
+    (placed, cuts)
+}
+
+// Lets other threads run at some turns.
+fn rest(turn: u32) {
+    if turn % 256 == 255 {
+        thread::yield_now();
+    }
+}
+
+// Reads until it is told a cut or the log's end, or the turns run out.
+fn read_all<N: Origin>(
+    alloc: Global,
+    subscription: &mut Subscription<'_, N>,
+    began: &AtomicU8,
+) -> Result<Told, AllocError> {
+    let mut starts = Vec::new(alloc);
+    began.store(1, Ordering::SeqCst);
+    for turn in 0..1_000_000_000u32 {
+        match subscription.next() {
+            Step::Item(alert) => starts.push(alert.start)?,
+            Step::Pending => rest(turn),
+            Step::Closed => {
+                return Ok(Told {
+                    starts,
+                    end: End::Closed,
+                });
+            }
+            Step::Cut => {
+                return Ok(Told {
+                    starts,
+                    end: End::Cut,
+                });
+            }
+        }
+    }
+    Ok(Told {
+        starts,
+        end: End::Nothing,
+    })
+}
+
+// Whether a reader is told that end each time that it asks again.
+fn stays<N: Origin>(subscription: &mut Subscription<'_, N>, end: End) -> bool {
+    for _turn in 0..3u32 {
+        let again = match subscription.next() {
+            Step::Cut => End::Cut,
+            Step::Closed => End::Closed,
+            _ => End::Nothing,
+        };
+        if again != end {
+            return false;
+        }
+    }
+    true
+}
+
+fn race<N: Origin + Send + Sync, R: Threads + Wait + Sync>(
+    rt: &R,
+    alloc: Global,
+    provider: &Provider<N>,
+    passes: &mut [Pass<N>],
+    bodies: &[String],
+    turns: u32,
+) -> Result<Round, Stopped> {
+    let pass = passes.first_mut().ok_or(Stopped::Refused)?;
+    let mut subscription = provider.subscribe(rt)?;
+    let began = AtomicU8::new(0);
+    let shared = &began;
+    let reader = &mut subscription;
+    let ((placed, cuts), told) = thread::join(
+        rt,
+        move || post_all(rt, provider, pass, bodies, shared, turns),
+        move || read_all(alloc, reader, shared),
+    );
+    let end = match &told {
+        Ok(told) => told.end,
+        Err(_) => End::Nothing,
+    };
+    let stays = stays(&mut subscription, end);
+    let ended = provider.leave(rt, subscription);
+    Ok(Round {
+        told: told?,
+        stays,
+        placed,
+        cuts,
+        ended_cut: ended.cut,
+    })
+}
+
+fn race_day<N: Origin + Send + Sync, R: Threads + Wait + Sync>(
+    rt: &R,
+    alloc: Global,
+    parts: Parts,
+    bodies: &[String],
+    turns: u32,
+) -> Result<(Round, Settled), Stopped>
+    requires table { parts.log.board.shared.table_id ≡ N.table }
+    requires ledger { (parts.ledger.name ≡ N.name) × (parts.ledger.parts ≡ N.parts) }
+{
+    let (provider, mut passes) = Provider::<N>::begin(
+        alloc,
+        parts,
+        Policy::Cut,
+        Duration::from_secs(300),
+    )?;
+    let outcome = race(rt, alloc, &provider, &mut passes, bodies, turns);
+    let settled = provider.settle(rt, passes);
+    Ok((outcome?, settled))
+}
+
+fn race_of<R: Threads + Wait + Sync>(
+    rt: &R,
+    alloc: Global,
+    bodies: &[String],
+    turns: u32,
+) -> Result<(Round, Settled), Stopped> {
+    let parts = Parts::make(alloc, 1, 1)?;
+    race_day::<Brand, R>(rt, alloc, parts, bodies, turns)
+}
+
+// Whether a round is as it has to be, with that many bodies to post.
+fn is_right(round: &Round, settled: &Settled, bodies: usize) -> bool {
+    if round.placed != bodies || !settled.complete || !round.stays {
+        return false;
+    }
+    if !is_front(settled, &round.told.starts) {
+        return false;
+    }
+    match round.told.end {
+        End::Cut => round.ended_cut && round.cuts == 1,
+        End::Closed => {
+            !round.ended_cut && round.cuts == 0 && round.told.starts.len() == round.placed
+        }
+        End::Nothing => false,
+    }
+}
+
+// Whether a round was as it has to be.
+fn is_right_round<R: Threads + Wait + Sync>(
+    rt: &R,
+    alloc: Global,
+    bodies: &[String],
+    turns: u32,
+) -> Result<bool, Stopped> {
+    let (round, settled) = race_of(rt, alloc, bodies, turns)?;
+    Ok(is_right(&round, &settled, bodies.len()))
+}
+
+// Four bodies to post.
+fn four_bodies(alloc: Global) -> Result<Vec<String>, AllocError> {
+    let mut bodies = Vec::new(alloc);
+    for number in 0..4u32 {
+        bodies.push(body_of(alloc, number)?)?;
+    }
+    Ok(bodies)
+}
+
+// How many rounds were as they have to be.
+fn right_rounds<R: Threads + Wait + Sync>(rt: &R, alloc: Global) -> Result<u32, Stopped> {
+    let bodies = four_bodies(alloc)?;
+    let mut right: u32 = 0;
+    for round in 0..ROUNDS {
+        if is_right_round(rt, alloc, &bodies, round % 1_000)? {
+            right = right.wrapping_add(1);
+        }
+    }
+    Ok(right)
+}
+
+#[test]
+fn cut_races(rt: HostRuntime) -> Result<(), Fail> {
+    assert_eq!(rt; right_rounds(&rt, rt.alloc())?, ROUNDS);
+    Ok(())
+}

@@ -1,0 +1,175 @@
+//! Posts and collections at the greatest instant there is.
+
+use crate::bodies::end_body;
+use crate::days::{Day, Settings, Stopped, spend};
+use am_alert::{Moment, PostFault};
+use am_provider::{NoGate, Origin, Pass, PostRefused, Provider, Settled, Step, Subscription};
+use am_store::Call;
+use std::alloc::Global;
+use std::sync::Wait;
+use std::test::Fail;
+use std::time::Duration;
+
+/// What a post came to: how many alerts were valid and their place, or why it was refused.
+type Answer = Result<(u32, Option<u64>), PostRefused>;
+
+/// What the calls at the greatest instant answered.
+#[derive(Clone, Copy, Debug, PartialEq, Eq, Drop)]
+struct Greatest {
+    // A post of an alert that gives an end, and one of an alert that doesn't.
+    ended: Answer,
+    open: Answer,
+    // How many alerts were shown that start, end and were reported at that instant, and how many others.
+    shown: (u32, u32),
+    // What a collection one nanosecond earlier removed, and then one at that instant.
+    before: u64,
+    collected: u64,
+}
+
+// A post of an alert that gives an end, and one of an alert that doesn't.
+fn post_both<N: Origin, R: Wait>(
+    rt: &R,
+    provider: &Provider<N>,
+    pass: &mut Pass<N>,
+    body: &[u8],
+) -> Result<(Answer, Answer), Stopped> {
+    let ended = post(rt, provider, pass, body)?;
+    Ok((
+        ended,
+        post(rt, provider, pass, b"[{\"labels\":{\"open\":\"1\"}}]")?,
+    ))
+}
+
+fn post<N: Origin, R: Wait>(
+    rt: &R,
+    provider: &Provider<N>,
+    pass: &mut Pass<N>,
+    body: &[u8],
+) -> Result<Answer, Stopped> {
+    match provider.post(rt, pass, &NoGate, body, Moment::MAX) {
+        Ok(posted) => Ok(Ok((posted.valid, posted.place))),
+        Err(fault) => {
+            if Stopped::from(fault) == Stopped::NoMemory {
+                return Err(Stopped::NoMemory);
+            }
+            Ok(Err(fault))
+        }
+    }
+}
+
+fn count_shown<N: Origin>(subscription: &mut Subscription<'_, N>) -> (u32, u32) {
+    let mut at_end: u32 = 0;
+    let mut others: u32 = 0;
+    for _turn in 0..9u32 {
+        match subscription.next() {
+            Step::Item(alert) => {
+                if alert.start == Moment::MAX
+                    && alert.end == Moment::MAX
+                    && alert.updated == Moment::MAX
+                {
+                    at_end = at_end.wrapping_add(1);
+                } else {
+                    others = others.wrapping_add(1);
+                }
+            }
+            _ => return (at_end, others),
+        }
+    }
+    (at_end, others)
+}
+
+#[derive(Clone, Copy, Drop)]
+struct AtTheEnd<'a> {
+    body: &'a str,
+}
+
+impl<'a> Day for AtTheEnd<'a> {
+    type Outcome = Greatest;
+
+    fn spend<N: Origin, R: Wait>(
+        &self,
+        rt: &R,
+        _alloc: Global,
+        provider: &Provider<N>,
+        passes: &mut [Pass<N>],
+    ) -> Result<Greatest, Stopped> {
+        let pass = passes.first_mut().ok_or(Stopped::Refused)?;
+        let mut subscription = provider.subscribe(rt)?;
+        let posted = post_both(rt, provider, pass, self.body.as_bytes());
+        let shown = count_shown(&mut subscription);
+        provider.leave(rt, subscription);
+        let (ended, open) = posted?;
+        let earlier = Moment::try_new(Moment::MAX.nanoseconds() - 1).ok_or(Stopped::Refused)?;
+        Ok(Greatest {
+            ended,
+            open,
+            shown,
+            before: provider.collect_resolved(rt, earlier)?,
+            collected: provider.collect_resolved(rt, Moment::MAX)?,
+        })
+    }
+}
+
+// How many of the calls are posts and collections at that instant.
+fn calls_at_end(settled: &Settled) -> (u32, u32) {
+    let mut posts: u32 = 0;
+    let mut collections: u32 = 0;
+    for call in &settled.journal.calls {
+        match call {
+            Call::Posted { now, alerts: _ } if *now == Moment::MAX => posts = posts.wrapping_add(1),
+            Call::Collected(now) if *now == Moment::MAX => {
+                collections = collections.wrapping_add(1)
+            }
+            _ => {}
+        }
+    }
+    (posts, collections)
+}
+
+// An end that is given may be the greatest instant. One that isn't given would be later, so such a post is refused.
+#[test]
+fn greatest_instant(rt: HostRuntime) -> Result<(), Fail> {
+    let body = end_body(rt.alloc())?;
+    let mut settings = Settings::of(4, 1);
+    settings.resolve_timeout = Duration::from_nanos(1);
+    let day = AtTheEnd { body: &body };
+    let (greatest, settled) = spend(&rt, rt.alloc(), settings, &day)?;
+    assert_eq!(rt;
+        greatest,
+        Greatest {
+            ended: Ok((1, Some(0))),
+            open: Err(PostRefused::Unread(PostFault::OutOfRange(0))),
+            shown: (1, 0),
+            before: 0,
+            collected: 1,
+        }
+    );
+    assert_eq!(rt; calls_at_end(&settled), (1, 1));
+    assert_eq!(rt; settled.store.len(), 0);
+    assert!(rt; settled.complete);
+    Ok(())
+}
+
+// Without a resolve timeout an end that isn't given is the post's instant.
+#[test]
+fn greatest_instant_without_timeout(rt: HostRuntime) -> Result<(), Fail> {
+    let body = end_body(rt.alloc())?;
+    let mut settings = Settings::of(4, 1);
+    settings.resolve_timeout = Duration::from_nanos(0);
+    let day = AtTheEnd { body: &body };
+    let (greatest, settled) = spend(&rt, rt.alloc(), settings, &day)?;
+    assert_eq!(rt;
+        greatest,
+        Greatest {
+            ended: Ok((1, Some(0))),
+            open: Ok((1, Some(1))),
+            shown: (2, 0),
+            before: 0,
+            collected: 2,
+        }
+    );
+    assert_eq!(rt; calls_at_end(&settled), (2, 1));
+    assert_eq!(rt; settled.store.len(), 0);
+    assert!(rt; settled.complete);
+    Ok(())
+}

@@ -1,0 +1,361 @@
+//! A provider in one thread: what its calls answer, and the journal at its end.
+
+use crate::bodies::{body_of, moment};
+use crate::days::{Day, Settings, Stopped, spend};
+use crate::posts::{Placed, post};
+use am_provider::{
+    Counts, Ended, NoGate, Origin, Pass, Policy, PostRefused, Provider, PutFault, Settled, Step,
+    Subscription,
+};
+use am_store::Call;
+use std::alloc::{AllocError, Global};
+use std::sync::Wait;
+use std::test::Fail;
+
+/// What the calls of a small day answered.
+#[derive(Clone, Copy, Debug, PartialEq, Eq, Drop)]
+struct Answers {
+    first: Placed,
+    placed: Option<u64>,
+    collected: u64,
+    ended: Ended,
+    refused: bool,
+    late: u64,
+}
+
+#[derive(Clone, Copy, Drop)]
+struct SmallDay;
+
+impl Day for SmallDay {
+    type Outcome = Answers;
+
+    fn spend<N: Origin, R: Wait>(
+        &self,
+        rt: &R,
+        _alloc: Global,
+        provider: &Provider<N>,
+        passes: &mut [Pass<N>],
+    ) -> Result<Answers, Stopped> {
+        let pass = passes.first_mut().ok_or(Stopped::Refused)?;
+        let first = post(rt, provider, pass, b"[]", 0)?;
+        let subscription = provider.subscribe(rt)?;
+        let within = post_and_collect(rt, provider, pass);
+        let ended = provider.leave(rt, subscription);
+        let (placed, collected) = within?;
+        provider.close(rt)?;
+        Ok(Answers {
+            first,
+            placed,
+            collected,
+            ended,
+            refused: is_closed(rt, provider, pass)?,
+            late: provider.collect_resolved(rt, moment(420))?,
+        })
+    }
+}
+
+fn post_and_collect<N: Origin, R: Wait>(
+    rt: &R,
+    provider: &Provider<N>,
+    pass: &mut Pass<N>,
+) -> Result<(Option<u64>, u64), Stopped> {
+    let (_, place) = post(rt, provider, pass, b"[{\"labels\":{\"a\":\"1\"}}]", 60)?;
+    Ok((place, provider.collect_resolved(rt, moment(360))?))
+}
+
+// Whether a post is refused since the log was ended.
+fn is_closed<N: Origin, R: Wait>(
+    rt: &R,
+    provider: &Provider<N>,
+    pass: &mut Pass<N>,
+) -> Result<bool, Stopped> {
+    match post(rt, provider, pass, b"[]", 370) {
+        Ok(_) => Ok(false),
+        Err(PostRefused::Put(PutFault::Closed)) => Ok(true),
+        Err(fault) => Err(Stopped::from(fault)),
+    }
+}
+
+// The kinds of the calls, a letter each.
+fn kinds_of(alloc: Global, settled: &Settled) -> Result<String, AllocError> {
+    let mut kinds = String::new(alloc);
+    for call in &settled.journal.calls {
+        kinds.push_str(match call {
+            Call::Posted { now: _, alerts } => {
+                if alerts.as_slice().is_empty() {
+                    "p"
+                } else {
+                    "P"
+                }
+            }
+            Call::Collected(_) => "c",
+            Call::Subscribed(_) => "s",
+            Call::Left(_) => "l",
+            Call::Closed => "x",
+        })?;
+    }
+    Ok(kinds)
+}
+
+#[test]
+fn settled_journal(rt: HostRuntime) -> Result<(), Fail> {
+    let (answers, settled) = spend(&rt, rt.alloc(), Settings::of(256, 1), &SmallDay)?;
+    assert_eq!(rt;
+        answers,
+        Answers {
+            first: (0, None),
+            placed: Some(0),
+            collected: 1,
+            ended: Ended {
+                at: 1,
+                taken: 0,
+                closed: false,
+                cut: false
+            },
+            refused: true,
+            late: 0,
+        }
+    );
+    assert_eq!(rt; kinds_of(rt.alloc(), &settled)?.as_str(), "psPclxc");
+    assert_eq!(rt;
+        settled.counts(),
+        Counts {
+            places: 1,
+            posts: 2,
+            stored: 0
+        }
+    );
+    assert_eq!(rt; settled.store.len(), 0);
+    assert_eq!(rt; settled.ended.len(), 1);
+    assert_eq!(rt; settled.early, 0);
+    assert!(rt; settled.complete);
+    Ok(())
+}
+
+/// What a slow and a quick subscriber of a log with one place were shown.
+#[derive(Clone, Copy, Debug, PartialEq, Eq, Drop)]
+struct Lag {
+    full: bool,
+    cut: u8,
+    quick: u32,
+    slow: u32,
+    told_cut: bool,
+    none_left: bool,
+}
+
+#[derive(Clone, Copy, Drop)]
+struct Lagging;
+
+impl Day for Lagging {
+    type Outcome = (Lag, Ended);
+
+    fn spend<N: Origin, R: Wait>(
+        &self,
+        rt: &R,
+        alloc: Global,
+        provider: &Provider<N>,
+        passes: &mut [Pass<N>],
+    ) -> Result<(Lag, Ended), Stopped> {
+        let pass = passes.first_mut().ok_or(Stopped::Refused)?;
+        let mut slow = provider.subscribe(rt)?;
+        let lag = with_quick(rt, alloc, provider, pass, &mut slow);
+        let ended = provider.leave(rt, slow);
+        Ok((lag?, ended))
+    }
+}
+
+fn with_quick<N: Origin, R: Wait>(
+    rt: &R,
+    alloc: Global,
+    provider: &Provider<N>,
+    pass: &mut Pass<N>,
+    slow: &mut Subscription<'_, N>,
+) -> Result<Lag, Stopped> {
+    let mut quick = provider.subscribe(rt)?;
+    let lag = lag_of(rt, alloc, provider, pass, slow, &mut quick);
+    provider.leave(rt, quick);
+    lag
+}
+
+// How many items a subscription shows until it shows none, and whether it was told a cut.
+fn read<N: Origin>(subscription: &mut Subscription<'_, N>, most: u32) -> (u32, bool) {
+    let mut items: u32 = 0;
+    for _turn in 0..most {
+        match subscription.next() {
+            Step::Item(_) => items = items.wrapping_add(1),
+            Step::Pending | Step::Closed => return (items, false),
+            Step::Cut => return (items, true),
+        }
+    }
+    (items, false)
+}
+
+fn lag_of<N: Origin, R: Wait>(
+    rt: &R,
+    alloc: Global,
+    provider: &Provider<N>,
+    pass: &mut Pass<N>,
+    slow: &mut Subscription<'_, N>,
+    quick: &mut Subscription<'_, N>,
+) -> Result<Lag, Stopped> {
+    let first = body_of(alloc, 1)?;
+    let second = body_of(alloc, 2)?;
+    post(rt, provider, pass, first.as_bytes(), 10)?;
+    let (items, _) = read(quick, 9);
+    let (full, cut) = match provider.post(rt, pass, &NoGate, second.as_bytes(), moment(20)) {
+        Ok(posted) => (false, posted.cut),
+        Err(PostRefused::Put(PutFault::Full { lane, passed })) => (lane == 0 && passed == 0, 0),
+        Err(fault) => return Err(Stopped::from(fault)),
+    };
+    let (more, _) = read(quick, 9);
+    let (late, told_cut) = read(slow, 9);
+    let (again, _) = read(slow, 9);
+    Ok(Lag {
+        full,
+        cut,
+        quick: items.wrapping_add(more),
+        slow: late,
+        told_cut,
+        none_left: again == 0,
+    })
+}
+
+#[test]
+fn a_full_log_refuses(rt: HostRuntime) -> Result<(), Fail> {
+    let ((lag, ended), settled) = spend(&rt, rt.alloc(), Settings::of(1, 1), &Lagging)?;
+    assert_eq!(rt;
+        lag,
+        Lag {
+            full: true,
+            cut: 0,
+            quick: 1,
+            slow: 1,
+            told_cut: false,
+            none_left: true,
+        }
+    );
+    assert_eq!(rt;
+        ended,
+        Ended {
+            at: 0,
+            taken: 1,
+            closed: false,
+            cut: false
+        }
+    );
+    assert!(rt; settled.complete);
+    Ok(())
+}
+
+#[test]
+fn a_full_log_cuts_the_slow_lane(rt: HostRuntime) -> Result<(), Fail> {
+    let mut settings = Settings::of(1, 1);
+    settings.policy = Policy::Cut;
+    let ((lag, ended), settled) = spend(&rt, rt.alloc(), settings, &Lagging)?;
+    assert_eq!(rt;
+        lag,
+        Lag {
+            full: false,
+            cut: 1,
+            quick: 2,
+            slow: 0,
+            told_cut: true,
+            none_left: true,
+        }
+    );
+    assert_eq!(rt;
+        ended,
+        Ended {
+            at: 0,
+            taken: 0,
+            closed: false,
+            cut: true
+        }
+    );
+    assert!(rt; settled.complete);
+    Ok(())
+}
+
+/// What who has the pass of a poster was shown, and how much trims dropped while it had a subscription
+/// and after.
+#[derive(Clone, Copy, Debug, PartialEq, Eq, Drop)]
+struct Carried {
+    item: bool,
+    then_pending: bool,
+    kept: u64,
+    trimmed: u64,
+}
+
+#[derive(Clone, Copy, Drop)]
+struct Carrying;
+
+impl Day for Carrying {
+    type Outcome = Carried;
+
+    fn spend<N: Origin, R: Wait>(
+        &self,
+        rt: &R,
+        _alloc: Global,
+        provider: &Provider<N>,
+        passes: &mut [Pass<N>],
+    ) -> Result<Carried, Stopped> {
+        let pass = passes.first_mut().ok_or(Stopped::Refused)?;
+        let mut subscription = provider.subscribe(rt)?;
+        let within = read_past(rt, provider, pass, &mut subscription);
+        provider.leave(rt, subscription);
+        let (item, then_pending, kept) = within?;
+        Ok(Carried {
+            item,
+            then_pending,
+            kept,
+            trimmed: provider.trim(rt)?,
+        })
+    }
+}
+
+// Whether the reader is shown what the poster posted, and then that no more is there; what a trim drops.
+fn read_past<N: Origin, R: Wait>(
+    rt: &R,
+    provider: &Provider<N>,
+    pass: &mut Pass<N>,
+    subscription: &mut Subscription<'_, N>,
+) -> Result<(bool, bool, u64), Stopped> {
+    post(rt, provider, pass, b"[{\"labels\":{\"a\":\"1\"}}]", 60)?;
+    provider.meet(subscription, pass);
+    let item = match subscription.next_past(pass) {
+        Step::Item(_) => true,
+        _ => false,
+    };
+    let then_pending = match subscription.next_past(pass) {
+        Step::Pending => true,
+        _ => false,
+    };
+    Ok((item, then_pending, provider.trim(rt)?))
+}
+
+#[test]
+fn pass_carries_order(rt: HostRuntime) -> Result<(), Fail> {
+    let (carried, settled) = spend(&rt, rt.alloc(), Settings::of(4, 1), &Carrying)?;
+    assert_eq!(rt;
+        carried,
+        Carried {
+            item: true,
+            then_pending: true,
+            kept: 0,
+            trimmed: 3,
+        }
+    );
+    assert_eq!(rt; settled.journal.before, 3);
+    assert_eq!(rt; settled.journal.calls.len(), 0);
+    assert_eq!(rt;
+        settled.counts(),
+        Counts {
+            places: 1,
+            posts: 1,
+            stored: 1
+        }
+    );
+    assert_eq!(rt; settled.ended.len(), 0);
+    assert_eq!(rt; settled.early, 1);
+    Ok(())
+}

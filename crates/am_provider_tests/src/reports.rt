@@ -1,0 +1,199 @@
+//! Reports that are merged, collected, and shown to who comes later, against values worked out by hand.
+
+use crate::bodies::{Report, moment};
+use crate::days::{Day, Settings, Stopped, spend};
+use crate::posts::{Placed, post_reports};
+use am_provider::{Counts, Ended, Origin, Pass, Provider, Step, SubFault, Subscription};
+use std::alloc::Global;
+use std::sync::Wait;
+use std::test::Fail;
+
+// Whether alerts of these starts and ends are shown next, and then no more.
+fn shows<N: Origin>(subscription: &mut Subscription<'_, N>, times: &[(u32, u32)]) -> bool {
+    for (start, end) in times {
+        match subscription.next() {
+            Step::Item(alert) if alert.start == moment(*start) && alert.end == moment(*end) => {}
+            _ => return false,
+        }
+    }
+    matches!(subscription.next(), Step::Pending)
+}
+
+fn two_reports() -> [Report; 2] {
+    [Report::new(1, 10, 20), Report::new(2, 10, 30)]
+}
+
+// Two reports, a longer one of the first label set, and none.
+fn post_three<N: Origin, R: Wait>(
+    rt: &R,
+    alloc: Global,
+    provider: &Provider<N>,
+    pass: &mut Pass<N>,
+) -> Result<[Placed; 3], Stopped> {
+    let longer = [Report::new(1, 15, 25)];
+    let first = post_reports(rt, alloc, provider, pass, &two_reports(), 10)?;
+    let second = post_reports(rt, alloc, provider, pass, &longer, 15)?;
+    let third = post_reports(rt, alloc, provider, pass, &[], 16)?;
+    Ok([first, second, third])
+}
+
+/// What three posts answered, whether the subscription that was there was shown what they sent out, and
+/// what it came to.
+#[derive(Clone, Copy, Debug, PartialEq, Eq, Drop)]
+struct Reached {
+    posted: [Placed; 3],
+    shown: bool,
+    ended: Ended,
+}
+
+#[derive(Clone, Copy, Drop)]
+struct Reaching;
+
+impl Day for Reaching {
+    type Outcome = Reached;
+
+    fn spend<N: Origin, R: Wait>(
+        &self,
+        rt: &R,
+        alloc: Global,
+        provider: &Provider<N>,
+        passes: &mut [Pass<N>],
+    ) -> Result<Reached, Stopped> {
+        let pass = passes.first_mut().ok_or(Stopped::Refused)?;
+        let mut subscription = provider.subscribe(rt)?;
+        let posted = post_three(rt, alloc, provider, pass);
+        let shown = shows(&mut subscription, &[(10, 20), (10, 30), (10, 25)]);
+        let ended = provider.leave(rt, subscription);
+        Ok(Reached {
+            posted: posted?,
+            shown,
+            ended,
+        })
+    }
+}
+
+#[test]
+fn reports_reach_a_subscriber(rt: HostRuntime) -> Result<(), Fail> {
+    let (reached, settled) = spend(&rt, rt.alloc(), Settings::of(4, 1), &Reaching)?;
+    assert_eq!(rt;
+        reached,
+        Reached {
+            posted: [(2, Some(0)), (1, Some(1)), (0, None)],
+            shown: true,
+            ended: Ended {
+                at: 0,
+                taken: 3,
+                closed: false,
+                cut: false
+            },
+        }
+    );
+    assert!(rt; settled.complete);
+    Ok(())
+}
+
+/// What a subscription that comes late finds and is shown, and what it came to.
+#[derive(Clone, Copy, Debug, PartialEq, Eq, Drop)]
+struct Late {
+    lane: u32,
+    opening: u64,
+    shown: bool,
+    ended: Ended,
+}
+
+// Subscribes, where the alert of two that isn't collected is left.
+fn come_late<N: Origin, R: Wait>(rt: &R, provider: &Provider<N>) -> Result<Late, Stopped> {
+    let mut subscription = provider.subscribe(rt)?;
+    let (lane, opening) = (subscription.lane(), subscription.opening());
+    let shown = shows(&mut subscription, &[(10, 30)]);
+    let ended = provider.leave(rt, subscription);
+    Ok(Late {
+        lane,
+        opening,
+        shown,
+        ended,
+    })
+}
+
+// Why a subscription is refused.
+fn refusal<N: Origin, R: Wait>(rt: &R, provider: &Provider<N>) -> Option<SubFault> {
+    match provider.subscribe(rt) {
+        Ok(subscription) => {
+            provider.leave(rt, subscription);
+            None
+        }
+        Err(fault) => Some(fault),
+    }
+}
+
+/// What a post, a collection, a late subscription and the end answered.
+#[derive(Clone, Copy, Debug, PartialEq, Eq, Drop)]
+struct Collected {
+    posted: Placed,
+    removed: u64,
+    late: Late,
+    closed_again: bool,
+    refusal: Option<SubFault>,
+}
+
+#[derive(Clone, Copy, Drop)]
+struct Collecting;
+
+impl Day for Collecting {
+    type Outcome = Collected;
+
+    fn spend<N: Origin, R: Wait>(
+        &self,
+        rt: &R,
+        alloc: Global,
+        provider: &Provider<N>,
+        passes: &mut [Pass<N>],
+    ) -> Result<Collected, Stopped> {
+        let pass = passes.first_mut().ok_or(Stopped::Refused)?;
+        let posted = post_reports(rt, alloc, provider, pass, &two_reports(), 10)?;
+        let removed = provider.collect_resolved(rt, moment(20))?;
+        let late = come_late(rt, provider)?;
+        provider.close(rt)?;
+        Ok(Collected {
+            posted,
+            removed,
+            late,
+            closed_again: provider.close(rt).is_ok(),
+            refusal: refusal(rt, provider),
+        })
+    }
+}
+
+#[test]
+fn collections_and_the_end(rt: HostRuntime) -> Result<(), Fail> {
+    let (collected, settled) = spend(&rt, rt.alloc(), Settings::of(4, 1), &Collecting)?;
+    assert_eq!(rt;
+        collected,
+        Collected {
+            posted: (2, Some(0)),
+            removed: 1,
+            late: Late {
+                lane: 0,
+                opening: 1,
+                shown: true,
+                ended: Ended {
+                    at: 2,
+                    taken: 1,
+                    closed: false,
+                    cut: false
+                },
+            },
+            closed_again: false,
+            refusal: Some(SubFault::Closed),
+        }
+    );
+    assert_eq!(rt;
+        settled.counts(),
+        Counts {
+            places: 1,
+            posts: 1,
+            stored: 1
+        }
+    );
+    Ok(())
+}

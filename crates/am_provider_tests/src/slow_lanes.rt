@@ -1,0 +1,166 @@
+//! A log with two places and three subscribers: which lane a full log names, and when it takes a post
+//! again.
+
+use crate::bodies::moment;
+use crate::days::{Day, Settings, Stopped, spend};
+use am_provider::{NoGate, Origin, Pass, PostRefused, Provider, PutFault, Step, Subscription};
+use std::alloc::Global;
+use std::sync::Wait;
+use std::test::Fail;
+
+const BODY: &[u8] = b"[{\"labels\":{\"a\":\"1\"}}]";
+
+/// What a post came to.
+#[derive(Clone, Copy, Debug, PartialEq, Eq, Drop)]
+enum Answer {
+    Placed(Option<u64>),
+    Full { lane: u32, passed: u64 },
+}
+
+/// What the posts came to, in their order, and whether the subscribers were shown what was posted.
+#[derive(Clone, Copy, Debug, PartialEq, Eq, Drop)]
+struct Filled {
+    one: Answer,
+    two: Answer,
+    three: Answer,
+    full: Answer,
+    in_hand: Answer,
+    asked: Answer,
+    last: Answer,
+    shown: bool,
+}
+
+fn post_one<N: Origin, R: Wait>(
+    rt: &R,
+    provider: &Provider<N>,
+    pass: &mut Pass<N>,
+) -> Result<Answer, Stopped> {
+    match provider.post(rt, pass, &NoGate, BODY, moment(60)) {
+        Ok(posted) => Ok(Answer::Placed(posted.place)),
+        Err(PostRefused::Put(PutFault::Full { lane, passed })) => Ok(Answer::Full { lane, passed }),
+        Err(fault) => Err(Stopped::from(fault)),
+    }
+}
+
+// Whether so many alerts are shown.
+fn shows<N: Origin>(subscription: &mut Subscription<'_, N>, count: u32) -> bool {
+    for _turn in 0..count {
+        match subscription.next() {
+            Step::Item(_) => {}
+            _ => return false,
+        }
+    }
+    true
+}
+
+// Whether so many alerts are shown, and then that no more are there. The last one's place is passed then.
+fn shows_all<N: Origin>(subscription: &mut Subscription<'_, N>, count: u32) -> bool {
+    if !shows(subscription, count) {
+        return false;
+    }
+    match subscription.next() {
+        Step::Pending => true,
+        _ => false,
+    }
+}
+
+// The quick subscriber reads all that comes; the slow and the slowest one stay two places behind.
+fn fill<N: Origin, R: Wait>(
+    rt: &R,
+    provider: &Provider<N>,
+    pass: &mut Pass<N>,
+    quick: &mut Subscription<'_, N>,
+    slow: &mut Subscription<'_, N>,
+    slowest: &mut Subscription<'_, N>,
+) -> Result<Filled, Stopped> {
+    let one = post_one(rt, provider, pass)?;
+    let first = shows_all(quick, 1) && shows_all(slow, 1) && shows_all(slowest, 1);
+    let two = post_one(rt, provider, pass)?;
+    let three = post_one(rt, provider, pass)?;
+    let all = shows_all(quick, 2);
+    let full = post_one(rt, provider, pass)?;
+    let held = shows(slow, 1);
+    let in_hand = post_one(rt, provider, pass)?;
+    let passed = shows(slow, 1);
+    let asked = post_one(rt, provider, pass)?;
+    let both = shows(slowest, 2);
+    let last = post_one(rt, provider, pass)?;
+    Ok(Filled {
+        one,
+        two,
+        three,
+        full,
+        in_hand,
+        asked,
+        last,
+        shown: first && all && held && passed && both,
+    })
+}
+
+fn with_slowest<N: Origin, R: Wait>(
+    rt: &R,
+    provider: &Provider<N>,
+    pass: &mut Pass<N>,
+    quick: &mut Subscription<'_, N>,
+    slow: &mut Subscription<'_, N>,
+) -> Result<Filled, Stopped> {
+    let mut slowest = provider.subscribe(rt)?;
+    let filled = fill(rt, provider, pass, quick, slow, &mut slowest);
+    provider.leave(rt, slowest);
+    filled
+}
+
+fn with_slow<N: Origin, R: Wait>(
+    rt: &R,
+    provider: &Provider<N>,
+    pass: &mut Pass<N>,
+    quick: &mut Subscription<'_, N>,
+) -> Result<Filled, Stopped> {
+    let mut slow = provider.subscribe(rt)?;
+    let filled = with_slowest(rt, provider, pass, quick, &mut slow);
+    provider.leave(rt, slow);
+    filled
+}
+
+#[derive(Clone, Copy, Drop)]
+struct Filling;
+
+impl Day for Filling {
+    type Outcome = Filled;
+
+    fn spend<N: Origin, R: Wait>(
+        &self,
+        rt: &R,
+        _alloc: Global,
+        provider: &Provider<N>,
+        passes: &mut [Pass<N>],
+    ) -> Result<Filled, Stopped> {
+        let pass = passes.first_mut().ok_or(Stopped::Refused)?;
+        let mut quick = provider.subscribe(rt)?;
+        let filled = with_slow(rt, provider, pass, &mut quick);
+        provider.leave(rt, quick);
+        filled
+    }
+}
+
+// The lowest lane that is two places behind is named. It is so until it asks for an alert after the
+// one that it was shown, and then the next such lane is named. Once none is left the post is taken.
+#[test]
+fn slowest_lane_fills_the_log(rt: HostRuntime) -> Result<(), Fail> {
+    let (filled, settled) = spend(&rt, rt.alloc(), Settings::of(2, 1), &Filling)?;
+    assert_eq!(rt;
+        filled,
+        Filled {
+            one: Answer::Placed(Some(0)),
+            two: Answer::Placed(Some(1)),
+            three: Answer::Placed(Some(2)),
+            full: Answer::Full { lane: 1, passed: 1 },
+            in_hand: Answer::Full { lane: 1, passed: 1 },
+            asked: Answer::Full { lane: 2, passed: 1 },
+            last: Answer::Placed(Some(3)),
+            shown: true,
+        }
+    );
+    assert!(rt; settled.complete);
+    Ok(())
+}

@@ -1,0 +1,160 @@
+//! What trims answer, and that the journal stays short however many posts come.
+
+use crate::bodies::{Report, moment};
+use crate::days::{Day, Settings, Stopped, spend};
+use crate::posts::post_reports;
+use am_provider::{Counts, Ended, Origin, Pass, Provider};
+use std::alloc::Global;
+use std::sync::Wait;
+use std::test::Fail;
+
+// Posts one report at its start. The number names its label set.
+fn post_one<N: Origin, R: Wait>(
+    rt: &R,
+    alloc: Global,
+    provider: &Provider<N>,
+    pass: &mut Pass<N>,
+    number: u32,
+) -> Result<(), Stopped> {
+    let report = Report {
+        label: number,
+        start: number,
+        end: None,
+    };
+    post_reports(rt, alloc, provider, pass, &[report], number)?;
+    Ok(())
+}
+
+// What a trim drops while a subscription is open that came just now, and what that came to.
+fn trim_while_open<N: Origin, R: Wait>(
+    rt: &R,
+    provider: &Provider<N>,
+) -> Result<(u64, Ended), Stopped> {
+    let subscription = provider.subscribe(rt)?;
+    let dropped = provider.trim(rt);
+    let ended = provider.leave(rt, subscription);
+    Ok((dropped?, ended))
+}
+
+/// How many calls each trim dropped: two posts; none while a subscription is open; its begin and end; a
+/// collection and the end of the log.
+#[derive(Clone, Copy, Debug, PartialEq, Eq, Drop)]
+struct Trimmed {
+    posts: u64,
+    while_open: u64,
+    ended: Ended,
+    subscription: u64,
+    removed: u64,
+    at_the_end: u64,
+    closed_again: bool,
+}
+
+#[derive(Clone, Copy, Drop)]
+struct Trimming;
+
+impl Day for Trimming {
+    type Outcome = Trimmed;
+
+    fn spend<N: Origin, R: Wait>(
+        &self,
+        rt: &R,
+        alloc: Global,
+        provider: &Provider<N>,
+        passes: &mut [Pass<N>],
+    ) -> Result<Trimmed, Stopped> {
+        let pass = passes.first_mut().ok_or(Stopped::Refused)?;
+        post_one(rt, alloc, provider, pass, 1)?;
+        post_one(rt, alloc, provider, pass, 2)?;
+        let posts = provider.trim(rt)?;
+        let (while_open, ended) = trim_while_open(rt, provider)?;
+        let subscription = provider.trim(rt)?;
+        let removed = provider.collect_resolved(rt, moment(9_000))?;
+        provider.close(rt)?;
+        Ok(Trimmed {
+            posts,
+            while_open,
+            ended,
+            subscription,
+            removed,
+            at_the_end: provider.trim(rt)?,
+            closed_again: provider.close(rt).is_ok(),
+        })
+    }
+}
+
+#[test]
+fn a_trim_drops_what_no_open_subscription_needs(rt: HostRuntime) -> Result<(), Fail> {
+    let (trimmed, settled) = spend(&rt, rt.alloc(), Settings::of(4, 1), &Trimming)?;
+    assert_eq!(rt;
+        trimmed,
+        Trimmed {
+            posts: 2,
+            while_open: 0,
+            ended: Ended {
+                at: 2,
+                taken: 0,
+                closed: false,
+                cut: false
+            },
+            subscription: 2,
+            removed: 2,
+            at_the_end: 2,
+            closed_again: false,
+        }
+    );
+    assert_eq!(rt; settled.journal.before, 6);
+    assert_eq!(rt;
+        settled.counts(),
+        Counts {
+            places: 2,
+            posts: 2,
+            stored: 0
+        }
+    );
+    Ok(())
+}
+
+#[derive(Clone, Copy, Drop)]
+struct LongRun;
+
+// How often a trim dropped a thousand posts, which are all that there were since the last one.
+impl Day for LongRun {
+    type Outcome = u32;
+
+    fn spend<N: Origin, R: Wait>(
+        &self,
+        rt: &R,
+        alloc: Global,
+        provider: &Provider<N>,
+        passes: &mut [Pass<N>],
+    ) -> Result<u32, Stopped> {
+        let pass = passes.first_mut().ok_or(Stopped::Refused)?;
+        for turn in 0..20u32 {
+            for number in 0..1_000u32 {
+                post_one(rt, alloc, provider, pass, number)?;
+            }
+            if provider.trim(rt)? != 1_000 {
+                return Ok(turn);
+            }
+        }
+        Ok(20)
+    }
+}
+
+// 20,000 posts of a thousand label sets. A journal that isn't trimmed holds every one of them; here
+// each trim answers that it drops all that the journal holds.
+#[test]
+fn the_journal_stays_short(rt: HostRuntime) -> Result<(), Fail> {
+    let (turns, settled) = spend(&rt, rt.alloc(), Settings::of(4, 1), &LongRun)?;
+    assert_eq!(rt; turns, 20);
+    assert_eq!(rt; settled.journal.calls.len(), 0);
+    assert_eq!(rt;
+        settled.counts(),
+        Counts {
+            places: 20_000,
+            posts: 20_000,
+            stored: 1_000
+        }
+    );
+    Ok(())
+}

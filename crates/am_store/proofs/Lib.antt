@@ -1,0 +1,15 @@
+pub mod Journals
+pub mod Opens
+pub mod Earliest
+pub mod Kept
+pub mod Absorbing
+pub mod Stored
+pub mod Flags
+pub mod Items
+pub mod Growing
+pub mod Entries
+pub mod Sent
+pub mod LaneBits
+pub mod Dropping
+pub mod Trims
+pub mod Trimming

@@ -1,0 +1,16 @@
+pub use Rattle.am_labels.specs.Texts
+pub use Rattle.am_labels.specs.LabelSets
+pub use Rattle.am_labels.specs.LabelLaws
+pub use Rattle.am_labels.specs.Printing
+pub use Rattle.am_alert.specs.Moments
+pub use Rattle.am_alert.specs.Alerts
+pub use Rattle.am_alert.specs.Merging
+pub mod Shared
+pub mod Journal
+pub mod Stored
+pub mod Broadcast
+pub mod Trims
+pub mod AlertList
+pub mod PlainBook
+pub mod Laws
+pub mod inside

@@ -1,0 +1,30 @@
+-- What a trim drops of a journal, and what it leaves.
+use Rattle.std.specs.Prelude.{◌≡◌, ℕ, ◌+◌, ◌≤◌, ◌⊎◌, if◌then◌else◌, nat_le, length, drop}
+use Rattle.am_store.specs.declared.journal.TheConstants.{MAX_BEFORE}
+use Rattle.am_store.specs.Journal.{JournalView, first_calls, is_closed, posts_of, has_lane, is_open, IsOpenSubscription}
+use Rattle.am_store.specs.Stored.{updates, stored}
+use Rattle.am_store.specs.Broadcast.{broadcast}
+
+-- the calls before the earliest open subscription are so many, or, where none is open, all are
+pub record AreBeforeOpen (journal : JournalView) (count : ℕ) : Type 0 where
+  pub within : count ≤ length journal.calls
+  pub kept : (lane at : ℕ) → IsOpenSubscription journal lane at → journal.before + count ≤ at
+  pub most : (count ≡ length journal.calls)
+      ⊎ ((lane : ℕ) × IsOpenSubscription journal lane (journal.before + count))
+
+-- how many calls a trim drops: those before the earliest open subscription, but none where more would
+-- be dropped in all than can be counted
+abbrev pub Drops : JournalView → ℕ → Type 0
+Drops journal dropped =
+    (count : ℕ) × AreBeforeOpen journal count
+    × (dropped ≡ (if nat_le (journal.before + count) MAX_BEFORE then count else 0))
+
+-- the journal without so many of its first calls: what they left stands in their place
+pub record IsTrimmed (old : JournalView) (count : ℕ) (new : JournalView) : Type 0 where
+  pub before : new.before ≡ old.before + count
+  pub places : new.places ≡ old.places + length (broadcast (first_calls count old))
+  pub posts : new.posts ≡ posts_of (first_calls count old)
+  pub store : new.store ≡ stored (updates (first_calls count old))
+  pub lanes : (lane : ℕ) → has_lane new.lanes lane ≡ is_open (first_calls count old) lane
+  pub closed : new.closed ≡ is_closed (first_calls count old)
+  pub calls : new.calls ≡ drop count old.calls

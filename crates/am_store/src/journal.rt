@@ -1,0 +1,103 @@
+//! The journal of the accepted calls. Its first calls can be dropped, once no open
+//! subscription needs them: what they left stands in their place.
+
+ghost use Rattle.std.specs.Prelude.{◌≡◌, ◌<◌, ◌≤◌, ◌+◌, ◌^◌, IfOk, length};
+ghost use Rattle.std.specs.VecDeque.{deque_capacity};
+ghost use Rattle.am_store.specs.Journal.{call_count, first_calls, new_journal, IsLegal};
+ghost use Rattle.am_store.specs.Stored.{updates, stored};
+ghost use Rattle.am_store.specs.Trims.{IsTrimmed};
+ghost use Rattle.am_store.specs.inside.Journals.{journal_of, AreCounted, IsCounted, IsOnALane};
+
+use crate::call::Call;
+use crate::shared_alerts::StoredAlerts;
+use std::alloc::{AllocError, Global};
+use std::collections::VecDeque;
+
+/// How many calls can be dropped from a journal in all.
+pub const MAX_BEFORE: u64 = 9_223_372_036_854_775_807;
+
+/// The accepted calls, of which the first may have been dropped.
+#[derive(Drop)]
+pub struct Journal {
+    /// How many calls were dropped.
+    pub before: u64,
+    /// How many batches the dropped calls sent out.
+    pub places: u64,
+    /// How many posts were among them.
+    pub posts: u64,
+    /// What was stored after them.
+    pub store: StoredAlerts,
+    /// The lanes that were open after them, lane `l` in bit `l`.
+    pub lanes: u8,
+    /// Whether the log was ended by then.
+    pub closed: bool,
+    /// The calls since.
+    pub calls: VecDeque<Call>,
+}
+
+impl Journal {
+    /// A journal without a call.
+    pub fn new(alloc: Global) -> Result<Journal, AllocError>
+        ensures { IfOk result (λ journal. journal_of journal ≡ new_journal) }
+    {
+        Ok(Journal {
+            before: 0,
+            places: 0,
+            posts: 0,
+            store: StoredAlerts::new(alloc, Vec::new(alloc))?,
+            lanes: 0,
+            closed: false,
+            calls: VecDeque::new(alloc),
+        })
+    }
+
+    /// How many calls there were, those that were dropped too.
+    pub fn call_count(&self) -> u64
+        requires { self.now.before ≤ MAX_BEFORE }
+        ensures { result ≡ call_count (journal_of self.now) }
+    {
+        self.before + self.calls.len() as u64
+    }
+
+    /// Drops so many of the calls that are left. What was stored after them is given.
+    pub fn drop_first(&mut self, count: usize, store: StoredAlerts)
+        requires within { count ≤ length self.old.calls.items }
+        requires countable { self.old.before + count ≤ MAX_BEFORE }
+        requires counted { AreCounted self.old }
+        requires store { store ≡ stored (updates (first_calls count (journal_of self.old))) }
+        requires legal { IsLegal (journal_of self.old) }
+        ensures trimmed { IsTrimmed (journal_of self.old) count (journal_of self.new) }
+        ensures counted { AreCounted self.new }
+        ensures capacity { deque_capacity self.new.calls ≡ deque_capacity self.old.calls }
+    {
+        for _ in 0..count {
+            if let Some(call) = self.calls.pop_front() {
+                self.count_dropped(&call);
+            }
+        }
+        self.before += count as u64;
+        self.store = store;
+    }
+
+    // Counts a call among those that were dropped.
+    fn count_dropped(&mut self, call: &Call)
+        requires countable { self.old.posts < MAX_BEFORE }
+        requires counted { self.old.places ≤ self.old.posts }
+        requires lanes { self.old.lanes < 2 ^ 8 }
+        requires lane { IsOnALane call.now }
+        ensures { IsCounted self.old call.now self.new }
+    {
+        match call {
+            Call::Posted { now: _, alerts } => {
+                self.posts += 1;
+                if !alerts.as_slice().is_empty() {
+                    self.places += 1;
+                }
+            }
+            Call::Collected(_) => {}
+            Call::Subscribed(lane) => self.lanes |= 1 << *lane,
+            Call::Left(lane) => self.lanes &= !(1 << *lane),
+            Call::Closed => self.closed = true,
+        }
+    }
+}

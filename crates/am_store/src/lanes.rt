@@ -1,0 +1,52 @@
+//! The lanes of subscriptions: which are open, since when, and which to give out next.
+
+ghost use Rattle.std.specs.Prelude.{◌≡◌, ◌<◌, None, IsSome, IfSome, IfNone, ℕ};
+ghost use Rattle.am_store.specs.inside.Lanes.{lane_at, IsLowestFree, IsEarliest};
+
+use crate::shared_alerts::StoredAlerts;
+
+/// How many lanes there are.
+pub const LANES: usize = 8;
+
+/// A lane that has a subscription.
+#[derive(Drop)]
+pub struct OpenLane {
+    /// How many calls there had been before the subscription.
+    pub at: u64,
+    /// What was stored then.
+    pub opening: StoredAlerts,
+}
+
+/// Each lane, where it has a subscription.
+pub type Lanes = [Option<OpenLane>; LANES];
+
+/// The lowest lane that isn't open.
+pub fn idle_lane(lanes: &Lanes) -> Option<usize>
+    ensures some { IfSome result (IsLowestFree lanes.now) }
+    ensures none { IfNone result
+        ((lane : ℕ) → lane < 8 → IsSome (lane_at lanes.now lane)) }
+{
+    for (lane, open) in lanes.iter().enumerate() {
+        if open.is_none() {
+            return Some(lane);
+        }
+    }
+    None
+}
+
+/// The open lane that was subscribed first.
+pub fn earliest(lanes: &Lanes) -> Option<&OpenLane>
+    ensures some { IfSome result (λ one. IsEarliest lanes.now one.now) }
+    ensures none { IfNone result ((lane : ℕ) → lane_at lanes.now lane ≡ None) }
+{
+    let mut first: Option<&OpenLane> = None;
+    for lane in lanes {
+        if let Some(open) = lane {
+            match first {
+                Some(other) if other.at <= open.at => {}
+                _ => first = Some(open),
+            }
+        }
+    }
+    first
+}

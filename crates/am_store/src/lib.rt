@@ -1,0 +1,35 @@
+//! What an alert provider keeps: the stored alerts, the journal of the calls that it accepted, and
+//! its lanes.
+//!
+//! The store has one alert for each label set, in the order in which the label sets were first
+//! reported. The reports of a post are merged into it one after another (`store::absorb`), and the
+//! changes that they made are answered too: a post that is refused further on is taken back by them,
+//! so that it leaves no trace. `am_alert` says what two reports of one label set become.
+//!
+//! The journal has each accepted call with what was posted, and what is stored and what is owed to a
+//! subscriber follow from it alone. Calls that no open subscription needs any more can be dropped
+//! from its front: what they left stands in their place, and nobody can tell (`trimming_laws`).
+//!
+//! A lane is a subscriber's slot, of which there are eight. An open one keeps when it was subscribed
+//! and what was stored then, so that the journal can be shortened up to the earliest of them.
+//!
+//!     let alerts = SharedAlerts::new(alloc, valid)?;            // the valid alerts of a post
+//!     let Absorbed { batch, undo } = absorb_each(&mut stored, alerts.as_slice(), now)?;
+//!     ..                                                        // `batch` goes out, or else:
+//!     take_back(&mut stored, undo);
+//!
+//! The store, the journal, what goes out and what late subscribers are shown have each alert in
+//! common: none of them copies one.
+#![tactic(auto)]
+
+mod call;
+mod journal;
+pub mod lanes;
+mod laws;
+mod shared_alerts;
+pub mod store;
+
+pub use call::Call;
+pub use journal::{Journal, MAX_BEFORE};
+pub use laws::{journal_laws, trimming_laws};
+pub use shared_alerts::{SharedAlert, SharedAlerts, StoredAlerts};

@@ -1,0 +1,102 @@
+//! Alerts that the journal, the store, the log and openings have in common, so that none of them
+//! copies one.
+
+ghost use Rattle.std.specs.Prelude.{◌≡◌, ◌<◌, ◌^◌, IfOk, length};
+ghost use Rattle.am_store.specs.Shared.{alerts_in};
+
+use am_alert::{Alert, Alerts};
+use std::alloc::{AllocError, Global};
+use std::marker::Model;
+use std::sync::Arc;
+
+/// An alert with several owners.
+pub type SharedAlert = Arc<Alert, Global>;
+
+/// Shared alerts in order, seen by contracts as the list of the alerts.
+#[derive(Debug, Drop)]
+pub struct SharedAlerts {
+    pub alerts: Vec<SharedAlert>,
+}
+
+impl Model for SharedAlerts {
+    ghost use Rattle.std.specs.Prelude.{List};
+    ghost use Rattle.std.specs.Coded.{coded_list};
+    ghost use Rattle.am_alert.specs.declared.alert.Alert.{Alert};
+    ghost use Rattle.am_alert.specs.Alerts.{coded_alert};
+    ghost use Rattle.am_store.specs.Shared.{alerts_in};
+
+    ghost Value = { List Alert };
+
+    ghost coded = { coded_list coded_alert };
+
+    ghost view = { λ a. alerts_in a.alerts.items };
+}
+
+impl SharedAlerts {
+    /// The alerts, each on its own to be shared.
+    pub fn new(alloc: Global, alerts: Alerts) -> Result<SharedAlerts, AllocError>
+        ensures { IfOk result (λ shared. shared ≡ alerts) }
+    {
+        let Alerts { alerts } = alerts;
+        let mut shared = Vec::with_capacity(alloc, alerts.len())?;
+        for alert in alerts {
+            shared.push(Arc::new(alloc, alert)?)?;
+        }
+        Ok(SharedAlerts { alerts: shared })
+    }
+
+    /// The alerts in order.
+    pub fn as_slice(&self) -> &[SharedAlert]
+        ensures { alerts_in result.now ≡ self.now }
+    {
+        &self.alerts
+    }
+}
+
+/// What was stored at one moment, seen by contracts as the list of the alerts. It is shared as a
+/// whole, so that a subscription, its lane and the journal have one list in common.
+#[derive(Debug, Drop)]
+pub struct StoredAlerts {
+    alerts: Arc<Vec<SharedAlert>, Global>,
+}
+
+impl Model for StoredAlerts {
+    ghost use Rattle.std.specs.Prelude.{List};
+    ghost use Rattle.std.specs.Arc.{arc_value};
+    ghost use Rattle.std.specs.Coded.{coded_list};
+    ghost use Rattle.am_alert.specs.declared.alert.Alert.{Alert};
+    ghost use Rattle.am_alert.specs.Alerts.{coded_alert};
+    ghost use Rattle.am_store.specs.Shared.{alerts_in};
+
+    ghost Value = { List Alert };
+
+    ghost coded = { coded_list coded_alert };
+
+    ghost view = { λ a. alerts_in (arc_value a.alerts).items };
+}
+
+impl StoredAlerts {
+    /// These alerts, as one list.
+    pub fn new(alloc: Global, alerts: Vec<SharedAlert>) -> Result<StoredAlerts, AllocError>
+        ensures { IfOk result (λ stored. stored ≡ alerts_in alerts.items) }
+    {
+        let alerts = Arc::new(alloc, alerts)?;
+        Ok(StoredAlerts { alerts })
+    }
+
+    /// The same list once more.
+    pub fn share(&self) -> Result<StoredAlerts, AllocError>
+        ensures { IfOk result (λ shared. shared ≡ self.now) }
+    {
+        let alerts = Arc::try_clone(&self.alerts)?;
+        Ok(StoredAlerts { alerts })
+    }
+
+    /// The alerts in order.
+    pub fn as_slice(&self) -> &[SharedAlert]
+        ensures alerts { alerts_in result.now ≡ self.now }
+        ensures few { length self.now < 2 ^ 63 }
+    {
+        &self.alerts
+    }
+}

@@ -1,0 +1,49 @@
+//! The stored alerts, each under its label set, in the order in which the label sets began.
+
+ghost use Rattle.std.specs.Prelude.{◌≡◌, IfOk, filter, not, count_by};
+ghost use Rattle.std.specs.Arc.{arc_value};
+ghost use Rattle.am_alert.specs.Merging.{is_resolved_at};
+ghost use Rattle.am_store.specs.inside.Shared.{stored_in, AreKeptByLabels};
+
+pub mod absorb;
+
+use crate::shared_alerts::{SharedAlert, StoredAlerts};
+use am_alert::Moment;
+use am_labels::LabelSet;
+use indexmap::IndexMap;
+use std::alloc::AllocError;
+use std::sync::Arc;
+
+/// The stored alerts by their label sets, in the order in which those began. A report costs the same
+/// however many there are.
+pub type AlertMap = IndexMap<LabelSet, SharedAlert>;
+
+/// All alerts, in order. None is copied.
+pub fn share_all(alerts: &AlertMap) -> Result<StoredAlerts, AllocError>
+    ensures { IfOk result (λ shared. shared ≡ stored_in alerts.now.entries) }
+{
+    let alloc = *alerts.allocator();
+    let mut shared = Vec::with_capacity(alloc, alerts.len())?;
+    for alert in alerts.values() {
+        shared.push(Arc::try_clone(alert)?)?;
+    }
+    StoredAlerts::new(alloc, shared)
+}
+
+/// Removes what is resolved, and answers how many alerts that were.
+pub fn remove_resolved(alerts: &mut AlertMap, now: Moment) -> u64
+    requires { AreKeptByLabels alerts.old.entries }
+    ensures kept { AreKeptByLabels alerts.new.entries }
+    ensures store { stored_in alerts.new.entries
+        ≡ filter (λ alert. not (is_resolved_at now alert)) (stored_in alerts.old.entries) }
+    ensures removed { result ≡ count_by (is_resolved_at now) (stored_in alerts.old.entries) }
+{
+    let before = alerts.len();
+    alerts.retain(
+        |_labels: &LabelSet, alert: &mut SharedAlert| -> bool
+            ensures { (result ≡ not (is_resolved_at now (arc_value alert.old)))
+                × (alert.new ≡ alert.old) }
+        { !alert.resolved_at(now) },
+    );
+    (before - alerts.len()) as u64
+}
