@@ -5,9 +5,9 @@ ghost use Rattle.std.specs.Prelude.{◌<◌};
 use crate::bodies::{Report, moment, reports_body};
 use crate::days::{Day, Settings, Stopped, spend};
 use crate::plain_store::{absorb_each, remove_resolved};
-use crate::posts::post;
+use crate::stage::Stage;
 use am_alert::{Alert, read_post};
-use am_provider::{Origin, Pass, Provider, Step, Subscription};
+use am_provider::{Origin, Pass, Step, Subscription};
 use std::alloc::{AllocError, Global};
 use std::sync::Wait;
 use std::test::Fail;
@@ -62,77 +62,69 @@ fn skip<N: Origin>(subscription: &mut Subscription<'_, N>, count: u64) {
 }
 
 // Whether the provider stores exactly these alerts.
-fn stores<N: Origin, R: Wait>(
-    rt: &R,
-    provider: &Provider<N>,
-    alerts: &[Alert],
-) -> Result<bool, Stopped> {
-    let mut subscription = provider.subscribe(rt)?;
+fn stores<N: Origin, R: Wait>(stage: &Stage<'_, N, R>, alerts: &[Alert]) -> Result<bool, Stopped> {
+    let mut subscription = stage.provider.subscribe(stage.rt)?;
     let shown = shows(&mut subscription, alerts);
-    provider.leave(rt, subscription);
+    stage.provider.leave(stage.rt, subscription);
     Ok(shown)
 }
 
 // Whether the provider sends out exactly these alerts for a post.
 fn sends<N: Origin, R: Wait>(
-    rt: &R,
-    provider: &Provider<N>,
+    stage: &Stage<'_, N, R>,
     pass: &mut Pass<N>,
     body: &[u8],
     now: u32,
     batch: &[Alert],
 ) -> Result<bool, Stopped> {
-    let mut subscription = provider.subscribe(rt)?;
+    let mut subscription = stage.provider.subscribe(stage.rt)?;
     let opening = subscription.opening();
     skip(&mut subscription, opening);
-    let posted = post(rt, provider, pass, body, now);
+    let posted = stage.post(pass, body, now);
     let shown = shows(&mut subscription, batch);
-    provider.leave(rt, subscription);
+    stage.provider.leave(stage.rt, subscription);
     posted?;
     Ok(shown)
 }
 
 // What the list makes of a body.
-fn batch_of(
-    alloc: Global,
+fn batch_of<N: Origin, R: Wait>(
+    stage: &Stage<'_, N, R>,
     list: &mut Vec<Alert>,
     body: &[u8],
     now: u32,
-    resolve_timeout: Duration,
 ) -> Result<Vec<Alert>, Stopped> {
-    let Ok(post) = read_post(alloc, body, moment(now), resolve_timeout) else {
+    let now = moment(now);
+    let Ok(post) = read_post(stage.alloc, body, now, stage.provider.resolve_timeout) else {
         return Err(Stopped::Refused);
     };
-    Ok(absorb_each(alloc, list, post.valid.as_slice(), moment(now))?)
+    Ok(absorb_each(stage.alloc, list, post.valid.as_slice(), now)?)
 }
 
 // Whether both take a post alike, and store the same after it. Some posts come late.
 fn agree_on_a_post<N: Origin, R: Wait>(
-    rt: &R,
-    alloc: Global,
-    provider: &Provider<N>,
+    stage: &Stage<'_, N, R>,
     pass: &mut Pass<N>,
     list: &mut Vec<Alert>,
     seed: &mut u64,
     now: u32,
 ) -> Result<bool, Stopped> {
     let late = now.saturating_sub(below(seed, 20));
-    let body = next_body(alloc, seed, now)?;
-    let batch = batch_of(alloc, list, body.as_bytes(), late, provider.resolve_timeout)?;
-    let sent = sends(rt, provider, pass, body.as_bytes(), late, &batch)?;
-    Ok(sent && stores(rt, provider, list)?)
+    let body = next_body(stage.alloc, seed, now)?;
+    let batch = batch_of(stage, list, body.as_bytes(), late)?;
+    let sent = sends(stage, pass, body.as_bytes(), late, &batch)?;
+    Ok(sent && stores(stage, list)?)
 }
 
 // Whether a collection removes what the list loses, and the provider stores what is left.
 fn agree_on_a_collection<N: Origin, R: Wait>(
-    rt: &R,
-    provider: &Provider<N>,
+    stage: &Stage<'_, N, R>,
     list: &mut Vec<Alert>,
     now: u32,
 ) -> Result<bool, Stopped> {
     let want = remove_resolved(list, moment(now));
-    let removed = provider.collect_resolved(rt, moment(now))?;
-    Ok(removed == want && stores(rt, provider, list)?)
+    let removed = stage.provider.collect_resolved(stage.rt, moment(now))?;
+    Ok(removed == want && stores(stage, list)?)
 }
 
 #[derive(Clone, Copy, Drop)]
@@ -144,20 +136,17 @@ impl Day for BesideAList {
 
     fn spend<N: Origin, R: Wait>(
         &self,
-        rt: &R,
-        alloc: Global,
-        provider: &Provider<N>,
-        passes: &mut [Pass<N>],
+        stage: &Stage<'_, N, R>,
+        pass: &mut Pass<N>,
     ) -> Result<u32, Stopped> {
-        let pass = passes.first_mut().ok_or(Stopped::Refused)?;
-        let mut list = Vec::new(alloc);
+        let mut list = Vec::new(stage.alloc);
         let mut seed = 1;
         for turn in 0..TURNS {
             let now = turn * 10;
-            if !agree_on_a_post(rt, alloc, provider, pass, &mut list, &mut seed, now)? {
+            if !agree_on_a_post(stage, pass, &mut list, &mut seed, now)? {
                 return Ok(turn);
             }
-            if turn % 7 == 0 && !agree_on_a_collection(rt, provider, &mut list, now)? {
+            if turn % 7 == 0 && !agree_on_a_collection(stage, &mut list, now)? {
                 return Ok(turn);
             }
         }

@@ -2,6 +2,7 @@
 
 ghost use Rattle.std.specs.Prelude.{◌≡◌, ◌≤◌};
 
+use crate::stage::Stage;
 use am_alert::PostFault;
 use am_provider::{
     AlreadyClosed, Origin, Parts, Pass, Policy, PostRefused, Provider, PutFault, Settled, SubFault,
@@ -57,12 +58,11 @@ pub trait Day {
     /// What it shows.
     type Outcome: Drop;
 
+    /// The pass is the first poster's.
     fn spend<N: Origin, R: Wait>(
         &self,
-        rt: &R,
-        alloc: Global,
-        provider: &Provider<N>,
-        passes: &mut [Pass<N>],
+        stage: &Stage<'_, N, R>,
+        pass: &mut Pass<N>,
     ) -> Result<Self::Outcome, Stopped>;
 }
 
@@ -119,7 +119,24 @@ fn spend_over<N: Origin, D: Day, R: Wait>(
         settings.policy,
         settings.resolve_timeout,
     )?;
-    let outcome = day.spend(rt, alloc, &provider, &mut passes);
+    let outcome = spend_with(rt, alloc, &provider, &mut passes, day);
     let settled = provider.settle(rt, passes);
     Ok((outcome?, settled))
+}
+
+// The day, over a provider with its passes.
+fn spend_with<N: Origin, D: Day, R: Wait>(
+    rt: &R,
+    alloc: Global,
+    provider: &Provider<N>,
+    passes: &mut [Pass<N>],
+    day: &D,
+) -> Result<D::Outcome, Stopped> {
+    let pass = passes.first_mut().ok_or(Stopped::Refused)?;
+    let stage = Stage {
+        rt,
+        alloc,
+        provider,
+    };
+    day.spend(&stage, pass)
 }

@@ -2,10 +2,10 @@
 
 use crate::bodies::end_body;
 use crate::days::{Day, Settings, Stopped, spend};
+use crate::stage::Stage;
 use am_alert::{Moment, PostFault};
-use am_provider::{NoGate, Origin, Pass, PostRefused, Provider, Settled, Step, Subscription};
+use am_provider::{NoGate, Origin, Pass, PostRefused, Settled, Step, Subscription};
 use am_store::Call;
-use std::alloc::Global;
 use std::sync::Wait;
 use std::test::Fail;
 use std::time::Duration;
@@ -28,25 +28,26 @@ struct Greatest {
 
 // A post of an alert that gives an end, and one of an alert that doesn't.
 fn post_both<N: Origin, R: Wait>(
-    rt: &R,
-    provider: &Provider<N>,
+    stage: &Stage<'_, N, R>,
     pass: &mut Pass<N>,
     body: &[u8],
 ) -> Result<(Answer, Answer), Stopped> {
-    let ended = post(rt, provider, pass, body)?;
+    let ended = post(stage, pass, body)?;
     Ok((
         ended,
-        post(rt, provider, pass, b"[{\"labels\":{\"open\":\"1\"}}]")?,
+        post(stage, pass, b"[{\"labels\":{\"open\":\"1\"}}]")?,
     ))
 }
 
 fn post<N: Origin, R: Wait>(
-    rt: &R,
-    provider: &Provider<N>,
+    stage: &Stage<'_, N, R>,
     pass: &mut Pass<N>,
     body: &[u8],
 ) -> Result<Answer, Stopped> {
-    match provider.post(rt, pass, &NoGate, body, Moment::MAX) {
+    match stage
+        .provider
+        .post(stage.rt, pass, &NoGate, body, Moment::MAX)
+    {
         Ok(posted) => Ok(Ok((posted.valid, posted.place))),
         Err(fault) => {
             if Stopped::from(fault) == Stopped::NoMemory {
@@ -88,24 +89,21 @@ impl<'a> Day for AtTheEnd<'a> {
 
     fn spend<N: Origin, R: Wait>(
         &self,
-        rt: &R,
-        _alloc: Global,
-        provider: &Provider<N>,
-        passes: &mut [Pass<N>],
+        stage: &Stage<'_, N, R>,
+        pass: &mut Pass<N>,
     ) -> Result<Greatest, Stopped> {
-        let pass = passes.first_mut().ok_or(Stopped::Refused)?;
-        let mut subscription = provider.subscribe(rt)?;
-        let posted = post_both(rt, provider, pass, self.body.as_bytes());
+        let mut subscription = stage.provider.subscribe(stage.rt)?;
+        let posted = post_both(stage, pass, self.body.as_bytes());
         let shown = count_shown(&mut subscription);
-        provider.leave(rt, subscription);
+        stage.provider.leave(stage.rt, subscription);
         let (ended, open) = posted?;
         let earlier = Moment::try_new(Moment::MAX.nanoseconds() - 1).ok_or(Stopped::Refused)?;
         Ok(Greatest {
             ended,
             open,
             shown,
-            before: provider.collect_resolved(rt, earlier)?,
-            collected: provider.collect_resolved(rt, Moment::MAX)?,
+            before: stage.provider.collect_resolved(stage.rt, earlier)?,
+            collected: stage.provider.collect_resolved(stage.rt, Moment::MAX)?,
         })
     }
 }

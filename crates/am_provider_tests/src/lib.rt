@@ -23,12 +23,12 @@ mod one_thread;
 #[cfg(test)]
 mod plain_store;
 #[cfg(test)]
-mod posts;
-#[cfg(test)]
 mod reports;
 #[cfg(test)]
 mod shown;
 #[cfg(test)]
 mod slow_lanes;
+#[cfg(test)]
+mod stage;
 #[cfg(test)]
 mod trims;

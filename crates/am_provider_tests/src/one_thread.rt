@@ -2,10 +2,9 @@
 
 use crate::bodies::{body_of, moment};
 use crate::days::{Day, Settings, Stopped, spend};
-use crate::posts::{Placed, post};
+use crate::stage::{Placed, Stage};
 use am_provider::{
-    Counts, Ended, NoGate, Origin, Pass, Policy, PostRefused, Provider, PutFault, Settled, Step,
-    Subscription,
+    Counts, Ended, NoGate, Origin, Pass, Policy, PostRefused, PutFault, Settled, Step, Subscription,
 };
 use am_store::Call;
 use std::alloc::{AllocError, Global};
@@ -31,45 +30,43 @@ impl Day for SmallDay {
 
     fn spend<N: Origin, R: Wait>(
         &self,
-        rt: &R,
-        _alloc: Global,
-        provider: &Provider<N>,
-        passes: &mut [Pass<N>],
+        stage: &Stage<'_, N, R>,
+        pass: &mut Pass<N>,
     ) -> Result<Answers, Stopped> {
-        let pass = passes.first_mut().ok_or(Stopped::Refused)?;
-        let first = post(rt, provider, pass, b"[]", 0)?;
-        let subscription = provider.subscribe(rt)?;
-        let within = post_and_collect(rt, provider, pass);
-        let ended = provider.leave(rt, subscription);
+        let first = stage.post(pass, b"[]", 0)?;
+        let subscription = stage.provider.subscribe(stage.rt)?;
+        let within = post_and_collect(stage, pass);
+        let ended = stage.provider.leave(stage.rt, subscription);
         let (placed, collected) = within?;
-        provider.close(rt)?;
+        stage.provider.close(stage.rt)?;
         Ok(Answers {
             first,
             placed,
             collected,
             ended,
-            refused: is_closed(rt, provider, pass)?,
-            late: provider.collect_resolved(rt, moment(420))?,
+            refused: is_closed(stage, pass)?,
+            late: stage.provider.collect_resolved(stage.rt, moment(420))?,
         })
     }
 }
 
 fn post_and_collect<N: Origin, R: Wait>(
-    rt: &R,
-    provider: &Provider<N>,
+    stage: &Stage<'_, N, R>,
     pass: &mut Pass<N>,
 ) -> Result<(Option<u64>, u64), Stopped> {
-    let (_, place) = post(rt, provider, pass, b"[{\"labels\":{\"a\":\"1\"}}]", 60)?;
-    Ok((place, provider.collect_resolved(rt, moment(360))?))
+    let (_, place) = stage.post(pass, b"[{\"labels\":{\"a\":\"1\"}}]", 60)?;
+    Ok((
+        place,
+        stage.provider.collect_resolved(stage.rt, moment(360))?,
+    ))
 }
 
 // Whether a post is refused since the log was ended.
 fn is_closed<N: Origin, R: Wait>(
-    rt: &R,
-    provider: &Provider<N>,
+    stage: &Stage<'_, N, R>,
     pass: &mut Pass<N>,
 ) -> Result<bool, Stopped> {
-    match post(rt, provider, pass, b"[]", 370) {
+    match stage.post(pass, b"[]", 370) {
         Ok(_) => Ok(false),
         Err(PostRefused::Put(PutFault::Closed)) => Ok(true),
         Err(fault) => Err(Stopped::from(fault)),
@@ -151,29 +148,24 @@ impl Day for Lagging {
 
     fn spend<N: Origin, R: Wait>(
         &self,
-        rt: &R,
-        alloc: Global,
-        provider: &Provider<N>,
-        passes: &mut [Pass<N>],
+        stage: &Stage<'_, N, R>,
+        pass: &mut Pass<N>,
     ) -> Result<(Lag, Ended), Stopped> {
-        let pass = passes.first_mut().ok_or(Stopped::Refused)?;
-        let mut slow = provider.subscribe(rt)?;
-        let lag = with_quick(rt, alloc, provider, pass, &mut slow);
-        let ended = provider.leave(rt, slow);
+        let mut slow = stage.provider.subscribe(stage.rt)?;
+        let lag = with_quick(stage, pass, &mut slow);
+        let ended = stage.provider.leave(stage.rt, slow);
         Ok((lag?, ended))
     }
 }
 
 fn with_quick<N: Origin, R: Wait>(
-    rt: &R,
-    alloc: Global,
-    provider: &Provider<N>,
+    stage: &Stage<'_, N, R>,
     pass: &mut Pass<N>,
     slow: &mut Subscription<'_, N>,
 ) -> Result<Lag, Stopped> {
-    let mut quick = provider.subscribe(rt)?;
-    let lag = lag_of(rt, alloc, provider, pass, slow, &mut quick);
-    provider.leave(rt, quick);
+    let mut quick = stage.provider.subscribe(stage.rt)?;
+    let lag = lag_of(stage, pass, slow, &mut quick);
+    stage.provider.leave(stage.rt, quick);
     lag
 }
 
@@ -191,18 +183,19 @@ fn read<N: Origin>(subscription: &mut Subscription<'_, N>, most: u32) -> (u32, b
 }
 
 fn lag_of<N: Origin, R: Wait>(
-    rt: &R,
-    alloc: Global,
-    provider: &Provider<N>,
+    stage: &Stage<'_, N, R>,
     pass: &mut Pass<N>,
     slow: &mut Subscription<'_, N>,
     quick: &mut Subscription<'_, N>,
 ) -> Result<Lag, Stopped> {
-    let first = body_of(alloc, 1)?;
-    let second = body_of(alloc, 2)?;
-    post(rt, provider, pass, first.as_bytes(), 10)?;
+    let first = body_of(stage.alloc, 1)?;
+    let second = body_of(stage.alloc, 2)?;
+    stage.post(pass, first.as_bytes(), 10)?;
     let (items, _) = read(quick, 9);
-    let (full, cut) = match provider.post(rt, pass, &NoGate, second.as_bytes(), moment(20)) {
+    let (full, cut) = match stage
+        .provider
+        .post(stage.rt, pass, &NoGate, second.as_bytes(), moment(20))
+    {
         Ok(posted) => (false, posted.cut),
         Err(PostRefused::Put(PutFault::Full { lane, passed })) => (lane == 0 && passed == 0, 0),
         Err(fault) => return Err(Stopped::from(fault)),
@@ -294,34 +287,30 @@ impl Day for Carrying {
 
     fn spend<N: Origin, R: Wait>(
         &self,
-        rt: &R,
-        _alloc: Global,
-        provider: &Provider<N>,
-        passes: &mut [Pass<N>],
+        stage: &Stage<'_, N, R>,
+        pass: &mut Pass<N>,
     ) -> Result<Carried, Stopped> {
-        let pass = passes.first_mut().ok_or(Stopped::Refused)?;
-        let mut subscription = provider.subscribe(rt)?;
-        let within = read_past(rt, provider, pass, &mut subscription);
-        provider.leave(rt, subscription);
+        let mut subscription = stage.provider.subscribe(stage.rt)?;
+        let within = read_past(stage, pass, &mut subscription);
+        stage.provider.leave(stage.rt, subscription);
         let (item, then_pending, kept) = within?;
         Ok(Carried {
             item,
             then_pending,
             kept,
-            trimmed: provider.trim(rt)?,
+            trimmed: stage.provider.trim(stage.rt)?,
         })
     }
 }
 
 // Whether the reader is shown what the poster posted, and then that no more is there; what a trim drops.
 fn read_past<N: Origin, R: Wait>(
-    rt: &R,
-    provider: &Provider<N>,
+    stage: &Stage<'_, N, R>,
     pass: &mut Pass<N>,
     subscription: &mut Subscription<'_, N>,
 ) -> Result<(bool, bool, u64), Stopped> {
-    post(rt, provider, pass, b"[{\"labels\":{\"a\":\"1\"}}]", 60)?;
-    provider.meet(subscription, pass);
+    stage.post(pass, b"[{\"labels\":{\"a\":\"1\"}}]", 60)?;
+    stage.provider.meet(subscription, pass);
     let item = match subscription.next_past(pass) {
         Step::Item(_) => true,
         _ => false,
@@ -330,7 +319,7 @@ fn read_past<N: Origin, R: Wait>(
         Step::Pending => true,
         _ => false,
     };
-    Ok((item, then_pending, provider.trim(rt)?))
+    Ok((item, then_pending, stage.provider.trim(stage.rt)?))
 }
 
 #[test]

@@ -2,9 +2,8 @@
 
 use crate::bodies::{Report, moment};
 use crate::days::{Day, Settings, Stopped, spend};
-use crate::posts::{Placed, post_reports};
-use am_provider::{Counts, Ended, Origin, Pass, Provider, Step, SubFault, Subscription};
-use std::alloc::Global;
+use crate::stage::{Placed, Stage};
+use am_provider::{Counts, Ended, Origin, Pass, Step, SubFault, Subscription};
 use std::sync::Wait;
 use std::test::Fail;
 
@@ -25,15 +24,13 @@ fn two_reports() -> [Report; 2] {
 
 // Two reports, a longer one of the first label set, and none.
 fn post_three<N: Origin, R: Wait>(
-    rt: &R,
-    alloc: Global,
-    provider: &Provider<N>,
+    stage: &Stage<'_, N, R>,
     pass: &mut Pass<N>,
 ) -> Result<[Placed; 3], Stopped> {
     let longer = [Report::new(1, 15, 25)];
-    let first = post_reports(rt, alloc, provider, pass, &two_reports(), 10)?;
-    let second = post_reports(rt, alloc, provider, pass, &longer, 15)?;
-    let third = post_reports(rt, alloc, provider, pass, &[], 16)?;
+    let first = stage.post_reports(pass, &two_reports(), 10)?;
+    let second = stage.post_reports(pass, &longer, 15)?;
+    let third = stage.post_reports(pass, &[], 16)?;
     Ok([first, second, third])
 }
 
@@ -54,16 +51,13 @@ impl Day for Reaching {
 
     fn spend<N: Origin, R: Wait>(
         &self,
-        rt: &R,
-        alloc: Global,
-        provider: &Provider<N>,
-        passes: &mut [Pass<N>],
+        stage: &Stage<'_, N, R>,
+        pass: &mut Pass<N>,
     ) -> Result<Reached, Stopped> {
-        let pass = passes.first_mut().ok_or(Stopped::Refused)?;
-        let mut subscription = provider.subscribe(rt)?;
-        let posted = post_three(rt, alloc, provider, pass);
+        let mut subscription = stage.provider.subscribe(stage.rt)?;
+        let posted = post_three(stage, pass);
         let shown = shows(&mut subscription, &[(10, 20), (10, 30), (10, 25)]);
-        let ended = provider.leave(rt, subscription);
+        let ended = stage.provider.leave(stage.rt, subscription);
         Ok(Reached {
             posted: posted?,
             shown,
@@ -102,11 +96,11 @@ struct Late {
 }
 
 // Subscribes, where the alert of two that isn't collected is left.
-fn come_late<N: Origin, R: Wait>(rt: &R, provider: &Provider<N>) -> Result<Late, Stopped> {
-    let mut subscription = provider.subscribe(rt)?;
+fn come_late<N: Origin, R: Wait>(stage: &Stage<'_, N, R>) -> Result<Late, Stopped> {
+    let mut subscription = stage.provider.subscribe(stage.rt)?;
     let (lane, opening) = (subscription.lane(), subscription.opening());
     let shown = shows(&mut subscription, &[(10, 30)]);
-    let ended = provider.leave(rt, subscription);
+    let ended = stage.provider.leave(stage.rt, subscription);
     Ok(Late {
         lane,
         opening,
@@ -116,10 +110,10 @@ fn come_late<N: Origin, R: Wait>(rt: &R, provider: &Provider<N>) -> Result<Late,
 }
 
 // Why a subscription is refused.
-fn refusal<N: Origin, R: Wait>(rt: &R, provider: &Provider<N>) -> Option<SubFault> {
-    match provider.subscribe(rt) {
+fn refusal<N: Origin, R: Wait>(stage: &Stage<'_, N, R>) -> Option<SubFault> {
+    match stage.provider.subscribe(stage.rt) {
         Ok(subscription) => {
-            provider.leave(rt, subscription);
+            stage.provider.leave(stage.rt, subscription);
             None
         }
         Err(fault) => Some(fault),
@@ -144,22 +138,19 @@ impl Day for Collecting {
 
     fn spend<N: Origin, R: Wait>(
         &self,
-        rt: &R,
-        alloc: Global,
-        provider: &Provider<N>,
-        passes: &mut [Pass<N>],
+        stage: &Stage<'_, N, R>,
+        pass: &mut Pass<N>,
     ) -> Result<Collected, Stopped> {
-        let pass = passes.first_mut().ok_or(Stopped::Refused)?;
-        let posted = post_reports(rt, alloc, provider, pass, &two_reports(), 10)?;
-        let removed = provider.collect_resolved(rt, moment(20))?;
-        let late = come_late(rt, provider)?;
-        provider.close(rt)?;
+        let posted = stage.post_reports(pass, &two_reports(), 10)?;
+        let removed = stage.provider.collect_resolved(stage.rt, moment(20))?;
+        let late = come_late(stage)?;
+        stage.provider.close(stage.rt)?;
         Ok(Collected {
             posted,
             removed,
             late,
-            closed_again: provider.close(rt).is_ok(),
-            refusal: refusal(rt, provider),
+            closed_again: stage.provider.close(stage.rt).is_ok(),
+            refusal: refusal(stage),
         })
     }
 }

@@ -3,8 +3,8 @@
 
 use crate::bodies::moment;
 use crate::days::{Day, Settings, Stopped, spend};
-use am_provider::{NoGate, Origin, Pass, PostRefused, Provider, PutFault, Step, Subscription};
-use std::alloc::Global;
+use crate::stage::Stage;
+use am_provider::{NoGate, Origin, Pass, PostRefused, PutFault, Step, Subscription};
 use std::sync::Wait;
 use std::test::Fail;
 
@@ -31,11 +31,13 @@ struct Filled {
 }
 
 fn post_one<N: Origin, R: Wait>(
-    rt: &R,
-    provider: &Provider<N>,
+    stage: &Stage<'_, N, R>,
     pass: &mut Pass<N>,
 ) -> Result<Answer, Stopped> {
-    match provider.post(rt, pass, &NoGate, BODY, moment(60)) {
+    match stage
+        .provider
+        .post(stage.rt, pass, &NoGate, BODY, moment(60))
+    {
         Ok(posted) => Ok(Answer::Placed(posted.place)),
         Err(PostRefused::Put(PutFault::Full { lane, passed })) => Ok(Answer::Full { lane, passed }),
         Err(fault) => Err(Stopped::from(fault)),
@@ -66,25 +68,24 @@ fn shows_all<N: Origin>(subscription: &mut Subscription<'_, N>, count: u32) -> b
 
 // The quick subscriber reads all that comes; the slow and the slowest one stay two places behind.
 fn fill<N: Origin, R: Wait>(
-    rt: &R,
-    provider: &Provider<N>,
+    stage: &Stage<'_, N, R>,
     pass: &mut Pass<N>,
     quick: &mut Subscription<'_, N>,
     slow: &mut Subscription<'_, N>,
     slowest: &mut Subscription<'_, N>,
 ) -> Result<Filled, Stopped> {
-    let one = post_one(rt, provider, pass)?;
+    let one = post_one(stage, pass)?;
     let first = shows_all(quick, 1) && shows_all(slow, 1) && shows_all(slowest, 1);
-    let two = post_one(rt, provider, pass)?;
-    let three = post_one(rt, provider, pass)?;
+    let two = post_one(stage, pass)?;
+    let three = post_one(stage, pass)?;
     let all = shows_all(quick, 2);
-    let full = post_one(rt, provider, pass)?;
+    let full = post_one(stage, pass)?;
     let held = shows(slow, 1);
-    let in_hand = post_one(rt, provider, pass)?;
+    let in_hand = post_one(stage, pass)?;
     let passed = shows(slow, 1);
-    let asked = post_one(rt, provider, pass)?;
+    let asked = post_one(stage, pass)?;
     let both = shows(slowest, 2);
-    let last = post_one(rt, provider, pass)?;
+    let last = post_one(stage, pass)?;
     Ok(Filled {
         one,
         two,
@@ -98,27 +99,25 @@ fn fill<N: Origin, R: Wait>(
 }
 
 fn with_slowest<N: Origin, R: Wait>(
-    rt: &R,
-    provider: &Provider<N>,
+    stage: &Stage<'_, N, R>,
     pass: &mut Pass<N>,
     quick: &mut Subscription<'_, N>,
     slow: &mut Subscription<'_, N>,
 ) -> Result<Filled, Stopped> {
-    let mut slowest = provider.subscribe(rt)?;
-    let filled = fill(rt, provider, pass, quick, slow, &mut slowest);
-    provider.leave(rt, slowest);
+    let mut slowest = stage.provider.subscribe(stage.rt)?;
+    let filled = fill(stage, pass, quick, slow, &mut slowest);
+    stage.provider.leave(stage.rt, slowest);
     filled
 }
 
 fn with_slow<N: Origin, R: Wait>(
-    rt: &R,
-    provider: &Provider<N>,
+    stage: &Stage<'_, N, R>,
     pass: &mut Pass<N>,
     quick: &mut Subscription<'_, N>,
 ) -> Result<Filled, Stopped> {
-    let mut slow = provider.subscribe(rt)?;
-    let filled = with_slowest(rt, provider, pass, quick, &mut slow);
-    provider.leave(rt, slow);
+    let mut slow = stage.provider.subscribe(stage.rt)?;
+    let filled = with_slowest(stage, pass, quick, &mut slow);
+    stage.provider.leave(stage.rt, slow);
     filled
 }
 
@@ -130,15 +129,12 @@ impl Day for Filling {
 
     fn spend<N: Origin, R: Wait>(
         &self,
-        rt: &R,
-        _alloc: Global,
-        provider: &Provider<N>,
-        passes: &mut [Pass<N>],
+        stage: &Stage<'_, N, R>,
+        pass: &mut Pass<N>,
     ) -> Result<Filled, Stopped> {
-        let pass = passes.first_mut().ok_or(Stopped::Refused)?;
-        let mut quick = provider.subscribe(rt)?;
-        let filled = with_slow(rt, provider, pass, &mut quick);
-        provider.leave(rt, quick);
+        let mut quick = stage.provider.subscribe(stage.rt)?;
+        let filled = with_slow(stage, pass, &mut quick);
+        stage.provider.leave(stage.rt, quick);
         filled
     }
 }

@@ -2,17 +2,14 @@
 
 use crate::bodies::{Report, moment};
 use crate::days::{Day, Settings, Stopped, spend};
-use crate::posts::post_reports;
-use am_provider::{Counts, Ended, Origin, Pass, Provider};
-use std::alloc::Global;
+use crate::stage::Stage;
+use am_provider::{Counts, Ended, Origin, Pass};
 use std::sync::Wait;
 use std::test::Fail;
 
 // Posts one report at its start. The number names its label set.
 fn post_one<N: Origin, R: Wait>(
-    rt: &R,
-    alloc: Global,
-    provider: &Provider<N>,
+    stage: &Stage<'_, N, R>,
     pass: &mut Pass<N>,
     number: u32,
 ) -> Result<(), Stopped> {
@@ -21,18 +18,15 @@ fn post_one<N: Origin, R: Wait>(
         start: number,
         end: None,
     };
-    post_reports(rt, alloc, provider, pass, &[report], number)?;
+    stage.post_reports(pass, &[report], number)?;
     Ok(())
 }
 
 // What a trim drops while a subscription is open that came just now, and what that came to.
-fn trim_while_open<N: Origin, R: Wait>(
-    rt: &R,
-    provider: &Provider<N>,
-) -> Result<(u64, Ended), Stopped> {
-    let subscription = provider.subscribe(rt)?;
-    let dropped = provider.trim(rt);
-    let ended = provider.leave(rt, subscription);
+fn trim_while_open<N: Origin, R: Wait>(stage: &Stage<'_, N, R>) -> Result<(u64, Ended), Stopped> {
+    let subscription = stage.provider.subscribe(stage.rt)?;
+    let dropped = stage.provider.trim(stage.rt);
+    let ended = stage.provider.leave(stage.rt, subscription);
     Ok((dropped?, ended))
 }
 
@@ -57,27 +51,24 @@ impl Day for Trimming {
 
     fn spend<N: Origin, R: Wait>(
         &self,
-        rt: &R,
-        alloc: Global,
-        provider: &Provider<N>,
-        passes: &mut [Pass<N>],
+        stage: &Stage<'_, N, R>,
+        pass: &mut Pass<N>,
     ) -> Result<Trimmed, Stopped> {
-        let pass = passes.first_mut().ok_or(Stopped::Refused)?;
-        post_one(rt, alloc, provider, pass, 1)?;
-        post_one(rt, alloc, provider, pass, 2)?;
-        let posts = provider.trim(rt)?;
-        let (while_open, ended) = trim_while_open(rt, provider)?;
-        let subscription = provider.trim(rt)?;
-        let removed = provider.collect_resolved(rt, moment(9_000))?;
-        provider.close(rt)?;
+        post_one(stage, pass, 1)?;
+        post_one(stage, pass, 2)?;
+        let posts = stage.provider.trim(stage.rt)?;
+        let (while_open, ended) = trim_while_open(stage)?;
+        let subscription = stage.provider.trim(stage.rt)?;
+        let removed = stage.provider.collect_resolved(stage.rt, moment(9_000))?;
+        stage.provider.close(stage.rt)?;
         Ok(Trimmed {
             posts,
             while_open,
             ended,
             subscription,
             removed,
-            at_the_end: provider.trim(rt)?,
-            closed_again: provider.close(rt).is_ok(),
+            at_the_end: stage.provider.trim(stage.rt)?,
+            closed_again: stage.provider.close(stage.rt).is_ok(),
         })
     }
 }
@@ -123,17 +114,14 @@ impl Day for LongRun {
 
     fn spend<N: Origin, R: Wait>(
         &self,
-        rt: &R,
-        alloc: Global,
-        provider: &Provider<N>,
-        passes: &mut [Pass<N>],
+        stage: &Stage<'_, N, R>,
+        pass: &mut Pass<N>,
     ) -> Result<u32, Stopped> {
-        let pass = passes.first_mut().ok_or(Stopped::Refused)?;
         for turn in 0..20u32 {
             for number in 0..1_000u32 {
-                post_one(rt, alloc, provider, pass, number)?;
+                post_one(stage, pass, number)?;
             }
-            if provider.trim(rt)? != 1_000 {
+            if stage.provider.trim(stage.rt)? != 1_000 {
                 return Ok(turn);
             }
         }
