@@ -10,14 +10,14 @@ use Rattle.am_runner.specs.Printing.{answer_text}
 use Rattle.am_runner.specs.declared.answer.Answer.{Answer}
 use Rattle.am_script.specs.declared.command.Line.{Line}
 
-abbrev pub items_of : Option (Vec Answer) → List Answer
-items_of None = []
-items_of (Some given) = given.items
+abbrev pub answers_in : Option (Vec Answer) → List Answer
+answers_in None = []
+answers_in (Some given) = given.items
 
 -- what a thread answered to the line at a place of the script, of what each thread answered to each line
 abbrev pub given_at : List (Vec (Vec Answer)) → ℕ → ℕ → List Answer
 given_at answers thread place =
-    items_of (option_and_then (λ all. slice_get all.items place) (slice_get answers thread))
+    answers_in (option_and_then (λ all. slice_get all.items place) (slice_get answers thread))
 
 -- an answer, behind the number of its line
 abbrev pub answer_line : ℕ → Answer → List ℕ
