@@ -215,6 +215,7 @@ impl<T: Drop, P, A, N: Feed> Writer<T, P, A, N> {
     pub fn confirm(&mut self, cast: &Cast<T, P, A, N>, pass: &mut Pass<T, P, A, N>)
         ensures same { self.new ≡ self.old }
         ensures own { pass.new.own ≡ pass.old.own }
+        ensures noted { IsPrefix pass.old.noted pass.new.noted × Stand pass.new.own pass.new.noted }
         ensures stand { Stand pass.new.own self.new.tail.log }
         ensures once { Once pass.new.own }
     {

@@ -12,6 +12,7 @@ use Rattle.am_cast.specs.Rule.{IsApart, Once}
 use Rattle.am_cast.specs.Changes.{Stand}
 use Rattle.am_cast.specs.Posters.{PassView}
 use Rattle.am_provider.specs.Batches.{Batch}
+use Rattle.am_provider.specs.Rising.{AreBelow}
 use Rattle.am_provider.specs.Settling.{own_of, IsOwn}
 
 pub own_of_last : (passes : List (PassView Alert Call)) (p : PassView Alert Call) → own_of (passes ++ p ∷ []) ≡ p.own ++ own_of passes
@@ -23,23 +24,19 @@ find : (p : ℕ) (os : List (Own Batch)) → IsOwn os p ⊎ IsApart p os
 find p [] = inr tt
 find p (o ∷ os) = dite (ℕ_discrete o.place p) (λ e. inl (0, o, refl, e)) (λ ne. ⊎_elim (λ (t : IsOwn os p). inl (suc t.0, t.1, t.2, t.3)) (λ h. inr (ne, h)) (find p os))
 
-abbrev AllUnder : ℕ → List (Own Batch) → Type 0
-AllUnder n [] = Unit {0}
-AllUnder n (o ∷ os) = (o.place < n) × AllUnder n os
+pub under : (n : ℕ) (os : List (Own Batch)) → AreBelow (suc n) os → IsApart n os → AreBelow n os
+under n [] b h = tt
+under n (o ∷ os) b h = let x = b.0 in let y = h.0 in (omega arith, under n os b.1 h.1)
 
 -- the list without the place n, which stands there once at most
-drop_place : (n : ℕ) (os : List (Own Batch)) → Once os → AllUnder (suc n) os → (xs : List (Own Batch)) × (Once xs × (AllUnder n xs × ((length os ≤ length xs + 1) × ((p : ℕ) → IsApart p os → IsApart p xs))))
+drop_place : (n : ℕ) (os : List (Own Batch)) → Once os → AreBelow (suc n) os → (xs : List (Own Batch)) × (Once xs × (AreBelow n xs × ((length os ≤ length xs + 1) × ((p : ℕ) → IsApart p os → IsApart p xs))))
 drop_place n [] a b = ([], (tt, (tt, (omega arith, λ p h. tt))))
 drop_place n (o ∷ os) a b = dite (ℕ_discrete o.place n)
     (λ e. (os, (a.1, (under n os b.1 (subst (λ (k : ℕ). IsApart k os) e a.0), (omega arith, λ p h. h.1)))))
     (λ ne. let r = drop_place n os a.1 b.1 in let l = r.1.1.1.0 in let small = b.0 in
     (o ∷ r.0, ((r.1.1.1.1 o.place a.0, r.1.0), ((omega arith, r.1.1.0), (omega arith, λ p h. (h.0, r.1.1.1.1 p h.1))))))
-  where
-    under : (n : ℕ) (os : List (Own Batch)) → AllUnder (suc n) os → IsApart n os → AllUnder n os
-    under n [] b h = tt
-    under n (o ∷ os) b h = let x = b.0 in let y = h.0 in (omega arith, under n os b.1 h.1)
 
-bounded : (n : ℕ) (os : List (Own Batch)) → Once os → AllUnder n os → length os ≤ n
+bounded : (n : ℕ) (os : List (Own Batch)) → Once os → AreBelow n os → length os ≤ n
 bounded zero [] a b = omega arith
 bounded zero (o ∷ os) a b = let x = b.0 in absurd (omega arith)
 bounded (suc n) os a b = let r = drop_place n os a b in let l = r.1.1.1.0 in let m = bounded n r.0 r.1.0 r.1.1.0 in omega arith
@@ -49,7 +46,7 @@ at_length [] i x e = (cc)
 at_length (y ∷ log) zero x e = omega arith
 at_length (y ∷ log) (suc i) x e = let h = at_length log i x e in omega arith
 
-all_under : (log : List Batch) (os : List (Own Batch)) → Stand os log → AllUnder (length log) os
+pub all_under : (log : List Batch) (os : List (Own Batch)) → Stand os log → AreBelow (length log) os
 all_under log [] h = tt
 all_under log (o ∷ os) h = (at_length log o.place o.name (h 0 o refl), all_under log os (λ k x e. h (suc k) x e))
 

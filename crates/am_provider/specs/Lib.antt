@@ -7,5 +7,6 @@ pub mod Lefts
 pub mod BookView
 pub mod Posts
 pub mod Provided
+pub mod Rising
 pub mod Settling
 pub mod inside

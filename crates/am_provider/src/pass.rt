@@ -7,8 +7,8 @@ use crate::sending::LogPass;
 use std::marker::Model;
 use std::sync::ledger::Share;
 
-/// One poster's right to post. Contracts see it as the places that it made, with what was posted, and
-/// as how far it knows the log. Another thread may have it after its poster: what it knows comes along.
+/// One poster's right to post. Contracts see it as the places that it made, with what was posted, each
+/// above those before it, and as how far it knows the log. Another thread may have it after its poster: what it knows comes along.
 #[derive(Drop)]
 pub struct Pass<N: Origin> {
     pub(crate) pass: LogPass<N>,
@@ -23,6 +23,7 @@ impl<N: Origin> Model for Pass<N> {
     ghost use Rattle.am_store.specs.contracts.lanes.OpenLane as lane;
     ghost use Rattle.std.specs.Prelude.{◌≡◌, length};
     ghost use Rattle.am_cast.specs.Posters.{PassView};
+    ghost use Rattle.am_provider.specs.Rising.{IsRising};
     ghost use Rattle.am_alert.specs.declared.alert.Alert.{Alert};
     ghost use Rattle.am_store.specs.declared.call.Call.{Call};
 
@@ -32,7 +33,7 @@ impl<N: Origin> Model for Pass<N> {
 
     ghost view = { λ p. p.pass };
 
-    ghost invariant = { λ p. (p.share.parts ≡ 1) × (p.share.amount ≡ length p.pass.own) };
+    ghost invariant = { λ p. (p.share.parts ≡ 1) × (p.share.amount ≡ length p.pass.own) × IsRising p.pass.own };
 }
 
 impl<N: Origin> Pass<N> {

@@ -7,6 +7,7 @@ ghost use Rattle.am_cast.specs.Rule.{most};
 ghost use Rattle.am_cast.specs.Writers.{HasRoom};
 ghost use Rattle.am_store.specs.Journal.{has_lane};
 ghost use Rattle.am_provider.specs.declared.answers.Policy.TheVariants.{Refuse};
+ghost use Rattle.am_provider.specs.Rising.{AreBelow};
 ghost use Rattle.am_provider.specs.Sending.{IsSent, IsUnsent, NamesALane, fault_of};
 
 use crate::answers::Policy;
@@ -51,11 +52,19 @@ pub(crate) fn send_batch<N: Origin>(
     requires open { (writer.old.tail.closed ≡ false) × (length writer.old.tail.log < most) }
     requires room { policy ≡ Refuse → HasRoom writer.old 8 }
     ensures sent { IfOk result (λ sent. IsSent policy writer.old writer.new pass.old pass.new call.now (alerts_in batch.items) sent.place sent.cut) }
+    ensures above { IfOk result (λ sent. AreBelow sent.place pass.old.own) }
     ensures unsent { IfErr result (λ fault. IsUnsent policy writer.old writer.new fault) }
     ensures err { OnErr result (pass.new ≡ pass.old) }
 {
     let segment = segment_of(*batch.allocator(), batch)?;
-    send(writer, cast, policy, segment, call, pass)
+    match send(writer, cast, policy, segment, call, pass) {
+        Ok(sent) => {
+            // The writer hears which places are the pass's: the new one is above them all.
+            writer.confirm(cast, pass);
+            Ok(sent)
+        }
+        Err(fault) => Err(fault),
+    }
 }
 
 /// The lanes that are flagged, lane `l` in bit `l`.

@@ -1,4 +1,5 @@
 use Rattle.std.proofs.Common.{◌≡◌, ◌+◌, ◌≤◌, ◌<◌, ◌++◌, ◌∷◌, [], List, length, refl, sym, ap, subst, ◌∙◌, ℕ, false, rules, arith}
+use Rattle.std.proofs.lemmas.List.{length-append}
 use Rattle.std.specs.VecDeque.{deque_len, deque_capacity}
 use mathlib.Core.List.{IsPrefix}
 use Rattle.am_store.specs.declared.call.Call.{Call}
@@ -19,6 +20,7 @@ use Rattle.am_provider.specs.Batches.{Batch}
 use Rattle.am_provider.specs.BookView.{BookView}
 use Rattle.am_provider.proofs.Shelves.{GoesOnAs, stays_as, cut_as, goes_on_twice, kept_alike}
 use Rattle.am_provider.proofs.Calls.{kept_posted}
+use Rattle.am_provider.proofs.Rising.{one_more}
 use Rattle.am_provider.proofs.book.Book.post_some.Given.{Over}
 use Rattle.am_provider.proofs.book.Book.post_some.Goals as goal
 
@@ -100,3 +102,10 @@ returns-in-Ok-clause-log g c =
       ap (λ (b : BookView). b.log.tail.log ++ x.0 ∷ []) (sym c.self.view_is)
           ∙ (ap (λ (t : Tail Batch). t.log ++ x.0 ∷ []) (sym c.harvest-full.ensures.harvested.tail) ∙ ap (λ (t : Tail Batch). t.log) (sym x.3)),
     )
+
+pub invariant_of-pass : goal.invariant_of-pass
+invariant_of-pass g c =
+    let x = c.in-Ok.ensures.sent.batch in
+    let parts : c.add.new.share.parts ≡ 1 = search rules in
+    let amount : c.add.new.share.amount ≡ length c.send_batch.new.pass.own = omega (arith, c.add.ensures.amount, ap length x.4, length-append c.pass.inside.pass.own (own_at c.in-Ok.sent.place x.0 ∷ []), c.pass.invariant.1) in
+    (parts, amount, one_more c.pass.inside.pass.own c.send_batch.new.pass.own x.0 c.in-Ok.sent.place x.4 c.pass.invariant.2 c.in-Ok.ensures.above)
