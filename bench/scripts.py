@@ -1,5 +1,7 @@
 #!/usr/bin/env python3
-"""Writes a replay script that posts many alerts: bench/scripts.py NAME LINES
+"""Writes a replay script that posts many alerts: bench/scripts.py NAME LINES [THREADS]
+
+The posts belong to so many threads in turn, one where no number is given.
 
 NAME is one of
   distinct   one alert a post, each of a label set of its own
@@ -13,6 +15,7 @@ import json
 import sys
 
 BEGIN = datetime.datetime(2024, 1, 1)
+THREADS = int(sys.argv[3]) if len(sys.argv) > 3 else 1
 
 
 def moment(seconds):
@@ -44,7 +47,7 @@ def alert(number, start):
 
 
 def post(second, alerts):
-    return {"do": "post", "thread": 0, "at": moment(second), "body": alerts}
+    return {"do": "post", "thread": second % THREADS, "at": moment(second), "body": alerts}
 
 
 def commands(name, lines):

@@ -1,5 +1,7 @@
 //! Who may run a line when.
 
+ghost use Rattle.std.specs.Prelude.{◌<◌};
+
 use am_provider::Gate;
 use am_script::{Line, Thread};
 use std::alloc::{AllocError, Global};
@@ -56,13 +58,15 @@ impl InOrder {
         })
     }
 
-    // Where the thread waits whose turn it is.
-    fn place_of(&self, at: usize) -> &Condvar {
+    // The number of the thread whose turn it is.
+    fn thread_of(&self, at: usize) -> usize
+        ensures { result < 8 }
+    {
         let thread = match self.threads.get(at) {
             Some(thread) => thread.index(),
             None => at.wrapping_sub(self.threads.len()),
         };
-        &self.came[thread % 8]
+        thread % 8
     }
 }
 
@@ -74,13 +78,17 @@ impl Turns for InOrder {
     fn begin<R: Wait>(&self, rt: &R, turn: &Turn) {
         let at = turn.at;
         let next = self.next.lock(rt);
-        let _mine = self.place_of(at).wait_while(rt, next, |next| *next != at);
+        let _mine = self.came[self.thread_of(at)].wait_while(rt, next, |next| *next != at);
     }
 
     fn end<R: Wait>(&self, rt: &R, turn: &Turn) {
         let at = turn.at.wrapping_add(1);
         *self.next.lock(rt) = at;
-        self.place_of(at).notify_one();
+        let next = self.thread_of(at);
+        // A thread that goes on by itself waits nowhere.
+        if next != turn.thread.index() {
+            self.came[next].notify_one();
+        }
     }
 }
 
