@@ -1,0 +1,248 @@
+//! A script's run from its text: read, run in eight threads, and settled.
+
+ghost use Rattle.std.specs.Prelude.{◌≡◌, ◌≤◌};
+
+use am_provider::{Counts, Ended, Origin, Parts, Pass, Policy, Provider, Settled};
+use am_runner::{Answer, Freely, InOrder, Outcome, Turns, run_threads};
+use am_script::{Line, ScriptFault, THREADS, config_line, read_script};
+use am_store::Call;
+use std::alloc::{AllocError, AllocFailed, Global};
+use std::marker::Brand;
+use std::sync::Wait;
+use std::thread::Threads;
+use std::time::Duration;
+
+/// The resolve timeout of each run, which is that of a configuration that gives none.
+pub const RESOLVE_SECONDS: u64 = 300;
+
+/// Why a run came to nothing.
+#[derive(Clone, Copy, Debug, Drop)]
+pub enum Stopped {
+    NoMemory,
+    /// The script isn't one.
+    NoScript,
+}
+
+impl From<AllocError> for Stopped {
+    fn from(_error: AllocError) -> Stopped {
+        Stopped::NoMemory
+    }
+}
+
+impl<T: Drop> From<AllocFailed<T>> for Stopped {
+    fn from(_error: AllocFailed<T>) -> Stopped {
+        Stopped::NoMemory
+    }
+}
+
+impl From<ScriptFault> for Stopped {
+    fn from(fault: ScriptFault) -> Stopped {
+        match fault {
+            ScriptFault::NoMemory => Stopped::NoMemory,
+            ScriptFault::Refused(_) => Stopped::NoScript,
+        }
+    }
+}
+
+/// How many places a provider's log has, and what a post does where it is full.
+#[derive(Clone, Copy, Drop)]
+pub struct Log {
+    pub places: u32,
+    pub policy: Policy,
+    ghost places_fit: { (1 ≤ places) × (places ≤ 256) },
+}
+
+impl Log {
+    pub fn of(places: u32, policy: Policy) -> Log
+        requires { (1 ≤ places) × (places ≤ 256) }
+    {
+        Log { places, policy }
+    }
+}
+
+// Of each thread, what each line of the script answered in it.
+type Answers = Vec<Vec<Vec<Answer>>>;
+
+/// What a script's lines answered, and what their provider came to.
+#[derive(Drop)]
+pub struct Run {
+    lines: Vec<Line>,
+    threads: Answers,
+    pub settled: Settled,
+}
+
+impl Run {
+    /// What a line answered in its thread, by where it stands in the script.
+    pub fn answers(&self, at: usize) -> Option<&[Answer]> {
+        let thread = self.lines.get(at)?.thread.index();
+        let lines = self.threads.get(thread)?;
+        Some(lines.get(at)?.as_slice())
+    }
+
+    /// All answers, as they are printed; then the journal, a line for each call, what the subscriptions
+    /// that were left came to, and how much there is.
+    pub fn printed(&self, alloc: Global) -> Result<String, AllocError> {
+        let mut text = String::new(alloc);
+        for (at, line) in self.lines.iter().enumerate() {
+            if let Some(answers) = self.answers(at) {
+                write_answers(&mut text, line.number, answers)?;
+            }
+        }
+        write_settled(&mut text, &self.settled)?;
+        Ok(text)
+    }
+}
+
+fn write_answers(text: &mut String, number: u32, answers: &[Answer]) -> Result<(), AllocError> {
+    for answer in answers {
+        writeln!(text, "{number} {answer}")?;
+    }
+    Ok(())
+}
+
+fn write_settled(text: &mut String, settled: &Settled) -> Result<(), AllocError> {
+    let before = settled.journal.before;
+    writeln!(text, "before {before}")?;
+    for call in &settled.journal.calls {
+        write_call(text, call)?;
+    }
+    for ended in &settled.ended {
+        write_ended(text, *ended)?;
+    }
+    write_end(text, settled)
+}
+
+fn write_call(text: &mut String, call: &Call) -> Result<(), AllocError> {
+    match call {
+        Call::Posted { now, alerts } => {
+            let count = alerts.as_slice().len();
+            writeln!(text, "posted {now} {count}")
+        }
+        Call::Collected(now) => writeln!(text, "collected {now}"),
+        Call::Subscribed(lane) => writeln!(text, "subscribed {lane}"),
+        Call::Left(lane) => writeln!(text, "left {lane}"),
+        Call::Closed => writeln!(text, "closed"),
+    }
+}
+
+fn write_ended(text: &mut String, ended: Ended) -> Result<(), AllocError> {
+    let Ended {
+        at,
+        taken,
+        closed,
+        cut,
+    } = ended;
+    let told = if closed { " closed" } else { "" };
+    let was_cut = if cut { " cut" } else { "" };
+    writeln!(text, "ended at {at} taken {taken}{told}{was_cut}")
+}
+
+fn write_end(text: &mut String, settled: &Settled) -> Result<(), AllocError> {
+    let Counts {
+        places,
+        posts,
+        stored,
+    } = settled.counts();
+    let early = settled.early;
+    let complete = settled.complete;
+    writeln!(
+        text,
+        "early {early} places {places} posts {posts} stored {stored} complete {complete}"
+    )
+}
+
+/// Runs a script, one line after another.
+pub fn run_in_order<R: Threads + Wait + Sync>(
+    rt: &R,
+    alloc: Global,
+    log: Log,
+    text: &str,
+) -> Result<Run, Stopped> {
+    let lines = read_script(alloc, text.as_bytes())?;
+    let turns = InOrder::new(alloc, &lines)?;
+    run_lines(rt, alloc, log, text, lines, &turns)
+}
+
+/// Runs a script, each thread as fast as it comes to its lines.
+pub fn run_freely<R: Threads + Wait + Sync>(
+    rt: &R,
+    alloc: Global,
+    log: Log,
+    text: &str,
+) -> Result<Run, Stopped> {
+    let lines = read_script(alloc, text.as_bytes())?;
+    run_lines(rt, alloc, log, text, lines, &Freely)
+}
+
+/// Runs the lines of a script, in the turns that are passed.
+pub fn run_lines<R: Threads + Wait + Sync, T: Turns + Sync>(
+    rt: &R,
+    alloc: Global,
+    log: Log,
+    text: &str,
+    lines: Vec<Line>,
+    turns: &T,
+) -> Result<Run, Stopped> {
+    let parts = Parts::make(alloc, log.places, THREADS)?;
+    let configuration = config_line(text.as_bytes());
+    let (threads, settled) = run_over::<Brand, R, T>(
+        rt,
+        alloc,
+        parts,
+        log,
+        configuration,
+        &lines,
+        turns,
+    )?;
+    Ok(Run {
+        lines,
+        threads: threads?,
+        settled,
+    })
+}
+
+fn run_over<N: Origin + Send + Sync, R: Threads + Wait + Sync, T: Turns + Sync>(
+    rt: &R,
+    alloc: Global,
+    parts: Parts,
+    log: Log,
+    configuration: &[u8],
+    lines: &[Line],
+    turns: &T,
+) -> Result<(Result<Answers, Stopped>, Settled), Stopped>
+    requires table { parts.log.board.shared.table_id ≡ N.table }
+    requires ledger { (parts.ledger.name ≡ N.name) × (parts.ledger.parts ≡ N.parts) }
+    requires posters { parts.posters ≡ 8 }
+{
+    let timeout = Duration::from_secs(RESOLVE_SECONDS);
+    let (provider, passes) = Provider::<N>::begin(alloc, parts, log.policy, timeout)?;
+    let ran = run_threads(rt, alloc, &provider, passes, configuration, lines, turns);
+    let mut passes = Vec::new(alloc);
+    let threads = take_passes(alloc, ran, &mut passes);
+    let settled = provider.settle(rt, passes);
+    Ok((threads, settled))
+}
+
+// The answers of all threads, whose passes are added to the others. A call that was out of memory spoils
+// them.
+fn take_passes<N: Origin>(
+    alloc: Global,
+    ran: Result<Vec<Outcome<N>>, AllocError>,
+    passes: &mut Vec<Pass<N>>,
+) -> Result<Answers, Stopped> {
+    let mut threads = Vec::new(alloc);
+    for outcome in ran? {
+        let (answers, pass) = outcome;
+        passes.push(pass)?;
+        threads.push(answers?)?;
+    }
+    if threads.iter().any(is_out_of_memory) {
+        return Err(Stopped::NoMemory);
+    }
+    Ok(threads)
+}
+
+// Whether one of a thread's calls was out of memory.
+fn is_out_of_memory(lines: &Vec<Vec<Answer>>) -> bool {
+    lines.iter().any(|answers| answers.iter().any(|answer| answer.is_out_of_memory()))
+}
