@@ -11,12 +11,12 @@ ghost use Rattle.std.specs.Prelude.{◌≡◌, ◌<◌, ◌≤◌, length, IfOk}
 use am_cast::{Begun, Cast, Cursor, Feed, Parts, Pass, Refused, Step, Writer, begin, end};
 use am_segment::SegmentBuilder;
 use std::alloc::{AllocError, Global};
-use std::hint::spin_loop;
 use std::marker::Brand;
 use std::process::ExitCode;
 use std::snapshot::Snapshot;
 use std::sync::Wait;
 use std::thread::Threads;
+use std::time::{Clock, Duration};
 use std::{env, thread};
 
 /// How much is sent, and to how many.
@@ -59,30 +59,27 @@ fn batch_of(alloc: Global, first: u64, count: usize) -> Result<SegmentBuilder<u6
     Ok(batch)
 }
 
-// Spins a little, and then lets another thread go on.
-fn wait(turns: &mut u64) {
-    *turns = turns.wrapping_add(1);
-    if *turns % 64 == 0 {
-        thread::yield_now();
-    } else {
-        spin_loop();
-    }
+// How many microseconds a thread sleeps that can't go on.
+const NAP: u64 = 20;
+
+fn nap<R: Clock>(rt: &R) {
+    thread::sleep(rt, Duration::from_micros(NAP));
 }
 
 // Publishes all items in batches, waiting where a reader is as far behind as it may be, and closes
 // the log. Answers whether memory was there.
-fn publish_all<N: Feed>(
+fn publish_all<N: Feed, R: Clock>(
+    rt: &R,
     alloc: Global,
     cast: &Cast<u64, u64, u64, N>,
     writer: &mut Writer<u64, u64, u64, N>,
     pass: &mut Pass<u64, u64, u64, N>,
     load: Load,
 ) -> bool {
-    let mut turns = 0;
     for number in 0..load.batches {
         let first = number.wrapping_mul(load.items as u64);
         match batch_of(alloc, first, load.items) {
-            Ok(batch) => publish(cast, writer, pass, batch, &mut turns),
+            Ok(batch) => publish(rt, cast, writer, pass, batch),
             Err(_) => {
                 let _closed = writer.close(cast);
                 return false;
@@ -94,12 +91,12 @@ fn publish_all<N: Feed>(
 }
 
 // Publishes a batch, again and again while the log is full.
-fn publish<N: Feed>(
+fn publish<N: Feed, R: Clock>(
+    rt: &R,
     cast: &Cast<u64, u64, u64, N>,
     writer: &mut Writer<u64, u64, u64, N>,
     pass: &mut Pass<u64, u64, u64, N>,
     batch: SegmentBuilder<u64>,
-    turns: &mut u64,
 )
     requires { 0 < length batch.items }
 {
@@ -115,25 +112,24 @@ fn publish<N: Feed>(
                 },
             ) => batch = back,
         }
-        wait(turns);
+        thread::yield_now();
     }
     batch.discard();
 }
 
 // Reads to the end of the log.
-fn read_all<N: Feed>(cursor: &mut Option<Cursor<'_, u64, u64, u64, N>>) -> Shown {
+fn read_all<N: Feed, R: Clock>(rt: &R, cursor: &mut Option<Cursor<'_, u64, u64, u64, N>>) -> Shown {
     let mut shown = Shown { items: 0, sum: 0 };
     let Some(cursor) = cursor else {
         return shown;
     };
-    let mut turns = 0;
     for _turn in 0..u64::MAX {
         match cursor.next() {
             Step::Item(item) => {
                 shown.items = shown.items.wrapping_add(1);
                 shown.sum = shown.sum.wrapping_add(*item);
             }
-            Step::Pending => wait(&mut turns),
+            Step::Pending => nap(rt),
             Step::Closed | Step::Cut => return shown,
         }
     }
@@ -167,17 +163,17 @@ fn retire<N: Feed>(
 }
 
 // What two readers were shown, each in a thread of its own.
-fn read_both<N: Feed + Send + Sync, R: Threads + Wait + Sync>(
+fn read_both<N: Feed + Send + Sync, R: Threads + Wait + Clock + Sync>(
     rt: &R,
     one: &mut Option<Cursor<'_, u64, u64, u64, N>>,
     other: &mut Option<Cursor<'_, u64, u64, u64, N>>,
 ) -> Shown {
-    let (one, other) = thread::join(rt, move || read_all(one), move || read_all(other));
+    let (one, other) = thread::join(rt, move || read_all(rt, one), move || read_all(rt, other));
     one.and(other)
 }
 
 // The whole run. Answers what all readers were shown, where memory was there.
-fn run<N: Feed + Send + Sync, R: Threads + Wait + Sync>(
+fn run<N: Feed + Send + Sync, R: Threads + Wait + Clock + Sync>(
     rt: &R,
     parts: Parts<u64, u64, u64>,
     alloc: Global,
@@ -209,7 +205,7 @@ fn run<N: Feed + Send + Sync, R: Threads + Wait + Sync>(
         let (e, f, g, h) = (&mut e, &mut f, &mut g, &mut h);
         thread::join(
             rt,
-            move || publish_all(alloc, log, writer, pass, load),
+            move || publish_all(rt, alloc, log, writer, pass, load),
             move || {
                 let (first, second) = thread::join(
                     rt,

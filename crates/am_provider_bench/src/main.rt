@@ -96,14 +96,16 @@ fn wait_for(arrived: &AtomicU64, readers: u32) {
     }
 }
 
+// How many microseconds a reader sleeps that was shown all.
+const NAP: u64 = 100;
+
 // How many alerts a subscription shows until its log ends.
-fn count_shown<N: Origin>(subscription: &mut Subscription<'_, N>) -> u64 {
-    let mut turns = 0;
+fn count_shown<N: Origin, R: Clock>(rt: &R, subscription: &mut Subscription<'_, N>) -> u64 {
     let mut shown: u64 = 0;
     for _turn in 0..u64::MAX {
         match subscription.next() {
             Step::Item(_) => shown = shown.wrapping_add(1),
-            Step::Pending => wait(&mut turns),
+            Step::Pending => thread::sleep(rt, Duration::from_micros(NAP)),
             Step::Closed | Step::Cut => return shown,
         }
     }
@@ -122,12 +124,12 @@ fn since<R: Clock>(rt: &R, begin: io::Result<Instant>) -> u128 {
 }
 
 // Subscribes, and reads until the log ends.
-fn read<N: Origin, R: Wait>(rt: &R, provider: &Provider<N>, arrived: &AtomicU64) -> u64 {
+fn read<N: Origin, R: Wait + Clock>(rt: &R, provider: &Provider<N>, arrived: &AtomicU64) -> u64 {
     let Ok(mut subscription) = provider.subscribe(rt) else {
         return 0;
     };
     arrived.fetch_add(1, Ordering::SeqCst);
-    let shown = count_shown(&mut subscription);
+    let shown = count_shown(rt, &mut subscription);
     provider.leave(rt, subscription);
     shown
 }
@@ -257,7 +259,7 @@ fn read_posts(alloc: Global, bodies: &[String], load: Load) -> Result<Vec<Post>,
 }
 
 // As `read`, over a Book.
-fn read_book<N: Origin, R: Wait>(
+fn read_book<N: Origin, R: Wait + Clock>(
     rt: &R,
     cast: &Cast<N>,
     book: &Mutex<Book<N>>,
@@ -267,7 +269,7 @@ fn read_book<N: Origin, R: Wait>(
         return 0;
     };
     arrived.fetch_add(1, Ordering::SeqCst);
-    let shown = count_shown(&mut subscription);
+    let shown = count_shown(rt, &mut subscription);
     book.lock(rt).leave(cast, subscription);
     shown
 }

@@ -11,14 +11,14 @@ use Rattle.clap.specs.declared.error.Error.{Error}
 use Rattle.clap.specs.declared.parser.matches.ArgMatches.{ArgMatches}
 use Rattle.clap.proofs.OnLiterals.{clap_on_literals}
 use Rattle.clap.proofs.WalkLemmas.{first_value-rows}
-use Rattle.am_replay.specs.Options.{AreModes, ArePolicies, AreOptions, IsCommandOf, Names, options_of}
+use Rattle.am_replay.specs.Options.{AreModes, ArePolicies, AreOptions, IsCommandOf, Choices, options_of}
 use Rattle.am_replay.specs.Arguments.{AreFound, AreRead, IsFaultOf}
 use Rattle.am_replay.specs.ArgumentsFaults.{IsTold}
 use Rattle.am_replay.specs.declared.arguments.Arguments.{Arguments}
 use Rattle.am_replay.specs.declared.arguments.ArgumentsFault.{ArgumentsFault}
 use Rattle.am_replay.specs.declared.arguments.ArgumentsFault.TheVariants.{Refused, NoMemory}
 
-module _ (modes policies : Names) (are_modes : AreModes modes) (are_policies : ArePolicies policies)
+module _ (modes policies : Choices) (are_modes : AreModes modes) (are_policies : ArePolicies policies)
     (command : Command) (is_command : IsCommandOf modes policies command) where
   simple : is_simple (options_of modes policies) ≡ true
   unfolding clap_on_literals

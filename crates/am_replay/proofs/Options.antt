@@ -24,7 +24,7 @@ use Rattle.clap.proofs.CallerLemmas.{added_plain, default_present, entry_by_id, 
 use Rattle.clap.proofs.WalkLemmas.{list_any-map}
 use Rattle.am_provider.specs.declared.answers.Policy.TheVariants.{Refuse, Cut}
 use Rattle.am_replay.specs.declared.arguments.TheConstants.{MOST_PLACES}
-use Rattle.am_replay.specs.Options.{AreModes, ArePolicies, HasOptions, IsCommandOf, IsOption, Names, mode_name, options_of, policy_name}
+use Rattle.am_replay.specs.Options.{AreModes, ArePolicies, HasOptions, IsCommandOf, IsOption, Choices, mode_name, options_of, policy_name}
 use Rattle.am_replay.specs.declared.arguments.Mode.TheVariants.{Ordered, Free}
 
 -- a list with a place that passes has a first one
@@ -142,7 +142,7 @@ keeps name default parser a b is same = record {
 }
 
 -- a value among two names is one of them
-pub one_of_two : (names : Names) (first second text : Text) → texts names.now ≡ first ∷ second ∷ [] → Accepts false (value.Names names) text
+pub one_of_two : (names : Choices) (first second text : Text) → texts names.now ≡ first ∷ second ∷ [] → Accepts false (value.Names names) text
     → (text ≡ first) ⊎ (text ≡ second)
 one_of_two names first second text are accepted =
     let among : list_any (λ t. bytes_eq t text) (first ∷ second ∷ []) ≡ true =
@@ -194,7 +194,7 @@ names_own (suc (suc zero)) lt (inr e) = apart (codes "full") (codes "version") r
 names_own (suc (suc (suc k))) lt e = absurd (omega arith)
 
 -- the program's command
-module _ (start one two three : Command) (mode places full : Arg) (modes policies : Names)
+module _ (start one two three : Command) (mode places full : Arg) (modes policies : Choices)
     (made : app_of start ≡ on_top (λ top. record top { no_binary_name = true }) (new_app (codes "replay")))
     (empty : (args_of start ≡ []) × (groups_of start ≡ [])) (local : (out-Command start).has_globals ≡ false)
     (is_mode : IsOption (codes "mode") (mode_name Ordered) (value.Names modes) mode)

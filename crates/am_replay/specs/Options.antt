@@ -31,15 +31,15 @@ policy_name Refuse = codes "refuse"
 policy_name Cut = codes "cut"
 
 -- names that clap is lent
-abbrev pub Names : Type 0
-Names = Bor (List (Bor Text))
+abbrev pub Choices : Type 0
+Choices = Bor (List (Bor Text))
 
 -- the names of the modes
-abbrev pub AreModes : Names → Type 0
+abbrev pub AreModes : Choices → Type 0
 AreModes names = texts names.now ≡ mode_name Ordered ∷ mode_name Free ∷ []
 
 -- the names of the policies
-abbrev pub ArePolicies : Names → Type 0
+abbrev pub ArePolicies : Choices → Type 0
 ArePolicies names = texts names.now ≡ policy_name Refuse ∷ policy_name Cut ∷ []
 
 -- an option `--name VALUE` with its default
@@ -53,7 +53,7 @@ option_rule name default parser = record (new_rule name) {
 }
 
 -- the options, of arguments that come without the program's name
-abbrev pub options_of : Names → Names → App
+abbrev pub options_of : Choices → Choices → App
 options_of modes policies =
     with_rule (with_rule (with_rule (on_top (λ top. record top { no_binary_name = true })
     (new_app (codes "replay")))
@@ -63,8 +63,8 @@ options_of modes policies =
 
 -- the program's options: `--mode` ordered or free, `--places` 1 to the most, `--full` refuse or cut
 pub record AreOptions (options : App) : Type 0 where
-  pub modes : Names
-  pub policies : Names
+  pub modes : Choices
+  pub policies : Choices
   pub are_modes : AreModes modes
   pub are_policies : ArePolicies policies
   pub are_options : options ≡ options_of modes policies
@@ -95,6 +95,6 @@ pub record HasOptions (found : Found) : Type 0 where
   pub full : (policy : Policy) × IsFoundAs found (codes "full") (policy_name policy)
 
 -- a command with the program's options
-pub record IsCommandOf (modes policies : Names) (command : Command) : Type 0 where
+pub record IsCommandOf (modes policies : Choices) (command : Command) : Type 0 where
   pub options : app_of command ≡ options_of modes policies
   pub finds : (matches : ArgMatches) → IsParsedFrom command matches → HasOptions (found_of matches)
