@@ -7,6 +7,7 @@ ghost use Rattle.am_io.specs.Inputs.{IsReadOf};
 use crate::failure::Failure;
 use crate::line_counter::LineCounter;
 use crate::retry::TRIES;
+use crate::taken::Taken;
 use std::alloc::Global;
 use std::io::{ErrorKind, Read};
 
@@ -23,10 +24,11 @@ pub fn read_input<R: Read>(alloc: Global, input: &mut R) -> Result<Vec<u8>, Fail
     for _turn in 0..u64::MAX {
         let count = read_some(input, &mut chunk)?;
         if count == 0 {
-            return Ok(counter.text);
+            return Ok(counter.into_text());
         }
-        if counter.take_in(chunk.split_at(count).0)? {
-            return Ok(counter.text);
+        match counter.take_in(chunk.split_at(count).0)? {
+            Taken::More(more) => counter = more,
+            Taken::Full(text) => return Ok(text),
         }
     }
     Err(Failure::Read)

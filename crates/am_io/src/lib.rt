@@ -10,6 +10,7 @@ mod input;
 mod line_counter;
 mod output;
 mod retry;
+mod taken;
 
 pub use failure::Failure;
 pub use input::read_input;

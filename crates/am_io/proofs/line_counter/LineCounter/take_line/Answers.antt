@@ -1,0 +1,25 @@
+use Rattle.std.proofs.Common.{◌++◌, [], List, ℕ, ap, ◌∙◌, append-nil}
+use Rattle.am_io.proofs.Counting.{excess_now, counted_open, counted_ended}
+use Rattle.am_io.proofs.line_counter.LineCounter.take_line.Goals as goal
+use Rattle.am_io.proofs.line_counter.LineCounter.take_line.Goals.{then-part-line, else-part-line}
+
+pub returns-then-ended-ge-MOST_LINES : goal.returns-then-ended-ge-MOST_LINES
+returns-then-ended-ge-MOST_LINES c =
+    let line = c.args.line.now in
+    let part = c.without_line_feed-part in
+    let grown = c.in_ok-extend_from_slice.ensures.items in (
+      excess_now _ line part.result.now _ _ _ c.self.invariant part.ensures grown c.then-ended-ge-MOST_LINES.either,
+      (line, [], append-nil line, grown ∙ ap (λ (front : List ℕ). front ++ line) c.self.view_is),
+    )
+
+pub invariant_of-result : goal.invariant_of-result
+invariant_of-result c =
+    let line = c.args.line.now in
+    let part = c.without_line_feed-part in
+    let grown = c.in_ok-extend_from_slice.ensures.items in
+    let few = c.if-ended-ge-MOST_LINES.false in
+    let short = c.if-size-gt-LONGEST_LINE.false in
+    elim c.if-part-line.branch [
+      | then-part-line w ↦ rw w.ended-is (counted_ended _ line part.result.now _ _ _ c.self.invariant part.ensures grown few short w.if-part-line.true)
+      | else-part-line w ↦ rw w.ended-is (counted_open _ line part.result.now _ _ _ c.self.invariant part.ensures grown few short w.if-part-line.false)
+    ]
