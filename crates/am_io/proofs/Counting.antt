@@ -128,7 +128,7 @@ module _ (text line part now : List ℕ) (ended last : ℕ) (was : IsCounted tex
   size_now : length (open_line text ++ part) ≡ last + length part
   size_now = omega (arith, length-append (open_line text) part, was.open_bytes)
 
-  pub excess_now : (MOST_LINES ≤ ended) ⊎ ((ended < MOST_LINES) × (LONGEST_LINE < last + length part)) → HasExcess now
+  pub excess_now : (MOST_LINES ≤ ended) ⊎ (LONGEST_LINE < last + length part) → HasExcess now
   excess_now (inl many) = inl (omega (arith, count_now))
   excess_now (inr long) =
       inr (subst (Any IsLong) (sym lines_now) (Any-push IsLong before.done (open_line text ++ part) (omega (arith, size_now))))
