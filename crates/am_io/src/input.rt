@@ -12,10 +12,11 @@ use std::alloc::Global;
 use std::io::{ErrorKind, Read};
 
 /// How many bytes one read takes at most.
-const CHUNK: usize = 4_096;
+pub(crate) const CHUNK: usize = 4_096;
 
 /// The input's bytes, to its end or to the first excess over a script's limits. No contract says
-/// when a read fails, so that this doesn't fail without cause is tested.
+/// when a read fails, nor how far an input with an excess is read, so that this doesn't fail without
+/// cause and takes no further chunk is tested.
 pub fn read_input<R: Read>(alloc: Global, input: &mut R) -> Result<Vec<u8>, Failure>
     ensures { IfOk result (λ text. IsReadOf (R.remaining input.old) text.items) }
 {
