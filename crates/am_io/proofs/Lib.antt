@@ -1,3 +1,4 @@
-pub mod Measures
-pub mod Taken
+pub mod Counting
+pub mod Lines
+pub mod Reading
 pub mod Written

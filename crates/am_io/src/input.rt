@@ -7,14 +7,16 @@ ghost use Rattle.am_io.specs.Inputs.{IsReadOf};
 use crate::failure::Failure;
 use crate::line_counter::LineCounter;
 use crate::retry::TRIES;
+use crate::taken::Taken;
 use std::alloc::Global;
 use std::io::{ErrorKind, Read};
 
 /// How many bytes one read takes at most.
-const CHUNK: usize = 4_096;
+pub(crate) const CHUNK: usize = 4_096;
 
 /// The input's bytes, to its end or to the first excess over a script's limits. No contract says
-/// when a read fails, so that this doesn't fail without cause is tested.
+/// when a read fails, nor how far an input with an excess is read, so that this doesn't fail without
+/// cause and takes no further chunk is tested.
 pub fn read_input<R: Read>(alloc: Global, input: &mut R) -> Result<Vec<u8>, Failure>
     ensures { IfOk result (λ text. IsReadOf (R.remaining input.old) text.items) }
 {
@@ -23,10 +25,11 @@ pub fn read_input<R: Read>(alloc: Global, input: &mut R) -> Result<Vec<u8>, Fail
     for _turn in 0..u64::MAX {
         let count = read_some(input, &mut chunk)?;
         if count == 0 {
-            return Ok(counter.text);
+            return Ok(counter.into_text());
         }
-        if counter.take_in(chunk.split_at(count).0)? {
-            return Ok(counter.text);
+        match counter.take_in(chunk.split_at(count).0)? {
+            Taken::More(more) => counter = more,
+            Taken::Full(text) => return Ok(text),
         }
     }
     Err(Failure::Read)

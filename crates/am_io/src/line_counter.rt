@@ -1,26 +1,38 @@
 //! Taking a script's bytes in, up to the first excess over a limit.
 
-ghost use Rattle.std.specs.Prelude.{◌≡◌, ◌≤◌, ◌∷◌, [], ◌++◌, length, false, All, IfOk, OnOk};
-ghost use Rattle.std.specs.Bool.{OnTrue, OnFalse};
-ghost use Rattle.am_io.specs.Inputs.{HasExcess, IsMeasured, TakesIn};
+ghost use Rattle.std.specs.Prelude.{◌≡◌, ◌<◌, ◌∷◌, [], ◌++◌, length, IfOk};
+ghost use Rattle.std.specs.List.{position};
 ghost use Rattle.am_script.specs.Script.{is_line_feed, lines_of};
+ghost use Rattle.am_io.specs.inside.Taking.{TakesIn};
 
+use crate::taken::Taken;
 use am_script::{LONGEST_LINE, MOST_LINES};
 use std::alloc::{AllocError, Global};
+use std::marker::Model;
 
-/// The bytes so far, how many lines of them have ended, and how many bytes stand after those.
+/// A text within a script's limits. Contracts see its bytes.
 #[derive(Drop)]
 pub struct LineCounter {
-    pub text: Vec<u8>,
-    pub ended: u32,
-    pub last: usize,
+    text: Vec<u8>,
+    // How many lines have ended, and how many bytes stand behind them.
+    ended: u32,
+    last: usize,
+}
+
+impl Model for LineCounter {
+    ghost use Rattle.std.specs.Prelude.{List, ℕ};
+    ghost use Rattle.am_io.specs.inside.Counting.{IsCounted};
+
+    ghost Value = { List ℕ };
+
+    ghost view = { λ c. c.text.items };
+
+    ghost invariant = { λ c. IsCounted c.text.items c.ended c.last };
 }
 
 impl LineCounter {
     pub fn new(alloc: Global) -> LineCounter
-        ensures measured { IsMeasured result.text.items result.ended result.last }
-        ensures few { (result.ended ≤ 65536) × (result.last ≤ 8388608) }
-        ensures text { result.text.items ≡ [] }
+        ensures { result ≡ [] }
     {
         LineCounter {
             text: Vec::new(alloc),
@@ -29,99 +41,81 @@ impl LineCounter {
         }
     }
 
-    /// Adds the bytes, up to one that makes an excess. Answers whether there was one.
-    pub fn take_in(&mut self, bytes: &[u8]) -> Result<bool, AllocError>
-        requires measured { IsMeasured self.old.text.items self.old.ended self.old.last }
-        requires few { (self.old.ended ≤ 65536) × (self.old.last ≤ 8388608) }
-        ensures measured { OnOk result
-            (IsMeasured self.new.text.items self.new.ended self.new.last) }
-        ensures few { IfOk result (λ full. OnFalse full
-            ((self.new.ended ≤ 65536) × (self.new.last ≤ 8388608))) }
-        ensures taken { IfOk result (TakesIn self.old.text.items bytes.now self.new.text.items) }
+    /// The bytes so far.
+    pub fn into_text(self) -> Vec<u8>
+        ensures { result.items ≡ self }
     {
+        let LineCounter {
+            text,
+            ended: _,
+            last: _,
+        } = self;
+        text
+    }
+
+    /// Takes the bytes in, up to one that makes an excess.
+    pub fn take_in(self, bytes: &[u8]) -> Result<Taken, AllocError>
+        ensures { IfOk result (TakesIn self bytes.now) }
+    {
+        let mut counter = self;
         let mut rest = bytes;
         while !rest.is_empty() {
-            let (part, others) = before_line_feed(rest);
-            self.push_part(part)?;
-            if self.is_excessive() {
-                return Ok(true);
-            }
-            let Some((byte, others)) = others.split_first() else {
-                return Ok(false);
-            };
-            self.push(*byte)?;
-            if self.is_excessive() {
-                return Ok(true);
+            let (line, others) = first_line(rest);
+            match counter.take_line(line)? {
+                Taken::More(more) => counter = more,
+                Taken::Full(text) => return Ok(Taken::Full(text)),
             }
             rest = others;
         }
-        Ok(false)
+        Ok(Taken::More(counter))
     }
 
-    // Adds bytes without a line feed.
-    fn push_part(&mut self, part: &[u8]) -> Result<(), AllocError>
-        requires measured { IsMeasured self.old.text.items self.old.ended self.old.last }
-        requires few { (self.old.ended ≤ 65536) × (self.old.last ≤ 8388608) }
-        requires plain { All (λ byte. is_line_feed byte ≡ false) part.now }
-        ensures measured { OnOk result
-            (IsMeasured self.new.text.items self.new.ended self.new.last) }
-        ensures few { OnOk result (self.new.ended ≤ 65537) }
-        ensures text { OnOk result (self.new.text.items ≡ self.old.text.items ++ part.now) }
+    // Takes in a line, or the beginning of one.
+    fn take_line(self, line: &[u8]) -> Result<Taken, AllocError>
+        requires { length (lines_of line.now) ≡ 1 }
+        ensures { IfOk result (TakesIn self line.now) }
     {
-        self.text.extend_from_slice(part)?;
-        self.last += part.len();
-        Ok(())
-    }
-
-    fn push(&mut self, byte: u8) -> Result<(), AllocError>
-        requires measured { IsMeasured self.old.text.items self.old.ended self.old.last }
-        requires few { (self.old.ended ≤ 65536) × (self.old.last ≤ 8388608) }
-        ensures measured { OnOk result
-            (IsMeasured self.new.text.items self.new.ended self.new.last) }
-        ensures few { OnOk result (self.new.ended ≤ 65537) }
-        ensures text { OnOk result (self.new.text.items ≡ self.old.text.items ++ byte ∷ []) }
-    {
-        self.text.push(byte)?;
-        if byte == b'\n' {
-            self.ended += 1;
-            self.last = 0;
-        } else {
-            self.last += 1;
+        let LineCounter {
+            mut text,
+            ended,
+            last,
+        } = self;
+        text.extend_from_slice(line)?;
+        let part = without_line_feed(line);
+        let size = last + part.len();
+        if ended >= MOST_LINES || size > LONGEST_LINE {
+            return Ok(Taken::Full(text));
         }
-        Ok(())
-    }
-
-    fn is_excessive(&self) -> bool
-        requires measured { IsMeasured self.now.text.items self.now.ended self.now.last }
-        requires few { self.now.ended ≤ 65537 }
-        ensures excess { OnTrue result (HasExcess self.now.text.items) }
-        ensures few { OnFalse result ((self.now.ended ≤ 65536) × (self.now.last ≤ 8388608)) }
-    {
-        self.lines() > MOST_LINES || self.last > LONGEST_LINE
-    }
-
-    // How many lines have begun.
-    fn lines(&self) -> u32
-        requires measured { IsMeasured self.now.text.items self.now.ended self.now.last }
-        requires few { self.now.ended ≤ 65537 }
-        ensures count { result ≡ length (lines_of self.now.text.items) }
-        ensures ended { self.now.ended ≤ result }
-    {
-        if self.last > 0 {
-            self.ended + 1
+        let (ended, last) = if part.len() < line.len() {
+            (ended + 1, 0)
         } else {
-            self.ended
-        }
+            (ended, size)
+        };
+        Ok(Taken::More(LineCounter { text, ended, last }))
     }
 }
 
-// The bytes before the first line feed, and those from it on.
-fn before_line_feed(bytes: &[u8]) -> (&[u8], &[u8])
+// The bytes of the first line, with its line feed, and those behind it.
+fn first_line(bytes: &[u8]) -> (&[u8], &[u8])
+    requires { 0 < length bytes.now }
     ensures parts { result.0.now ++ result.1.now ≡ bytes.now }
-    ensures plain { All (λ byte. is_line_feed byte ≡ false) result.0.now }
+    ensures line { length (lines_of result.0.now) ≡ 1 }
 {
-    match bytes.iter().position(|byte| *byte == b'\n') {
-        Some(end) => bytes.split_at(end),
+    match line_feed(bytes) {
+        Some(end) => bytes.split_at(end + 1),
         None => bytes.split_at(bytes.len()),
     }
+}
+
+fn line_feed(bytes: &[u8]) -> Option<usize>
+    ensures { result ≡ position is_line_feed bytes.now }
+{
+    bytes.iter().position(|byte| *byte == b'\n')
+}
+
+fn without_line_feed(line: &[u8]) -> &[u8]
+    requires { length (lines_of line.now) ≡ 1 }
+    ensures { lines_of line.now ≡ result.now ∷ [] }
+{
+    line.strip_suffix(b"\n").unwrap_or(line)
 }

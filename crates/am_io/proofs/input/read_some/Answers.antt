@@ -1,4 +1,4 @@
-use Rattle.am_io.proofs.Taken.{consumes_kept}
+use Rattle.am_io.proofs.Reading.{consumes_kept}
 use Rattle.am_io.proofs.input.read_some.Goals as goal
 
 pub returns-in-Ok-clause-read : goal.returns-in-Ok-clause-read
