@@ -225,12 +225,12 @@ fn run_bytes<N: Origin + Send + Sync, R: Threads + Wait + Clock + Sync>(
     let timeout = Duration::from_secs(300);
     let (provider, mut passes) = Provider::<N>::begin(alloc, parts, Policy::Refuse, timeout)?;
     let arrived = AtomicU64::new(0);
-    let (hub, posters, come) = (&provider, &mut passes, &arrived);
+    let (shared, posters, come) = (&provider, &mut passes, &arrived);
     let readers = load.readers as usize;
     let (posted, shown) = thread::join(
         rt,
-        move || post_all(rt, hub, posters, bodies, come, load),
-        move || thread::map_indices(rt, alloc, readers, &|_reader| read(rt, hub, come)),
+        move || post_all(rt, shared, posters, bodies, come, load),
+        move || thread::map_indices(rt, alloc, readers, &|_reader| read(rt, shared, come)),
     );
     let settled = provider.settle(rt, passes);
     Ok(Came {
