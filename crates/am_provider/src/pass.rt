@@ -8,7 +8,8 @@ use std::marker::Model;
 use std::sync::ledger::Share;
 
 /// One poster's right to post. Contracts see it as the places that it made, with what was posted, each
-/// above those before it, and as how far it knows the log. Another thread may have it after its poster: what it knows comes along.
+/// above those before it, and as how far it knows the log. Another thread may have it after its poster:
+/// what it knows comes along.
 #[derive(Drop)]
 pub struct Pass<N: Origin> {
     pub(crate) pass: LogPass<N>,
