@@ -1,10 +1,11 @@
 -- Own posts that are as many as the places of the log are all of them.
-use Rattle.std.proofs.Common.{◌≡◌, ℕ, zero, suc, ◌+◌, ◌<◌, ◌≤◌, ◌⊎◌, inl, inr, ⊎_elim, List, [], ◌∷◌, ◌++◌, length, refl, sym, ap, subst, ◌∙◌, arith}
+use Rattle.std.proofs.Common.{◌≡◌, ℕ, zero, suc, ◌+◌, ◌<◌, ◌≤◌, ◌⊎◌, inl, inr, ⊎_elim, List, [], ◌∷◌, ◌++◌, length, All, refl, sym, ap, subst, ◌∙◌, arith}
 use mathlib.Core.Option.{some}
 use mathlib.Core.Logic.{dite}
 use native.Mathlib.Decide.{ℕ_discrete}
 use lib.ListN.{get_elem?}
 use Rattle.std.proofs.lemmas.List.{append_assoc, append-nil}
+use Rattle.std.proofs.lemmas.List.Elements.{All-append}
 use Rattle.am_alert.specs.declared.alert.Alert.{Alert}
 use Rattle.am_store.specs.declared.call.Call.{Call}
 use Rattle.am_cast.specs.declared.views.Own.{Own}
@@ -12,12 +13,23 @@ use Rattle.am_cast.specs.Rule.{IsApart, Once}
 use Rattle.am_cast.specs.Changes.{Stand}
 use Rattle.am_cast.specs.Posters.{PassView}
 use Rattle.am_provider.specs.Batches.{Batch}
-use Rattle.am_provider.specs.Rising.{AreBelow}
+use Rattle.am_provider.specs.Rising.{AreBelow, IsRising}
 use Rattle.am_provider.specs.Settling.{own_of, IsOwn}
 
 pub own_of_last : (passes : List (PassView Alert Call)) (p : PassView Alert Call) → own_of (passes ++ p ∷ []) ≡ p.own ++ own_of passes
 own_of_last [] p = sym (append-nil p.own)
 own_of_last (q ∷ passes) p = ap (λ own. own ++ q.own) (own_of_last passes p) ∙ append_assoc p.own (own_of passes) q.own
+
+-- each pass's posts rise
+abbrev pub AreRising : List (PassView Alert Call) → Type 0
+AreRising passes = All (λ (p : PassView Alert Call). IsRising p.own) passes
+
+pub rising_last : (passes : List (PassView Alert Call)) (p : PassView Alert Call) → IsRising p.own → AreRising passes → AreRising (passes ++ p ∷ [])
+rising_last passes p own all = All-append (λ (q : PassView Alert Call). IsRising q.own) passes (p ∷ []) all only
+  where
+    only : AreRising (p ∷ [])
+    only zero d h = own
+    only (suc k) d h = absurd (omega arith)
 
 -- whether a place is among these
 find : (p : ℕ) (os : List (Own Batch)) → IsOwn os p ⊎ IsApart p os

@@ -1,6 +1,7 @@
 //! The right to post.
 
 ghost use Rattle.std.specs.Prelude.{◌≡◌, length};
+ghost use Rattle.am_provider.specs.Rising.{IsRising};
 
 use crate::feed::Origin;
 use crate::sending::LogPass;
@@ -42,6 +43,7 @@ impl<N: Origin> Pass<N> {
     pub(crate) fn into_parts(self) -> (LogPass<N>, Share<N>)
         ensures pass { result.0 ≡ self }
         ensures share { (result.1.parts ≡ 1) × (result.1.amount ≡ length self.own) }
+        ensures rising { IsRising self.own }
     {
         let Pass { pass, share } = self;
         (pass, share)

@@ -1,8 +1,10 @@
 //! The end of a provider: its journal, and what the passes know of it.
 
 ghost use Rattle.std.specs.Prelude.{◌≡◌, ◌↔◌, ◌≤◌, ◌<◌, ℕ, IsTrue, IfSome, IfNone, [], length};
+ghost use Rattle.std.specs.List.{All};
 ghost use Rattle.am_cast.specs.Rule.{Once};
 ghost use Rattle.am_cast.specs.Changes.{Stand};
+ghost use Rattle.am_provider.specs.Rising.{IsRising};
 ghost use Rattle.am_provider.specs.Settling.{IsOwn, IsSettled, own_of};
 
 use crate::answers::Counts;
@@ -16,11 +18,12 @@ use std::sync::ledger::Share;
 use std::sync::{Wait, ledger};
 
 impl<N: Origin> Provider<N> {
-    /// Ends the provider. While a subscription is open it doesn't compile, since the subscription
-    /// borrows the provider; no proof follows that, so a lane that is still given out would be waited
-    /// for.
+    /// Ends the provider. Each pass's posts stand at rising places, in the order in which it posted
+    /// them. While a subscription is open it doesn't compile, since the subscription borrows the
+    /// provider; no proof follows that, so a lane that is still given out would be waited for.
     pub fn settle<R: Wait>(self, rt: &R, passes: Vec<Pass<N>>) -> Settled
         ensures settled { IsSettled (own_of passes.items) result }
+        ensures rising { All (λ pass. IsRising pass.own) passes.items }
         ensures complete { IsTrue result.complete ↔ (length passes.items ≡ N.parts) }
     {
         let (cast, book) = self.into_parts();
@@ -32,6 +35,7 @@ impl<N: Origin> Book<N> {
     /// Ends a Book, and with it its log.
     pub fn settle<R: Wait>(self, rt: &R, cast: Cast<N>, passes: Vec<Pass<N>>) -> Settled
         ensures settled { IsSettled (own_of passes.items) result }
+        ensures rising { All (λ pass. IsRising pass.own) passes.items }
         ensures complete { IsTrue result.complete ↔ (length passes.items ≡ N.parts) }
     {
         let Counts {
@@ -70,6 +74,7 @@ fn audit<N: Origin>(
     ensures same { log.new ≡ log.old }
     ensures stand { Stand (own_of passes.items) log.old.tail.log }
     ensures once { Once (own_of passes.items) }
+    ensures rising { All (λ pass. IsRising pass.own) passes.items }
     ensures all { IsTrue result → (place : ℕ) → place < length log.old.tail.log
         → IsOwn (own_of passes.items) place }
     ensures complete { IsTrue result ↔ (length passes.items ≡ N.parts) }
@@ -88,6 +93,7 @@ fn join_all<N: Origin>(cast: &Cast<N>, passes: Vec<Pass<N>>) -> Option<(LogPass<
     ensures none { IfNone result (passes.items ≡ []) }
     ensures some { IfSome result (λ all. (all.0.own ≡ own_of passes.items)
         × (all.1.parts ≡ length passes.items) × (all.1.amount ≡ length (own_of passes.items))) }
+    ensures rising { All (λ pass. IsRising pass.own) passes.items }
 {
     let mut left = passes;
     let first = match left.pop() {

@@ -1,4 +1,4 @@
-use Rattle.std.proofs.Common.{◌≡◌, ◌++◌, ◌∷◌, [], List, length, refl, sym, ap, ◌∙◌, arith, length-append}
+use Rattle.std.proofs.Common.{◌≡◌, ◌++◌, ◌∷◌, [], List, length, refl, sym, ap, subst, ◌∙◌, arith, length-append}
 use Rattle.std.proofs.lemmas.List.{append_assoc}
 use Rattle.am_alert.specs.declared.alert.Alert.{Alert}
 use Rattle.am_store.specs.declared.call.Call.{Call}
@@ -6,7 +6,7 @@ use Rattle.am_cast.specs.declared.views.Own.{Own}
 use Rattle.am_cast.specs.Posters.{PassView}
 use Rattle.am_provider.specs.Batches.{Batch}
 use Rattle.am_provider.specs.Settling.{own_of}
-use Rattle.am_provider.proofs.Settling.{own_of_last}
+use Rattle.am_provider.proofs.Settling.{own_of_last, AreRising, rising_last}
 use Rattle.am_provider.proofs.settle.join_all.Goals as goal
 
 pub loop-next-init : goal.loop-next-init
@@ -17,6 +17,7 @@ loop-next-init g c =
       own = ap (λ (os : List (Own Batch)). os ++ own_of c.pop.new.self.items) own ∙ (sym (own_of_last c.pop.new.self.items c.in-Some.first) ∙ ap own_of (sym last));
       parts = omega (arith, ap length last, length-append c.pop.new.self.items (c.in-Some.first ∷ []), c.into_parts-pass.ensures.share.0);
       amount = c.into_parts-pass.ensures.share.1 ∙ ap length (sym own);
+      rising = λ all. subst AreRising (sym last) (rising_last c.pop.new.self.items c.in-Some.first c.into_parts-pass.ensures.rising all);
     }
 
 pub loop-next-preserved : goal.loop-next-preserved
@@ -34,6 +35,7 @@ loop-next-preserved g c =
           ∙ (ap (λ (os : List (Own Batch)). c.loop-next.pass.own ++ os) (sym (own_of_last left next) ∙ ap own_of (sym last)) ∙ so_far.own));
       parts = omega (arith, so_far.parts, ap length last, length-append left (next ∷ []), c.merge-in-Some-pop.ensures.parts, share.0);
       amount = omega (arith, so_far.amount, ap length merged, length-append c.loop-next.pass.own next.own, c.merge-in-Some-pop.ensures.amount, share.1);
+      rising = λ all. so_far.rising (subst AreRising (sym last) (rising_last left next c.into_parts-other.ensures.rising all));
     }
 
 empty : {A : Type 0} (xs : List A) → length xs ≡ 0 → xs ≡ []
