@@ -204,6 +204,7 @@ agrees_alike a b sound journal long roomy stored sent posts lanes closed =
       dropped = record {
         places = omega (arith, ap (λ (j : JournalView). j.places) journal, ap (λ (j : JournalView). j.posts) journal, sound.dropped.places);
         posts = omega (arith, ap (λ (j : JournalView). j.posts) journal, ap (λ (j : JournalView). j.before) journal, sound.dropped.posts);
+        lefts = omega (arith, ap (λ (j : JournalView). j.lefts) journal, ap (λ (j : JournalView). j.before) journal, sound.dropped.lefts);
         before = omega (arith, ap (λ (j : JournalView). j.before) journal, sound.dropped.before);
         lanes = omega (arith, ap (λ (j : JournalView). j.lanes) journal, sound.dropped.lanes);
       };

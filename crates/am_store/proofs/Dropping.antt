@@ -9,12 +9,12 @@ use Rattle.am_store.specs.declared.call.Call.TheVariants.{Posted, Collected, Sub
 use Rattle.std.specs.declared.alloc.Global.{Global}
 use Rattle.am_store.specs.declared.journal.Journal.{Journal}
 use Rattle.am_store.specs.declared.journal.TheConstants.{MAX_BEFORE}
-use Rattle.am_store.specs.Journal.{with_call, first_calls, closes, is_closed, is_post, posts_of, open_after, has_lane, is_open, IsLegal}
+use Rattle.am_store.specs.Journal.{with_call, first_calls, closes, is_closed, is_post, posts_of, is_left, lefts_of, open_after, has_lane, is_open, IsLegal}
 use Rattle.am_store.specs.Stored.{Update, updates, stored}
 use Rattle.am_store.specs.Broadcast.{batches_of, broadcast}
 use Rattle.am_store.specs.Trims.{IsTrimmed}
 use Rattle.am_store.specs.inside.Journals.{journal_of, AreCounted, IsOnALane, IsCounted, AreDropped}
-use Rattle.am_store.proofs.Journals.{get_drop, drop_twice, first_more, broadcast_last, closed_last, posts_last, open_last}
+use Rattle.am_store.proofs.Journals.{get_drop, drop_twice, first_more, broadcast_last, closed_last, posts_last, lefts_last, open_last}
 use Rattle.am_store.proofs.Kept.{or_false}
 use Rattle.am_store.proofs.LaneBits.{high_lane}
 
@@ -41,6 +41,13 @@ posts_few (Subscribed lane) = omega arith
 posts_few (Left lane) = omega arith
 posts_few Closed = omega arith
 
+lefts_few : (c : Call) → count_by is_left (c ∷ []) ≤ 1
+lefts_few (Posted now news) = omega arith
+lefts_few (Collected now) = omega arith
+lefts_few (Subscribed lane) = omega arith
+lefts_few (Left lane) = omega arith
+lefts_few Closed = omega arith
+
 pub none_dropped : (old : Journal) → AreCounted old → AreDropped old 0 old
 none_dropped old counted = record {
   calls = refl;
@@ -48,11 +55,13 @@ none_dropped old counted = record {
   before = refl;
   places = omega arith;
   posts = omega arith;
+  lefts = omega arith;
   lanes = λ lane. refl;
   eight = counted.lanes;
   closed = sym (or_false old.closed);
   fewer = counted.places;
   few = omega (arith, counted.posts);
+  few_lefts = omega (arith, counted.lefts);
 }
 
 -- where the next call stands
@@ -77,11 +86,13 @@ one_dropped old mid next i c left dropped first capacity counted =
       before = counted.before ∙ dropped.before;
       places = omega (arith, counted.places, dropped.places, sent, total);
       posts = counted.posts ∙ (ap (λ n. n + count_by is_post (c ∷ [])) dropped.posts ∙ sym (ap posts_of more ∙ posts_last front c));
+      lefts = counted.lefts ∙ (ap (λ n. n + count_by is_left (c ∷ [])) dropped.lefts ∙ sym (ap lefts_of more ∙ lefts_last front c));
       lanes = λ lane. counted.lanes lane ∙ (ap (λ was. open_after lane was c) (dropped.lanes lane) ∙ sym (ap (λ j. is_open j lane) more ∙ open_last front c lane));
       eight = counted.eight;
       closed = counted.closed ∙ (ap (λ b. b || closes c) dropped.closed ∙ sym (ap is_closed more ∙ closed_last front c));
       fewer = omega (arith, counted.places, counted.posts, dropped.fewer, batches_few c);
       few = omega (arith, counted.posts, dropped.few, posts_few c);
+      few_lefts = omega (arith, counted.lefts, dropped.few_lefts, lefts_few c);
     }
 
 -- a lane that is open is one of the eight
@@ -100,12 +111,13 @@ next_lane old mid i (Left lane) dropped legal e = open_low mid.lanes lane droppe
 next_lane old mid i Closed dropped legal e = tt
 
 pub trimmed_of : (old mid new : Journal) (count : ℕ) → AreDropped old count mid → new.store ≡ stored (updates (first_calls count (journal_of old)))
-    → new.before ≡ mid.before + count → new.places ≡ mid.places → new.posts ≡ mid.posts → new.lanes ≡ mid.lanes → new.closed ≡ mid.closed → new.calls ≡ mid.calls
+    → new.before ≡ mid.before + count → new.places ≡ mid.places → new.posts ≡ mid.posts → new.lefts ≡ mid.lefts → new.lanes ≡ mid.lanes → new.closed ≡ mid.closed → new.calls ≡ mid.calls
     → IsTrimmed (journal_of old) count (journal_of new)
-trimmed_of old mid new count dropped store before places posts lanes closed calls = record {
+trimmed_of old mid new count dropped store before places posts lefts lanes closed calls = record {
   before = omega (arith, before, dropped.before);
   places = places ∙ dropped.places;
   posts = posts ∙ dropped.posts;
+  lefts = lefts ∙ dropped.lefts;
   store = store;
   lanes = λ lane. ap (λ lanes. has_lane lanes lane) lanes ∙ dropped.lanes lane;
   closed = closed ∙ dropped.closed;
@@ -113,10 +125,11 @@ trimmed_of old mid new count dropped store before places posts lanes closed call
 }
 
 pub counted_of : (old mid new : Journal) (count : ℕ) → AreDropped old count mid → old.before + count ≤ MAX_BEFORE
-    → new.before ≡ mid.before + count → new.places ≡ mid.places → new.posts ≡ mid.posts → new.lanes ≡ mid.lanes → AreCounted new
-counted_of old mid new count dropped fits before places posts lanes = record {
+    → new.before ≡ mid.before + count → new.places ≡ mid.places → new.posts ≡ mid.posts → new.lefts ≡ mid.lefts → new.lanes ≡ mid.lanes → AreCounted new
+counted_of old mid new count dropped fits before places posts lefts lanes = record {
   places = omega (arith, places, posts, dropped.fewer);
   posts = omega (arith, posts, before, dropped.before, dropped.few);
+  lefts = omega (arith, lefts, before, dropped.before, dropped.few_lefts);
   before = omega (arith, before, dropped.before, fits);
   lanes = omega (arith, lanes, dropped.eight);
 }

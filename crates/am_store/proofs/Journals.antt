@@ -8,7 +8,7 @@ use Rattle.std.proofs.Math.Seq.{drop-nil}
 use Rattle.am_store.specs.declared.call.Call.{Call}
 use Rattle.am_store.specs.Stored.{Update, updates_of, call_updates, first_reports, updates, stored}
 use Rattle.am_store.specs.Broadcast.{batches_of, broadcast_from, broadcast, items_of, due}
-use Rattle.am_store.specs.Journal.{JournalView, with_call, call_count, first_calls, until, since, closes, is_closed, is_post, posts_of, open_after, open_from, has_lane, is_open, MayFollow, IsLegal}
+use Rattle.am_store.specs.Journal.{JournalView, with_call, call_count, first_calls, until, since, closes, is_closed, is_post, posts_of, is_left, lefts_of, open_after, open_from, has_lane, is_open, MayFollow, IsLegal}
 
 -- ---- lists
 
@@ -78,6 +78,9 @@ open_append lane was (x ∷ xs) ys = open_append lane (open_after lane was x) xs
 pub posts_append : (xs ys : List Call) → count_by is_post (xs ++ ys) ≡ count_by is_post xs + count_by is_post ys
 posts_append xs ys = sum_by-append (λ (call : Call). cond (is_post call) 1 0) xs ys
 
+pub lefts_append : (xs ys : List Call) → count_by is_left (xs ++ ys) ≡ count_by is_left xs + count_by is_left ys
+lefts_append xs ys = sum_by-append (λ (call : Call). cond (is_left call) 1 0) xs ys
+
 pub updates_append : (before : List Update) (xs ys : List Call) → before ++ call_updates (xs ++ ys) ≡ (before ++ call_updates xs) ++ call_updates ys
 updates_append before xs ys = ap (λ ss. before ++ ss) (flat_map-append updates_of xs ys) ∙ sym (append_assoc before (call_updates xs) (call_updates ys))
 
@@ -110,6 +113,9 @@ closed_last journal c =
 
 pub posts_last : (journal : JournalView) (c : Call) → posts_of (with_call journal c) ≡ posts_of journal + count_by is_post (c ∷ [])
 posts_last journal c = omega (arith, posts_append journal.calls (c ∷ []))
+
+pub lefts_last : (journal : JournalView) (c : Call) → lefts_of (with_call journal c) ≡ lefts_of journal + count_by is_left (c ∷ [])
+lefts_last journal c = omega (arith, lefts_append journal.calls (c ∷ []))
 
 pub open_last : (journal : JournalView) (c : Call) (lane : ℕ) → is_open (with_call journal c) lane ≡ open_after lane (is_open journal lane) c
 open_last journal c lane = open_append lane (has_lane journal.lanes lane) journal.calls (c ∷ [])

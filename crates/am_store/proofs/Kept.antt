@@ -57,6 +57,7 @@ sound_grown a b c sound may grows =
     let places : b.journal.places ≡ a.journal.places = ap (λ (j : JournalView). j.places) grows.journal in
     let bits : b.journal.lanes ≡ a.journal.lanes = ap (λ (j : JournalView). j.lanes) grows.journal in
     let posts : b.journal.posts ≡ a.journal.posts = ap (λ (j : JournalView). j.posts) grows.journal in
+    let lefts : b.journal.lefts ≡ a.journal.lefts = ap (λ (j : JournalView). j.lefts) grows.journal in
     let before : b.journal.before ≡ a.journal.before = ap (λ (j : JournalView). j.before) grows.journal in
     record {
       kept = subst (λ j. FollowsJournal (record { stored = b.stored; journal = j; log = b.sent })) (sym grows.journal) (follows_grown a b c sound may grows);
@@ -68,6 +69,7 @@ sound_grown a b c sound may grows =
       dropped = record {
         places = omega (arith, places, posts, sound.dropped.places);
         posts = omega (arith, posts, before, sound.dropped.posts);
+        lefts = omega (arith, lefts, before, sound.dropped.lefts);
         before = omega (arith, before, sound.dropped.before);
         lanes = omega (arith, bits, sound.dropped.lanes);
       };

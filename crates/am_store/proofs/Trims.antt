@@ -9,7 +9,7 @@ use Rattle.am_labels.specs.LabelSets.{same_labels}
 use Rattle.am_labels.specs.LabelLaws.{labels_equiv}
 use Rattle.am_store.specs.declared.call.Call.{Call}
 use Rattle.am_store.specs.declared.call.Call.TheVariants.{Posted, Collected, Subscribed, Left, Closed}
-use Rattle.am_store.specs.Journal.{JournalView, first_calls, until, since, closes, is_closed, posts_of, open_from, has_lane, is_open, IsLowestIdle, MayFollow, IsKept, IsOpenSubscription, IsLegal}
+use Rattle.am_store.specs.Journal.{JournalView, first_calls, until, since, closes, is_closed, posts_of, lefts_of, open_from, has_lane, is_open, IsLowestIdle, MayFollow, IsKept, IsOpenSubscription, IsLegal}
 use Rattle.am_store.specs.PlainBook.{PlainBook, FollowsJournal}
 use Rattle.am_store.specs.Stored.{Update, Report, Collect, updates_of, call_updates, first_reports, updates, stored}
 use Rattle.am_store.specs.Broadcast.{batches_of, broadcast_from, broadcast, items_of, due}
@@ -17,7 +17,7 @@ use Rattle.am_store.specs.AlertList.{lookup, absorb_into, absent, AreDistinct, b
 use Rattle.am_store.specs.Trims.{AreBeforeOpen, IsTrimmed}
 use Rattle.am_store.specs.Laws.{StartsWithBase, TrimmedGivesTheSame, TrimmedGrows, TrimmedTwice, OneTrim}
 use Rattle.am_store.proofs.Kept.{or_false}
-use Rattle.am_store.proofs.Journals.{get_drop, drop_front, drop_twice, take_parts, closes_append, open_append, posts_append, updates_append, cast_append, first_stays, or_assoc}
+use Rattle.am_store.proofs.Journals.{get_drop, drop_front, drop_twice, take_parts, closes_append, open_append, posts_append, lefts_append, updates_append, cast_append, first_stays, or_assoc}
 use Rattle.am_store.proofs.Stored.{by_bool, agrees, absorb_into_absent, stored_report, stored_collect, batch_of_post}
 
 -- ---- what comes after rests on what is stored before alone
@@ -125,6 +125,10 @@ module _ (whole trimmed : JournalView) (count : ℕ) (of : IsTrimmed whole count
   unfolding after grown
   posts_same = omega (arith, of.posts, posts_append (take count whole.calls) more)
 
+  lefts_same : lefts_of (after trimmed more) ≡ lefts_of (grown whole count more)
+  unfolding after grown
+  lefts_same = omega (arith, of.lefts, lefts_append (take count whole.calls) more)
+
 -- all calls
 all_grown : (whole trimmed : JournalView) (count : ℕ) → IsTrimmed whole count trimmed → grown whole count trimmed.calls ≡ whole
 unfolding grown
@@ -160,6 +164,10 @@ module _ (whole trimmed : JournalView) (count : ℕ) (of : IsTrimmed whole count
   unfolding after
   trimmed_posts = posts_same whole trimmed count of trimmed.calls ∙ ap posts_of (all_grown whole trimmed count of)
 
+  pub trimmed_lefts : lefts_of trimmed ≡ lefts_of whole
+  unfolding after
+  trimmed_lefts = lefts_same whole trimmed count of trimmed.calls ∙ ap lefts_of (all_grown whole trimmed count of)
+
   -- the same after so many of its first calls
   pub first_stored : (k : ℕ) → stored (updates (first_calls k trimmed)) ≡ stored (updates (first_calls (count + k) whole))
   unfolding after
@@ -180,6 +188,10 @@ module _ (whole trimmed : JournalView) (count : ℕ) (of : IsTrimmed whole count
   pub first_posts : (k : ℕ) → posts_of (first_calls k trimmed) ≡ posts_of (first_calls (count + k) whole)
   unfolding after
   first_posts k = posts_same whole trimmed count of (take k trimmed.calls) ∙ ap posts_of (first_grown whole trimmed count k of)
+
+  pub first_lefts : (k : ℕ) → lefts_of (first_calls k trimmed) ≡ lefts_of (first_calls (count + k) whole)
+  unfolding after
+  first_lefts k = lefts_same whole trimmed count of (take k trimmed.calls) ∙ ap lefts_of (first_grown whole trimmed count k of)
 
   -- where a call stands in both
   pub moved : (at : ℕ) → trimmed.before ≤ at → count + (at - trimmed.before) ≡ at - whole.before
@@ -225,6 +237,7 @@ trimmed_gives_the_same whole trimmed count within of =
       lanes = trimmed_open whole trimmed count of;
       closed = trimmed_closed whole trimmed count of;
       posts = trimmed_posts whole trimmed count of;
+      lefts = trimmed_lefts whole trimmed count of;
       sent = sym (ap (λ n. drop n (broadcast whole)) places ∙ (ap (drop (length front)) (trimmed_sent whole trimmed count of) ∙ drop-append_seam front (broadcast trimmed)));
       due = due_same whole trimmed count of;
       follow = λ call. (
@@ -240,6 +253,7 @@ trimmed_grows whole trimmed count call within of =
       before = of.before;
       places = of.places ∙ ap (λ j. whole.places + length (broadcast j)) same;
       posts = of.posts ∙ ap posts_of same;
+      lefts = of.lefts ∙ ap lefts_of same;
       store = of.store ∙ ap (λ j. stored (updates j)) same;
       lanes = λ lane. of.lanes lane ∙ ap (λ j. is_open j lane) same;
       closed = of.closed ∙ ap is_closed same;
@@ -251,6 +265,7 @@ trimmed_twice whole once twice first more fits fits_more a b = record {
   before = omega (arith, a.before, b.before);
   places = omega (arith, a.places, b.places, ap length (first_sent whole once first a more), length-append (broadcast (first_calls first whole)) (broadcast (first_calls more once)));
   posts = b.posts ∙ first_posts whole once first a more;
+  lefts = b.lefts ∙ first_lefts whole once first a more;
   store = b.store ∙ first_stored whole once first a more;
   lanes = λ lane. b.lanes lane ∙ first_open whole once first a more lane;
   closed = b.closed ∙ first_closed whole once first a more;
@@ -320,6 +335,7 @@ none_trimmed journal distinct = record {
   before = omega arith;
   places = omega arith;
   posts = omega arith;
+  lefts = omega arith;
   store = sym (ap stored (append-nil (first_reports journal.store)) ∙ starts_with_base journal.store distinct);
   lanes = λ lane. refl;
   closed = sym (or_false journal.closed);

@@ -7,13 +7,14 @@ use Rattle.am_alert.specs.declared.alert.Alert.{Alert}
 use Rattle.am_store.specs.declared.call.Call.{Call}
 use Rattle.am_store.specs.declared.call.Call.TheVariants.{Posted, Collected, Subscribed, Left, Closed}
 
--- a journal: how many of its first calls were dropped, how many batches they sent out and how many
--- posts were among them, what was stored, which lanes were open (lane l in bit l) and whether the
--- log was ended after them, and the calls since
+-- a journal: how many of its first calls were dropped, how many batches they sent out, how many posts
+-- were among them and how many subscriptions they gave back, what was stored, which lanes were open
+-- (lane l in bit l) and whether the log was ended after them, and the calls since
 pub record JournalView : Type 0 where
   pub before : ℕ
   pub places : ℕ
   pub posts : ℕ
+  pub lefts : ℕ
   pub store : List Alert
   pub lanes : ℕ
   pub closed : Bool
@@ -22,7 +23,7 @@ pub record JournalView : Type 0 where
 -- the journal before any call
 abbrev pub new_journal : JournalView
 new_journal =
-    record { before = 0; places = 0; posts = 0; store = []; lanes = 0; closed = false; calls = [] }
+    record { before = 0; places = 0; posts = 0; lefts = 0; store = []; lanes = 0; closed = false; calls = [] }
 
 -- the journal with one call more
 abbrev pub with_call : JournalView → Call → JournalView
@@ -67,6 +68,18 @@ is_post Closed = false
 -- how many posts there were, with an alert or without
 abbrev pub posts_of : JournalView → ℕ
 posts_of journal = journal.posts + count_by is_post journal.calls
+
+-- whether a call gives a subscription back
+abbrev pub is_left : Call → Bool
+is_left (Posted now alerts) = false
+is_left (Collected now) = false
+is_left (Subscribed lane) = false
+is_left (Left lane) = true
+is_left Closed = false
+
+-- how many subscriptions were given back
+abbrev pub lefts_of : JournalView → ℕ
+lefts_of journal = journal.lefts + count_by is_left journal.calls
 
 -- whether a lane is open after one more call
 abbrev pub open_after : ℕ → Bool → Call → Bool

@@ -5,7 +5,7 @@ use Rattle.am_alert.specs.declared.alert.Alert.{Alert}
 use Rattle.am_labels.specs.LabelSets.{Labels}
 use Rattle.am_store.specs.declared.call.Call.{Call}
 use Rattle.am_store.specs.declared.call.Call.TheVariants.{Posted, Collected, Subscribed, Left, Closed}
-use Rattle.am_store.specs.Journal.{JournalView, with_call, call_count, until, is_closed, posts_of, open_after, is_open, IsOpenSubscription, MayFollow}
+use Rattle.am_store.specs.Journal.{JournalView, with_call, call_count, until, is_closed, posts_of, lefts_of, open_after, is_open, IsOpenSubscription, MayFollow}
 use Rattle.am_store.specs.Stored.{Update, Holding, holding_of, first_reports, updates, stored}
 use Rattle.am_store.specs.Broadcast.{broadcast, due, IsFront}
 use Rattle.am_store.specs.Trims.{AreBeforeOpen, IsTrimmed}
@@ -85,6 +85,7 @@ pub record GiveTheSame (whole trimmed : JournalView) : Type 0 where
   pub lanes : (lane : ℕ) → is_open trimmed lane ≡ is_open whole lane
   pub closed : is_closed trimmed ≡ is_closed whole
   pub posts : posts_of trimmed ≡ posts_of whole
+  pub lefts : lefts_of trimmed ≡ lefts_of whole
   pub sent : broadcast trimmed ≡ drop (trimmed.places - whole.places) (broadcast whole)
   pub due : (at : ℕ) → trimmed.before ≤ at → due trimmed at ≡ due whole at
   pub follow : (call : Call) → MayFollow trimmed call ↔ MayFollow whole call

@@ -1,7 +1,7 @@
 -- What a trim drops of a journal, and what it leaves.
 use Rattle.std.specs.Prelude.{◌≡◌, ℕ, ◌+◌, ◌≤◌, ◌⊎◌, if◌then◌else◌, nat_le, length, drop}
 use Rattle.am_store.specs.declared.journal.TheConstants.{MAX_BEFORE}
-use Rattle.am_store.specs.Journal.{JournalView, first_calls, is_closed, posts_of, has_lane, is_open, IsOpenSubscription}
+use Rattle.am_store.specs.Journal.{JournalView, first_calls, is_closed, posts_of, lefts_of, has_lane, is_open, IsOpenSubscription}
 use Rattle.am_store.specs.Stored.{updates, stored}
 use Rattle.am_store.specs.Broadcast.{broadcast}
 
@@ -24,6 +24,7 @@ pub record IsTrimmed (old : JournalView) (count : ℕ) (new : JournalView) : Typ
   pub before : new.before ≡ old.before + count
   pub places : new.places ≡ old.places + length (broadcast (first_calls count old))
   pub posts : new.posts ≡ posts_of (first_calls count old)
+  pub lefts : new.lefts ≡ lefts_of (first_calls count old)
   pub store : new.store ≡ stored (updates (first_calls count old))
   pub lanes : (lane : ℕ) → has_lane new.lanes lane ≡ is_open (first_calls count old) lane
   pub closed : new.closed ≡ is_closed (first_calls count old)

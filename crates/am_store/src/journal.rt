@@ -25,6 +25,8 @@ pub struct Journal {
     pub places: u64,
     /// How many posts were among them.
     pub posts: u64,
+    /// How many subscriptions they gave back.
+    pub lefts: u64,
     /// What was stored after them.
     pub store: StoredAlerts,
     /// The lanes that were open after them, lane `l` in bit `l`.
@@ -44,6 +46,7 @@ impl Journal {
             before: 0,
             places: 0,
             posts: 0,
+            lefts: 0,
             store: StoredAlerts::new(alloc, Vec::new(alloc))?,
             lanes: 0,
             closed: false,
@@ -81,7 +84,7 @@ impl Journal {
 
     // Counts a call among those that were dropped.
     fn count_dropped(&mut self, call: &Call)
-        requires countable { self.old.posts < MAX_BEFORE }
+        requires countable { (self.old.posts < MAX_BEFORE) × (self.old.lefts < MAX_BEFORE) }
         requires counted { self.old.places ≤ self.old.posts }
         requires lanes { self.old.lanes < 2 ^ 8 }
         requires lane { IsOnALane call.now }
@@ -96,7 +99,10 @@ impl Journal {
             }
             Call::Collected(_) => {}
             Call::Subscribed(lane) => self.lanes |= 1 << *lane,
-            Call::Left(lane) => self.lanes &= !(1 << *lane),
+            Call::Left(lane) => {
+                self.lefts += 1;
+                self.lanes &= !(1 << *lane);
+            }
             Call::Closed => self.closed = true,
         }
     }

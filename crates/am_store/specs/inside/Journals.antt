@@ -5,7 +5,7 @@ use Rattle.am_store.specs.declared.journal.Journal.{Journal}
 use Rattle.am_store.specs.declared.journal.TheConstants.{MAX_BEFORE}
 use Rattle.am_store.specs.declared.call.Call.{Call}
 use Rattle.am_store.specs.declared.call.Call.TheVariants.{Posted, Collected, Subscribed, Left, Closed}
-use Rattle.am_store.specs.Journal.{JournalView, first_calls, closes, is_closed, is_post, posts_of, open_after, has_lane, is_open}
+use Rattle.am_store.specs.Journal.{JournalView, first_calls, closes, is_closed, is_post, posts_of, is_left, lefts_of, open_after, has_lane, is_open}
 use Rattle.am_store.specs.Broadcast.{batches_of, broadcast}
 
 -- a journal as contracts see it
@@ -14,17 +14,19 @@ journal_of journal = record {
   before = journal.before;
   places = journal.places;
   posts = journal.posts;
+  lefts = journal.lefts;
   store = journal.store;
   lanes = journal.lanes;
   closed = journal.closed;
   calls = journal.calls.items;
 }
 
--- a dropped batch is a dropped post's, a dropped post is a dropped call, these can be counted, and
--- there are eight lanes
+-- a dropped batch is a dropped post's, a dropped post or Left is a dropped call, these can be counted,
+-- and there are eight lanes
 pub record AreCounted (journal : Journal) : Type 0 where
   pub places : journal.places ≤ journal.posts
   pub posts : journal.posts ≤ journal.before
+  pub lefts : journal.lefts ≤ journal.before
   pub before : journal.before ≤ MAX_BEFORE
   pub lanes : journal.lanes < 2 ^ 8
 
@@ -40,6 +42,7 @@ IsOnALane Closed = Unit {0}
 pub record IsCounted (old : Journal) (call : Call) (new : Journal) : Type 0 where
   pub places : new.places ≡ old.places + length (batches_of [] call)
   pub posts : new.posts ≡ old.posts + count_by is_post (call ∷ [])
+  pub lefts : new.lefts ≡ old.lefts + count_by is_left (call ∷ [])
   pub lanes : (lane : ℕ) → has_lane new.lanes lane ≡ open_after lane (has_lane old.lanes lane) call
   pub eight : new.lanes < 2 ^ 8
   pub closed : new.closed ≡ (old.closed || closes call)
@@ -54,9 +57,11 @@ pub record AreDropped (old : Journal) (count : ℕ) (new : Journal) : Type 0 whe
   pub before : new.before ≡ old.before
   pub places : new.places ≡ old.places + length (broadcast (first_calls count (journal_of old)))
   pub posts : new.posts ≡ posts_of (first_calls count (journal_of old))
+  pub lefts : new.lefts ≡ lefts_of (first_calls count (journal_of old))
   pub lanes : (lane : ℕ)
       → has_lane new.lanes lane ≡ is_open (first_calls count (journal_of old)) lane
   pub eight : new.lanes < 2 ^ 8
   pub closed : new.closed ≡ is_closed (first_calls count (journal_of old))
   pub fewer : new.places ≤ new.posts
   pub few : new.posts ≤ old.before + count
+  pub few_lefts : new.lefts ≤ old.before + count

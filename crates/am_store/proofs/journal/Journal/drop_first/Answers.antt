@@ -9,7 +9,8 @@ pub loop-init : goal.loop-init
 loop-init c = none_dropped c.args.self.now c.requires.counted
 
 pub count_dropped-requires-clause-countable : goal.count_dropped-requires-clause-countable
-count_dropped-requires-clause-countable c = omega (arith, c.loop.invariant.few, c.loop-test.true, c.requires.countable)
+count_dropped-requires-clause-countable c =
+    (omega (arith, c.loop.invariant.few, c.loop-test.true, c.requires.countable), omega (arith, c.loop.invariant.few_lefts, c.loop-test.true, c.requires.countable))
 
 pub count_dropped-requires-clause-counted : goal.count_dropped-requires-clause-counted
 count_dropped-requires-clause-counted c = c.loop.invariant.fewer
@@ -44,10 +45,10 @@ all_dropped c =
     subst (λ n. AreDropped c.args.self.now n c.loop.self) all c.loop.invariant
 
 pub returns-clause-trimmed : goal.returns-clause-trimmed
-returns-clause-trimmed c = trimmed_of c.args.self.now c.loop.self _ c.args.count (all_dropped c) c.requires.store refl refl refl refl refl refl
+returns-clause-trimmed c = trimmed_of c.args.self.now c.loop.self _ c.args.count (all_dropped c) c.requires.store refl refl refl refl refl refl refl
 
 pub returns-clause-counted : goal.returns-clause-counted
-returns-clause-counted c = counted_of c.args.self.now c.loop.self _ c.args.count (all_dropped c) c.requires.countable refl refl refl refl
+returns-clause-counted c = counted_of c.args.self.now c.loop.self _ c.args.count (all_dropped c) c.requires.countable refl refl refl refl refl
 
 pub returns-clause-capacity : goal.returns-clause-capacity
 returns-clause-capacity c = (all_dropped c).capacity
