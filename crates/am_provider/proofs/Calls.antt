@@ -22,7 +22,7 @@ use Rattle.am_store.specs.declared.call.Call.{Call}
 use Rattle.am_store.specs.declared.call.Call.TheVariants.{Posted, Subscribed, Left, Closed}
 use Rattle.am_store.specs.declared.lanes.OpenLane.{OpenLane}
 use Rattle.am_store.specs.AlertList.{with_alerts, batch_by_list}
-use Rattle.am_store.specs.Journal.{JournalView, with_call, call_count, until, MayFollow}
+use Rattle.am_store.specs.Journal.{JournalView, with_call, call_count, until, lefts_of, MayFollow}
 use Rattle.am_store.specs.Stored.{stored}
 use Rattle.am_store.specs.Broadcast.{broadcast, items_of, due, IsFront}
 use Rattle.am_store.specs.inside.Journals.{journal_of}
@@ -39,20 +39,20 @@ use Rattle.am_provider.specs.Subscriptions.{SubscriptionView, taken}
 use Rattle.am_provider.specs.inside.Shelves.{Shelf, pages_of, IsKeptLane, IsKeptBook}
 use Rattle.am_provider.specs.inside.Subscribed.{IsSubscription}
 use Rattle.am_provider.specs.Lefts.{left_ats}
-use Rattle.am_provider.proofs.Lefts.{lefts_quiet, lefts_left}
+use Rattle.am_provider.proofs.Lefts.{lefts_quiet, lefts_left, count_quiet, count_left}
 use Rattle.am_provider.proofs.Shelves.{kept_grown, GoesOnAs, same_account, lane_stays, posts_grown, ending_grown, endings_grown}
 
 -- ---- the end of the log
 
 pub kept_closed : (a b : Shelf) (counted places : ℕ) → IsKeptBook a counted places → a.log.tail.closed ≡ false → journal_of b.journal ≡ with_call (journal_of a.journal) Closed
-    → b.stored ≡ a.stored → b.log ≡ record a.log { tail = shut_tail a.log.tail } → b.lanes ≡ a.lanes → b.posts ≡ a.posts → b.endings ≡ a.endings
+    → b.stored ≡ a.stored → b.log ≡ record a.log { tail = shut_tail a.log.tail } → b.lanes ≡ a.lanes → b.posts ≡ a.posts → b.endings ≡ a.endings → b.early ≡ a.early
     → (deque_len b.journal.calls ≡ deque_len a.journal.calls + 1) × (deque_capacity a.journal.calls ≤ deque_capacity b.journal.calls) → IsKeptBook b counted places
-kept_closed a b counted places kept still journal stored log lanes posts endings room =
+kept_closed a b counted places kept still journal stored log lanes posts endings early room =
     kept_grown a b counted counted places places Closed kept
     (sound_closed (pages_of a) (pages_of b) kept.pages still journal stored (ap (λ (q : LogView). sent_in q.tail.log) log) lanes posts (ap (λ (q : LogView). q.tail.closed) log) room)
     (sym kept.pages.closed ∙ still) (λ came. refl) journal (ap (λ (q : LogView). posts_in q.tail.log) log ∙ sym (append-nil (posts_in a.log.tail.log))) lanes
     (λ lane small. same_account (account_of a.log lane) (account_of b.log lane) (ap (λ (q : LogView). account_of q lane) log))
-    endings (kept.total ∙ ap (λ (q : LogView). length q.tail.log) (sym log)) (omega arith)
+    endings early (kept.total ∙ ap (λ (q : LogView). length q.tail.log) (sym log)) (omega arith)
 
 -- ---- a post
 
@@ -69,8 +69,8 @@ pub kept_posted : (a b : Shelf) (counted more places now : ℕ) (news batch : Li
     → length batch ≡ length news → length news ≤ MAX_ALERTS → 0 < length news → length a.log.tail.log < most
     → x.post ≡ Posted now news → keys.items_of x ≡ batch → b.log.tail ≡ longer_tail x a.log.tail
     → ((lane : ℕ) → lane < 8 → GoesOnAs (account_of a.log lane) (account_of b.log lane))
-    → b.lanes ≡ a.lanes → b.posts ≡ a.posts + 1 → b.endings ≡ a.endings → more ≡ counted + 1 → deque_len b.journal.calls + 9 ≤ deque_capacity b.journal.calls → IsKeptBook b more places
-kept_posted a b counted more places now news batch x kept still journal stored sent long few some fits post items tail on lanes posts endings counts room =
+    → b.lanes ≡ a.lanes → b.posts ≡ a.posts + 1 → b.endings ≡ a.endings → b.early ≡ a.early → more ≡ counted + 1 → deque_len b.journal.calls + 9 ≤ deque_capacity b.journal.calls → IsKeptBook b more places
+kept_posted a b counted more places now news batch x kept still journal stored sent long few some fits post items tail on lanes posts endings early counts room =
     let log : b.log.tail.log ≡ a.log.tail.log ++ x ∷ [] = ap (λ (t : Tail Batch). t.log) tail in
     let none : nat_eq (length batch) 0 ≡ false = none_zero batch (omega arith) in
     let all : sent_in b.log.tail.log ≡ cond (nat_eq (length batch) 0) (sent_in a.log.tail.log) (sent_in a.log.tail.log ++ batch ∷ []) =
@@ -81,18 +81,18 @@ kept_posted a b counted more places now news batch x kept still journal stored s
     (sound_posted (pages_of a) (pages_of b) now news batch kept.pages still journal stored all sent long few (λ h. omega arith) (ap (λ (t : Tail Batch). t.closed) tail) lanes posts room)
     (sym kept.pages.closed ∙ still) (λ came. refl) journal
     (ap posts_in log ∙ (map-append (λ (y : Batch). y.post) a.log.tail.log (x ∷ []) ∙ (ap (λ one. posts_in a.log.tail.log ++ one ∷ []) post ∙ ap (λ xs. posts_in a.log.tail.log ++ xs) (sym (sends_some now news some)))))
-    lanes on endings
+    lanes on endings early
     (counts ∙ (ap (λ n. n + 1) kept.total ∙ sym (ap length log ∙ length-append a.log.tail.log (x ∷ [])))) (omega arith)
 
 pub kept_empty : (a b : Shelf) (counted places now : ℕ) → IsKeptBook a counted places → a.log.tail.closed ≡ false
-    → journal_of b.journal ≡ with_call (journal_of a.journal) (Posted now []) → b.stored ≡ a.stored → b.log ≡ a.log → b.lanes ≡ a.lanes → b.posts ≡ a.posts + 1 → b.endings ≡ a.endings
+    → journal_of b.journal ≡ with_call (journal_of a.journal) (Posted now []) → b.stored ≡ a.stored → b.log ≡ a.log → b.lanes ≡ a.lanes → b.posts ≡ a.posts + 1 → b.endings ≡ a.endings → b.early ≡ a.early
     → deque_len b.journal.calls + 9 ≤ deque_capacity b.journal.calls → IsKeptBook b counted places
-kept_empty a b counted places now kept still journal stored log lanes posts endings room =
+kept_empty a b counted places now kept still journal stored log lanes posts endings early room =
     kept_grown a b counted counted places places (Posted now []) kept
     (sound_posted (pages_of a) (pages_of b) now [] [] kept.pages still journal stored (ap (λ (q : LogView). sent_in q.tail.log) log) refl refl (omega arith) (λ h. absurd (omega arith)) (ap (λ (q : LogView). q.tail.closed) log) lanes posts room)
     (sym kept.pages.closed ∙ still) (λ came. refl) journal (ap (λ (q : LogView). posts_in q.tail.log) log ∙ sym (append-nil (posts_in a.log.tail.log))) lanes
     (λ lane small. same_account (account_of a.log lane) (account_of b.log lane) (ap (λ (q : LogView). account_of q lane) log))
-    endings (kept.total ∙ ap (λ (q : LogView). length q.tail.log) (sym log)) (omega arith)
+    endings early (kept.total ∙ ap (λ (q : LogView). length q.tail.log) (sym log)) (omega arith)
 
 -- ---- a subscription
 
@@ -133,9 +133,9 @@ pub kept_subscribed : (a b : Shelf) (counted places room lane : ℕ) (one : Open
     → journal_of b.journal ≡ with_call (journal_of a.journal) (Subscribed lane) → one.at ≡ call_count (journal_of a.journal) → one.opening ≡ a.stored
     → b.stored ≡ a.stored → b.log.tail ≡ a.log.tail → (account_of b.log lane).stand ≡ live → (account_of b.log lane).note ≡ Some one → (account_of b.log lane).start ≡ length a.log.tail.log
     → ((other : ℕ) → other ≢ lane → account_of b.log other ≡ account_of a.log other)
-    → b.lanes ≡ set a.lanes lane (Some one) → b.posts ≡ a.posts → b.endings ≡ a.endings → deque_len b.journal.calls + 9 ≤ deque_capacity b.journal.calls
+    → b.lanes ≡ set a.lanes lane (Some one) → b.posts ≡ a.posts → b.endings ≡ a.endings → b.early ≡ a.early → deque_len b.journal.calls + 9 ≤ deque_capacity b.journal.calls
     → length b.endings + 8 ≤ room → IsKeptBook b counted room
-kept_subscribed a b counted places room lane one kept still low journal at opening stored tail stand note start others lanes posts endings deque roomy =
+kept_subscribed a b counted places room lane one kept still low journal at opening stored tail stand note start others lanes posts endings early deque roomy =
     let old = journal_of a.journal in
     let within : lane < length a.lanes = omega (arith, low.within, kept.pages.eight) in
     let pages = sound_subscribed (pages_of a) (pages_of b) lane one kept.pages still low journal at opening stored (ap (λ (t : Tail Batch). sent_in t.log) tail) lanes (ap (λ (t : Tail Batch). t.closed) tail) posts deque in
@@ -146,6 +146,7 @@ kept_subscribed a b counted places room lane one kept still low journal at openi
     record {
       pages = pages;
       lefts = ap (map (λ (e : Ended). e.at)) endings ∙ (kept.lefts ∙ (lefts_quiet old (Subscribed lane) (λ came. refl) ∙ sym (ap left_ats journal)));
+      ends = omega (arith, kept.ends, early, ap length endings, ap lefts_of journal, count_quiet old (Subscribed lane) (λ came. refl));
       posts = subst (λ (j : JournalView). drop j.places (posts_in b.log.tail.log) ≡ filter sends j.calls) (sym journal)
           (posts_grown old a.log.tail.log b.log.tail.log (Subscribed lane) kept.posts low_places (ap (λ (t : Tail Batch). posts_in t.log) tail ∙ sym (append-nil (posts_in a.log.tail.log))));
       lanes = λ other small.
@@ -352,10 +353,10 @@ lane_leaves journal lane other o was is free same its kept =
 pub kept_left : (a b : Shelf) (counted places room : ℕ) (s : SubscriptionView) (one : OpenLane) (ended : Ended) → IsKeptBook a counted places → Leaving a s one → s.cursor.lane.number < 8
     → journal_of b.journal ≡ with_call (journal_of a.journal) (Left s.cursor.lane.number) → b.stored ≡ a.stored → b.log.tail ≡ a.log.tail → (account_of b.log s.cursor.lane.number).stand ≡ idle
     → ((other : ℕ) → other ≢ s.cursor.lane.number → account_of b.log other ≡ account_of a.log other)
-    → b.lanes ≡ set a.lanes s.cursor.lane.number None → b.posts ≡ a.posts → b.endings ≡ a.endings ++ ended ∷ []
+    → b.lanes ≡ set a.lanes s.cursor.lane.number None → b.posts ≡ a.posts → b.endings ≡ a.endings ++ ended ∷ [] → b.early ≡ a.early
     → ended.at ≡ s.at → ended.taken ≡ length (taken s) → ended.closed ≡ s.closed_told
     → (deque_len b.journal.calls ≡ deque_len a.journal.calls + 1) × (deque_capacity a.journal.calls ≤ deque_capacity b.journal.calls) → places ≤ room → IsKeptBook b counted room
-kept_left a b counted places room s one ended kept by small journal stored tail free others lanes posts endings at count closed deque roomy =
+kept_left a b counted places room s one ended kept by small journal stored tail free others lanes posts endings early at count closed deque roomy =
     let lane = s.cursor.lane.number in
     let old = journal_of a.journal in
     let within : lane < length a.lanes = omega (arith, kept.pages.eight) in
@@ -370,6 +371,7 @@ kept_left a b counted places room s one ended kept by small journal stored tail 
       pages = pages;
       lefts = ap (map (λ (e : Ended). e.at)) endings ∙ (map-append (λ (e : Ended). e.at) a.endings (ended ∷ []) ∙ (ap (λ xs. xs ++ ended.at ∷ []) kept.lefts
           ∙ (ap (λ n. left_ats old ++ n ∷ []) (at ∙ by.at) ∙ (sym (lefts_left old lane one.at kept.pages.kept.legal by.its.given) ∙ sym (ap left_ats journal)))));
+      ends = omega (arith, kept.ends, early, more, ap lefts_of journal, count_left old lane);
       posts = subst (λ (j : JournalView). drop j.places (posts_in b.log.tail.log) ≡ filter sends j.calls) (sym journal)
           (posts_grown old a.log.tail.log b.log.tail.log (Left lane) kept.posts low_places (ap (λ (t : Tail Batch). posts_in t.log) tail ∙ sym (append-nil (posts_in a.log.tail.log))));
       lanes = λ other inside.

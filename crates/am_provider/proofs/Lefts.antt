@@ -1,5 +1,6 @@
 -- How the subscriptions that were given back follow from a journal as it grows and is trimmed.
 use Rattle.std.proofs.Common.{◌≡◌, ℕ, zero, suc, ◌+◌, ◌-◌, ◌<◌, ◌≤◌, ◌⊎◌, inl, inr, Bool, true, cond, nat_eq, nat_le, List, [], ◌∷◌, ◌++◌, drop, map, filter, Option, None, Some, slice_get, refl, sym, ap, subst, ◌∙◌, arith}
+use Rattle.std.specs.List.{count_by}
 use Rattle.std.proofs.lemmas.List.{append_assoc, append-nil}
 use Rattle.std.proofs.lemmas.List.Elements.{filter-append, All-drop}
 use Rattle.std.proofs.lemmas.Bool.Decides.{eqb_tells}
@@ -8,9 +9,9 @@ use Rattle.am_store.specs.declared.call.Call.{Call}
 use Rattle.am_store.specs.declared.call.Call.TheVariants.{Posted, Collected, Subscribed, Left, Closed}
 use Rattle.am_provider.specs.declared.answers.Ended.{Ended}
 use Rattle.am_store.specs.Trims.{IsTrimmed}
-use Rattle.am_store.specs.Journal.{JournalView, with_call, since, open_after, IsKept, IsOpenSubscription, IsLegal}
+use Rattle.am_store.specs.Journal.{JournalView, with_call, since, is_left, lefts_of, open_after, IsKept, IsOpenSubscription, IsLegal}
 use Rattle.am_store.proofs.Stored.{by_bool}
-use Rattle.am_store.proofs.Journals.{drop_twice}
+use Rattle.am_store.proofs.Journals.{drop_twice, lefts_last}
 use Rattle.am_store.proofs.Opens.{nat_eq_refl, one_open}
 use Rattle.am_provider.specs.Lefts.{came_after, at_of, left_by, left_from, left_ats}
 
@@ -210,6 +211,20 @@ ats_kept b (e ∷ endings) =
 pub lefts_quiet : (journal : JournalView) (c : Call) → ((came : ℕ → Option ℕ) → left_by came c ≡ []) → left_ats journal ≡ left_ats (with_call journal c)
 lefts_quiet journal c quiet =
     sym (left_grown journal c ∙ (ap (λ xs. left_ats journal ++ xs) (quiet (came_from (λ lane. None) journal.before journal.calls)) ∙ append-nil (left_ats journal)))
+
+-- a call that gives no subscription back is no Left
+quiet_is_none : (c : Call) → ((came : ℕ → Option ℕ) → left_by came c ≡ []) → count_by is_left (c ∷ []) ≡ 0
+quiet_is_none (Posted now alerts) quiet = refl
+quiet_is_none (Collected now) quiet = refl
+quiet_is_none (Subscribed lane) quiet = refl
+quiet_is_none (Left lane) quiet = absurd (let no : 0 ∷ [] ≡ [] = quiet (λ other. Some 0) in cc)
+quiet_is_none Closed quiet = refl
+
+pub count_quiet : (journal : JournalView) (c : Call) → ((came : ℕ → Option ℕ) → left_by came c ≡ []) → lefts_of (with_call journal c) ≡ lefts_of journal
+count_quiet journal c quiet = omega (arith, lefts_last journal c, quiet_is_none c quiet)
+
+pub count_left : (journal : JournalView) (lane : ℕ) → lefts_of (with_call journal (Left lane)) ≡ lefts_of journal + 1
+count_left journal lane = lefts_last journal (Left lane)
 
 pub lefts_left : (journal : JournalView) (lane at : ℕ) → IsLegal journal → IsOpenSubscription journal lane at → left_ats (with_call journal (Left lane)) ≡ left_ats journal ++ at ∷ []
 lefts_left journal lane at legal of = left_grown journal (Left lane) ∙ ap (λ o. left_ats journal ++ at_of o) (came_is journal lane at legal of)

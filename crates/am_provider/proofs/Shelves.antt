@@ -14,7 +14,7 @@ use Rattle.am_cast.specs.Seats.{account_of}
 use Rattle.am_cast.specs.Writers.{StaysAs, SameAdmission, IsCutAs}
 use Rattle.am_store.specs.declared.call.Call.{Call}
 use Rattle.am_store.specs.declared.lanes.OpenLane.{OpenLane}
-use Rattle.am_store.specs.Journal.{JournalView, with_call, call_count, until, closes, is_closed, is_open, open_after, IsOpenSubscription, MayFollow}
+use Rattle.am_store.specs.Journal.{JournalView, with_call, call_count, until, closes, is_closed, is_open, open_after, lefts_of, IsOpenSubscription, MayFollow}
 use Rattle.am_store.specs.Stored.{Update, updates, updates_of}
 use Rattle.am_store.specs.Broadcast.{broadcast, batches_of, items_of, due}
 use Rattle.std.specs.VecDeque.{deque_len, deque_capacity}
@@ -30,7 +30,7 @@ use Rattle.am_provider.specs.declared.answers.Ended.{Ended}
 use Rattle.am_provider.specs.Batches.{Batch, posts_in, sent_in}
 use Rattle.am_provider.specs.BookView.{sends, IsLaneOf, IsEndingOf, IsFaithful}
 use Rattle.am_provider.specs.Lefts.{left_by, left_ats}
-use Rattle.am_provider.proofs.Lefts.{lefts_quiet}
+use Rattle.am_provider.proofs.Lefts.{lefts_quiet, count_quiet}
 use Rattle.am_provider.specs.inside.Shelves.{Shelf, view_of, pages_of, IsKeptLane, IsKeptBook}
 
 -- ---- what is public of it
@@ -76,6 +76,7 @@ faithful shelf counted places kept = record {
   lanes = λ lane small. lane_of shelf counted places lane small kept;
   endings = kept.endings;
   lefts = kept.lefts;
+  ends = kept.ends;
 }
 
 -- ---- the posts of the log
@@ -170,8 +171,8 @@ lanes_stay a b counted places c kept lanes journal on lane small =
 pub kept_grown : (a b : Shelf) (counted more places room : ℕ) (c : Call) → IsKeptBook a counted places → AgreesWithJournal (pages_of b) → MayFollow (journal_of a.journal) c
     → ((came : ℕ → Option ℕ) → left_by came c ≡ []) → journal_of b.journal ≡ with_call (journal_of a.journal) c → posts_in b.log.tail.log ≡ posts_in a.log.tail.log ++ filter sends (c ∷ [])
     → b.lanes ≡ a.lanes → ((lane : ℕ) → lane < 8 → GoesOnAs (account_of a.log lane) (account_of b.log lane))
-    → b.endings ≡ a.endings → more ≡ length b.log.tail.log → places ≤ room → IsKeptBook b more room
-kept_grown a b counted more places room c kept pages may quiet journal posts lanes on endings total roomy =
+    → b.endings ≡ a.endings → b.early ≡ a.early → more ≡ length b.log.tail.log → places ≤ room → IsKeptBook b more room
+kept_grown a b counted more places room c kept pages may quiet journal posts lanes on endings early total roomy =
     let old = journal_of a.journal in
     let low : old.places ≤ length (sent_in a.log.tail.log) = kept.pages.kept.places in
     let few : length (sent_in a.log.tail.log) ≡ length a.log.tail.log = length-map a.log.tail.log (λ (b : Batch). Rattle.am_cast.specs.Keys.items_of b) in
@@ -182,6 +183,7 @@ kept_grown a b counted more places room c kept pages may quiet journal posts lan
       lanes = lanes_stay a b counted places c kept lanes journal on;
       endings = subst (All (IsEndingOf (journal_of b.journal))) (sym endings) (subst (λ j. All (IsEndingOf j) a.endings) (sym journal) (endings_grown old c a.endings may kept.endings));
       lefts = ap (map (λ (e : Ended). e.at)) endings ∙ (kept.lefts ∙ (lefts_quiet old c quiet ∙ sym (ap left_ats journal)));
+      ends = omega (arith, kept.ends, early, ap length endings, ap lefts_of journal, count_quiet old c quiet);
       total = total;
       room = let r = kept.room in omega (arith, ap length endings, ap Rattle.am_store.specs.inside.Lanes.open_count lanes);
     }
@@ -214,8 +216,8 @@ agrees_alike a b sound journal long roomy stored sent posts lanes closed =
 
 pub kept_alike : (a b : Shelf) (counted places : ℕ) → IsKeptBook a counted places → journal_of b.journal ≡ journal_of a.journal → deque_len b.journal.calls ≡ deque_len a.journal.calls
     → deque_capacity a.journal.calls ≤ deque_capacity b.journal.calls → b.stored ≡ a.stored → b.log.tail ≡ a.log.tail
-    → ((lane : ℕ) → lane < 8 → GoesOnAs (account_of a.log lane) (account_of b.log lane)) → b.lanes ≡ a.lanes → b.posts ≡ a.posts → b.endings ≡ a.endings → IsKeptBook b counted places
-kept_alike a b counted places kept journal long roomy stored tail on lanes posts endings = record {
+    → ((lane : ℕ) → lane < 8 → GoesOnAs (account_of a.log lane) (account_of b.log lane)) → b.lanes ≡ a.lanes → b.posts ≡ a.posts → b.endings ≡ a.endings → b.early ≡ a.early → IsKeptBook b counted places
+kept_alike a b counted places kept journal long roomy stored tail on lanes posts endings early = record {
   pages = agrees_alike (pages_of a) (pages_of b) kept.pages journal long roomy stored (ap (λ (t : Tail Batch). sent_in t.log) tail) posts lanes (ap (λ (t : Tail Batch). t.closed) tail);
   posts = ap (λ (j : JournalView). drop j.places (posts_in b.log.tail.log)) journal ∙ (ap (λ (t : Tail Batch). drop a.journal.places (posts_in t.log)) tail ∙ (kept.posts ∙ sym (ap (λ (j : JournalView). filter sends j.calls) journal)));
   lanes = λ lane small.
@@ -224,6 +226,7 @@ kept_alike a b counted places kept journal long roomy stored tail on lanes posts
       (still_kept (journal_of a.journal) (lane_at a.lanes lane) (account_of a.log lane) (account_of b.log lane) (on lane small) (kept.lanes lane small)));
   endings = subst (All (IsEndingOf (journal_of b.journal))) (sym endings) (subst (λ j. All (IsEndingOf j) a.endings) (sym journal) kept.endings);
   lefts = ap (map (λ (e : Ended). e.at)) endings ∙ (kept.lefts ∙ sym (ap left_ats journal));
+  ends = omega (arith, kept.ends, early, ap length endings, ap lefts_of journal);
   total = kept.total ∙ sym (ap (λ (t : Tail Batch). length t.log) tail);
   room = let r = kept.room in omega (arith, ap length endings, ap open_count lanes);
 }

@@ -22,7 +22,7 @@ use Rattle.am_store.specs.inside.Lanes.{lane_at, IsItsOpening}
 use Rattle.std.proofs.lemmas.Bool.{cases_lt}
 use Rattle.am_store.proofs.Stored.{by_bool}
 use Rattle.am_store.proofs.Journals.{drop_twice}
-use Rattle.am_store.proofs.Trims.{sent_until, trimmed_gives_the_same}
+use Rattle.am_store.proofs.Trims.{sent_until, trimmed_lefts, trimmed_gives_the_same}
 use Rattle.am_store.proofs.Trimming.{sound_trimmed}
 use Rattle.am_provider.specs.declared.answers.Ended.{Ended}
 use Rattle.am_provider.specs.Batches.{LogView, posts_in, sent_in}
@@ -99,8 +99,9 @@ lane_trimmed old new count lane account (Some one) fits of its kept =
 
 pub kept_trimmed : (a b : Shelf) (counted places count : ℕ) → IsKeptBook a counted places → AreBeforeOpen (journal_of a.journal) count → IsTrimmed (journal_of a.journal) count (journal_of b.journal) → AreCounted b.journal
     → b.stored ≡ a.stored → b.log ≡ a.log → b.lanes ≡ a.lanes → b.posts ≡ a.posts → deque_capacity b.journal.calls ≡ deque_capacity a.journal.calls
-    → b.endings ≡ filter (λ (e : Ended). nat_le b.journal.before e.at) a.endings → length b.endings ≤ length a.endings → IsKeptBook b counted places
-kept_trimmed a b counted places count kept fits of counts stored log lanes posts capacity endings fewer =
+    → b.endings ≡ filter (λ (e : Ended). nat_le b.journal.before e.at) a.endings → length b.endings ≤ length a.endings
+    → b.early + length b.endings ≡ a.early + length a.endings → IsKeptBook b counted places
+kept_trimmed a b counted places count kept fits of counts stored log lanes posts capacity endings fewer ends =
     let old = journal_of a.journal in
     let new = journal_of b.journal in
     record {
@@ -112,6 +113,7 @@ kept_trimmed a b counted places count kept fits of counts stored log lanes posts
           (lane_trimmed old new count lane (account_of a.log lane) (lane_at a.lanes lane) fits of (kept.pages.openings lane) (kept.lanes lane small)));
       endings = subst (All (IsEndingOf new)) (sym endings) (filter_all (λ (e : Ended). nat_le b.journal.before e.at) (IsEndingOf old) (IsEndingOf new) a.endings (λ e late was. ending_trimmed old new count e fits.within of late was) kept.endings);
       lefts = ap (map (λ (e : Ended). e.at)) endings ∙ (ats_kept b.journal.before a.endings ∙ (ap (filter (nat_le b.journal.before)) kept.lefts ∙ lefts_trimmed old new count of));
+      ends = ends ∙ (kept.ends ∙ sym (trimmed_lefts old new count of));
       total = kept.total ∙ sym (ap (λ (q : LogView). length q.tail.log) log);
       room = let r = kept.room in omega (arith, fewer, ap Rattle.am_store.specs.inside.Lanes.open_count lanes);
     }

@@ -6,7 +6,7 @@ use Rattle.am_cast.specs.Rule.{idle}
 use Rattle.am_cast.specs.Seats.{account_of}
 use Rattle.am_store.specs.declared.call.Call.{Call}
 use Rattle.am_store.specs.declared.call.Call.TheVariants.{Posted, Collected, Subscribed, Left, Closed}
-use Rattle.am_store.specs.Journal.{JournalView, call_count, until, is_closed, is_open, IsOpenSubscription}
+use Rattle.am_store.specs.Journal.{JournalView, call_count, until, is_closed, lefts_of, is_open, IsOpenSubscription}
 use Rattle.am_store.specs.Stored.{updates, stored}
 use Rattle.am_store.specs.Broadcast.{broadcast, due}
 use Rattle.am_store.specs.PlainBook.{PlainBook, FollowsJournal}
@@ -70,7 +70,8 @@ pub record IsEndingOf (journal : JournalView) (ended : Ended) : Type 0 where
 
 -- what is stored, what was sent out and by which post, whether the log is closed, each lane and each
 -- ending follow from the journal, and the journal is legal. There is one ending for each subscription that
--- was given back, in that order, but for those whose Subscribed was dropped
+-- was given back, in that order, but for those whose Subscribed was dropped, which are counted: with these
+-- there are as many endings as Lefts
 pub record IsFaithful (book : BookView) : Type 0 where
   pub journal : FollowsJournal (plain book)
   pub posts : drop book.journal.places (posts_in (batches book)) ≡ filter sends book.journal.calls
@@ -78,3 +79,4 @@ pub record IsFaithful (book : BookView) : Type 0 where
   pub lanes : (lane : ℕ) → lane < 8 → IsLaneOf book lane
   pub endings : All (IsEndingOf book.journal) book.endings
   pub lefts : map (λ (ended : Ended). ended.at) book.endings ≡ left_ats book.journal
+  pub ends : book.early + length book.endings ≡ lefts_of book.journal

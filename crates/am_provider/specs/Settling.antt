@@ -1,9 +1,10 @@
 -- What the end of a provider shows.
-use Rattle.std.specs.Prelude.{◌≡◌, ℕ, ◌<◌, true, List, [], ◌∷◌, ◌++◌, length}
+use Rattle.std.specs.Prelude.{◌≡◌, ℕ, ◌+◌, ◌<◌, true, List, [], ◌∷◌, ◌++◌, length}
 use mathlib.Core.Option.{some}
 use lib.ListN.{get_elem?}
 use Rattle.am_alert.specs.declared.alert.Alert.{Alert}
 use Rattle.am_store.specs.declared.call.Call.{Call}
+use Rattle.am_store.specs.Journal.{lefts_of}
 use Rattle.am_store.specs.inside.Journals.{journal_of}
 use Rattle.am_store.specs.inside.Shared.{stored_in}
 use Rattle.am_cast.specs.declared.views.Own.{Own}
@@ -25,7 +26,7 @@ IsOwn own place = (k : ℕ) × (o : Own Batch) × (get_elem? own k ≡ some o) �
 
 -- the journal, the store and the endings are those of a Book that its journal explains, in whose log
 -- each own post stands at its place with what was posted, none twice; where all passes were given,
--- these are all places
+-- these are all places. The endings, with those that trims dropped, are as many as the journal's Lefts
 pub record IsSettled (own : List (Own Batch)) (settled : Settled) : Type 0 where
   pub book : BookView
   pub faithful : IsFaithful book
@@ -33,6 +34,7 @@ pub record IsSettled (own : List (Own Batch)) (settled : Settled) : Type 0 where
   pub store : stored_in settled.store.entries ≡ book.stored
   pub ended : settled.ended.items ≡ book.endings
   pub early : settled.early ≡ book.early
+  pub ends : settled.early + length settled.ended.items ≡ lefts_of (journal_of settled.journal)
   pub posts : Stand own (batches book)
   pub once : Once own
   pub all : settled.complete ≡ true → (place : ℕ) → place < length (batches book) → IsOwn own place

@@ -7,7 +7,7 @@
 //! changes nothing but how far the writer knows its readers.
 
 ghost use Rattle.std.specs.Prelude.{◌≡◌, ◌≢◌, ◌↔◌, ◌≤◌, ◌<◌, ◌+◌, ◌++◌, ◌∷◌, IsTrue, IfOk, IfErr, OnOk, OnErr, IsErr, IsErrOf};
-ghost use Rattle.std.specs.Prelude.{ℕ, ◌-◌, None, Some, true, false, [], length, nat_eq, if◌then◌else◌, not, filter, count_by, nat_le, min, ◌^◌, vec_capacity};
+ghost use Rattle.std.specs.Prelude.{ℕ, ◌-◌, None, Some, true, false, [], length, nat_eq, if◌then◌else◌, not, filter, count_by, nat_le, vec_capacity};
 ghost use Rattle.std.specs.List.{All};
 ghost use mathlib.Core.List.{IsPrefix};
 ghost use Rattle.am_alert.specs.Merging.{is_resolved_at};
@@ -436,8 +436,8 @@ impl<N: Origin> Book<N> {
             IsTrimmed self.old.journal dropped self.new.journal) }
         ensures endings { self.new.endings
             ≡ filter (λ ended. nat_le self.new.journal.before ended.at) self.old.endings }
-        ensures early { self.new.early ≡ min (self.old.early
-            + (length self.old.endings - length self.new.endings)) (2 ^ 64 - 1) }
+        ensures early { self.new.early + length self.new.endings
+            ≡ self.old.early + length self.old.endings }
         ensures stored { self.new.stored ≡ self.old.stored }
         ensures log { self.new.log ≡ self.old.log }
 
@@ -450,7 +450,7 @@ impl<N: Origin> Book<N> {
         let store = self.stored_then()?;
         self.journal.drop_first(count as usize, store);
         let gone = drop_before(&mut self.endings, self.journal.before);
-        self.early = self.early.saturating_add(gone as u64);
+        self.early += gone as u64;
         Ok(count)
     }
 

@@ -8,7 +8,7 @@ use Rattle.am_cast.specs.Seats.{account_of}
 use Rattle.am_segment.specs.Segments.{KeyView}
 use Rattle.am_store.specs.declared.journal.Journal.{Journal}
 use Rattle.am_store.specs.declared.lanes.OpenLane.{OpenLane}
-use Rattle.am_store.specs.Journal.{JournalView, until}
+use Rattle.am_store.specs.Journal.{JournalView, until, lefts_of}
 use Rattle.am_store.specs.Broadcast.{broadcast}
 use Rattle.am_store.specs.inside.Journals.{journal_of}
 use Rattle.am_store.specs.inside.Lanes.{lane_at, open_count}
@@ -67,5 +67,6 @@ pub record IsKeptBook (shelf : Shelf) (counted places : ℕ) : Type 0 where
       → IsKeptLane (journal_of shelf.journal) (account_of shelf.log lane) (lane_at shelf.lanes lane)
   pub endings : All (IsEndingOf (journal_of shelf.journal)) shelf.endings
   pub lefts : map (λ (ended : Ended). ended.at) shelf.endings ≡ left_ats (journal_of shelf.journal)
+  pub ends : shelf.early + length shelf.endings ≡ lefts_of (journal_of shelf.journal)
   pub total : counted ≡ length shelf.log.tail.log
   pub room : length shelf.endings + open_count shelf.lanes ≤ places

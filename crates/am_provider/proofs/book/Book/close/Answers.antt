@@ -12,7 +12,7 @@ invariant_of-self g c =
     ap (λ (calls : List Call). record (journal_of c.self.inside.journal) { calls = calls }) c.push_back_reserved.ensures.items in
     let still : c.self.inside.log.tail.closed ≡ false = c.in-Ok.ensures.open.0 refl in (
       c.self.invariant.0,
-      kept_closed _ _ _ _ c.self.invariant.1 still journal refl c.in-Ok.ensures.ok refl refl refl (c.push_back_reserved.ensures.len, omega (arith, c.push_back_reserved.ensures.capacity)),
+      kept_closed _ _ _ _ c.self.invariant.1 still journal refl c.in-Ok.ensures.ok refl refl refl refl (c.push_back_reserved.ensures.len, omega (arith, c.push_back_reserved.ensures.capacity)),
       c.self.invariant.2,
       c.self.invariant.3,
     )

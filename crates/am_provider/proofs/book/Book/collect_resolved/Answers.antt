@@ -19,7 +19,7 @@ invariant_of-self-2 g c =
       c.remove_resolved-removed.ensures.kept,
       kept_grown _ _ _ _ _ _ (Collected c.args.now) kept
           (sound_collected _ _ c.args.now kept.pages journal c.remove_resolved-removed.ensures.store refl refl refl refl room)
-          tt (λ came. refl) journal (sym (append-nil _)) refl (λ lane small. same_account _ _ refl) refl kept.total (omega arith),
+          tt (λ came. refl) journal (sym (append-nil _)) refl (λ lane small. same_account _ _ refl) refl refl kept.total (omega arith),
       c.self.invariant.2,
       c.self.invariant.3,
     )

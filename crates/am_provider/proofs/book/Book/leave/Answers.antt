@@ -50,7 +50,7 @@ invariant_of-self g c =
       kept_left _ _ _ _ _ s by.0 (record { at = c.into_parts-at.result.0; taken = c.into_parts-at.result.1; closed = c.into_parts-at.result.2; cut = c.is_cut.result }) c.self.invariant.1 by.1 small journal refl r.tail
           (subst (λ (n : ℕ). (Rattle.am_cast.specs.Seats.account_of c.retire.new.self n).stand ≡ Rattle.am_cast.specs.Rule.idle) number r.lane.1)
           (λ other ne. r.others other (λ e. ne (e ∙ number)))
-          (ap (λ l. set c.self.inside.lanes l None) lane) refl c.push_reserved.ensures.items parts.0 (returns-clause-taken g c) parts.1
+          (ap (λ l. set c.self.inside.lanes l None) lane) refl c.push_reserved.ensures.items refl parts.0 (returns-clause-taken g c) parts.1
           (c.push_back_reserved.ensures.len, omega (arith, c.push_back_reserved.ensures.capacity)) (omega (arith, c.push_reserved.ensures.capacity)),
       c.self.invariant.2,
       c.self.invariant.3,

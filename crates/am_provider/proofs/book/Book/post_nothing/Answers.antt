@@ -15,4 +15,4 @@ invariant_of-self-2 g c =
     let journal : journal_of (record c.self.inside.journal { calls = c.push_back_reserved.new.self }) ≡ with_call (journal_of c.self.inside.journal) (Posted c.args.now []) =
     ap (λ (calls : List Call). record (journal_of c.self.inside.journal) { calls = calls }) calls in
     let still : is_closed (journal_of c.self.inside.journal) ≡ false = ap (λ (b : BookView). is_closed b.journal) c.self.view_is ∙ c.requires.open in
-    (c.self.invariant.0, kept_empty _ _ _ _ c.args.now c.self.invariant.1 (c.self.invariant.1.pages.closed ∙ still) journal refl refl refl refl refl room, c.self.invariant.2, c.self.invariant.3)
+    (c.self.invariant.0, kept_empty _ _ _ _ c.args.now c.self.invariant.1 (c.self.invariant.1.pages.closed ∙ still) journal refl refl refl refl refl refl room, c.self.invariant.2, c.self.invariant.3)

@@ -62,7 +62,7 @@ invariant_of-self-in-Ok-1 g c =
     ap (λ (calls : List Call). record (journal_of c.self.inside.journal) { calls = calls }) calls in (
       c.in_ok-batch.ensures.kept,
       kept_posted _ _ _ _ _ c.args.now valid batch x.0 kept still journal stored became (ap length became ∙ length_batch c.args.now valid olds) c.requires.few c.requires.some few
-          posted x.2 (x.3 ∙ ap (longer_tail x.0) tail) (lanes_on g c) refl refl refl c.add.ensures.total room,
+          posted x.2 (x.3 ∙ ap (longer_tail x.0) tail) (lanes_on g c) refl refl refl refl c.add.ensures.total room,
       c.self.invariant.2,
       c.self.invariant.3,
     )
@@ -76,7 +76,7 @@ invariant_of-self-in-Err g c =
       subst AreKeptByLabels (sym entries) c.self.invariant.0,
       kept_alike _ _ _ _ c.self.invariant.1 journal c.in_ok-reserve.ensures.len (omega (arith, c.in_ok-reserve.ensures.capacity)) (ap stored_in entries) (unsent.tail ∙ c.harvest-full.ensures.harvested.tail)
           (λ lane small. goes_on_twice (account_of c.self.inside.log lane) (account_of c.harvest-full.new.self lane) (account_of c.send_batch.new.writer lane)
-          (stays_as _ _ (c.harvest-full.ensures.harvested.each lane small)) (stays_as _ _ (unsent.lanes lane small))) refl refl refl,
+          (stays_as _ _ (c.harvest-full.ensures.harvested.each lane small)) (stays_as _ _ (unsent.lanes lane small))) refl refl refl refl,
       c.self.invariant.2,
       c.self.invariant.3,
     )

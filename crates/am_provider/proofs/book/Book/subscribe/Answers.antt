@@ -45,7 +45,7 @@ invariant_of-self-2 g c =
     let roomy : length c.reserve-2.new.self.items + 8 ≤ vec_capacity c.reserve-2.new.self = search rules in (
       c.self.invariant.0,
       kept_subscribed _ _ _ _ _ c.in-Ok.cursor.lane.number one kept c.in-Ok.ensures.open (lowest_free _ _ _ c.in-Ok.cursor.lane.number kept k.0 k.1 k.2) (grown g c) at opening
-          refl c.in-Ok.ensures.tail own.0 (own.2 ∙ ap Some c.of.ensures) own.3 c.in-Ok.ensures.others (ap (λ l. set c.self.inside.lanes l (Some one)) c.lane-lane.ensures.0) refl c.reserve-2.ensures.items room roomy,
+          refl c.in-Ok.ensures.tail own.0 (own.2 ∙ ap Some c.of.ensures) own.3 c.in-Ok.ensures.others (ap (λ l. set c.self.inside.lanes l (Some one)) c.lane-lane.ensures.0) refl c.reserve-2.ensures.items refl room roomy,
       c.self.invariant.2,
       c.self.invariant.3,
     )

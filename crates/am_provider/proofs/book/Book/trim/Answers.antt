@@ -1,4 +1,4 @@
-use Rattle.std.proofs.Common.{◌-◌, ◌≡◌, filter, nat_le, refl, sym, subst, ap, ◌∙◌}
+use Rattle.std.proofs.Common.{◌+◌, ◌-◌, ◌≡◌, length, filter, nat_le, refl, sym, subst, ap, ◌∙◌, arith}
 use Rattle.am_store.specs.Trims.{AreBeforeOpen, IsTrimmed}
 use Rattle.am_store.specs.inside.Journals.{journal_of}
 use Rattle.am_store.proofs.Trims.{none_trimmed}
@@ -21,9 +21,11 @@ returns-in_err-store-clause-endings g c =
 
 pub invariant_of-self : goal.invariant_of-self
 invariant_of-self g c =
-    let before = subst (λ (s : BookView). AreBeforeOpen s.journal (c.owed_from.result - s.journal.before)) (sym c.self.view_is) c.owed_from.ensures.before in (
+    let before = subst (λ (s : BookView). AreBeforeOpen s.journal (c.owed_from.result - s.journal.before)) (sym c.self.view_is) c.owed_from.ensures.before in
+    let ends : c.self.inside.early + c.drop_before-gone.result + length c.drop_before-gone.new.endings.items ≡ c.self.inside.early + length c.self.inside.endings.items =
+    omega (arith, c.drop_before-gone.ensures.dropped, c.drop_before-gone.ensures.fewer) in (
       c.self.invariant.0,
-      kept_room (kept_trimmed _ _ _ _ (c.owed_from.result - c.self.inside.journal.before) c.self.invariant.1 before c.drop_first.ensures.trimmed c.drop_first.ensures.counted refl refl refl refl c.drop_first.ensures.capacity c.drop_before-gone.ensures.kept c.drop_before-gone.ensures.fewer) (sym c.drop_before-gone.ensures.capacity),
+      kept_room (kept_trimmed _ _ _ _ (c.owed_from.result - c.self.inside.journal.before) c.self.invariant.1 before c.drop_first.ensures.trimmed c.drop_first.ensures.counted refl refl refl refl c.drop_first.ensures.capacity c.drop_before-gone.ensures.kept c.drop_before-gone.ensures.fewer ends) (sym c.drop_before-gone.ensures.capacity),
       c.self.invariant.2,
       c.self.invariant.3,
     )
