@@ -127,7 +127,7 @@ impl<T: Drop, P, A, N: Feed> Writer<T, P, A, N> {
         ensures refused { IfErr result (λ e. (e.batch ≡ batch)
             × IsRefusal self.old self.new e.fault) }
     {
-        self.bench.harvest(cast);
+        let full = self.harvest(cast);
         if self.bench.is_closed() {
             return Err(Refused {
                 fault: PublishFault::Closed,
@@ -140,18 +140,45 @@ impl<T: Drop, P, A, N: Feed> Writer<T, P, A, N> {
                 batch,
             });
         }
-        if let Some(lane) = self.bench.full_lane() {
-            let passed = self.bench.known_of(lane);
+        if let Some((lane, passed)) = full {
             return Err(Refused {
                 fault: PublishFault::Full { lane, passed },
                 batch,
             });
         }
-        let Ok(row) = self.bench.reserve() else {
-            return Err(Refused {
+        match self.publish_harvested(cast, batch, post, pass) {
+            Ok(place) => Ok(place),
+            Err(batch) => Err(Refused {
                 fault: PublishFault::NoMemory,
                 batch,
-            });
+            }),
+        }
+    }
+
+    /// As `publish` where `harvest` has just answered that no lane is full: the lanes aren't looked at
+    /// again, and want of memory alone refuses the batch.
+    pub fn publish_harvested(
+        &mut self,
+        cast: &Cast<T, P, A, N>,
+        batch: SegmentBuilder<T>,
+        post: Snapshot<P>,
+        pass: &mut Pass<T, P, A, N>,
+    ) -> Result<u64, SegmentBuilder<T>>
+        requires some { 0 < length batch.items }
+        requires room { IsOpen self.old × HasRoom self.old 8 }
+        ensures ok { IfOk result (λ place. (place ≡ length self.old.tail.log)
+            × ((x : Name T P) × (x.post ≡ post.value) × (items_of x ≡ batch.items)
+            × (self.new.tail ≡ longer_tail x self.old.tail)
+            × (pass.new.own ≡ pass.old.own ++ own_at place x ∷ []))) }
+        ensures known { OnOk result (Stand pass.new.own pass.new.noted
+            × IsPrefix pass.old.noted pass.new.noted) }
+        ensures lanes { (l : ℕ) → l < 8 → StaysAs (account_of self.old l) (account_of self.new l) }
+
+        ensures err { OnErr result ((self.new ≡ self.old) × (pass.new ≡ pass.old)) }
+        ensures refused { IfErr result (λ back. back ≡ batch) }
+    {
+        let Ok(row) = self.bench.reserve() else {
+            return Err(batch);
         };
         let place = self.bench.len();
         self.bench.post(cast, batch, post, row, &mut pass.seat);

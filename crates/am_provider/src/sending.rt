@@ -90,7 +90,7 @@ fn with_bit(bits: u8, lane: u32, set: bool) -> u8
 }
 
 // The batch goes out as the log's next place, which becomes the pass's own, or it is dropped and says
-// why.
+// why. Where slow lanes are cut they are looked at once more: one that has moved on isn't cut.
 fn send<N: Origin>(
     writer: &mut Writer<N>,
     cast: &Cast<N>,
@@ -99,19 +99,24 @@ fn send<N: Origin>(
     call: &Call,
     pass: &mut LogPass<N>,
 ) -> Result<Published, PutFault>
-    requires { 0 < length batch.items }
+    requires some { 0 < length batch.items }
+    requires open { (writer.old.tail.closed ≡ false) × (length writer.old.tail.log < most) }
+    requires room { policy ≡ Refuse → HasRoom writer.old 8 }
     ensures sent { IfOk result (λ sent. IsSent policy writer.old writer.new pass.old pass.new call.now batch.items sent.place sent.cut) }
     ensures unsent { IfErr result (λ fault. IsUnsent policy writer.old writer.new fault) }
     ensures err { OnErr result (pass.new ≡ pass.old) }
 {
     let post = Snapshot::of(call);
     match policy {
-        Policy::Refuse => match writer.publish(cast, batch, post, pass) {
+        Policy::Refuse => match writer.publish_harvested(cast, batch, post, pass) {
             Ok(place) => Ok(Published {
                 place,
                 cut: [false; 8],
             }),
-            Err(refused) => Err(give_up(refused)),
+            Err(batch) => {
+                batch.discard();
+                Err(PutFault::NoMemory)
+            }
         },
         Policy::Cut => match writer.publish_cutting(cast, batch, post, pass) {
             Ok(sent) => Ok(sent),

@@ -1,8 +1,8 @@
 //! Times a provider. `bench/provider` runs it with many loads.
 //!
-//!     am_provider_bench bytes|ready POSTERS READERS POSTS LABELS TRIM
+//!     am_provider_bench bytes|ready POSTERS READERS POSTS ALERTS LABELS TRIM
 //!
-//! Each poster posts so many bodies of one alert, of so many label sets in turn, and has the journal
+//! Each poster posts so many bodies of so many alerts, of so many label sets in turn, and has the journal
 //! trimmed after each TRIM posts, or never where that is 0; the readers read beside. With `ready` there is
 //! one poster, and its posts were read before. It prints how many posts were accepted, how many alerts the
 //! readers were shown and how many are stored, and to standard error the nanoseconds that the posts took,
@@ -35,6 +35,7 @@ struct Load {
     posters: u32,
     readers: u32,
     posts: u64,
+    alerts: u64,
     labels: u64,
     trim: u64,
     ghost some: { (1 ≤ posters) × (posters ≤ 64) × (1 ≤ labels) },
@@ -61,16 +62,26 @@ fn moment(nanoseconds: u64) -> Moment {
     Moment::try_new(NEW_YEAR + u128::from(nanoseconds)).unwrap_or(Moment::MAX)
 }
 
-// A body for each label set.
-fn bodies_of(alloc: Global, labels: u64) -> Result<Vec<String>, AllocError> {
-    let mut bodies = Vec::new(alloc);
-    for number in 0..labels {
-        let mut body = String::new(alloc);
+// A body of so many alerts, from a label set on.
+fn body_of(alloc: Global, first: u64, load: Load) -> Result<String, AllocError> {
+    let mut body = String::new(alloc);
+    for at in 0..load.alerts {
+        let begin = if at == 0 { '[' } else { ',' };
+        let host = first.wrapping_add(at) % load.labels;
         write!(
             body,
-            "[{{\"labels\":{{\"alertname\":\"DiskFull\",\"instance\":\"host-{number}\",\"job\":\"node\",\"severity\":\"page\"}}}}]"
+            "{begin}{{\"labels\":{{\"alertname\":\"DiskFull\",\"instance\":\"host-{host}\",\"job\":\"node\",\"severity\":\"page\"}}}}"
         )?;
-        bodies.push(body)?;
+    }
+    body.push(']')?;
+    Ok(body)
+}
+
+// As many bodies as there are label sets, each of which goes on where the one before it ends.
+fn bodies_of(alloc: Global, load: Load) -> Result<Vec<String>, AllocError> {
+    let mut bodies = Vec::new(alloc);
+    for number in 0..load.labels {
+        bodies.push(body_of(alloc, number.wrapping_mul(load.alerts), load)?)?;
     }
     Ok(bodies)
 }
@@ -359,7 +370,7 @@ fn run<R: Threads + Wait + Clock + Sync>(
     alloc: Global,
     load: Load,
 ) -> Result<Came, AllocError> {
-    let bodies = bodies_of(alloc, load.labels)?;
+    let bodies = bodies_of(alloc, load)?;
     if load.ready {
         let posts = read_posts(alloc, &bodies, load)?;
         let parts = Parts::make(alloc, 256, 1)?;
@@ -379,9 +390,10 @@ fn load_of(rt: &HostRuntime) -> Option<Load> {
     let posters = number(args.next())?;
     let readers = number(args.next())?;
     let posts = number(args.next())?;
+    let alerts = number(args.next())?;
     let labels = number(args.next())?;
     let trim = number(args.next())?;
-    if posters == 0 || posters > 64 || readers > 8 || labels == 0 {
+    if posters == 0 || posters > 64 || readers > 8 || alerts == 0 || labels == 0 {
         return None;
     }
     Some(Load {
@@ -389,6 +401,7 @@ fn load_of(rt: &HostRuntime) -> Option<Load> {
         posters: posters as u32,
         readers: readers as u32,
         posts,
+        alerts,
         labels,
         trim,
     })

@@ -4,6 +4,8 @@
 ghost use Rattle.std.specs.Prelude.{◌≡◌, IfOk, OnOk, OnErr};
 ghost use Rattle.std.specs.Arc.{arc_value};
 ghost use Rattle.std.specs.Option.{option_copied};
+ghost use Rattle.indexmap.specs.IndexMap.{index_of_by};
+ghost use Rattle.am_labels.specs.LabelSets.{same_labels};
 ghost use Rattle.am_alert.specs.Merging.{absorbed};
 ghost use Rattle.am_store.specs.AlertList.{lookup, with_alert, with_alerts, batch_by_list};
 ghost use Rattle.am_store.specs.Shared.{alerts_in};
@@ -92,9 +94,10 @@ fn absorb_one(
     ensures err { OnErr result (alerts.new.entries ≡ alerts.old.entries) }
 {
     let alloc = *alerts.allocator();
-    let became = outcome_of(alloc, stored_alert(alerts, &new.labels), new, now)?;
+    let at = alerts.get_index_of(&new.labels);
+    let became = outcome_of(alloc, stored_at(alerts, &new.labels, at), new, now)?;
     let shared = Arc::try_clone(&became)?;
-    match alerts.get_index_of(&new.labels) {
+    match at {
         Some(at) => {
             let before = mem::replace(&mut alerts[at], shared);
             Ok((became, Change::Replaced(at, before)))
@@ -122,15 +125,13 @@ fn outcome_of(
     }
 }
 
-// The stored alert of a label set.
-fn stored_alert<'a>(alerts: &'a AlertMap, labels: &LabelSet) -> Option<&'a Alert>
-    requires { AreKeptByLabels alerts.now.entries }
+// The stored alert of a label set, which was looked for and stands at this index.
+fn stored_at<'a>(alerts: &'a AlertMap, labels: &LabelSet, at: Option<usize>) -> Option<&'a Alert>
+    requires kept { AreKeptByLabels alerts.now.entries }
+    requires found { at ≡ index_of_by (same_labels labels.now) alerts.now }
     ensures { option_copied result ≡ lookup labels.now (stored_in alerts.now.entries) }
 {
-    match alerts.get(labels) {
-        Some(shared) => Some(&**shared),
-        None => None,
-    }
+    Some(&*alerts[at?])
 }
 
 /// Takes changes back, the last one first.

@@ -10,11 +10,11 @@ returns-in-Ok-clause-sent g c =
     let k = c.in-Ok.ensures.ok in
     record {
       next = k.0;
-      still_open = k.1;
-      batch = (let x = k.2 in (x.0, x.1 ∙ c.of-post.ensures, x.2, x.3, x.4));
+      still_open = c.requires.open;
+      batch = (let x = k.1 in (x.0, x.1 ∙ c.of-post.ensures, x.2, x.3, x.4));
       known = c.in-Ok.ensures.known;
-      lanes = λ lane small. (c.publish.ensures.lanes lane small).0;
-      cuts = λ lane small. subst (IsCutAs (length c.args.writer.now.tail.log) c.args.writer.now.tail.places (account_of c.args.writer.now lane) (account_of c.publish.new.self lane)) (sym (none_named lane)) (c.publish.ensures.lanes lane small).1;
+      lanes = λ lane small. (c.publish_harvested.ensures.lanes lane small).0;
+      cuts = λ lane small. subst (IsCutAs (length c.args.writer.now.tail.log) c.args.writer.now.tail.places (account_of c.args.writer.now lane) (account_of c.publish_harvested.new.self lane)) (sym (none_named lane)) (c.publish_harvested.ensures.lanes lane small).1;
       kept = λ policy lane. none_named lane;
     }
 
