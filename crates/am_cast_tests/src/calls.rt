@@ -6,7 +6,8 @@
 ghost use Rattle.std.specs.Prelude.{◌≡◌, ◌<◌, length, IfOk};
 
 use am_cast::{
-    Begun, Cast, Cursor, Feed, Parts, Pass, PublishFault, Refused, Step, Writer, begin, end,
+    Begun, Cast, Cursor, Feed, MOST_PLACES, Parts, Pass, PublishFault, Refused, Step, Writer,
+    begin, end,
 };
 use am_segment::SegmentBuilder;
 use am_steps::{Event, Lane, State};
@@ -17,7 +18,7 @@ use std::sync::Wait;
 use std::test::Fail;
 
 // How many kinds of call there are.
-const KINDS: u64 = 13;
+const KINDS: u64 = 14;
 
 /// A reader's lane, its cursor where it has one, and what that cursor was shown.
 struct Reader<'a, N: Feed> {
@@ -97,6 +98,34 @@ impl<'a, N: Feed> Both<'a, N> {
                     PublishFault::NoMemory => Err(AllocError),
                     _ => Ok(!may && self.is_cause(fault)),
                 }
+            }
+        }
+    }
+
+    // A post right after a look at the lanes. Where that finds the log closed or a lane full, the pure
+    // state takes none either.
+    fn publish_harvested(
+        &mut self,
+        writer: &mut Writer<u64, u64, u64, N>,
+        pass: &mut Pass<u64, u64, u64, N>,
+    ) -> Result<bool, AllocError> {
+        let name = self.length;
+        let said = 7;
+        self.harvest()?;
+        let full = writer.harvest(self.cast);
+        let may = self.state.apply(Event::Publish(name))?;
+        if writer.is_closed() || writer.len() >= MOST_PLACES {
+            return Ok(!may);
+        }
+        if let Some(lane) = full {
+            return Ok(!may && self.full_lane() == Some(lane));
+        }
+        let batch = batch_of(self.alloc, name)?;
+        match writer.publish_harvested(self.cast, batch, Snapshot::of(&said), pass) {
+            Ok(place) => Ok(may && place == name && self.note(name)?),
+            Err(batch) => {
+                batch.discard();
+                Err(AllocError)
             }
         }
     }
@@ -353,6 +382,7 @@ impl<'a, N: Feed> Both<'a, N> {
             9 => self.next_past(first, pass)?,
             10 => self.next_past(second, pass)?,
             11 => self.meet(first, pass)?,
+            12 => self.publish_harvested(writer, pass)?,
             _ => self.state.apply(Event::Close)? == writer.close(self.cast).is_ok(),
         };
         let shown = self.has_shown(first) && self.has_shown(second);
