@@ -346,5 +346,6 @@ fn pass_carries_order(rt: HostRuntime) -> Result<(), Fail> {
     );
     assert_eq!(rt; settled.ended.len(), 0);
     assert_eq!(rt; settled.early, 1);
+    assert_eq!(rt; settled.journal.lefts, 1);
     Ok(())
 }

@@ -94,6 +94,8 @@ fn a_trim_drops_what_no_open_subscription_needs(rt: HostRuntime) -> Result<(), F
         }
     );
     assert_eq!(rt; settled.journal.before, 6);
+    assert_eq!(rt; settled.journal.lefts, 1);
+    assert_eq!(rt; (settled.early, settled.ended.len()), (1, 0));
     assert_eq!(rt;
         settled.counts(),
         Counts {
