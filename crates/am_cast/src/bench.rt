@@ -334,7 +334,7 @@ impl<T: Drop, P, A, N: Feed> Bench<T, P, A, N> {
         self.count += 1;
         board::hand_own(top, &mut self.seat, to);
         if row.is_full() {
-            row.end();
+            self.rows.keep(Some(row.end()));
         } else {
             self.rows.insert(row);
         }
@@ -346,8 +346,7 @@ impl<T: Drop, P, A, N: Feed> Bench<T, P, A, N> {
         ensures ok { IfOk result (λ row. (row ≡ record { place = length self.old.desk.tail.log; keys = [] })
             × (1 ≤ (bucket_of self.new.rows row.place).room)) }
     {
-        self.rows.reserve(self.count)?;
-        Row::new(self.alloc, self.count)
+        self.rows.reserve(self.alloc, self.count)
     }
 
     pub(crate) fn close(&mut self, cast: &Cast<T, P, A, N>)

@@ -1,6 +1,6 @@
 //! The writer's keys: those that came home wait in rows, one for each place, until the eighth is
 //! there and ends the segment.
-ghost use Rattle.std.specs.Prelude.{true, false, ◌≡◌, ◌≢◌, ℕ, ◌<◌, ◌≤◌, List, ◌∷◌, ◌++◌, length, Some, None, IfOk, OnOk};
+ghost use Rattle.std.specs.Prelude.{true, false, ◌≡◌, ◌≢◌, ℕ, ◌<◌, ◌≤◌, List, ◌∷◌, ◌++◌, [], length, Some, None, IfOk, OnOk};
 ghost use Rattle.am_segment.specs.Segments.{KeyView};
 ghost use Rattle.am_cast.specs.inside.KeyRows.{bucket_of, row_at, MayTake, row_with};
 
@@ -9,7 +9,7 @@ mod row;
 
 use am_segment::SegKey;
 pub(crate) use bucket::Bucket;
-pub(crate) use row::Row;
+pub(crate) use row::{EmptyRow, Row};
 use std::alloc::{AllocError, Global};
 use std::marker::Model;
 
@@ -17,6 +17,9 @@ use std::marker::Model;
 /// newer ones until its last key is home.
 pub(crate) struct KeyRows<T> {
     buckets: Vec<Bucket<T>>,
+    // Those that ended serve again, so that a place takes no memory of its own for its row. It has
+    // room for as many as there are buckets, and what comes beyond that is freed.
+    spare: Vec<EmptyRow<T>>,
 }
 
 impl<T> Model for KeyRows<T> {
@@ -41,10 +44,17 @@ impl<T> KeyRows<T> {
         ensures none { IfOk result (λ rows. (p : ℕ) → row_at rows p ≡ None) }
     {
         let mut buckets = Vec::with_capacity(alloc, places)?;
+        let spare = match Vec::with_capacity(alloc, places) {
+            Ok(spare) => spare,
+            Err(error) => {
+                buckets.destroy_empty();
+                return Err(error);
+            }
+        };
         for _remainder in 0..places {
             buckets.push_reserved(Bucket::new(alloc));
         }
-        Ok(KeyRows { buckets })
+        Ok(KeyRows { buckets, spare })
     }
 
     /// Whether keys of the place wait for others.
@@ -56,14 +66,34 @@ impl<T> KeyRows<T> {
         self.buckets[at].has(place)
     }
 
-    /// Makes room for the place's row.
-    pub(crate) fn reserve(&mut self, place: u64) -> Result<(), AllocError>
+    /// A row for the place, and room for it among the others.
+    pub(crate) fn reserve(&mut self, alloc: Global, place: u64) -> Result<Row<T>, AllocError>
         ensures count { length self.new ≡ length self.old }
         ensures rows { (p : ℕ) → row_at self.new p ≡ row_at self.old p }
+        ensures row { IfOk result (λ row. row ≡ record { place = place; keys = [] }) }
         ensures room { OnOk result (1 ≤ (bucket_of self.new place).room) }
     {
         let at = (place % self.buckets.len() as u64) as usize;
-        self.buckets[at].reserve()
+        self.buckets[at].reserve()?;
+        let empty = match self.spare.pop() {
+            Some(spare) => spare,
+            None => EmptyRow::new(alloc)?,
+        };
+        Ok(empty.for_place(place))
+    }
+
+    /// The memory of a row that ended is kept for one to come.
+    pub(crate) fn keep(&mut self, ended: Option<EmptyRow<T>>)
+        ensures { self.new ≡ self.old }
+    {
+        let Some(row) = ended else {
+            return;
+        };
+        if self.spare.len() < self.spare.capacity() {
+            self.spare.push_reserved(row);
+        } else {
+            row.discard();
+        }
     }
 
     /// The key goes to the others of its place. The eighth ends its segment.
@@ -79,7 +109,8 @@ impl<T> KeyRows<T> {
         ensures room { (p : ℕ) → (bucket_of self.old p).room ≤ (bucket_of self.new p).room }
     {
         let at = (place % self.buckets.len() as u64) as usize;
-        self.buckets[at].bring(place, key);
+        let ended = self.buckets[at].bring(place, key);
+        self.keep(ended);
     }
 
     /// A row more, of a place that had none.
@@ -98,10 +129,17 @@ impl<T> KeyRows<T> {
     pub(crate) fn end(self)
         requires { (p : ℕ) → row_at self p ≡ None }
     {
-        let KeyRows { mut buckets } = self;
+        let KeyRows {
+            mut buckets,
+            mut spare,
+        } = self;
         while let Some(bucket) = buckets.pop() {
             bucket.end();
         }
         buckets.destroy_empty();
+        while let Some(row) = spare.pop() {
+            row.discard();
+        }
+        spare.destroy_empty();
     }
 }

@@ -1,6 +1,6 @@
 //! The end of a segment: its keys come together, its items are dropped, and its block is freed.
 
-ghost use Rattle.std.specs.Prelude.{◌≡◌, ◌↔◌, ◌+◌, ◌^◌, ◌≤◌, ◌<◌, ◌⊎◌, length, IsSome, IsNone, MatchOption};
+ghost use Rattle.std.specs.Prelude.{◌≡◌, ◌↔◌, ◌+◌, ◌^◌, ◌≤◌, ◌<◌, ◌⊎◌, [], length, vec_capacity, IsSome, IsNone, MatchOption};
 ghost use Rattle.std.specs.Option.{ForSome};
 ghost use Rattle.am_segment.specs.Segments.{AreAllKeys};
 
@@ -28,6 +28,16 @@ pub fn reunite<T: Drop>(keys: Vec<SegKey<T>>)
     requires { AreAllKeys keys.items }
 {
     let mut keys = keys;
+    reunite_all_of(&mut keys);
+    keys.destroy_empty();
+}
+
+/// As `reunite`. The list is empty then, and keeps its memory.
+pub fn reunite_all_of<T: Drop>(keys: &mut Vec<SegKey<T>>)
+    requires { AreAllKeys keys.old.items }
+    ensures empty { keys.new.items ≡ [] }
+    ensures capacity { vec_capacity keys.new ≡ vec_capacity keys.old }
+{
     let Some(first) = keys.pop() else {
         unreachable!()
     };
@@ -35,7 +45,6 @@ pub fn reunite<T: Drop>(keys: Vec<SegKey<T>>)
     while let Some(key) = keys.pop() {
         all = merge(all, gather(key));
     }
-    keys.destroy_empty();
     finish(all);
 }
 

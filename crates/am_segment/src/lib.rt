@@ -37,7 +37,7 @@ mod laws;
 mod seal_fault;
 
 pub use builder::SegmentBuilder;
-pub use gathered::reunite;
+pub use gathered::{reunite, reunite_all_of};
 pub use key::{MAX_KEYS, SegKey};
 pub use key_run::KeyRun;
 pub use laws::keys_in_order_are_all;

@@ -3,7 +3,7 @@ ghost use Rattle.std.specs.Prelude.{true, false, ◌≡◌, ◌≢◌, ℕ, ◌+
 ghost use Rattle.am_segment.specs.Segments.{KeyView};
 ghost use Rattle.am_cast.specs.inside.KeyRows.{RowView, find_row, HasNoRow, AreApart, MayTake, row_with, IsRowOf, HaveRemainder};
 
-use crate::key_rows::row::Row;
+use crate::key_rows::row::{EmptyRow, Row};
 use am_segment::SegKey;
 use std::alloc::{AllocError, Global};
 use std::marker::Model;
@@ -65,8 +65,8 @@ impl<T> Bucket<T> {
         }
     }
 
-    /// The key goes to the others of its place. The eighth ends its segment.
-    pub(crate) fn bring(&mut self, place: u64, key: SegKey<T>)
+    /// The key goes to the others of its place. The eighth ends its segment, and the row's memory comes back.
+    pub(crate) fn bring(&mut self, place: u64, key: SegKey<T>) -> Option<EmptyRow<T>>
     where
         T: Drop,
         requires row { (keys : List (KeyView T)) × (find_row place self.old.rows ≡ Some keys)
@@ -85,7 +85,9 @@ impl<T> Bucket<T> {
         };
         self.rows[index].add(key);
         if self.rows[index].is_full() {
-            self.rows.remove(index).end();
+            Some(self.rows.remove(index).end())
+        } else {
+            None
         }
     }
 

@@ -1,12 +1,40 @@
 //! The keys of one place that are home.
-ghost use Rattle.std.specs.Prelude.{◌≡◌, ◌<◌, [], ◌∷◌, ◌++◌, ◌==◌, length, vec_capacity, IfOk};
+ghost use Rattle.std.specs.Prelude.{◌≡◌, ◌<◌, [], ◌∷◌, ◌++◌, ◌==◌, length, vec_capacity};
 ghost use Rattle.am_segment.specs.Segments.{AreAllKeys};
 
-use am_segment::{SegKey, reunite};
+use am_segment::{SegKey, reunite_all_of};
 use std::alloc::{AllocError, Global};
 use std::marker::Model;
 
-/// A row, with memory for all the keys of its segment. It must be reunited, or be empty.
+/// The memory of a row, without a key.
+pub(crate) struct EmptyRow<T> {
+    keys: Vec<SegKey<T>>,
+    ghost empty: { keys.items ≡ [] },
+    ghost room: { vec_capacity keys ≡ 8 },
+}
+
+impl<T> EmptyRow<T> {
+    pub(crate) fn new(alloc: Global) -> Result<EmptyRow<T>, AllocError> {
+        Ok(EmptyRow {
+            keys: Vec::with_capacity(alloc, 8)?,
+        })
+    }
+
+    /// The row of a place that has no keys yet.
+    pub(crate) fn for_place(self, place: u64) -> Row<T>
+        ensures { result ≡ record { place = place; keys = [] } }
+    {
+        let EmptyRow { keys } = self;
+        Row { place, keys }
+    }
+
+    pub(crate) fn discard(self) {
+        let EmptyRow { keys } = self;
+        keys.destroy_empty();
+    }
+}
+
+/// A row, with memory for all the keys of its segment. It must come to an end.
 pub(crate) struct Row<T> {
     place: u64,
     keys: Vec<SegKey<T>>,
@@ -26,16 +54,6 @@ impl<T> Model for Row<T> {
 }
 
 impl<T> Row<T> {
-    /// A row of no keys yet.
-    pub(crate) fn new(alloc: Global, place: u64) -> Result<Row<T>, AllocError>
-        ensures { IfOk result (λ row. row ≡ record { place = place; keys = [] }) }
-    {
-        Ok(Row {
-            place,
-            keys: Vec::with_capacity(alloc, 8)?,
-        })
-    }
-
     pub(crate) fn place(&self) -> u64
         ensures { result ≡ self.now.place }
     {
@@ -56,21 +74,14 @@ impl<T> Row<T> {
         self.keys.push_reserved(key);
     }
 
-    /// The segment ends: its items are dropped, and its block is freed.
-    pub(crate) fn end(self)
+    /// The segment ends: its items are dropped, and its block is freed. The row's memory stays.
+    pub(crate) fn end(self) -> EmptyRow<T>
     where
         T: Drop,
         requires { AreAllKeys self.keys }
     {
-        let Row { place: _, keys } = self;
-        reunite(keys);
-    }
-
-    /// A row that wasn't needed.
-    pub(crate) fn discard(self)
-        requires { self.keys ≡ [] }
-    {
-        let Row { place: _, keys } = self;
-        keys.destroy_empty();
+        let Row { place: _, mut keys } = self;
+        reunite_all_of(&mut keys);
+        EmptyRow { keys }
     }
 }
