@@ -1,11 +1,12 @@
 // What the provider is compared with: Alertmanager's own, from Debian's package of its source. One goroutine puts alerts
-// of four labels, so many a call, and each reader takes what it is told.
+// of four labels, so many a call, which were read from JSON before, and each reader takes what it is told.
 //
 //	alertmanager READERS POSTS ALERTS LABELS     prints the nanoseconds that the posts took
 package main
 
 import (
 	"context"
+	"encoding/json"
 	"fmt"
 	"os"
 	"strconv"
@@ -29,24 +30,17 @@ func number(at int) int {
 	return value
 }
 
-// The alert of a number, which fires from then on, with one of so many label sets.
+// The alert of a number, which fires from then on, with one of so many label sets, as its JSON is read.
 func alertOf(number, labels int) *types.Alert {
 	now := time.Date(2024, 1, 1, 0, 0, 0, number, time.UTC)
-	host := fmt.Sprintf("host-%d", number%labels)
-	return &types.Alert{
-		Alert: model.Alert{
-			Labels: model.LabelSet{
-				"alertname": "DiskFull",
-				"instance":  model.LabelValue(host),
-				"job":       "node",
-				"severity":  "page",
-			},
-			StartsAt: now,
-			EndsAt:   now.Add(timeout),
-		},
-		UpdatedAt: now,
-		Timeout:   true,
+	body := fmt.Sprintf(
+		`{"labels":{"alertname":"DiskFull","instance":"host-%d","job":"node","severity":"page"}}`, number%labels)
+	var alert model.Alert
+	if err := json.Unmarshal([]byte(body), &alert); err != nil {
+		panic(err)
 	}
+	alert.StartsAt, alert.EndsAt = now, now.Add(timeout)
+	return &types.Alert{Alert: alert, UpdatedAt: now, Timeout: true}
 }
 
 func main() {

@@ -28,11 +28,6 @@ combined now older younger = record younger {
 abbrev pub merged : ℕ → Alert → Alert → Alert
 merged now stored new = if nat_lt new.updated stored.updated then combined now new stored else combined now stored new
 
--- the merged alert, where one is stored and the new report overlaps it (`provider/mem`'s Put)
-abbrev pub merged_with : ℕ → Option Alert → Alert → Option Alert
-merged_with now None new = None
-merged_with now (Some stored) new = if overlap stored new then Some (merged now stored new) else None
-
 -- what a label set holds once a report of it came (`provider/mem`'s Put)
 abbrev pub absorbed : ℕ → Option Alert → Alert → Alert
 absorbed now None new = new

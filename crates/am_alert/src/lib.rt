@@ -31,7 +31,7 @@ pub use alert::Alert;
 pub use alerts::Alerts;
 pub use civil_time::CivilTime;
 pub use laws::{merging_laws, post_laws};
-pub use merging::{absorb, merge, merge_overlapping, overlaps};
+pub use merging::{absorb, merge, overlaps};
 pub use moment::Moment;
 pub use post::{AlertFault, Faults, MAX_ALERTS, MAX_BYTES, Post, PostFault};
 pub use post_reader::read_post;

@@ -1,9 +1,9 @@
 //! How a stored report and a new one of the same label set become one (Alertmanager's
 //! `types.Alert.Merge`, and the test before it in `provider/mem`'s Put).
 
-ghost use Rattle.std.specs.Prelude.{◌≡◌, IfOk, unwrap_or};
+ghost use Rattle.std.specs.Prelude.{◌≡◌, IfOk};
 ghost use Rattle.std.specs.Option.{option_copied};
-ghost use Rattle.am_alert.specs.Merging.{absorbed, combined, merged, merged_with, overlap};
+ghost use Rattle.am_alert.specs.Merging.{absorbed, combined, merged, overlap};
 
 use crate::alert::Alert;
 use crate::moment::Moment;
@@ -53,30 +53,13 @@ fn combined_end(older: &Alert, younger: &Alert, now: Moment) -> Moment
     }
 }
 
-/// The merged alert where one is stored and the new report overlaps it; None where the new report
-/// stands as it came.
-pub fn merge_overlapping(
-    stored: Option<&Alert>,
-    new: &Alert,
-    now: Moment,
-) -> Result<Option<Alert>, AllocError>
-    ensures merged { IfOk result
-        (λ merged. merged ≡ merged_with now (option_copied stored.entry) new.now) }
-    ensures absorbed { IfOk result (λ merged. unwrap_or merged new.now
-        ≡ absorbed now (option_copied stored.entry) new.now) }
-{
-    match stored {
-        Some(old) if overlaps(old, new) => Ok(Some(merge(old, new, now)?)),
-        _ => Ok(None),
-    }
-}
-
-/// What a label set holds once the new report of it came.
+/// What a label set holds once the new report of it came: both as one where they overlap, and else
+/// the new one. It shares their texts.
 pub fn absorb(stored: Option<&Alert>, new: &Alert, now: Moment) -> Result<Alert, AllocError>
     ensures { IfOk result (λ alert. alert ≡ absorbed now (option_copied stored.entry) new.now) }
 {
-    match merge_overlapping(stored, new, now)? {
-        Some(merged) => Ok(merged),
-        None => new.copy(),
+    match stored {
+        Some(old) if overlaps(old, new) => merge(old, new, now),
+        _ => new.copy(),
     }
 }

@@ -72,7 +72,7 @@ fn read_elements(
     ensures { ReadsEach result
         (elements_of now (as_nanos resolve_timeout) 0 (items_view elements.items)) }
 {
-    let mut valid = Vec::new(alloc);
+    let mut valid = Vec::with_capacity(alloc, elements.len())?;
     let mut faults = Vec::new(alloc);
     for element in elements {
         // Each element before this one is valid or has a fault.

@@ -38,7 +38,7 @@ use am_cast::{AlreadyClosed, MOST_PLACES, Published};
 use am_store::lanes::{LANES, Lanes, OpenLane, earliest, idle_lane};
 use am_store::store::absorb::{Absorbed, absorb_each, take_back};
 use am_store::store::{AlertMap, remove_resolved, share_all};
-use am_store::{Call, Journal, MAX_BEFORE, SharedAlerts, StoredAlerts};
+use am_store::{Call, Journal, MAX_BEFORE, StoredAlerts};
 use std::alloc::{AllocError, Global};
 use std::marker::Model;
 use std::snapshot::Snapshot;
@@ -240,10 +240,9 @@ impl<N: Origin> Book<N> {
         ensures err { OnErr result (self.new ≡ self.old) }
     {
         self.journal.calls.reserve(ENTRIES)?;
-        let alerts = SharedAlerts::new(*self.journal.calls.allocator(), none)?;
         self.journal
             .calls
-            .push_back_reserved(Call::Posted { now, alerts });
+            .push_back_reserved(Call::Posted { now, alerts: none });
         self.posts += 1;
         Ok(())
     }
@@ -283,10 +282,8 @@ impl<N: Origin> Book<N> {
             });
         }
         self.journal.calls.reserve(ENTRIES)?;
-        let alloc = *self.journal.calls.allocator();
-        let alerts = SharedAlerts::new(alloc, valid)?;
-        let Absorbed { batch, undo } = absorb_each(&mut self.stored, alerts.as_slice(), now)?;
-        let call = Call::Posted { now, alerts };
+        let Absorbed { batch, undo } = absorb_each(&mut self.stored, valid.as_slice(), now)?;
+        let call = Call::Posted { now, alerts: valid };
         match send_batch(
             &mut self.log,
             cast,

@@ -1,13 +1,12 @@
 //! The entries of the journal.
 
-use crate::shared_alerts::SharedAlerts;
-use am_alert::Moment;
+use am_alert::{Alerts, Moment};
 
 /// An accepted call of the provider.
 #[derive(Debug, Drop)]
 pub enum Call {
     /// The valid alerts of a post, as they were posted.
-    Posted { now: Moment, alerts: SharedAlerts },
+    Posted { now: Moment, alerts: Alerts },
     /// Resolved alerts were removed.
     Collected(Moment),
     /// A subscription took the lane.

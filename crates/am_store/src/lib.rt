@@ -13,13 +13,12 @@
 //! A lane is a subscriber's slot, of which there are eight. An open one keeps when it was subscribed
 //! and what was stored then, so that the journal can be shortened up to the earliest of them.
 //!
-//!     let alerts = SharedAlerts::new(alloc, valid)?;            // the valid alerts of a post
-//!     let Absorbed { batch, undo } = absorb_each(&mut stored, alerts.as_slice(), now)?;
+//!     let Absorbed { batch, undo } = absorb_each(&mut stored, posted.as_slice(), now)?;
 //!     ..                                                        // `batch` goes out, or else:
 //!     take_back(&mut stored, undo);
 //!
-//! The store, the journal, what goes out and what late subscribers are shown have each alert in
-//! common: none of them copies one.
+//! The store, what goes out and what late subscribers are shown have each alert in common: none of
+//! them copies one. The journal has the alerts as they were posted, with the same texts.
 #![tactic(auto)]
 
 mod call;
@@ -32,4 +31,4 @@ pub mod store;
 pub use call::Call;
 pub use journal::{Journal, MAX_BEFORE};
 pub use laws::{journal_laws, trimming_laws};
-pub use shared_alerts::{SharedAlert, SharedAlerts, StoredAlerts};
+pub use shared_alerts::{SharedAlert, StoredAlerts};

@@ -1,57 +1,15 @@
-//! Alerts that the journal, the store, the log and openings have in common, so that none of them
-//! copies one.
+//! Alerts that the store, the log and openings have in common, so that none of them copies one.
 
 ghost use Rattle.std.specs.Prelude.{◌≡◌, ◌<◌, ◌^◌, IfOk, length};
 ghost use Rattle.am_store.specs.Shared.{alerts_in};
 
-use am_alert::{Alert, Alerts};
+use am_alert::Alert;
 use std::alloc::{AllocError, Global};
 use std::marker::Model;
 use std::sync::Arc;
 
 /// An alert with several owners.
 pub type SharedAlert = Arc<Alert, Global>;
-
-/// Shared alerts in order, seen by contracts as the list of the alerts.
-#[derive(Debug, Drop)]
-pub struct SharedAlerts {
-    pub alerts: Vec<SharedAlert>,
-}
-
-impl Model for SharedAlerts {
-    ghost use Rattle.std.specs.Prelude.{List};
-    ghost use Rattle.std.specs.Coded.{coded_list};
-    ghost use Rattle.am_alert.specs.declared.alert.Alert.{Alert};
-    ghost use Rattle.am_alert.specs.Alerts.{coded_alert};
-    ghost use Rattle.am_store.specs.Shared.{alerts_in};
-
-    ghost Value = { List Alert };
-
-    ghost coded = { coded_list coded_alert };
-
-    ghost view = { λ a. alerts_in a.alerts.items };
-}
-
-impl SharedAlerts {
-    /// The alerts, each on its own to be shared.
-    pub fn new(alloc: Global, alerts: Alerts) -> Result<SharedAlerts, AllocError>
-        ensures { IfOk result (λ shared. shared ≡ alerts) }
-    {
-        let Alerts { alerts } = alerts;
-        let mut shared = Vec::with_capacity(alloc, alerts.len())?;
-        for alert in alerts {
-            shared.push(Arc::new(alloc, alert)?)?;
-        }
-        Ok(SharedAlerts { alerts: shared })
-    }
-
-    /// The alerts in order.
-    pub fn as_slice(&self) -> &[SharedAlert]
-        ensures { alerts_in result.now ≡ self.now }
-    {
-        &self.alerts
-    }
-}
 
 /// What was stored at one moment, seen by contracts as the list of the alerts. It is shared as a
 /// whole, so that a subscription, its lane and the journal have one list in common.

@@ -14,9 +14,9 @@ ghost use Rattle.am_store.specs.inside.Shared.{taken_back, all_taken_back};
 
 use crate::shared_alerts::SharedAlert;
 use crate::store::AlertMap;
-use am_alert::{Alert, Moment, merge_overlapping};
+use am_alert::{Alert, Moment, absorb};
 use am_labels::LabelSet;
-use std::alloc::{AllocError, Global};
+use std::alloc::AllocError;
 use std::mem;
 use std::sync::Arc;
 
@@ -41,17 +41,17 @@ pub struct Absorbed {
 /// Absorbs reports one after another, and answers what each became.
 pub fn absorb_each(
     alerts: &mut AlertMap,
-    news: &[SharedAlert],
+    news: &[Alert],
     now: Moment,
 ) -> Result<Absorbed, AllocError>
     requires { AreKeptByLabels alerts.old.entries }
     ensures batch { IfOk result (λ done.
         alerts_in done.batch.items
-        ≡ batch_by_list now (alerts_in news.now) (stored_in alerts.old.entries)) }
+        ≡ batch_by_list now news.now (stored_in alerts.old.entries)) }
     ensures back { IfOk result (λ done.
         all_taken_back done.undo.items alerts.new.entries ≡ alerts.old.entries) }
     ensures stored { OnOk result (stored_in alerts.new.entries
-        ≡ with_alerts (batch_by_list now (alerts_in news.now) (stored_in alerts.old.entries))
+        ≡ with_alerts (batch_by_list now news.now (stored_in alerts.old.entries))
         (stored_in alerts.old.entries)) }
     ensures kept { AreKeptByLabels alerts.new.entries }
     ensures err { OnErr result (alerts.new.entries ≡ alerts.old.entries) }
@@ -80,12 +80,12 @@ pub fn absorb_each(
 // Absorbs one report. Answers what it became, and what it changed.
 fn absorb_one(
     alerts: &mut AlertMap,
-    new: &SharedAlert,
+    new: &Alert,
     now: Moment,
 ) -> Result<(SharedAlert, Change), AllocError>
     requires { AreKeptByLabels alerts.old.entries }
-    ensures became { IfOk result (λ done. let new = arc_value new.now in
-        arc_value done.0 ≡ absorbed now (lookup new.labels (stored_in alerts.old.entries)) new) }
+    ensures became { IfOk result (λ done. arc_value done.0
+        ≡ absorbed now (lookup new.now.labels (stored_in alerts.old.entries)) new.now) }
     ensures stored { IfOk result (λ done. stored_in alerts.new.entries
         ≡ with_alert (arc_value done.0) (stored_in alerts.old.entries)) }
     ensures kept { AreKeptByLabels alerts.new.entries }
@@ -95,7 +95,8 @@ fn absorb_one(
 {
     let alloc = *alerts.allocator();
     let at = alerts.get_index_of(&new.labels);
-    let became = outcome_of(alloc, stored_at(alerts, &new.labels, at), new, now)?;
+    let outcome = absorb(stored_at(alerts, &new.labels, at), new, now)?;
+    let became = Arc::new(alloc, outcome)?;
     let shared = Arc::try_clone(&became)?;
     match at {
         Some(at) => {
@@ -106,22 +107,6 @@ fn absorb_one(
             alerts.insert(new.labels.copy()?, shared)?;
             Ok((became, Change::Added))
         }
-    }
-}
-
-// What a report becomes: itself where it isn't merged.
-fn outcome_of(
-    alloc: Global,
-    stored: Option<&Alert>,
-    new: &SharedAlert,
-    now: Moment,
-) -> Result<SharedAlert, AllocError>
-    ensures { IfOk result (λ became.
-        arc_value became ≡ absorbed now (option_copied stored.entry) (arc_value new.now)) }
-{
-    match merge_overlapping(stored, new, now)? {
-        Some(merged) => Ok(Arc::new(alloc, merged)?),
-        None => Arc::try_clone(new),
     }
 }
 

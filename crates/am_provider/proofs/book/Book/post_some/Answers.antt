@@ -27,7 +27,7 @@ use Rattle.am_provider.proofs.book.Book.post_some.Goals as goal
 pub send_batch-requires-clause-some : goal.send_batch-requires-clause-some
 send_batch-requires-clause-some g c =
     let olds = stored_in c.self.inside.stored.entries in
-    let news = alerts_in c.as_slice.result.now in
+    let news = c.as_slice.result.now in
     let count : length c.in_ok-batch.field-0.batch.items ≡ length news = length_became c.in_ok-batch.field-0.batch.items c.args.now news olds c.in_ok-batch.ensures.batch in
     let same : news ≡ c.args.valid = search rules in
     omega (arith, c.requires.some, count, ap length same)
@@ -45,7 +45,7 @@ invariant_of-self-in-Ok-1 g c =
     let olds = stored_in c.self.inside.stored.entries in
     let valid = c.args.valid in
     let batch = alerts_in c.in_ok-batch.field-0.batch.items in
-    let same : alerts_in c.as_slice.result.now ≡ valid = search rules in
+    let same : c.as_slice.result.now ≡ valid = search rules in
     let became : batch ≡ batch_by_list c.args.now valid olds = c.in_ok-batch.ensures.batch ∙ ap (λ news. batch_by_list c.args.now news olds) same in
     let stored : stored_in c.absorb_each.new.alerts.entries ≡ with_alerts batch olds =
     c.in_ok-batch.ensures.stored ∙ (ap (λ news. with_alerts (batch_by_list c.args.now news olds) olds) same ∙ ap (λ b. with_alerts b olds) (sym became)) in
@@ -53,11 +53,11 @@ invariant_of-self-in-Ok-1 g c =
     let sent = c.in-Ok.ensures.sent in
     let x = sent.batch in
     let still : c.self.inside.log.tail.closed ≡ false = kept.pages.closed ∙ (ap (λ (b : BookView). is_closed b.journal) c.self.view_is ∙ c.requires.open) in
-    let posted : x.0.post ≡ Posted c.args.now valid = x.1 ∙ ap (Posted c.args.now) c.in_ok-alerts.ensures in
+    let posted : x.0.post ≡ Posted c.args.now valid = x.1 in
     let few : length c.self.inside.log.tail.log < most = omega (arith, c.if-len-ge-MOST_PLACES.false, c.len.ensures.0, ap (λ (t : Tail Batch). length t.log) tail) in
     let room : deque_len c.push_back_reserved.new.self + 9 ≤ deque_capacity c.push_back_reserved.new.self = omega (arith, c.in_ok-reserve.ensures.ok, c.push_back_reserved.ensures.len, c.push_back_reserved.ensures.capacity) in
     let calls : c.push_back_reserved.new.self.items ≡ c.self.inside.journal.calls.items ++ Posted c.args.now valid ∷ [] =
-    c.push_back_reserved.ensures.items ∙ (ap (λ (calls : List Call). calls ++ Posted c.args.now c.in_ok-alerts.alerts ∷ []) c.in_ok-reserve.ensures.items ∙ ap (λ alerts. c.self.inside.journal.calls.items ++ Posted c.args.now alerts ∷ []) c.in_ok-alerts.ensures) in
+    c.push_back_reserved.ensures.items ∙ ap (λ (calls : List Call). calls ++ Posted c.args.now valid ∷ []) c.in_ok-reserve.ensures.items in
     let journal : journal_of (record c.self.inside.journal { calls = c.push_back_reserved.new.self }) ≡ with_call (journal_of c.self.inside.journal) (Posted c.args.now valid) =
     ap (λ (calls : List Call). record (journal_of c.self.inside.journal) { calls = calls }) calls in (
       c.in_ok-batch.ensures.kept,
@@ -89,7 +89,7 @@ returns-in-Ok-clause-own g c =
     ap (λ (t : Tail Batch). length t.log) c.harvest-full.ensures.harvested.tail ∙ ap (λ (b : BookView). length b.log.tail.log) c.self.view_is in (
       sent.next ∙ long,
       (
-        (x.0, x.1 ∙ ap (Posted c.args.now) c.in_ok-alerts.ensures, x.4 ∙ ap (λ (p : PassView Alert Call). p.own ++ own_at c.in-Ok.sent.place x.0 ∷ []) c.pass.view_is),
+        (x.0, x.1, x.4 ∙ ap (λ (p : PassView Alert Call). p.own ++ own_at c.in-Ok.sent.place x.0 ∷ []) c.pass.view_is),
         sent.known.0,
         subst (λ (p : PassView Alert Call). IsPrefix p.noted c.send_batch.new.pass.noted) c.pass.view_is sent.known.1,
       ),

@@ -12,9 +12,9 @@ use Rattle.am_store.proofs.store.absorb.absorb_each.Goals as goal
 pub loop-new-preserved : goal.loop-new-preserved
 loop-new-preserved c =
     let now = c.args.now in
-    let news = alerts_in c.args.news.now in
+    let news = c.args.news.now in
     let olds = stored_in c.args.alerts.now.entries in
-    let new = arc_value c.new-item.result in
+    let new = c.new-item.result in
     let at = c.loop-new.new-index in
     let batch = alerts_in c.loop-new.batch.items in
     let became = arc_value c.in-Ok.became in
@@ -26,14 +26,11 @@ loop-new-preserved c =
     let more : alerts_in c.push_reserved.new.self.items ≡ batch ++ became ∷ [] = ap alerts_in pushed ∙ alerts_in_last c.loop-new.batch.items c.in-Ok.became in
     let is : became ≡ absorbed now (lookup new.labels (with_alerts batch olds)) new = c.in-Ok.ensures.became ∙ ap (λ olds. absorbed now (lookup new.labels olds) new) so_far.stored in
     let stored : stored_in entries ≡ with_alerts (batch ++ became ∷ []) olds = c.in-Ok.ensures.stored ∙ (ap (with_alert became) so_far.stored ∙ sym (with_alerts_last batch became olds)) in
-    let shared = c.args.news.now in
-    let here : new ≡ get_or news at new = sym (get_or-map arc_value shared at c.new-item.result new c.loop-new-test.true ∙ ap arc_value (sym c.new-item.is)) in
-    let within : at < length news = omega (arith, length-map shared arc_value, c.loop-new-test.true) in
-    let left : length (drop at shared) ≡ length (drop (at + 1) shared) + 1 = omega (arith, length-drop at shared, length-drop (at + 1) shared, c.loop-new-test.true) in
+    let left : length (drop at news) ≡ length (drop (at + 1) news) + 1 = omega (arith, length-drop at news, length-drop (at + 1) news, c.loop-new-test.true) in
     record {
       batch = ap (λ front. front ++ batch_by_list now (drop (at + 1) news) (stored_in entries)) more
           ∙ (ap (λ olds. (batch ++ became ∷ []) ++ batch_by_list now (drop (at + 1) news) olds) stored
-          ∙ (batch_more now news at new became batch olds within here is
+          ∙ (batch_more now news at new became batch olds c.loop-new-test.true c.new-item.is is
           ∙ (ap (λ olds. batch ++ batch_by_list now (drop at news) olds) (sym so_far.stored) ∙ so_far.batch)));
       stored = stored ∙ ap (λ batch. with_alerts batch olds) (sym more);
       kept = c.in-Ok.ensures.kept;

@@ -6,7 +6,7 @@ use Rattle.am_store.proofs.store.absorb.absorb_each.Given as goal
 
 abbrev pub invariant-loop-new : goal.invariant-loop-new
 invariant-loop-new l = record {
-  batch : alerts_in l.batch.items ++ batch_by_list l.now (drop l.new-index (alerts_in l.news)) (stored_in l.alerts.entries) ≡ batch_by_list l.now (alerts_in l.news) (stored_in l.fn.alerts.entries);
+  batch : alerts_in l.batch.items ++ batch_by_list l.now (drop l.new-index l.news) (stored_in l.alerts.entries) ≡ batch_by_list l.now l.news (stored_in l.fn.alerts.entries);
   stored : stored_in l.alerts.entries ≡ with_alerts (alerts_in l.batch.items) (stored_in l.fn.alerts.entries);
   kept : AreKeptByLabels l.alerts.entries;
   before : all_taken_back l.changes.items l.alerts.entries ≡ l.fn.alerts.entries;
