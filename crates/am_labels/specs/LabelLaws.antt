@@ -12,7 +12,10 @@ use Rattle.std.specs.Hash as fed
 use Rattle.std.specs.FinMap.{entries, same_entries_map}
 use Rattle.std.proofs.lemmas.Cmp.{nat_list_cmp_total, nat_list_eq_equiv, lists_total, lists_equiv, on_total, on_equiv, then_total, and_equiv}
 use Rattle.am_labels.specs.LabelSets.{Labels, same_pair, same_labels}
+use Rattle.std.specs.List.{fold}
+use Rattle.std.specs.Hash.FoldHasher as folding
 use Rattle.am_labels.specs.Texts.{text_cmp, same_text}
+use Rattle.am_labels.specs.inside.Pairs.{pairs_fed, pairs_hash}
 
 abbrev pub pair_cmp : List ℕ × List ℕ → List ℕ × List ℕ → Ordering
 pair_cmp p q = ordering_then (text_cmp p.0 q.0) (text_cmp p.1 q.1)
@@ -20,8 +23,9 @@ pair_cmp p q = ordering_then (text_cmp p.0 q.0) (text_cmp p.1 q.1)
 abbrev pub labels_cmp : Labels → Labels → Ordering
 labels_cmp a b = slice_cmp pair_cmp (entries a) (entries b)
 
+-- a label set is hashed by the hash that it keeps
 abbrev pub labels_fed : Labels → fed.HashWrites
-labels_fed a = fed.slice (λ p. fed.str p.0 ++ fed.str p.1) (entries a)
+labels_fed a = fed.u64 (pairs_hash (entries a))
 
 pub pairs_equiv : IsEquivalence same_pair
 pairs_equiv = and_equiv (on_equiv (λ p. p.0) nat_list_eq_equiv) (on_equiv (λ p. p.1) nat_list_eq_equiv)
@@ -44,8 +48,12 @@ labels_order = Cmp.partial_order_from_agreeing_total labels_cmp labels_total (λ
 text_alike : fed.Alike same_text fed.str
 text_alike = fed.same_Alike fed.str (pointwise_decides unsigned_Decides)
 
+pairs_alike : (a b : Labels) → same_labels a b ≡ true → pairs_fed (entries a) ≡ pairs_fed (entries b)
+pairs_alike = (fed.on_Alike entries (fed.items_Alike (fed.and-Alike (fed.on_Alike (λ p. p.0) text_alike) (fed.on_Alike (λ p. p.1) text_alike)))).fed
+
 pub labels_alike : (a b : Labels) → same_labels a b ≡ true → labels_fed a ≡ labels_fed b
-labels_alike = (fed.on_Alike entries (fed.items_Alike (fed.and-Alike (fed.on_Alike (λ p. p.0) text_alike) (fed.on_Alike (λ p. p.1) text_alike)))).fed
+unfolding pairs_hash
+labels_alike a b same = ap (λ writes. fed.u64 (folding.finish (fold folding.write folding.initial writes))) (pairs_alike a b same)
 
 pairs_decide : (p q : List ℕ × List ℕ) → Decides (same_pair p q) (p ≡ q)
 pairs_decide p q = (

@@ -246,7 +246,7 @@ impl Hash for LabelSet {
     ghost respects_eq = { labels_alike };
 
     fn hash<H: Hasher>(&self, state: &mut H) {
-        self.names_and_values().hash(state);
+        self.pairs.hash().hash(state);
     }
 }
 

@@ -1,10 +1,11 @@
 //! Names with values that the copies of a label set have in common. Only `label_set.rt` uses it.
 
 ghost use Rattle.std.specs.Prelude.{◌≡◌, [], IfOk, length};
-ghost use Rattle.am_labels.specs.inside.Pairs.{pairs_in};
+ghost use Rattle.am_labels.specs.inside.Pairs.{pairs_in, pairs_hash};
 
 use crate::text::Text;
 use std::alloc::{AllocError, Global};
+use std::hash::{FoldHasher, Hash, Hasher};
 use std::marker::Model;
 use std::sync::Arc;
 
@@ -13,29 +14,39 @@ use std::sync::Arc;
 pub(crate) struct SharedPairs {
     // None where there are no pairs: those take no memory.
     pairs: Option<Arc<Vec<(Text, Text)>, Global>>,
+    // Made once, so that a look-up doesn't hash the texts anew.
+    hash: u64,
 }
 
 impl Model for SharedPairs {
     ghost use Rattle.std.specs.Prelude.{List, ℕ};
-    ghost use Rattle.am_labels.specs.inside.Pairs.{pairs_in};
+    ghost use Rattle.std.specs.Prelude.{◌≡◌};
+    ghost use Rattle.am_labels.specs.inside.Pairs.{pairs_in, pairs_hash};
 
     ghost Value = { List (List ℕ × List ℕ) };
 
     ghost view = { λ a. pairs_in a.pairs };
+
+    ghost invariant = { λ a. a.hash ≡ pairs_hash (pairs_in a.pairs) };
 }
 
 impl SharedPairs {
     pub(crate) fn new() -> SharedPairs
         ensures { result ≡ [] }
     {
-        SharedPairs { pairs: None }
+        SharedPairs {
+            pairs: None,
+            hash: hash_of(&[]),
+        }
     }
 
     pub(crate) fn from_vec(pairs: Vec<(Text, Text)>) -> Result<SharedPairs, AllocError>
         ensures { IfOk result (λ shared. shared ≡ pairs.items) }
     {
+        let hash = hash_of(&pairs);
         Ok(SharedPairs {
             pairs: Some(Arc::new(*pairs.allocator(), pairs)?),
+            hash,
         })
     }
 
@@ -62,6 +73,23 @@ impl SharedPairs {
             Some(shared) => Some(Arc::try_clone(shared)?),
             None => None,
         };
-        Ok(SharedPairs { pairs })
+        Ok(SharedPairs {
+            pairs,
+            hash: self.hash,
+        })
     }
+
+    pub(crate) fn hash(&self) -> u64
+        ensures { result ≡ pairs_hash self.now }
+    {
+        self.hash
+    }
+}
+
+fn hash_of(pairs: &[(Text, Text)]) -> u64
+    ensures { result ≡ pairs_hash pairs.now }
+{
+    let mut state = FoldHasher::default();
+    pairs.hash(&mut state);
+    state.finish()
 }
