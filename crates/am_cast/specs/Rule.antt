@@ -61,7 +61,7 @@ shown false n = gone
 
 -- where the key of the place i for the lane l stands
 abbrev pub slot : ℕ → ℕ → ℕ → ℕ
-slot places l i = 8 * (i % places) + l
+slot places l i = l * places + i % places
 
 -- the slots: a slot at home has a key or none, one in a seat's hand is missing
 abbrev pub Homes : Type 0 → Type 0

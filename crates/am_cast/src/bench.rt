@@ -103,7 +103,7 @@ impl<T: Drop, P, A, N: Feed> Bench<T, P, A, N> {
         ensures only { OnlyAccount self.old self.new lane (clearing (account_of self.old.desk lane)) }
         ensures room { KeepsRoom self.old.rows self.new.rows }
     {
-        let at = 8 * (place % self.places) as usize + lane;
+        let at = board::slot_at(self.places, lane, place);
         let key = board::clear_slot(&cast.board.shared, &mut self.seat, at, lane);
         self.rows.bring(place, key);
     }
@@ -118,7 +118,7 @@ impl<T: Drop, P, A, N: Feed> Bench<T, P, A, N> {
             × (b.stop < b.cleared + self.old.desk.tail.places) }
         ensures { OneAccount self.old self.new lane (laying key (account_of self.old.desk lane)) }
     {
-        let at = 8 * (self.count % self.places) as usize + lane;
+        let at = board::slot_at(self.places, lane, self.count);
         board::fill_slot(&cast.board.shared, &mut self.seat, at, lane, key);
     }
 

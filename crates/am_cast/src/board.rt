@@ -25,7 +25,7 @@
 //!
 //! # Slots
 //!
-//! Slot 8 * (i % places) + l holds lane l's key of place i, from the fill before place i is published to the clear after
+//! Slot l * places + i % places holds lane l's key of place i, from the fill before place i is published to the clear after
 //! the lane has passed it. A slot is in the hand of one seat or at home. A cursor has at most one in its hand, that of
 //! the place it reads; the writer at most one, the one that it fills or clears.
 
@@ -65,6 +65,7 @@ pub(crate) use pass::pass_place;
 pub(crate) use publish::publish_batch;
 pub(crate) use recover::recover_key;
 pub(crate) use retire::retire_lane;
+pub(crate) use slot::slot_at;
 pub(crate) use take::take_key;
 pub(crate) use take_in::take_in;
 pub(crate) use tell::{new_seat, tell_seat};

@@ -86,7 +86,7 @@ impl<'a, T, P, A, N: Feed> Cursor<'a, T, P, A, N> {
         ensures taken { taken self.new ≡ taken self.old }
     {
         if let Some(key) = self.hand.take() {
-            let at = 8 * (self.passed % self.places) as usize + self.number;
+            let at = board::slot_at(self.places, self.number, self.passed);
             let top = &self.cast.board.shared;
             self.cut = board::pass_place(top, &mut self.seat, at, key, self.number);
             self.passed += 1;
@@ -114,7 +114,7 @@ impl<'a, T, P, A, N: Feed> Cursor<'a, T, P, A, N> {
         ensures cut { result ≡ false
             → self.new ≡ record { lane = cut_off self.old.lane; shown = 0 } }
     {
-        let at = 8 * (self.passed % self.places) as usize + self.number;
+        let at = board::slot_at(self.places, self.number, self.passed);
         let top = &self.cast.board.shared;
         match board::take_key(top, &mut self.seat, at, self.number, self.passed) {
             Some(key) => {
@@ -174,7 +174,7 @@ impl<'a, T, P, A, N: Feed> Cursor<'a, T, P, A, N> {
         let top = &cast.board.shared;
         match hand {
             Some(key) => {
-                let at = 8 * (passed % places) as usize + number;
+                let at = board::slot_at(places, number, passed);
                 board::leave_with_key(top, &mut seat, at, key, number);
                 (number, seat)
             }

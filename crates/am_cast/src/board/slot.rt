@@ -1,8 +1,17 @@
-//! Slots in hand.
-ghost use Rattle.std.specs.Prelude.{None, Some, ◌∷◌, ◌≡◌};
+//! Where slots stand, and slots in hand.
+ghost use Rattle.std.specs.Prelude.{None, Some, ◌<◌, ◌≤◌, ◌∷◌, ◌≡◌};
 ghost use Rattle.atomic_table.specs.Table.{rest};
+ghost use Rattle.am_cast.specs.Rule.{slot};
 
 use crate::rule::{Keyed, LogSeat, Top};
+
+/// Where the lane's key of a place stands.
+pub(crate) fn slot_at(places: u64, lane: usize, place: u64) -> usize
+    requires { (lane < 8) × (0 < places) × (places ≤ 256) }
+    ensures { result ≡ slot places lane place }
+{
+    lane * places as usize + (place % places) as usize
+}
 
 /// The value goes into the empty slot in hand.
 pub(crate) fn lay_in<B, K, A, R: Keyed<B, K>>(
