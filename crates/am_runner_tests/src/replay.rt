@@ -7,10 +7,10 @@ use crate::report::Report;
 use crate::seen::Seen;
 use crate::step::Action;
 use crate::told::Told;
-use am_alert::Moment;
+use am_alert::{Alert, Moment};
 use am_provider::{Counts, Ended, Settled};
 use am_runner::Answer;
-use am_store::{Call, SharedAlert};
+use am_store::Call;
 use std::alloc::{AllocError, Global};
 
 /// A subscription of a journal.
@@ -89,7 +89,7 @@ impl Replay {
         &mut self,
         told: &Told<'_>,
         now: Moment,
-        alerts: &[SharedAlert],
+        alerts: &[Alert],
     ) -> Result<(), Flaw> {
         let line = told.line_of(now)?;
         let Action::Post(reports) = told.action(line)? else {
@@ -392,7 +392,7 @@ fn is_of(reading: &Reading, entry: &Entry) -> bool {
 }
 
 // Whether the alerts are those of the reports, posted at the moment.
-fn are_posted(reports: &[Report], alerts: &[SharedAlert], now: Moment) -> bool {
+fn are_posted(reports: &[Report], alerts: &[Alert], now: Moment) -> bool {
     reports.len() == alerts.len()
         && reports.iter().zip(alerts).all(|(report, alert)| Seen::posted(report, now)
             == Seen::of(alert))
