@@ -85,12 +85,7 @@ impl Replay {
         }
     }
 
-    fn take_post(
-        &mut self,
-        told: &Told<'_>,
-        now: Moment,
-        alerts: &[Alert],
-    ) -> Result<(), Flaw> {
+    fn take_post(&mut self, told: &Told<'_>, now: Moment, alerts: &[Alert]) -> Result<(), Flaw> {
         let line = told.line_of(now)?;
         let Action::Post(reports) = told.action(line)? else {
             return Err(Flaw::OtherCall);

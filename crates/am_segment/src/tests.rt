@@ -4,7 +4,7 @@
 ghost use Rattle.std.specs.Prelude.{◌≡◌, ◌≤◌, length, IfOk};
 ghost use Rattle.am_segment.specs.Segments.{AreAllKeys};
 
-use crate::{SealFault, SegKey, SegmentBuilder, reunite};
+use crate::{SealFault, SegKey, SegmentBuilder, reunite, reunite_all_of};
 use std::alloc::{AllocError, Global};
 use std::mem::size_of;
 use std::sync::Arc;
@@ -141,6 +141,18 @@ fn keys_are_handed_out_one_by_one(rt: HostRuntime) -> Result<(), Fail> {
     let shown = sealed.keys.iter().all(|key| shows_filled(key));
     sealed.end();
     assert!(rt; shown);
+    assert_eq!(rt; Arc::strong_count(&item), 1);
+    Ok(())
+}
+
+#[test]
+fn the_list_of_the_keys_stays_with_its_memory(rt: HostRuntime) -> Result<(), Fail> {
+    let item = Arc::new(rt.alloc(), 7)?;
+    let Sealed { mut keys } = handed_out(rt.alloc(), filled(rt.alloc(), &item)?)?;
+    reunite_all_of(&mut keys);
+    let (left, room) = (keys.len(), keys.capacity());
+    keys.destroy_empty();
+    assert_eq!(rt; (left, room), (0, 2));
     assert_eq!(rt; Arc::strong_count(&item), 1);
     Ok(())
 }
