@@ -1,5 +1,5 @@
 -- The laws of comparing and hashing label sets, by their pairs in order.
-use Rattle.std.specs.Prelude.{◌≡◌, ℕ, true, List, ◌++◌, refl}
+use Rattle.std.specs.Prelude.{◌≡◌, ℕ, true, List, refl}
 use Rattle.std.proofs.Common.{ap, sym, ◌∙◌}
 use Rattle.std.specs.Ordering.{as_partial_cmp, ordering_then, eq_by_cmp}
 use Rattle.std.specs.Bool.{Decides}

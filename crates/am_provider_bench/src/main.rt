@@ -108,7 +108,7 @@ fn wait_for(arrived: &AtomicU64, readers: u32) {
 }
 
 // How many microseconds a reader sleeps that was shown all.
-const NAP: u64 = 40;
+const NAP: u64 = 100;
 
 // How many alerts a subscription shows until its log ends.
 fn count_shown<N: Origin, R: Clock>(rt: &R, subscription: &mut Subscription<'_, N>) -> u64 {

@@ -1,4 +1,4 @@
-use Rattle.std.proofs.Common.{◌≡◌, ◌∙◌, ◌++◌, List, ap, sym, subst}
+use Rattle.std.proofs.Common.{◌∙◌, ◌++◌, List, ap, sym, subst}
 use Rattle.std.proofs.lemmas.List.{append_assoc}
 use mathlib.Core.List.{IsPrefix}
 use Rattle.am_alert.specs.declared.alert.Alert.{Alert}

@@ -1,6 +1,5 @@
-use Rattle.std.proofs.Common.{◌≡◌, ◌+◌, ◌++◌, ◌∷◌, [], length, length-drop, drop, get_or, ◌<◌, sym, ap, ◌∙◌, arith}
+use Rattle.std.proofs.Common.{◌≡◌, ◌+◌, ◌++◌, ◌∷◌, [], length, length-drop, drop, sym, ap, ◌∙◌, arith}
 use Rattle.std.specs.Arc.{arc_value}
-use Rattle.std.proofs.lemmas.List.{length-map, get_or-map}
 use Rattle.am_alert.specs.Merging.{absorbed}
 use Rattle.am_store.specs.AlertList.{lookup, with_alert, with_alerts, batch_by_list}
 use Rattle.am_store.specs.Shared.{alerts_in}
