@@ -1,5 +1,5 @@
 -- The laws of comparing and hashing label sets, by their pairs in order.
-use Rattle.std.specs.Prelude.{◌≡◌, ℕ, true, List, refl}
+use Rattle.std.specs.Prelude.{◌≡◌, ℕ, true, List, ◌++◌, refl}
 use Rattle.std.proofs.Common.{ap, sym, ◌∙◌}
 use Rattle.std.specs.Ordering.{as_partial_cmp, ordering_then, eq_by_cmp}
 use Rattle.std.specs.Bool.{Decides}
@@ -12,16 +12,23 @@ use Rattle.std.specs.Hash as fed
 use Rattle.std.specs.FinMap.{entries, same_entries_map}
 use Rattle.std.proofs.lemmas.Cmp.{nat_list_cmp_total, nat_list_eq_equiv, lists_total, lists_equiv, on_total, on_equiv, then_total, and_equiv}
 use Rattle.am_labels.specs.LabelSets.{Labels, same_pair, same_labels}
-use Rattle.std.specs.List.{fold}
 use Rattle.std.specs.Hash.FoldHasher as folding
+use Rattle.std.specs.List.{fold}
 use Rattle.am_labels.specs.Texts.{text_cmp, same_text}
-use Rattle.am_labels.specs.inside.Pairs.{pairs_fed, pairs_hash}
 
 abbrev pub pair_cmp : List ℕ × List ℕ → List ℕ × List ℕ → Ordering
 pair_cmp p q = ordering_then (text_cmp p.0 q.0) (text_cmp p.1 q.1)
 
 abbrev pub labels_cmp : Labels → Labels → Ordering
 labels_cmp a b = slice_cmp pair_cmp (entries a) (entries b)
+
+-- what names with values feed a hasher
+abbrev pub pairs_fed : List (List ℕ × List ℕ) → fed.HashWrites
+pairs_fed pairs = fed.slice (λ p. fed.str p.0 ++ fed.str p.1) pairs
+
+-- the hash that a label set keeps of its names and values
+unfoldable pub pairs_hash : List (List ℕ × List ℕ) → ℕ
+pairs_hash pairs = folding.finish (fold folding.write folding.initial (pairs_fed pairs))
 
 -- a label set is hashed by the hash that it keeps
 abbrev pub labels_fed : Labels → fed.HashWrites

@@ -1,7 +1,8 @@
 //! Names with values that the copies of a label set have in common. Only `label_set.rt` uses it.
 
 ghost use Rattle.std.specs.Prelude.{◌≡◌, [], IfOk, length};
-ghost use Rattle.am_labels.specs.inside.Pairs.{pairs_in, pairs_hash};
+ghost use Rattle.am_labels.specs.LabelLaws.{pairs_hash};
+ghost use Rattle.am_labels.specs.inside.Pairs.{pairs_in};
 
 use crate::text::Text;
 use std::alloc::{AllocError, Global};
@@ -19,9 +20,9 @@ pub(crate) struct SharedPairs {
 }
 
 impl Model for SharedPairs {
-    ghost use Rattle.std.specs.Prelude.{List, ℕ};
-    ghost use Rattle.std.specs.Prelude.{◌≡◌};
-    ghost use Rattle.am_labels.specs.inside.Pairs.{pairs_in, pairs_hash};
+    ghost use Rattle.std.specs.Prelude.{◌≡◌, List, ℕ};
+    ghost use Rattle.am_labels.specs.LabelLaws.{pairs_hash};
+    ghost use Rattle.am_labels.specs.inside.Pairs.{pairs_in};
 
     ghost Value = { List (List ℕ × List ℕ) };
 

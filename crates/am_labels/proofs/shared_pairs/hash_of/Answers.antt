@@ -1,5 +1,5 @@
 use Rattle.std.proofs.Common.{rules}
-use Rattle.am_labels.specs.inside.Pairs.{pairs_hash}
+use Rattle.am_labels.specs.LabelLaws.{pairs_hash}
 use Rattle.am_labels.proofs.shared_pairs.hash_of.Goals as goal
 
 pub returns : goal.returns

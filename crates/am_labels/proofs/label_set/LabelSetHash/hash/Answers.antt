@@ -1,6 +1,6 @@
 use Rattle.std.proofs.Common.{ap, sym, ◌∙◌}
 use Rattle.std.specs.Hash.{le_bytes}
-use Rattle.am_labels.specs.inside.Pairs.{pairs_hash}
+use Rattle.am_labels.specs.LabelLaws.{pairs_hash}
 use Rattle.am_labels.proofs.LabelSets.LabelMaps.{entries_of}
 use Rattle.am_labels.proofs.label_set.LabelSetHash.hash.Goals as goal
 
