@@ -3,14 +3,11 @@ use Rattle.std.specs.Prelude.{ℕ, List, ◌++◌, codes, decimal}
 use Rattle.am_provider.specs.declared.faults.PutFault.{PutFault}
 use Rattle.am_provider.specs.declared.faults.PutFault.TheVariants as put_fault
 use Rattle.am_alert.specs.Printing.{post_fault_text}
+use Rattle.am_cast.specs.FaultTexts.{closed_text}
 use Rattle.am_provider.specs.declared.faults.PostRefused.{PostRefused}
 use Rattle.am_provider.specs.declared.faults.PostRefused.TheVariants as refused
 use Rattle.am_provider.specs.declared.faults.SubFault.{SubFault}
 use Rattle.am_provider.specs.declared.faults.SubFault.TheVariants as sub_fault
-
--- the log was ended
-abbrev pub closed_text : List ℕ
-closed_text = codes "E14 Closed"
 
 -- why a post was refused
 abbrev pub put_fault_text : PutFault → List ℕ

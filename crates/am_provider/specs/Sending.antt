@@ -48,11 +48,11 @@ pub record IsUnsent (policy : Policy) (old new : LogView) (fault : PutFault) : T
   pub why : IsLogCause policy old new fault
 
 -- the log's refusal in the provider's words
-abbrev pub fault_of : PublishFault → PutFault
-fault_of publish.NoMemory = put_fault.NoMemory
-fault_of publish.Closed = put_fault.Closed
-fault_of publish.LogEnd = put_fault.LogEnd
-fault_of (publish.Full lane passed) = put_fault.Full lane passed
+abbrev pub fault_as_put : PublishFault → PutFault
+fault_as_put publish.NoMemory = put_fault.NoMemory
+fault_as_put publish.Closed = put_fault.Closed
+fault_as_put publish.LogEnd = put_fault.LogEnd
+fault_as_put (publish.Full lane passed) = put_fault.Full lane passed
 
 -- it names one of the eight lanes, where it names one
 abbrev pub NamesALane : PublishFault → Type 0

@@ -8,7 +8,7 @@ ghost use Rattle.am_cast.specs.Writers.{HasRoom};
 ghost use Rattle.am_store.specs.Journal.{has_lane};
 ghost use Rattle.am_provider.specs.declared.answers.Policy.TheVariants.{Refuse};
 ghost use Rattle.am_provider.specs.Rising.{AreBelow};
-ghost use Rattle.am_provider.specs.Sending.{IsSent, IsUnsent, NamesALane, fault_of};
+ghost use Rattle.am_provider.specs.Sending.{IsSent, IsUnsent, NamesALane, fault_as_put};
 
 use crate::answers::Policy;
 use crate::faults::PutFault;
@@ -128,7 +128,7 @@ fn send<N: Origin>(
 // Drops a batch that the log refused, and answers why in the provider's words.
 fn give_up(refused: Refused<Item>) -> PutFault
     requires { NamesALane refused.fault }
-    ensures { result ≡ fault_of refused.fault }
+    ensures { result ≡ fault_as_put refused.fault }
 {
     let Refused { fault, batch } = refused;
     batch.discard();

@@ -10,7 +10,7 @@ use Rattle.am_inhibit.proofs.Muting.{last_alerts_go_on}
 use Rattle.am_inhibit.specs.LastAlerts.{last_alerts}
 use Rattle.am_routes.specs.Groups.{Take, Sweep}
 use Rattle.am_runner.specs.Answers.{is_item}
-use Rattle.am_runner.specs.Consuming.{HasTaken, TakesAlert, IsSwept, swept, no_dispatcher, alert_of}
+use Rattle.am_runner.specs.Consuming.{HasTaken, TakesAlert, IsSwept, swept, no_dispatcher, alert_taken}
 use Rattle.am_runner.specs.Reading.{OpenView, NextIs, IsTaken, ReadsOne, takes, misses, ends, TookAll, TakenBeside, AsksBeside, asks, none_beside}
 use Rattle.am_runner.specs.declared.answer.Answer.{Answer}
 use Rattle.am_runner.specs.declared.answer.Answer.TheVariants as answer
@@ -20,7 +20,7 @@ use Rattle.am_runner.specs.declared.consumer.Consumer.TheVariants.{Dispatcher, I
 -- one alert more was taken
 pub one_taken : (alerts : List Alert) (alert : Alert) (old new : Consumer) → TakesAlert alert old new → HasTaken alerts old → HasTaken (alerts ++ alert ∷ []) new
 one_taken alerts alert (Dispatcher old) (Dispatcher new) follows (events, are, groups) =
-    (events ++ Take alert ∷ [], filter_map-append alert_of events (Take alert ∷ []) ∙ ap (λ (taken : List Alert). taken ++ alert ∷ []) are, follows.1 events groups)
+    (events ++ Take alert ∷ [], filter_map-append alert_taken events (Take alert ∷ []) ∙ ap (λ (taken : List Alert). taken ++ alert ∷ []) are, follows.1 events groups)
 one_taken alerts alert (Inhibitor old) (Inhibitor new) same is =
     ap (λ one. one.alerts) same ∙ (ap (λ (taken : List Alert). last_alerts (taken ++ alert ∷ [])) is ∙ last_alerts_go_on alerts alert)
 one_taken alerts alert (Dispatcher old) (Inhibitor new) never is = absurd never
@@ -29,7 +29,7 @@ one_taken alerts alert (Inhibitor old) (Dispatcher new) never is = absurd never
 -- a sweep takes nothing
 pub sweep_takes_none : (alerts : List Alert) (now : ℕ) (old new : Consumer) (given : Answer) → IsSwept now old new given → HasTaken alerts old → HasTaken alerts new
 sweep_takes_none alerts now (Dispatcher old) (Dispatcher new) given (swept gone follows counted groups_gone) (events, are, groups) =
-    (events ++ Sweep now ∷ [], filter_map-append alert_of events (Sweep now ∷ []) ∙ (append-nil _ ∙ are), follows.1 events groups)
+    (events ++ Sweep now ∷ [], filter_map-append alert_taken events (Sweep now ∷ []) ∙ (append-nil _ ∙ are), follows.1 events groups)
 sweep_takes_none alerts now (Inhibitor old) (Inhibitor new) given no_dispatcher is = is
 sweep_takes_none alerts now (Dispatcher old) (Inhibitor new) given never is = elim never [ ]
 sweep_takes_none alerts now (Inhibitor old) (Dispatcher new) given never is = elim never [ ]

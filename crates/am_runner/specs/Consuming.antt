@@ -36,13 +36,13 @@ TakesAlert alert (Dispatcher old) (Inhibitor new) = ⊥
 TakesAlert alert (Inhibitor old) (Dispatcher new) = ⊥
 
 -- the alert of an event
-abbrev pub alert_of : DispatchEvent → Option Alert
-alert_of (Take alert) = Some alert
-alert_of (Sweep now) = None
+abbrev pub alert_taken : DispatchEvent → Option Alert
+alert_taken (Take alert) = Some alert
+alert_taken (Sweep now) = None
 
 -- the alerts that a dispatcher took, among its sweeps
 abbrev pub alerts_taken : List DispatchEvent → List Alert
-alerts_taken events = filter_map alert_of events
+alerts_taken events = filter_map alert_taken events
 
 -- a consumer took these alerts and no others: the groups of a dispatcher are those of them, in their
 -- order, with its sweeps somewhere between; the alerts of an inhibitor are the last ones of their label

@@ -5,7 +5,8 @@ use Rattle.am_alert.specs.Printing.{alert_text, alert_fault_text}
 use Rattle.am_labels.specs.LabelSets.{Labels}
 use Rattle.am_labels.specs.Printing.{labels_text, quoted}
 use Rattle.am_routes.specs.declared.dispatcher.Swept.{Swept}
-use Rattle.am_provider.specs.FaultTexts.{closed_text, post_refused_text, sub_fault_text}
+use Rattle.am_cast.specs.FaultTexts.{closed_text}
+use Rattle.am_provider.specs.FaultTexts.{post_refused_text, sub_fault_text}
 use Rattle.am_script.specs.ScriptTexts.{verb_text}
 use Rattle.am_runner.specs.declared.answer.Answer.{Answer}
 use Rattle.am_runner.specs.declared.answer.Answer.TheVariants as answer

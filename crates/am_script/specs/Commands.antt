@@ -133,8 +133,8 @@ pub record IsCompactText (d : Data) (text : List ℕ) : Type 0 where
   pub reads_back : depth d ≤ max_depth → read text ≡ Some d
 
 -- what a body is posted as: a text as its bytes, any other value as its compact text
-abbrev pub IsPostedAs : Data → List ℕ → Type 0
-IsPostedAs d text = MatchOption (as_str d) (IsCompactText d text) (λ bytes. text ≡ bytes)
+abbrev pub IsBodyText : Data → List ℕ → Type 0
+IsBodyText d text = MatchOption (as_str d) (IsCompactText d text) (λ bytes. text ≡ bytes)
 
 -- the text that a command posts
 abbrev pub body_text : Command → List ℕ
@@ -151,7 +151,7 @@ body_text (Mutes name at labels) = []
 
 -- a post's text is that of the line's body
 abbrev pub HasItsBody : Data → Command → Type 0
-HasItsBody d (Post at body) = IfSome (get (codes "body") d) (λ given. IsPostedAs given body)
+HasItsBody d (Post at body) = IfSome (get (codes "body") d) (λ given. IsBodyText given body)
 HasItsBody d (Subscribe name kind) = ⊤
 HasItsBody d (Read name max) = ⊤
 HasItsBody d (Leave name) = ⊤

@@ -3,7 +3,7 @@
 ghost use Rattle.std.specs.Prelude.{IfOk};
 ghost use Rattle.serde_json.specs.View.{view};
 ghost use Rattle.am_script.specs.Commands.{command_for};
-ghost use Rattle.am_script.specs.Commands.{IsLineFrom, IsLineOf, IsPostedAs, ReadsCommand};
+ghost use Rattle.am_script.specs.Commands.{IsLineFrom, IsLineOf, IsBodyText, ReadsCommand};
 
 use crate::command::{Command, Line, LineFault, Verb};
 use crate::members::{kind_at, labels_at, max_at, moment_at, name_at, thread_at, verb_at};
@@ -68,7 +68,7 @@ fn post_of(alloc: Global, value: &Value) -> Result<Command, LineFault>
 }
 
 fn posted_text(alloc: Global, body: &Value) -> Result<Text, AllocError>
-    ensures { IfOk result (IsPostedAs (view body.now)) }
+    ensures { IfOk result (IsBodyText (view body.now)) }
 {
     match body.as_str() {
         Some(text) => Text::from_str(alloc, text),
