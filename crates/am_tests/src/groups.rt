@@ -1,6 +1,7 @@
 //! Groups at real size, and of two dispatchers of one tree.
 
-use crate::expectation::{configuration, expect, labels};
+use crate::configurations::{configuration, labels};
+use crate::expectation::expect;
 use am_alert::{Alert, Moment};
 use am_labels::{LabelSet, SharedText};
 use am_routes::{Dispatcher, RouteTree, Swept};
@@ -69,21 +70,22 @@ fn goes_from_one(one: &mut Dispatcher<'_>, other: &mut Dispatcher<'_>) -> bool {
         && other.groups().len() == 2
 }
 
-fn take_in_both(alloc: Global, tree: &RouteTree) -> Result<bool, AllocError> {
-    let mut one = dispatcher(alloc, tree)?;
-    let mut other = dispatcher(alloc, tree)?;
-    let alert = alert(alloc, "job=a severity=crit team=db", 5)?;
-    take(&mut one, &alert)?;
-    take(&mut other, &alert)?;
-    Ok(goes_from_one(&mut one, &mut other))
+fn take_one(alloc: Global, dispatcher: &mut Dispatcher<'_>) -> Result<(), AllocError> {
+    take(dispatcher, &alert(alloc, "job=a severity=crit team=db", 5)?)
 }
 
 // Two dispatchers share one tree and nothing else.
 #[test]
 fn two_dispatchers_of_one_tree(rt: HostRuntime) -> Result<(), Fail> {
     let config = configuration(rt.alloc(), TEAMS)?;
-    let apart = take_in_both(rt.alloc(), &config.tree)?;
-    expect(apart, "the groups of one changed with the other's")
+    let mut one = dispatcher(rt.alloc(), &config.tree)?;
+    take_one(rt.alloc(), &mut one)?;
+    let mut other = dispatcher(rt.alloc(), &config.tree)?;
+    take_one(rt.alloc(), &mut other)?;
+    expect(
+        goes_from_one(&mut one, &mut other),
+        "the groups of one changed with the other's",
+    )
 }
 
 // One alert of each of so many jobs.

@@ -1,6 +1,7 @@
 //! The inhibition rules that a configuration is read as.
 
-use crate::expectation::{configuration, expect};
+use crate::configurations::configuration;
+use crate::expectation::expect;
 use am_labels::{Matchers, Operator};
 use am_routes::InhibitRule;
 use std::test::Fail;

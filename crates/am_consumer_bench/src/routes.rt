@@ -1,24 +1,17 @@
-//! Times routes and groups: a tree of 101 routes (ten teams with nine routes below each, a third of
-//! them with a pattern) and alerts of five labels. `bench/routes` runs it.
-//!
-//!     am_routes_bench matches ALERTS ROUNDS
-//!     am_routes_bench takes ALERTS ROUNDS
-//!
-//! A round asks the tree about the labels of each alert, or has a dispatcher take each alert, which
-//! then stands in a group of its own. It prints how many routes were found, or how many groups stand.
-#![tactic(auto)]
+//! Routes and groups: a tree of 101 routes (ten teams with nine routes below each, a third of them
+//! with a pattern) and alerts of five labels.
 
 use am_alert::{Alert, Moment};
 use am_labels::{LabelSet, SharedText};
 use am_routes::{Config, ConfigFault, Dispatcher, RouteTree};
 use std::alloc::{AllocError, Global};
-use std::env;
-use std::process::ExitCode;
 
-/// What is timed.
+/// What a round does.
 #[derive(Clone, Copy, Debug)]
-enum Work {
+pub(crate) enum Round {
+    /// It asks the tree about the labels of each alert.
     Matches,
+    /// It has a dispatcher take each alert, which then stands in a group of its own.
     Takes,
 }
 
@@ -138,41 +131,18 @@ fn takes(
     Ok(dispatcher.groups().len() as u64)
 }
 
-fn run(alloc: Global, work: Work, count: u32, rounds: u32) -> Result<u64, ConfigFault> {
+/// How many routes so many rounds found, or how many groups stand after them.
+pub(crate) fn run(
+    alloc: Global,
+    round: Round,
+    count: u32,
+    rounds: u32,
+) -> Result<u64, ConfigFault> {
     let text = config_text(alloc)?;
     let config = Config::read(alloc, text.as_bytes())?;
     let alerts = alerts(alloc, count)?;
-    Ok(match work {
-        Work::Matches => matches(alloc, &config.tree, &alerts, rounds)?,
-        Work::Takes => takes(alloc, &config.tree, &alerts, rounds)?,
+    Ok(match round {
+        Round::Matches => matches(alloc, &config.tree, &alerts, rounds)?,
+        Round::Takes => takes(alloc, &config.tree, &alerts, rounds)?,
     })
-}
-
-fn work_of(rt: &HostRuntime) -> Option<(Work, u32, u32)> {
-    let mut arguments = env::args(rt).ok()?.skip(1);
-    let work = match arguments.next()?.as_str() {
-        "matches" => Work::Matches,
-        "takes" => Work::Takes,
-        _ => return None,
-    };
-    let count = number(arguments.next())?;
-    let rounds = number(arguments.next())?;
-    Some((work, count, rounds))
-}
-
-fn number(argument: Option<String>) -> Option<u32> {
-    argument?.as_str().parse::<u32>().ok()
-}
-
-fn main(rt: HostRuntime) -> ExitCode {
-    let Some((work, count, rounds)) = work_of(&rt) else {
-        return ExitCode::from(1);
-    };
-    match run(rt.alloc(), work, count, rounds) {
-        Ok(found) => {
-            let _printed = println!(rt; "{found}");
-            ExitCode::SUCCESS
-        }
-        Err(_) => ExitCode::from(3),
-    }
 }

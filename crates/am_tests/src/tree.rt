@@ -1,6 +1,7 @@
 //! Asking a tree: each call once, and a tree of real size.
 
-use crate::expectation::{configuration, expect, labels};
+use crate::configurations::{configuration, labels};
+use crate::expectation::expect;
 use am_labels::LabelSet;
 use am_routes::{PreparedTree, RouteId, RouteTree, dispatch_laws};
 use std::alloc::{AllocError, Global};

@@ -1,13 +1,9 @@
-//! What a test expects, and the configurations and labels that it is made with.
+//! The configurations and labels that tests of routes are made with.
 
 use am_labels::LabelSet;
 use am_routes::{Config, ConfigFault};
 use std::alloc::{AllocError, Global};
 use std::test::Fail;
-
-pub(crate) fn expect(holds: bool, what: &'static str) -> Result<(), Fail> {
-    if holds { Ok(()) } else { Err(Fail::from(what)) }
-}
 
 /// The configuration of a text, read once more where memory was refused.
 pub(crate) fn configuration(alloc: Global, text: &str) -> Result<Config, Fail> {

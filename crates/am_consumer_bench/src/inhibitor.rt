@@ -1,39 +1,35 @@
-//! Asks an inhibitor many questions, to be timed. `bench/inhibitor` runs it.
-//!
-//!     am_inhibit_bench SOURCES ROUNDS FIRST
-//!
-//! takes so many alerts that fire, each of its own value of `equal`, the values counted from 0. Then it
-//! asks a thousand targets so many times, of values counted from FIRST on, as many as there are sources. It prints how often
-//! a target was muted, and how many sources the answers came to.
-#![tactic(auto)]
+//! The inhibitor: many sources, and many questions.
 
 use am_alert::{Alert, Moment};
 use am_inhibit::Inhibitor;
 use am_labels::{LabelSet, SharedText};
-use am_routes::Config;
+use am_routes::{Config, ConfigFault};
 use std::alloc::{AllocError, Global};
-use std::env;
-use std::process::ExitCode;
 
 const RULE: &str =
     "{\"route\":{\"receiver\":\"ops\"},\"inhibit_rules\":[{\"source_matchers\":[\"severity=critical\"],\"target_matchers\":[\"severity=warning\"],\"equal\":[\"instance\"]}]}";
 
 /// How many targets are asked for in turn.
-const TARGETS: u64 = 1_000;
+const TARGETS: u32 = 1_000;
 
 /// What is asked.
 #[derive(Clone, Copy, Debug)]
-struct Questions {
-    sources: u64,
-    rounds: u64,
-    first: u64,
+pub(crate) struct Questions {
+    /// How many alerts fire, each of its own value of `equal`, the values counted from 0.
+    pub(crate) sources: u32,
+    /// How often each target is asked for.
+    pub(crate) rounds: u32,
+    /// The first value of the targets, of which there are as many as sources.
+    pub(crate) first: u32,
 }
 
 /// What the answers came to.
 #[derive(Clone, Copy, Debug)]
-struct Answers {
-    muted: u64,
-    looked: u64,
+pub(crate) struct Answers {
+    /// How often a target was muted.
+    pub(crate) muted: u64,
+    /// How many sources the answers came to.
+    pub(crate) looked: u64,
 }
 
 // So many nanoseconds after the first instant.
@@ -53,7 +49,7 @@ fn labels_at(
     alloc: Global,
     name: &str,
     severity: &str,
-    instance: u64,
+    instance: u32,
 ) -> Result<LabelSet, AllocError> {
     let host = format!(in alloc; "host-{instance:06}:9100")?;
     let mut pairs = Vec::new(alloc);
@@ -66,7 +62,7 @@ fn labels_at(
 }
 
 // Takes a firing alert at each of some instances.
-fn take_all(alloc: Global, inhibitor: &mut Inhibitor<'_>, sources: u64) -> Result<(), AllocError> {
+fn take_all(alloc: Global, inhibitor: &mut Inhibitor<'_>, sources: u32) -> Result<(), AllocError> {
     for instance in 0..sources {
         inhibitor.take(&Alert {
             labels: labels_at(alloc, "InstanceDown", "critical", instance)?,
@@ -107,8 +103,13 @@ fn ask_each(
     Ok(())
 }
 
-// Takes the sources, and asks for the targets again and again.
-fn run(alloc: Global, config: &Config, questions: Questions) -> Result<Answers, AllocError> {
+/// Takes the sources, and asks for the targets again and again.
+pub(crate) fn run(alloc: Global, questions: Questions) -> Result<Answers, ConfigFault> {
+    let config = Config::read(alloc, RULE.as_bytes())?;
+    Ok(ask(alloc, &config, questions)?)
+}
+
+fn ask(alloc: Global, config: &Config, questions: Questions) -> Result<Answers, AllocError> {
     let mut inhibitor = Inhibitor::new(alloc, &config.rules)?;
     take_all(alloc, &mut inhibitor, questions.sources)?;
     let targets = targets_of(alloc, questions)?;
@@ -120,41 +121,4 @@ fn run(alloc: Global, config: &Config, questions: Questions) -> Result<Answers, 
         ask_each(&mut inhibitor, &targets, &mut answers)?;
     }
     Ok(answers)
-}
-
-// The questions that the arguments name.
-fn questions_of(rt: &HostRuntime) -> Option<Questions> {
-    let Ok(args) = env::args(rt) else {
-        return None;
-    };
-    let mut args = args.skip(1);
-    Some(Questions {
-        sources: number(args.next())?,
-        rounds: number(args.next())?,
-        first: number(args.next())?,
-    })
-}
-
-fn number(argument: Option<String>) -> Option<u64> {
-    match argument?.parse::<u64>() {
-        Ok(number) => Some(number),
-        Err(_) => None,
-    }
-}
-
-fn main(rt: HostRuntime) -> ExitCode {
-    let Some(questions) = questions_of(&rt) else {
-        return ExitCode::from(1);
-    };
-    let alloc = rt.alloc();
-    let Ok(config) = Config::read(alloc, RULE.as_bytes()) else {
-        return ExitCode::from(2);
-    };
-    match run(alloc, &config, questions) {
-        Ok(answers) => {
-            let _printed = println!(rt; "{} {}", answers.muted, answers.looked);
-            ExitCode::SUCCESS
-        }
-        Err(AllocError) => ExitCode::from(3),
-    }
 }
