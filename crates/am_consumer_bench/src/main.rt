@@ -13,7 +13,7 @@ mod inhibitor;
 mod routes;
 
 use crate::inhibitor::Questions;
-use crate::routes::Round;
+use crate::routes::RouteWork;
 use am_routes::ConfigFault;
 use std::env;
 use std::process::ExitCode;
@@ -22,7 +22,7 @@ use std::process::ExitCode;
 #[derive(Clone, Copy, Debug)]
 enum Work {
     /// So many rounds of so many alerts.
-    Routes(Round, u32, u32),
+    Routes(RouteWork, u32, u32),
     Inhibitor(Questions),
 }
 
@@ -36,8 +36,8 @@ fn work_of(rt: &HostRuntime) -> Option<Work> {
     let count = number(arguments.next())?;
     let rounds = number(arguments.next())?;
     match verb.as_str() {
-        "matches" => Some(Work::Routes(Round::Matches, count, rounds)),
-        "takes" => Some(Work::Routes(Round::Takes, count, rounds)),
+        "matches" => Some(Work::Routes(RouteWork::Matches, count, rounds)),
+        "takes" => Some(Work::Routes(RouteWork::Takes, count, rounds)),
         "mutes" => Some(Work::Inhibitor(Questions {
             sources: count,
             rounds,
@@ -50,8 +50,8 @@ fn work_of(rt: &HostRuntime) -> Option<Work> {
 fn run(rt: &HostRuntime, work: Work) -> Result<(), ConfigFault> {
     let alloc = rt.alloc();
     match work {
-        Work::Routes(round, count, rounds) => {
-            let found = routes::run(alloc, round, count, rounds)?;
+        Work::Routes(work, count, rounds) => {
+            let found = routes::run(alloc, work, count, rounds)?;
             let _printed = println!(rt; "{found}");
         }
         Work::Inhibitor(questions) => {

@@ -8,7 +8,7 @@ use std::alloc::{AllocError, Global};
 
 /// What a round does.
 #[derive(Clone, Copy, Debug)]
-pub(crate) enum Round {
+pub(crate) enum RouteWork {
     /// It asks the tree about the labels of each alert.
     Matches,
     /// It has a dispatcher take each alert, which then stands in a group of its own.
@@ -134,15 +134,15 @@ fn takes(
 /// How many routes so many rounds found, or how many groups stand after them.
 pub(crate) fn run(
     alloc: Global,
-    round: Round,
+    work: RouteWork,
     count: u32,
     rounds: u32,
 ) -> Result<u64, ConfigFault> {
     let text = config_text(alloc)?;
     let config = Config::read(alloc, text.as_bytes())?;
     let alerts = alerts(alloc, count)?;
-    Ok(match round {
-        Round::Matches => matches(alloc, &config.tree, &alerts, rounds)?,
-        Round::Takes => takes(alloc, &config.tree, &alerts, rounds)?,
+    Ok(match work {
+        RouteWork::Matches => matches(alloc, &config.tree, &alerts, rounds)?,
+        RouteWork::Takes => takes(alloc, &config.tree, &alerts, rounds)?,
     })
 }
