@@ -105,8 +105,8 @@ const FULL_HELP: &str = "Where the log is full, refuse the post or cut the slowe
 // Two calls that work as they stand, and a line for each command of a script.
 const EXAMPLES: &str = "\
 Examples:
-  ./replay < rows/first_post.in
-  ./replay --places 1 --full cut < rows/cut_the_slow_lane.in
+  ./replay < tests/rows/first_post.in
+  ./replay --places 1 --full cut < tests/rows/cut_the_slow_lane.in
 
 The first line of a script is the configuration. Each further one is a JSON object
 with a command as `do`, a `thread` from 0 to 7, and what stands beside the command:

@@ -89,8 +89,8 @@ fn help_has_examples_and_each_command(rt: HostRuntime) -> Result<(), Fail> {
         panic!(rt; "no help");
     };
     for line in [
-        "  ./replay < rows/first_post.in",
-        "  ./replay --places 1 --full cut < rows/cut_the_slow_lane.in",
+        "  ./replay < tests/rows/first_post.in",
+        "  ./replay --places 1 --full cut < tests/rows/cut_the_slow_lane.in",
     ] {
         assert!(rt; text.as_str().lines().any(|told| told == line));
     }

@@ -2,7 +2,7 @@
 
 It is written from the rules and shares nothing with the crates: dictionaries, whole lists and Python's own reading of
 JSON. It is plain rather than quick, and reads times only as Prometheus writes them. Scripts that are refused as a whole
-are not its business: `rows/` has them.
+are not its business: `tests/rows/` has them.
 """
 import bisect
 import dataclasses

@@ -5,7 +5,7 @@ import pathlib
 import random
 import sys
 
-TOP = pathlib.Path(__file__).resolve().parent.parent
+TOP = pathlib.Path(__file__).resolve().parent.parent.parent
 sys.path.append(str(TOP / "bench"))
 import scripts as bench  # noqa: E402
 
