@@ -4,7 +4,7 @@ use crate::configurations::{configuration, labels};
 use crate::expectation::expect;
 use am_config::RouteTree;
 use am_labels::LabelSet;
-use am_routes::{PreparedTree, RouteId, dispatch_laws};
+use am_routes::{PreparedTree, RouteId, dispatch_laws, matching_routes};
 use std::alloc::{AllocError, Global};
 use std::test::Fail;
 
@@ -24,7 +24,7 @@ fn are_numbered(found: &[RouteId], numbers: &[u64]) -> bool {
 // Labels come to these routes.
 fn come_to(alloc: Global, tree: &RouteTree, of: &str, numbers: &[u64]) -> Result<(), Fail> {
     let labels = labels(alloc, of)?;
-    let found = PreparedTree::new(alloc, tree)?.matches(&labels)?;
+    let found = matching_routes(alloc, tree, &labels)?;
     expect(are_numbered(&found, numbers), "other routes are found")
 }
 
@@ -83,7 +83,7 @@ fn add_route(text: &mut String, number: u32) -> Result<(), AllocError> {
 fn finds_all_or_one(alloc: Global, tree: &RouteTree) -> Result<(), Fail> {
     come_to(alloc, tree, "team=t999", &[1_000])?;
     let labels = labels(alloc, "team=all")?;
-    let all = PreparedTree::new(alloc, tree)?.matches(&labels)?;
+    let all = matching_routes(alloc, tree, &labels)?;
     expect(all.len() == 999, "each route but the first")
 }
 

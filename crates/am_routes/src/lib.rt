@@ -27,5 +27,5 @@ mod route_id;
 pub use dispatcher::{Dispatcher, Swept};
 pub use group::Group;
 pub use laws::dispatch_laws;
-pub use matching::PreparedTree;
+pub use matching::{PreparedTree, matching_routes};
 pub use route_id::RouteId;

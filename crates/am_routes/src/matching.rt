@@ -1,8 +1,8 @@
 //! Asking a routing tree which of its routes a label set matches.
 
 ghost use Rattle.std.specs.Prelude.{◌≡◌, ◌++◌, IfOk, OnOk};
-ghost use Rattle.am_config.specs.RouteLists.{forest_of};
-ghost use Rattle.am_routes.specs.RouteAnswers.{answer_of};
+ghost use Rattle.am_config.specs.RouteLists.{forest_of, root_of};
+ghost use Rattle.am_routes.specs.RouteAnswers.{answer_of, IsAnswerOf};
 ghost use Rattle.am_routes.specs.inside.Searches.{nodes_in, searches_of, BeginAt};
 
 use crate::route_id::RouteId;
@@ -77,6 +77,18 @@ impl<'t> PreparedTree<'t> {
         ask(&mut self.searches, root, 0, labels, &mut found)?;
         Ok(found)
     }
+}
+
+/// The routes that a label set matches, as [`PreparedTree::matches`] gives them. It prepares the tree
+/// for this one question.
+pub fn matching_routes(
+    alloc: Global,
+    tree: &RouteTree,
+    labels: &LabelSet,
+) -> Result<Vec<RouteId>, AllocError>
+    ensures { IfOk result (λ ids. IsAnswerOf labels.now (root_of tree.now) ids.items) }
+{
+    PreparedTree::new(alloc, tree)?.matches(labels)
 }
 
 /// A route that a label set matches.
