@@ -1,16 +1,14 @@
-//! Times a provider. `bench/provider` runs it with many loads.
+//! The provider for threads, with posters and readers. `bench/provider` runs it with many loads.
 //!
-//!     am_provider_bench bytes|ready POSTERS READERS POSTS ALERTS LABELS TRIM
-//!
-//! Each poster posts so many bodies of so many alerts, of so many label sets in turn, and has the journal
-//! trimmed after each TRIM posts, or never where that is 0; the readers read beside. With `ready` there is
-//! one poster, and its posts were read before. It prints how many posts were accepted, how many alerts the
-//! readers were shown and how many are stored, and to standard error the nanoseconds that the posts took,
-//! and then those of one more subscription.
-#![tactic(auto)]
+//! Each poster posts POSTS bodies of ALERTS alerts, with LABELS label sets in turn, and has the journal
+//! trimmed after each TRIM posts, or never if that is 0. The readers read meanwhile. With `ready` there
+//! is one poster, and its posts were read before.
 
 ghost use Rattle.std.specs.Prelude.{◌≡◌, ◌<◌, ◌≤◌};
 
+use crate::failure::Failure;
+use crate::printed::Printed;
+use crate::words::{number, small_number};
 use am_alert::{Moment, Post, read_post};
 use am_provider::{
     Begun, Book, Cast, NoGate, Origin, Parts, Pass, Policy, Provider, Step, Subscription,
@@ -18,19 +16,18 @@ use am_provider::{
 use std::alloc::{AllocError, Global};
 use std::hint::spin_loop;
 use std::marker::Brand;
-use std::process::ExitCode;
 use std::sync::atomic::{AtomicU64, Ordering};
 use std::sync::{Mutex, Wait};
 use std::thread::Threads;
 use std::time::{Clock, Duration, Instant};
-use std::{env, io, thread};
+use std::{io, thread};
 
 // 2024-01-01T00:00:00Z, in nanoseconds since 0001-01-01T00:00:00Z.
 const NEW_YEAR: u128 = 63_839_664_000_000_000_000;
 
-/// How much is posted, and by and to how many.
+/// How much is posted, by how many posters, and to how many readers.
 #[derive(Clone, Copy, Debug, Drop)]
-struct Load {
+pub(crate) struct Load {
     ready: bool,
     posters: u32,
     readers: u32,
@@ -41,7 +38,44 @@ struct Load {
     ghost some: { (1 ≤ posters) × (posters ≤ 64) × (1 ≤ labels) },
 }
 
-/// How many posts were accepted, and how many nanoseconds they took, and one more subscription.
+impl Load {
+    pub(crate) fn read(words: &[String]) -> Option<Load> {
+        let ready = words.first()?.as_str() == "ready";
+        let posters = small_number(words, 1)?;
+        let readers = small_number(words, 2)?;
+        let posts = number(words, 3)?;
+        let alerts = number(words, 4)?;
+        let labels = number(words, 5)?;
+        let trim = number(words, 6)?;
+        if posters == 0 || posters > 64 || readers > 8 || alerts == 0 || labels == 0 {
+            return None;
+        }
+        Some(Load {
+            ready,
+            posters,
+            readers,
+            posts,
+            alerts,
+            labels,
+            trim,
+        })
+    }
+
+    /// Two posters and two readers of a few posts, with trims.
+    pub(crate) fn small() -> Load {
+        Load {
+            ready: false,
+            posters: 2,
+            readers: 2,
+            posts: 100,
+            alerts: 3,
+            labels: 10,
+            trim: 50,
+        }
+    }
+}
+
+/// How many posts were accepted, and the nanoseconds of the posts, and of one more subscription.
 #[derive(Clone, Copy, Debug, Drop)]
 struct Posted {
     accepted: u64,
@@ -49,20 +83,20 @@ struct Posted {
     subscribing: u128,
 }
 
-/// What a run came to.
+/// What was measured of a run.
 #[derive(Clone, Copy, Debug, Drop)]
-struct Came {
+struct Measured {
     posted: Posted,
     shown: u64,
     stored: u64,
 }
 
-// So many nanoseconds after the beginning of 2024.
+// A moment that many nanoseconds after the beginning of 2024.
 fn moment(nanoseconds: u64) -> Moment {
     Moment::try_new(NEW_YEAR + u128::from(nanoseconds)).unwrap_or(Moment::MAX)
 }
 
-// A body of so many alerts, from a label set on.
+// The body of one post, with label sets from a first one on.
 fn body_of(alloc: Global, first: u64, load: Load) -> Result<String, AllocError> {
     let mut body = String::new(alloc);
     for at in 0..load.alerts {
@@ -77,7 +111,8 @@ fn body_of(alloc: Global, first: u64, load: Load) -> Result<String, AllocError> 
     Ok(body)
 }
 
-// As many bodies as there are label sets, each of which goes on where the one before it ends.
+// As many bodies as there are label sets. Each continues with the label set after the last one of
+// the body before it.
 fn bodies_of(alloc: Global, load: Load) -> Result<Vec<String>, AllocError> {
     let mut bodies = Vec::new(alloc);
     for number in 0..load.labels {
@@ -86,7 +121,7 @@ fn bodies_of(alloc: Global, load: Load) -> Result<Vec<String>, AllocError> {
     Ok(bodies)
 }
 
-// Spins a little, and then lets another thread go on.
+// Spins a little, and then lets another thread run.
 fn wait(turns: &mut u64) {
     *turns = turns.wrapping_add(1);
     if *turns % 64 == 0 {
@@ -96,7 +131,7 @@ fn wait(turns: &mut u64) {
     }
 }
 
-// Waits until so many readers have come.
+// Waits until all readers have subscribed.
 fn wait_for(arrived: &AtomicU64, readers: u32) {
     let mut turns = 0;
     for _turn in 0..u64::MAX {
@@ -107,10 +142,10 @@ fn wait_for(arrived: &AtomicU64, readers: u32) {
     }
 }
 
-// How many microseconds a reader sleeps that was shown all.
+// How many microseconds an idle reader sleeps.
 const NAP: u64 = 100;
 
-// How many alerts a subscription shows until its log ends.
+// How many alerts a subscription delivers until its log ends.
 fn count_shown<N: Origin, R: Clock>(rt: &R, subscription: &mut Subscription<'_, N>) -> u64 {
     let mut shown: u64 = 0;
     for _turn in 0..u64::MAX {
@@ -123,7 +158,7 @@ fn count_shown<N: Origin, R: Clock>(rt: &R, subscription: &mut Subscription<'_, 
     shown
 }
 
-// How many nanoseconds went by.
+// How many nanoseconds have passed.
 fn since<R: Clock>(rt: &R, begin: io::Result<Instant>) -> u128 {
     match begin {
         Ok(begin) => match begin.elapsed(rt) {
@@ -145,7 +180,7 @@ fn read<N: Origin, R: Wait + Clock>(rt: &R, provider: &Provider<N>, arrived: &At
     shown
 }
 
-// Posts the bodies in turn, each again and again while the log is full. Answers how many were accepted.
+// Posts the bodies in turn, trying each again while the log is full. Returns how many were accepted.
 fn post<N: Origin, R: Wait>(
     rt: &R,
     provider: &Provider<N>,
@@ -176,7 +211,8 @@ fn post<N: Origin, R: Wait>(
     accepted
 }
 
-// Posts in a thread for each poster once the readers have come, subscribes once more, and ends the log.
+// Posts in a thread for each poster once the readers have subscribed, subscribes once more, and closes
+// the log.
 fn post_all<N: Origin + Send + Sync, R: Threads + Wait + Clock + Sync>(
     rt: &R,
     provider: &Provider<N>,
@@ -211,7 +247,7 @@ fn post_all<N: Origin + Send + Sync, R: Threads + Wait + Clock + Sync>(
     }
 }
 
-// What all readers were shown.
+// How many alerts all readers received.
 fn sum_of(shown: Result<Vec<u64>, AllocError>) -> u64 {
     let mut sum: u64 = 0;
     if let Ok(shown) = shown {
@@ -222,14 +258,14 @@ fn sum_of(shown: Result<Vec<u64>, AllocError>) -> u64 {
     sum
 }
 
-// Posts of bodies to a provider, and readers beside.
+// Posts bodies to a provider while the readers read.
 fn run_bytes<N: Origin + Send + Sync, R: Threads + Wait + Clock + Sync>(
     rt: &R,
     alloc: Global,
     parts: Parts,
     bodies: &[String],
     load: Load,
-) -> Result<Came, AllocError>
+) -> Result<Measured, AllocError>
     requires table { parts.log.board.shared.table_id ≡ N.table }
     requires ledger { (parts.ledger.name ≡ N.name) × (parts.ledger.parts ≡ N.parts) }
 {
@@ -244,14 +280,14 @@ fn run_bytes<N: Origin + Send + Sync, R: Threads + Wait + Clock + Sync>(
         move || thread::map_indices(rt, alloc, readers, &|_reader| read(rt, shared, come)),
     );
     let settled = provider.settle(rt, passes);
-    Ok(Came {
+    Ok(Measured {
         posted,
         shown: sum_of(shown),
         stored: settled.store.len() as u64,
     })
 }
 
-// The posts, each of which was read before.
+// The posts, read from their bodies.
 fn read_posts(alloc: Global, bodies: &[String], load: Load) -> Result<Vec<Post>, AllocError> {
     let mut posts = Vec::new(alloc);
     for at in 0..load.posts {
@@ -285,8 +321,8 @@ fn read_book<N: Origin, R: Wait + Clock>(
     shown
 }
 
-// Posts what was read, once the readers have come, and ends the log. What a full log refuses is not posted
-// again.
+// Posts what was read once the readers have subscribed, and closes the log. What a full log refuses
+// isn't posted again.
 fn post_ready<N: Origin, R: Wait + Clock>(
     rt: &R,
     cast: &Cast<N>,
@@ -317,14 +353,14 @@ fn post_ready<N: Origin, R: Wait + Clock>(
     }
 }
 
-// Posts that were read before to a Book, and readers beside.
+// Posts that were read before, to a Book, while the readers read.
 fn run_ready<N: Origin + Send + Sync, R: Threads + Wait + Clock + Sync>(
     rt: &R,
     alloc: Global,
     parts: Parts,
     posts: Vec<Post>,
     load: Load,
-) -> Result<Came, AllocError>
+) -> Result<Measured, AllocError>
     requires table { parts.log.board.shared.table_id ≡ N.table }
     requires ledger { (parts.ledger.name ≡ N.name) × (parts.ledger.parts ≡ N.parts) }
 {
@@ -340,36 +376,36 @@ fn run_ready<N: Origin + Send + Sync, R: Threads + Wait + Clock + Sync>(
         posting: 0,
         subscribing: 0,
     };
-    let (log, desk, come) = (&cast, &book, &arrived);
+    let (log, shared, come) = (&cast, &book, &arrived);
     let poster = passes.first_mut();
     let readers = load.readers as usize;
     let (posted, shown) = thread::join(
         rt,
         move || match poster {
-            Some(pass) => post_ready(rt, log, desk, pass, posts, come, load),
+            Some(pass) => post_ready(rt, log, shared, pass, posts, come, load),
             None => nothing,
         },
         move || thread::map_indices(
             rt,
             alloc,
             readers,
-            &|_reader| read_book(rt, log, desk, come),
+            &|_reader| read_book(rt, log, shared, come),
         ),
     );
     let settled = book.into_inner().settle(rt, cast, passes);
-    Ok(Came {
+    Ok(Measured {
         posted,
         shown: sum_of(shown),
         stored: settled.store.len() as u64,
     })
 }
 
-// A provider of its own, with 256 places.
+// A run with a new provider of 256 places.
 fn run<R: Threads + Wait + Clock + Sync>(
     rt: &R,
     alloc: Global,
     load: Load,
-) -> Result<Came, AllocError> {
+) -> Result<Measured, AllocError> {
     let bodies = bodies_of(alloc, load)?;
     if load.ready {
         let posts = read_posts(alloc, &bodies, load)?;
@@ -380,55 +416,25 @@ fn run<R: Threads + Wait + Clock + Sync>(
     run_bytes::<Brand, R>(rt, alloc, parts, &bodies, load)
 }
 
-// The load that the arguments name.
-fn load_of(rt: &HostRuntime) -> Option<Load> {
-    let Ok(args) = env::args(rt) else {
-        return None;
-    };
-    let mut args = args.skip(1);
-    let ready = args.next()?.as_str() == "ready";
-    let posters = number(args.next())?;
-    let readers = number(args.next())?;
-    let posts = number(args.next())?;
-    let alerts = number(args.next())?;
-    let labels = number(args.next())?;
-    let trim = number(args.next())?;
-    if posters == 0 || posters > 64 || readers > 8 || alerts == 0 || labels == 0 {
-        return None;
-    }
-    Some(Load {
-        ready,
-        posters: posters as u32,
-        readers: readers as u32,
-        posts,
-        alerts,
-        labels,
-        trim,
-    })
-}
-
-fn number(argument: Option<String>) -> Option<u64> {
-    match argument?.parse::<u64>() {
-        Ok(number) => Some(number),
-        Err(_) => None,
-    }
-}
-
-fn main(rt: HostRuntime) -> ExitCode {
-    let Some(load) = load_of(&rt) else {
-        return ExitCode::from(1);
-    };
-    match run(&rt, rt.alloc(), load) {
-        Ok(came) => {
-            let Posted {
-                accepted,
-                posting,
-                subscribing,
-            } = came.posted;
-            let _printed = println!(rt; "{accepted} {} {}", came.shown, came.stored);
-            let _printed = eprintln!(rt; "{posting} {subscribing}");
-            ExitCode::SUCCESS
-        }
-        Err(_) => ExitCode::from(3),
-    }
+/// Runs a load. It prints how many posts were accepted, how many alerts the readers received, and how
+/// many are stored; and to standard error the nanoseconds of the posts, and of one more subscription.
+pub(crate) fn time<R: Threads + Wait + Clock + Sync>(
+    rt: &R,
+    alloc: Global,
+    load: Load,
+    printed: &mut Printed,
+) -> Result<(), Failure> {
+    let measured = run(rt, alloc, load)?;
+    let Posted {
+        accepted,
+        posting,
+        subscribing,
+    } = measured.posted;
+    write!(
+        printed.counts,
+        "{accepted} {} {}\n",
+        measured.shown, measured.stored
+    )?;
+    write!(printed.nanoseconds, "{posting} {subscribing}\n")?;
+    Ok(())
 }

@@ -1,4 +1,4 @@
-use Rattle.am_provider_bench.proofs.run.Given as goal
+use Rattle.am_bench.proofs.provider.run.Given as goal
 
 abbrev pub ghosts-run_ready-N-Feed : goal.ghosts-run_ready-N-Feed
 ghosts-run_ready-N-Feed g a = record { table = a.parts.log.board.shared.table_id }

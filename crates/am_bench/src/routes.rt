@@ -1,18 +1,54 @@
 //! Routes and groups: a tree of 101 routes (ten teams with nine routes below each, a third of them
-//! with a pattern) and alerts of five labels.
+//! with a pattern) and alerts of five labels. `bench/routes` runs it.
 
+use crate::failure::Failure;
+use crate::printed::Printed;
+use crate::words::small_number;
 use am_alert::{Alert, Moment};
+use am_config::{Config, RouteTree};
 use am_labels::{LabelSet, SharedText};
-use am_routes::{Config, ConfigFault, Dispatcher, RouteTree};
+use am_routes::{Dispatcher, PreparedTree};
 use std::alloc::{AllocError, Global};
 
 /// What a round does.
 #[derive(Clone, Copy, Debug)]
-pub(crate) enum RouteWork {
+enum RouteWork {
     /// It asks the tree about the labels of each alert.
     Matches,
-    /// It has a dispatcher take each alert, which then stands in a group of its own.
+    /// It has a dispatcher take each alert, into a group of one alert.
     Takes,
+}
+
+/// How many alerts there are, and how many rounds of them.
+#[derive(Clone, Copy, Debug)]
+pub(crate) struct Load {
+    work: RouteWork,
+    alerts: u32,
+    rounds: u32,
+}
+
+impl Load {
+    pub(crate) fn read(words: &[String]) -> Option<Load> {
+        let work = match words.first()?.as_str() {
+            "matches" => RouteWork::Matches,
+            "takes" => RouteWork::Takes,
+            _ => return None,
+        };
+        Some(Load {
+            work,
+            alerts: small_number(words, 1)?,
+            rounds: small_number(words, 2)?,
+        })
+    }
+
+    /// Two rounds of ten alerts.
+    pub(crate) fn small() -> Load {
+        Load {
+            work: RouteWork::Takes,
+            alerts: 10,
+            rounds: 2,
+        }
+    }
 }
 
 fn config_text(alloc: Global) -> Result<String, AllocError> {
@@ -98,14 +134,14 @@ fn alerts(alloc: Global, count: u32) -> Result<Vec<Alert>, AllocError> {
     Ok(alerts)
 }
 
-// How many routes are found in so many rounds.
+// How many routes the rounds find.
 fn matches(
     alloc: Global,
     tree: &RouteTree,
     alerts: &[Alert],
     rounds: u32,
 ) -> Result<u64, AllocError> {
-    let mut tree = tree.prepare(alloc)?;
+    let mut tree = PreparedTree::new(alloc, tree)?;
     let mut found = 0u64;
     for _round in 0..rounds {
         for alert in alerts {
@@ -115,7 +151,7 @@ fn matches(
     Ok(found)
 }
 
-// How many groups stand after so many rounds.
+// How many groups there are after the rounds.
 fn takes(
     alloc: Global,
     tree: &RouteTree,
@@ -131,18 +167,20 @@ fn takes(
     Ok(dispatcher.groups().len() as u64)
 }
 
-/// How many routes so many rounds found, or how many groups stand after them.
-pub(crate) fn run(
-    alloc: Global,
-    work: RouteWork,
-    count: u32,
-    rounds: u32,
-) -> Result<u64, ConfigFault> {
+// How many routes the rounds found, or how many groups there are after them.
+fn run(alloc: Global, load: Load) -> Result<u64, Failure> {
     let text = config_text(alloc)?;
     let config = Config::read(alloc, text.as_bytes())?;
-    let alerts = alerts(alloc, count)?;
-    Ok(match work {
-        RouteWork::Matches => matches(alloc, &config.tree, &alerts, rounds)?,
-        RouteWork::Takes => takes(alloc, &config.tree, &alerts, rounds)?,
+    let alerts = alerts(alloc, load.alerts)?;
+    Ok(match load.work {
+        RouteWork::Matches => matches(alloc, &config.tree, &alerts, load.rounds)?,
+        RouteWork::Takes => takes(alloc, &config.tree, &alerts, load.rounds)?,
     })
+}
+
+/// Runs a load, and prints how many routes were found, or how many groups there are.
+pub(crate) fn time(alloc: Global, load: Load, printed: &mut Printed) -> Result<(), Failure> {
+    let found = run(alloc, load)?;
+    write!(printed.counts, "{found}\n")?;
+    Ok(())
 }

@@ -1,38 +1,60 @@
-//! The inhibitor: many sources, and many questions.
+//! The inhibitor: many sources, and many questions. `bench/inhibitor` runs it.
 
+use crate::failure::Failure;
+use crate::printed::Printed;
+use crate::words::small_number;
 use am_alert::{Alert, Moment};
+use am_config::Config;
 use am_inhibit::Inhibitor;
 use am_labels::{LabelSet, SharedText};
-use am_routes::{Config, ConfigFault};
 use std::alloc::{AllocError, Global};
 
 const RULE: &str =
     "{\"route\":{\"receiver\":\"ops\"},\"inhibit_rules\":[{\"source_matchers\":[\"severity=critical\"],\"target_matchers\":[\"severity=warning\"],\"equal\":[\"instance\"]}]}";
 
-/// How many targets are asked for in turn.
+/// How many targets a round asks about.
 const TARGETS: u32 = 1_000;
 
 /// What is asked.
 #[derive(Clone, Copy, Debug)]
-pub(crate) struct Questions {
-    /// How many alerts fire, each of its own value of `equal`, the values counted from 0.
-    pub(crate) sources: u32,
-    /// How often each target is asked for.
-    pub(crate) rounds: u32,
-    /// The first value of the targets, of which there are as many as sources.
-    pub(crate) first: u32,
+pub(crate) struct Load {
+    /// How many alerts fire, each with its own value of `equal`, the values counted from 0.
+    sources: u32,
+    /// How often each target is asked about.
+    rounds: u32,
+    /// The first value of the targets, which have as many values as there are sources.
+    first: u32,
 }
 
-/// What the answers came to.
+impl Load {
+    pub(crate) fn read(words: &[String]) -> Option<Load> {
+        Some(Load {
+            sources: small_number(words, 0)?,
+            rounds: small_number(words, 1)?,
+            first: small_number(words, 2)?,
+        })
+    }
+
+    /// Two rounds over ten sources, each of which mutes.
+    pub(crate) fn small() -> Load {
+        Load {
+            sources: 10,
+            rounds: 2,
+            first: 0,
+        }
+    }
+}
+
+/// The sums of all answers.
 #[derive(Clone, Copy, Debug)]
-pub(crate) struct Answers {
+struct Answers {
     /// How often a target was muted.
-    pub(crate) muted: u64,
-    /// How many sources the answers came to.
-    pub(crate) looked: u64,
+    muted: u64,
+    /// How many sources were examined.
+    looked: u64,
 }
 
-// So many nanoseconds after the first instant.
+// A moment that many nanoseconds after the first one.
 fn moment(nanoseconds: u128) -> Moment {
     Moment::try_new(nanoseconds).unwrap_or(Moment::MAX)
 }
@@ -77,18 +99,18 @@ fn take_all(alloc: Global, inhibitor: &mut Inhibitor<'_>, sources: u32) -> Resul
     Ok(())
 }
 
-// The labels of the targets that are asked for, of as many values as there are sources.
-fn targets_of(alloc: Global, questions: Questions) -> Result<Vec<LabelSet>, AllocError> {
+// The labels of the targets, with as many values as there are sources.
+fn targets_of(alloc: Global, load: Load) -> Result<Vec<LabelSet>, AllocError> {
     let mut targets = Vec::new(alloc);
     for number in 0..TARGETS {
-        let value = number.checked_rem(questions.sources).unwrap_or(0);
-        let instance = questions.first.wrapping_add(value);
+        let value = number.checked_rem(load.sources).unwrap_or(0);
+        let instance = load.first.wrapping_add(value);
         targets.push(labels_at(alloc, "DiskFull", "warning", instance)?)?;
     }
     Ok(targets)
 }
 
-// Asks for each target once.
+// Asks about each target once.
 fn ask_each(
     inhibitor: &mut Inhibitor<'_>,
     targets: &[LabelSet],
@@ -103,22 +125,29 @@ fn ask_each(
     Ok(())
 }
 
-/// Takes the sources, and asks for the targets again and again.
-pub(crate) fn run(alloc: Global, questions: Questions) -> Result<Answers, ConfigFault> {
+// Takes the sources, and asks about the targets in each round.
+fn run(alloc: Global, load: Load) -> Result<Answers, Failure> {
     let config = Config::read(alloc, RULE.as_bytes())?;
-    Ok(ask(alloc, &config, questions)?)
+    Ok(ask(alloc, &config, load)?)
 }
 
-fn ask(alloc: Global, config: &Config, questions: Questions) -> Result<Answers, AllocError> {
+fn ask(alloc: Global, config: &Config, load: Load) -> Result<Answers, AllocError> {
     let mut inhibitor = Inhibitor::new(alloc, &config.rules)?;
-    take_all(alloc, &mut inhibitor, questions.sources)?;
-    let targets = targets_of(alloc, questions)?;
+    take_all(alloc, &mut inhibitor, load.sources)?;
+    let targets = targets_of(alloc, load)?;
     let mut answers = Answers {
         muted: 0,
         looked: 0,
     };
-    for _ in 0..questions.rounds {
+    for _ in 0..load.rounds {
         ask_each(&mut inhibitor, &targets, &mut answers)?;
     }
     Ok(answers)
+}
+
+/// Runs a load, and prints how often a target was muted, and how many sources were examined.
+pub(crate) fn time(alloc: Global, load: Load, printed: &mut Printed) -> Result<(), Failure> {
+    let answers = run(alloc, load)?;
+    write!(printed.counts, "{} {}\n", answers.muted, answers.looked)?;
+    Ok(())
 }
