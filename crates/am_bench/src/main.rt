@@ -1,296 +1,117 @@
-//! Times the log: one writer in a thread of its own, and up to eight readers in theirs. `bench/log` runs it beside what
-//! it is compared with.
+//! Times the parts of the provider: the log, the provider for threads, routes and groups, and the
+//! inhibitor. The scripts of `bench/` run it.
 //!
-//!     am_bench READERS BATCHES ITEMS PLACES
+//!     am_bench log READERS BATCHES ITEMS PLACES
+//!     am_bench provider bytes|ready POSTERS READERS POSTS ALERTS LABELS TRIM
+//!     am_bench routes matches|takes ALERTS ROUNDS
+//!     am_bench inhibitor SOURCES ROUNDS FIRST
+//!     am_bench each
 //!
-//! with so many items in each batch. It prints how many items the readers were shown in all, and their sum.
+//! The first word says what to time; `each` runs a small load of each. What is printed is a count that
+//! the script checks, and the time is that of the whole run. Only `provider` measures for itself: it
+//! prints nanoseconds to standard error.
+//!
+//! The exit status is 1 for arguments that aren't of this form, and 3 if memory runs out.
 #![tactic(auto)]
 
-ghost use Rattle.std.specs.Prelude.{◌≡◌, ◌<◌, ◌≤◌, length, IfOk};
+mod failure;
+mod inhibitor;
+mod log;
+mod printed;
+mod provider;
+mod routes;
+mod words;
 
-use am_cast::{Begun, Cast, Cursor, Feed, Parts, Pass, Refused, Step, Writer, begin, end};
-use am_segment::SegmentBuilder;
-use std::alloc::{AllocError, Global};
-use std::marker::Brand;
+use crate::failure::Failure;
+use crate::printed::Printed;
+use std::alloc::Global;
+use std::env;
 use std::process::ExitCode;
-use std::snapshot::Snapshot;
 use std::sync::Wait;
 use std::thread::Threads;
-use std::time::{Clock, Duration};
-use std::{env, thread};
+use std::time::Clock;
 
-/// How much is sent, and to how many.
+/// What is timed.
 #[derive(Clone, Copy, Debug, Drop)]
-struct Load {
-    readers: usize,
-    batches: u64,
-    items: usize,
-    places: u64,
-    ghost some: { 0 < items },
+enum Work {
+    Log(log::Load),
+    Provider(provider::Load),
+    Routes(routes::Load),
+    Inhibitor(inhibitor::Load),
+    /// A small load of each.
+    Each,
 }
 
-/// What a reader was shown.
-#[derive(Clone, Copy, Debug, Drop)]
-struct Shown {
-    items: u64,
-    sum: u64,
-}
-
-impl Shown {
-    // What two readers were shown together.
-    fn and(self, other: Shown) -> Shown {
-        Shown {
-            items: self.items.wrapping_add(other.items),
-            sum: self.sum.wrapping_add(other.sum),
+impl Work {
+    fn read(words: &[String]) -> Option<Work> {
+        let (first, others) = words.split_first()?;
+        match first.as_str() {
+            "log" => Some(Work::Log(log::Load::read(others)?)),
+            "provider" => Some(Work::Provider(provider::Load::read(others)?)),
+            "routes" => Some(Work::Routes(routes::Load::read(others)?)),
+            "inhibitor" => Some(Work::Inhibitor(inhibitor::Load::read(others)?)),
+            "each" => Some(Work::Each),
+            _ => None,
         }
     }
 }
 
-// A batch of numbers from a first one on.
-fn batch_of(alloc: Global, first: u64, count: usize) -> Result<SegmentBuilder<u64>, AllocError>
-    requires { 0 < count }
-    ensures { IfOk result (λ batch. 0 < length batch.items) }
-{
-    let mut batch = SegmentBuilder::with_places(alloc, count)?;
-    let _pushed = batch.push(first);
-    for at in 1..count {
-        let _pushed = batch.push(first.wrapping_add(at as u64));
+// The arguments, without the program's name.
+fn words_given(rt: &HostRuntime) -> Result<Vec<String>, Failure> {
+    let mut words = Vec::new(rt.alloc());
+    let Ok(arguments) = env::args(rt) else {
+        return Err(Failure::BadArguments);
+    };
+    for argument in arguments.skip(1) {
+        words.push(argument)?;
     }
-    Ok(batch)
+    Ok(words)
 }
 
-// How many microseconds a thread sleeps that can't go on.
-const NAP: u64 = 20;
-
-fn nap<R: Clock>(rt: &R) {
-    thread::sleep(rt, Duration::from_micros(NAP));
-}
-
-// Publishes all items in batches, waiting where a reader is as far behind as it may be, and closes
-// the log. Answers whether memory was there.
-fn publish_all<N: Feed, R: Clock>(
+fn time_each<R: Threads + Wait + Clock + Sync>(
     rt: &R,
     alloc: Global,
-    cast: &Cast<u64, u64, u64, N>,
-    writer: &mut Writer<u64, u64, u64, N>,
-    pass: &mut Pass<u64, u64, u64, N>,
-    load: Load,
-) -> bool {
-    for number in 0..load.batches {
-        let first = number.wrapping_mul(load.items as u64);
-        match batch_of(alloc, first, load.items) {
-            Ok(batch) => publish(rt, cast, writer, pass, batch),
-            Err(_) => {
-                let _closed = writer.close(cast);
-                return false;
-            }
-        }
-    }
-    let _closed = writer.close(cast);
-    true
+    printed: &mut Printed,
+) -> Result<(), Failure> {
+    log::time(rt, alloc, log::Load::small(), printed)?;
+    provider::time(rt, alloc, provider::Load::small(), printed)?;
+    routes::time(alloc, routes::Load::small(), printed)?;
+    inhibitor::time(alloc, inhibitor::Load::small(), printed)
 }
 
-// Publishes a batch, again and again while the log is full.
-fn publish<N: Feed, R: Clock>(
+fn time<R: Threads + Wait + Clock + Sync>(
     rt: &R,
-    cast: &Cast<u64, u64, u64, N>,
-    writer: &mut Writer<u64, u64, u64, N>,
-    pass: &mut Pass<u64, u64, u64, N>,
-    batch: SegmentBuilder<u64>,
-)
-    requires { 0 < length batch.items }
-{
-    let said = 0;
-    let mut batch = batch;
-    for _turn in 0..u64::MAX {
-        match writer.publish(cast, batch, Snapshot::of(&said), pass) {
-            Ok(_) => return,
-            Err(
-                Refused {
-                    fault: _,
-                    batch: back,
-                },
-            ) => batch = back,
-        }
-        thread::yield_now();
-    }
-    batch.discard();
-}
-
-// Reads to the end of the log.
-fn read_all<N: Feed, R: Clock>(rt: &R, cursor: &mut Option<Cursor<'_, u64, u64, u64, N>>) -> Shown {
-    let mut shown = Shown { items: 0, sum: 0 };
-    let Some(cursor) = cursor else {
-        return shown;
-    };
-    for _turn in 0..u64::MAX {
-        match cursor.next() {
-            Step::Item(item) => {
-                shown.items = shown.items.wrapping_add(1);
-                shown.sum = shown.sum.wrapping_add(*item);
-            }
-            Step::Pending => nap(rt),
-            Step::Closed | Step::Cut => return shown,
-        }
-    }
-    shown
-}
-
-// A lane for each reader that is wanted, up to eight.
-fn admit<'a, N: Feed>(
-    cast: &'a Cast<u64, u64, u64, N>,
-    writer: &mut Writer<u64, u64, u64, N>,
-    wanted: bool,
-) -> Option<Cursor<'a, u64, u64, u64, N>> {
-    let note = 0;
-    if !wanted {
-        return None;
-    }
-    match writer.admit(cast, Snapshot::of(&note)) {
-        Ok(cursor) => Some(cursor),
-        Err(_) => None,
-    }
-}
-
-fn retire<N: Feed>(
-    cast: &Cast<u64, u64, u64, N>,
-    writer: &mut Writer<u64, u64, u64, N>,
-    cursor: Option<Cursor<'_, u64, u64, u64, N>>,
-) {
-    if let Some(cursor) = cursor {
-        writer.retire(cast, cursor);
-    }
-}
-
-// What two readers were shown, each in a thread of its own.
-fn read_both<N: Feed + Send + Sync, R: Threads + Wait + Clock + Sync>(
-    rt: &R,
-    one: &mut Option<Cursor<'_, u64, u64, u64, N>>,
-    other: &mut Option<Cursor<'_, u64, u64, u64, N>>,
-) -> Shown {
-    let (one, other) = thread::join(rt, move || read_all(rt, one), move || read_all(rt, other));
-    one.and(other)
-}
-
-// The whole run. Answers what all readers were shown, where memory was there.
-fn run<N: Feed + Send + Sync, R: Threads + Wait + Clock + Sync>(
-    rt: &R,
-    parts: Parts<u64, u64, u64>,
     alloc: Global,
-    load: Load,
-) -> Result<Shown, AllocError>
-    requires { parts.board.shared.table_id ≡ N.table }
-{
-    let Begun {
-        cast,
-        mut writer,
-        mut passes,
-    } = begin::<u64, u64, u64, N>(parts, 1)?;
-    let log = &cast;
-    let Some(mut pass) = passes.pop() else {
-        end(cast, writer);
-        return Err(AllocError);
-    };
-    let mut a = admit(log, &mut writer, load.readers > 0);
-    let mut b = admit(log, &mut writer, load.readers > 1);
-    let mut c = admit(log, &mut writer, load.readers > 2);
-    let mut d = admit(log, &mut writer, load.readers > 3);
-    let mut e = admit(log, &mut writer, load.readers > 4);
-    let mut f = admit(log, &mut writer, load.readers > 5);
-    let mut g = admit(log, &mut writer, load.readers > 6);
-    let mut h = admit(log, &mut writer, load.readers > 7);
-    let (well, shown) = {
-        let (writer, pass) = (&mut writer, &mut pass);
-        let (a, b, c, d) = (&mut a, &mut b, &mut c, &mut d);
-        let (e, f, g, h) = (&mut e, &mut f, &mut g, &mut h);
-        thread::join(
-            rt,
-            move || publish_all(rt, alloc, log, writer, pass, load),
-            move || {
-                let (first, second) = thread::join(
-                    rt,
-                    move || {
-                        let (one, other) = thread::join(
-                            rt,
-                            move || read_both(rt, a, b),
-                            move || read_both(rt, c, d),
-                        );
-                        one.and(other)
-                    },
-                    move || {
-                        let (one, other) = thread::join(
-                            rt,
-                            move || read_both(rt, e, f),
-                            move || read_both(rt, g, h),
-                        );
-                        one.and(other)
-                    },
-                );
-                first.and(second)
-            },
-        )
-    };
-    retire(log, &mut writer, a);
-    retire(log, &mut writer, b);
-    retire(log, &mut writer, c);
-    retire(log, &mut writer, d);
-    retire(log, &mut writer, e);
-    retire(log, &mut writer, f);
-    retire(log, &mut writer, g);
-    retire(log, &mut writer, h);
-    if !writer.is_idle() {
-        // No proof follows the lanes through the threads: a lane that nobody gave back would hold
-        // the program here.
-        for _ in rt.forever() {}
+    work: Work,
+    printed: &mut Printed,
+) -> Result<(), Failure> {
+    match work {
+        Work::Log(load) => log::time(rt, alloc, load, printed),
+        Work::Provider(load) => provider::time(rt, alloc, load, printed),
+        Work::Routes(load) => routes::time(alloc, load, printed),
+        Work::Inhibitor(load) => inhibitor::time(alloc, load, printed),
+        Work::Each => time_each(rt, alloc, printed),
     }
-    end(cast, writer);
-    if well { Ok(shown) } else { Err(AllocError) }
 }
 
-// The load that the arguments name.
-fn load_of(rt: &HostRuntime) -> Option<Load> {
-    let Ok(args) = env::args(rt) else {
-        return None;
-    };
-    let mut args = args.skip(1);
-    let readers = number(args.next())?;
-    let batches = number(args.next())?;
-    let items = number(args.next())? as usize;
-    let places = number(args.next())?;
-    if readers > 8 || items == 0 {
-        return None;
-    }
-    Some(Load {
-        readers: readers as usize,
-        batches,
-        items,
-        places,
-    })
-}
-
-fn number(argument: Option<String>) -> Option<u64> {
-    match argument?.parse::<u64>() {
-        Ok(number) => Some(number),
-        Err(_) => None,
+fn work_given(rt: &HostRuntime) -> Result<Work, Failure> {
+    let words = words_given(rt)?;
+    match Work::read(&words) {
+        Some(work) => Ok(work),
+        None => Err(Failure::BadArguments),
     }
 }
 
 fn main(rt: HostRuntime) -> ExitCode {
-    let Some(load) = load_of(&rt) else {
-        return ExitCode::from(1);
+    let work = match work_given(&rt) {
+        Ok(work) => work,
+        Err(failure) => return ExitCode::from(failure.exit_status()),
     };
-    if load.places == 0 || load.places > 256 {
-        return ExitCode::from(1);
+    let mut printed = Printed::new(rt.alloc());
+    if let Err(failure) = time(&rt, rt.alloc(), work, &mut printed) {
+        return ExitCode::from(failure.exit_status());
     }
-    let alloc = rt.alloc();
-    let Ok(parts) = Parts::<u64, u64, u64>::make(alloc, load.places) else {
-        return ExitCode::from(3);
-    };
-    match run::<Brand, HostRuntime>(&rt, parts, alloc, load) {
-        Ok(shown) => {
-            let _printed = println!(rt; "{} {}", shown.items, shown.sum);
-            ExitCode::SUCCESS
-        }
-        Err(_) => ExitCode::from(3),
-    }
+    let _printed = print!(rt; "{}", printed.counts);
+    let _printed = eprint!(rt; "{}", printed.nanoseconds);
+    ExitCode::SUCCESS
 }

@@ -8,12 +8,12 @@ use Rattle.indexmap.specs.IndexMap.{insert_entry, set_value_at}
 use Rattle.indexmap.proofs.MapLemmas.{Found-position, insert_entry-first}
 use Rattle.am_labels.specs.LabelSets.{Labels}
 use Rattle.am_alert.specs.declared.alert.Alert.{Alert}
-use Rattle.am_routes.specs.declared.inhibit_rule.InhibitRule.{InhibitRule}
+use Rattle.am_config.specs.declared.inhibit_rule.InhibitRule.{InhibitRule}
 use Rattle.am_inhibit.specs.declared.source.Source.{Source}
 use Rattle.am_inhibit.specs.declared.source_index.SourceChange.{SourceChange}
 use Rattle.am_inhibit.specs.LastAlerts.{label_sets}
 use Rattle.am_inhibit.specs.inside.Sources.{same_values}
-use Rattle.am_inhibit.specs.inside.Indexes.{Entries, IndexView, with_source, with_labels, with_all_labels, index_of, indexes_of, index_with, left_back, index_before, indexes_before}
+use Rattle.am_inhibit.specs.inside.Indexes.{SourceEntries, IndexView, with_source, with_labels, with_all_labels, index_of, indexes_of, index_with, left_back, index_before, indexes_before}
 use Rattle.am_inhibit.proofs.Cases.{by_bool}
 
 pub take_last : {A : Type 0} (xs : List A) (x : A) → take (length (xs ++ x ∷ []) - 1) (xs ++ x ∷ []) ≡ xs
@@ -24,7 +24,7 @@ take_last xs x =
 -- ---- one source
 
 -- a source that is inserted for values that are there joins those that it is put behind
-pub source_joins : (entries : Entries) (values : List (List ℕ)) (source : Source) (sources : List Source) → lookup (same_values values) entries ≡ Some sources
+pub source_joins : (entries : SourceEntries) (values : List (List ℕ)) (source : Source) (sources : List Source) → lookup (same_values values) entries ≡ Some sources
     → insert_entry same_values entries values (sources ++ source ∷ []) ≡ with_source values source entries
 source_joins [] values source sources found = absurd (cc)
 source_joins (entry ∷ entries) values source sources found =
@@ -42,7 +42,7 @@ source_joins (entry ∷ entries) values source sources found =
     ∙ sym (ap (λ b. cond b ((entry.0, entry.1 ++ source ∷ []) ∷ entries) (entry ∷ with_source values source entries)) f)))
 
 -- one whose values aren't there begins them
-pub source_begins : (entries : Entries) (values : List (List ℕ)) (source : Source) → lookup (same_values values) entries ≡ None
+pub source_begins : (entries : SourceEntries) (values : List (List ℕ)) (source : Source) → lookup (same_values values) entries ≡ None
     → with_source values source entries ≡ entries ++ (values, source ∷ []) ∷ []
 source_begins [] values source missing = refl
 source_begins (entry ∷ entries) values source missing =
@@ -53,16 +53,16 @@ source_begins (entry ∷ entries) values source missing =
     ap (λ b. cond b ((entry.0, entry.1 ++ source ∷ []) ∷ entries) (entry ∷ with_source values source entries)) f
     ∙ ap (λ l. entry ∷ l) (source_begins entries values source later))
 
-pub written_at : (entries : Entries) (values : List (List ℕ)) (sources : List Source) (at : ℕ) → position (same_values values) (keys_of entries) ≡ Some at → set_value_at entries at sources ≡ insert_entry same_values entries values sources
+pub written_at : (entries : SourceEntries) (values : List (List ℕ)) (sources : List Source) (at : ℕ) → position (same_values values) (keys_of entries) ≡ Some at → set_value_at entries at sources ≡ insert_entry same_values entries values sources
 written_at entries values sources at found = sym (insert_entry-first same_values values sources entries at (Found-position (same_values values) entries at found).first)
 
-pub written_same : (entries : Entries) (at : ℕ) (sources : List Source) → slice_get (values_of entries) at ≡ Some sources → set_value_at entries at sources ≡ entries
+pub written_same : (entries : SourceEntries) (at : ℕ) (sources : List Source) → slice_get (values_of entries) at ≡ Some sources → set_value_at entries at sources ≡ entries
 written_same [] at sources got = refl
 written_same (entry ∷ entries) zero sources got = let same : sources ≡ entry.1 = (cc) in ap (λ l. (entry.0, l) ∷ entries) same
 written_same (entry ∷ entries) (suc at) sources got = ap (λ rest. entry ∷ rest) (written_same entries at sources got)
 
 -- what joined is left out again
-pub joined_back : (entries : Entries) (at : ℕ) (sources : List Source) (source : Source) → slice_get (values_of entries) at ≡ Some sources
+pub joined_back : (entries : SourceEntries) (at : ℕ) (sources : List Source) (source : Source) → slice_get (values_of entries) at ≡ Some sources
     → left_back at (set_value_at entries at (sources ++ source ∷ [])) ≡ entries
 joined_back [] at sources source got = refl
 joined_back (entry ∷ entries) zero sources source got =
@@ -70,13 +70,13 @@ joined_back (entry ∷ entries) zero sources source got =
     ap (λ l. (entry.0, l) ∷ entries) (take_last sources source ∙ same)
 joined_back (entry ∷ entries) (suc at) sources source got = ap (λ rest. entry ∷ rest) (joined_back entries at sources source got)
 
-pub last_left_out : (entries : Entries) (at : ℕ) (sources : List Source) → slice_get (values_of entries) at ≡ Some sources
+pub last_left_out : (entries : SourceEntries) (at : ℕ) (sources : List Source) → slice_get (values_of entries) at ≡ Some sources
     → set_value_at entries at (take (length sources - 1) sources) ≡ left_back at entries
 last_left_out [] at sources got = refl
 last_left_out (entry ∷ entries) zero sources got = let same : sources ≡ entry.1 = (cc) in ap (λ (l : List Source). (entry.0, take (length l - 1) l) ∷ entries) same
 last_left_out (entry ∷ entries) (suc at) sources got = ap (λ rest. entry ∷ rest) (last_left_out entries at sources got)
 
-pub nothing_left_out : (entries : Entries) (at : ℕ) → slice_get (values_of entries) at ≡ None → entries ≡ left_back at entries
+pub nothing_left_out : (entries : SourceEntries) (at : ℕ) → slice_get (values_of entries) at ≡ None → entries ≡ left_back at entries
 nothing_left_out [] at past = refl
 nothing_left_out (entry ∷ entries) zero past = absurd (cc)
 nothing_left_out (entry ∷ entries) (suc at) past = ap (λ rest. entry ∷ rest) (nothing_left_out entries at past)
@@ -108,7 +108,7 @@ map_more f olds now at x early are is =
 
 -- ---- one alert more
 
-with_all_labels-push : (rule : InhibitRule) (at : ℕ) (sets : List Labels) (labels : Labels) (entries : Entries)
+with_all_labels-push : (rule : InhibitRule) (at : ℕ) (sets : List Labels) (labels : Labels) (entries : SourceEntries)
     → with_all_labels rule at (sets ++ labels ∷ []) entries ≡ with_labels rule (at + length sets) labels (with_all_labels rule at sets entries)
 with_all_labels-push rule at [] labels entries = ap (λ n. with_labels rule n labels entries) (omega arith)
 with_all_labels-push rule at (first ∷ sets) labels entries =

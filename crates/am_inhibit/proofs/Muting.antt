@@ -8,7 +8,7 @@ use Rattle.am_labels.specs.LabelSets.{Labels}
 use Rattle.am_labels.specs.Matchers.{all_admitted}
 use Rattle.am_alert.specs.declared.alert.Alert.{Alert}
 use Rattle.am_alert.specs.Merging.{is_resolved_at}
-use Rattle.am_routes.specs.declared.inhibit_rule.InhibitRule.{InhibitRule}
+use Rattle.am_config.specs.declared.inhibit_rule.InhibitRule.{InhibitRule}
 use Rattle.am_inhibit.specs.LastAlerts.{last_alerts}
 use Rattle.am_inhibit.specs.Muting.{agree_on, is_on_both_sides, is_candidate, inhibits, Candidate, rule_candidates, candidates, candidate_inhibits, muted, count_to, candidates_seen}
 use Rattle.am_inhibit.proofs.Cases.{by_bool}

@@ -6,10 +6,10 @@ use Rattle.std.proofs.lemmas.List.Folds.{find-append}
 use Rattle.std.proofs.lemmas.Option.{slice_get-map}
 use Rattle.am_alert.specs.declared.alert.Alert.{Alert}
 use Rattle.am_labels.specs.LabelSets.{Labels}
-use Rattle.am_routes.specs.declared.inhibit_rule.InhibitRule.{InhibitRule}
+use Rattle.am_config.specs.declared.inhibit_rule.InhibitRule.{InhibitRule}
 use Rattle.am_inhibit.specs.LastAlerts.{label_sets}
 use Rattle.am_inhibit.specs.Muting.{is_candidate, inhibits, Candidate, rule_candidates, candidate_inhibits, count_to}
-use Rattle.am_inhibit.specs.inside.Indexes.{IndexView, index_of, indexes_of, rules_of}
+use Rattle.am_inhibit.specs.inside.Indexes.{IndexView, index_of, indexes_of, rules_indexed}
 use Rattle.am_inhibit.proofs.Cases.{by_bool}
 use Rattle.am_inhibit.proofs.Counting.{count_to-yes, count_to-no}
 
@@ -65,13 +65,13 @@ label_set_at alerts at alert got = slice_get-map (λ (a : Alert). a.labels) aler
 
 -- ---- indexes and their rules
 
-pub rules_of-indexes : (rules : List InhibitRule) (alerts : List Alert) → rules_of (indexes_of rules alerts) ≡ rules
-rules_of-indexes [] alerts = refl
-rules_of-indexes (rule ∷ rules) alerts = ap (λ l. rule ∷ l) (rules_of-indexes rules alerts)
+pub rules_indexed-indexes : (rules : List InhibitRule) (alerts : List Alert) → rules_indexed (indexes_of rules alerts) ≡ rules
+rules_indexed-indexes [] alerts = refl
+rules_indexed-indexes (rule ∷ rules) alerts = ap (λ l. rule ∷ l) (rules_indexed-indexes rules alerts)
 
 -- each index is the one of its rule
 pub record AreIndexed (indexes : List IndexView) (alerts : List Alert) : Type 0 where
-  pub are : indexes ≡ indexes_of (rules_of indexes) alerts
+  pub are : indexes ≡ indexes_of (rules_indexed indexes) alerts
 
 pub indexed_at : (indexes : List IndexView) (alerts : List Alert) (at : ℕ) (index : IndexView) → AreIndexed indexes alerts → at < length indexes → index ≡ get_or indexes at index → index ≡ index_of alerts index.rule
 indexed_at [] alerts at index indexed early is = absurd (omega arith)
@@ -81,5 +81,5 @@ indexed_at (first ∷ indexes) alerts zero index indexed early is =
     is ∙ (own ∙ ap (λ (i : IndexView). index_of alerts i.rule) (sym is))
 indexed_at (first ∷ indexes) alerts (suc at) index indexed early is =
     let are = indexed.are in
-    let rest : indexes ≡ indexes_of (rules_of indexes) alerts = (cc) in
+    let rest : indexes ≡ indexes_of (rules_indexed indexes) alerts = (cc) in
     indexed_at indexes alerts at index (record { are = rest }) (omega arith) is

@@ -11,17 +11,17 @@ use Rattle.am_labels.specs.Matchers.{all_admitted}
 use Rattle.am_labels.specs.Texts.{same_text}
 use Rattle.am_alert.specs.declared.alert.Alert.{Alert}
 use Rattle.am_alert.specs.Merging.{is_resolved_at}
-use Rattle.am_routes.specs.declared.inhibit_rule.InhibitRule.{InhibitRule}
+use Rattle.am_config.specs.declared.inhibit_rule.InhibitRule.{InhibitRule}
 use Rattle.am_inhibit.specs.declared.source.Source.{Source}
 use Rattle.am_inhibit.specs.LastAlerts.{label_sets}
 use Rattle.am_inhibit.specs.Muting.{agree_on, is_on_both_sides, is_candidate, inhibits, count_to}
 use Rattle.am_inhibit.specs.inside.Sources.{same_values, values_equiv}
-use Rattle.am_inhibit.specs.inside.Indexes.{Entries, values_of as values_for, source_of, with_source, with_labels, with_all_labels, source_inhibits}
+use Rattle.am_inhibit.specs.inside.Indexes.{SourceEntries, values_of as values_for, source_of, with_source, with_labels, with_all_labels, source_inhibits}
 use Rattle.am_inhibit.proofs.Cases.{by_bool}
 use Rattle.am_inhibit.proofs.Counting.{count_to-yes, count_to-no, find-yes, find-no}
 
 -- the sources that entries list for values
-abbrev pub listed : List (List ℕ) → Entries → List Source
+abbrev pub listed : List (List ℕ) → SourceEntries → List Source
 listed values entries = unwrap_or (lookup (same_values values) entries) []
 
 -- those of some label sets, counted from a number
@@ -34,7 +34,7 @@ sources_from rule values at (labels ∷ rest) =
 same_are : (a b : List (List ℕ)) → same_values a b ≡ true → a ≡ b
 same_are a b e = (pointwise_decides (pointwise_decides unsigned_Decides) a b).0 e
 
-pub listed-with : (wanted values : List (List ℕ)) (source : Source) (entries : Entries) → listed wanted (with_source values source entries) ≡ listed wanted entries ++ cond (same_values wanted values) (source ∷ []) []
+pub listed-with : (wanted values : List (List ℕ)) (source : Source) (entries : SourceEntries) → listed wanted (with_source values source entries) ≡ listed wanted entries ++ cond (same_values wanted values) (source ∷ []) []
 listed-with wanted values source [] =
     elim (same_values wanted values) as (λ b. unwrap_or (cond b (Some (source ∷ [])) None) [] ≡ cond b (source ∷ []) []) [ true ↦ refl | false ↦ refl ]
 listed-with wanted values source (entry ∷ entries) =
@@ -58,7 +58,7 @@ listed-with wanted values source (entry ∷ entries) =
     ∙ (listed-with wanted values source entries
     ∙ ap (λ b. unwrap_or (cond b (Some entry.1) (lookup (same_values wanted) entries)) [] ++ cond (same_values wanted values) (source ∷ []) []) (sym away))))
 
-pub listed-all : (rule : InhibitRule) (wanted : List (List ℕ)) (at : ℕ) (sets : List Labels) (entries : Entries)
+pub listed-all : (rule : InhibitRule) (wanted : List (List ℕ)) (at : ℕ) (sets : List Labels) (entries : SourceEntries)
     → listed wanted (with_all_labels rule at sets entries) ≡ listed wanted entries ++ sources_from rule wanted at sets
 listed-all rule wanted at [] entries = sym (append-nil (listed wanted entries))
 listed-all rule wanted at (labels ∷ sets) entries =
@@ -78,7 +78,7 @@ listed-all rule wanted at (labels ∷ sets) entries =
     ∙ ap (λ b. listed wanted entries ++ cond (b && same_values wanted values) (source ∷ rest) rest) (sym f))
 
 -- what is listed for a target's values are the sources among the alerts that agree with it
-pub listed_are : (rule : InhibitRule) (labels : Labels) (alerts : List Alert) (entries : Entries) (names values : List (List ℕ)) → entries ≡ with_all_labels rule 0 (label_sets alerts) [] → names ≡ rule.equal → values ≡ map (value_of labels) names
+pub listed_are : (rule : InhibitRule) (labels : Labels) (alerts : List Alert) (entries : SourceEntries) (names values : List (List ℕ)) → entries ≡ with_all_labels rule 0 (label_sets alerts) [] → names ≡ rule.equal → values ≡ map (value_of labels) names
     → listed values entries ≡ sources_from rule (values_for rule.equal labels) 0 (label_sets alerts)
 listed_are rule labels alerts entries names values indexed named have =
     ap (λ v. listed v entries) (have ∙ ap (map (value_of labels)) named)

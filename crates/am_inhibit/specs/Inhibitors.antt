@@ -3,9 +3,9 @@ use Rattle.std.specs.Prelude.{ℕ, List, refl}
 use Rattle.std.specs.Coded.{Coded, code_by, coded×, coded_list, coded_ℕ}
 use Rattle.am_alert.specs.declared.alert.Alert.{Alert}
 use Rattle.am_alert.specs.Alerts.{coded_alert}
-use Rattle.am_routes.specs.declared.inhibit_rule.InhibitRule.{InhibitRule}
+use Rattle.am_config.specs.declared.inhibit_rule.InhibitRule.{InhibitRule}
 
--- its rules, the last alert of each label set that it took, and how many candidates its last answer came to
+-- its rules, the last alert of each label set, and how many candidates it examined for its last answer
 pub record InhibitorView : Type 0 where
   pub rules : List InhibitRule
   pub alerts : List Alert
@@ -19,6 +19,6 @@ coded_inhibitor rule =
     (λ i. (i.rules, (i.alerts, i.looked)))
     (λ p. record { rules = p.0; alerts = p.1.0; looked = p.1.1 }) (λ _. refl)
 
--- an inhibitor whose last answer came to so many candidates
+-- an inhibitor that examined that many candidates for its last answer
 abbrev pub having_looked : ℕ → InhibitorView → InhibitorView
 having_looked count inhibitor = record inhibitor { looked = count }

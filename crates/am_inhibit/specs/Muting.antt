@@ -1,5 +1,5 @@
--- Which alert mutes a target, and by which rule (Alertmanager's `inhibit.Inhibitor.Mutes`, and "inhibit_rule" in
--- its configuration documentation).
+-- Which alert mutes a target, and by which rule (Alertmanager's `inhibit.Inhibitor.Mutes`, and
+-- "inhibit_rule" in its configuration documentation).
 use Rattle.std.specs.Prelude.{ℕ, ◌+◌, min, Bool, not, ◌&&◌, List, map, filter, length, Option}
 use Rattle.std.specs.Option.{option_map}
 use Rattle.std.specs.List.{list_all, find, flat_map, enumerate_from, prefix_len}
@@ -8,7 +8,7 @@ use Rattle.am_alert.specs.Merging.{is_resolved_at}
 use Rattle.am_labels.specs.LabelSets.{Labels, value_of}
 use Rattle.am_labels.specs.Matchers.{all_admitted}
 use Rattle.am_labels.specs.Texts.{same_text}
-use Rattle.am_routes.specs.declared.inhibit_rule.InhibitRule.{InhibitRule}
+use Rattle.am_config.specs.declared.inhibit_rule.InhibitRule.{InhibitRule}
 use Rattle.am_inhibit.specs.LastAlerts.{last_alerts}
 
 -- whether two label sets have the same value for each name; a missing label counts as empty (`equal`)
@@ -19,7 +19,7 @@ agree_on names one other = list_all (λ name. same_text (value_of one name) (val
 abbrev pub is_on_both_sides : InhibitRule → Labels → Bool
 is_on_both_sides rule labels = all_admitted rule.source labels && all_admitted rule.target labels
 
--- whether a rule's alert comes into question for a target: the target matches the rule's target side, the
+-- whether an alert may mute a target by a rule: the target matches the rule's target side, the
 -- alert its source side, and both agree on `equal`
 abbrev pub is_candidate : InhibitRule → Labels → Alert → Bool
 is_candidate rule labels alert =
@@ -33,7 +33,7 @@ inhibits rule labels now alert =
     not (is_resolved_at now alert)
     && not (is_on_both_sides rule labels && is_on_both_sides rule alert.labels)
 
--- a rule, with its number, and an alert that comes into question
+-- a rule, with its number, and an alert that may mute by it
 pub record Candidate : Type 0 where
   pub number : ℕ
   pub rule : InhibitRule
@@ -50,6 +50,7 @@ abbrev pub candidates : List Alert → List InhibitRule → Labels → List Cand
 candidates taken rules labels =
     flat_map (rule_candidates labels (last_alerts taken)) (enumerate_from 0 rules)
 
+-- whether a candidate mutes the target
 abbrev pub candidate_inhibits : Labels → ℕ → Candidate → Bool
 candidate_inhibits labels now candidate = inhibits candidate.rule labels now candidate.alert
 
@@ -59,11 +60,11 @@ muted taken rules labels now =
     option_map (λ candidate. (candidate.number, candidate.alert.labels))
     (find (candidate_inhibits labels now) (candidates taken rules labels))
 
--- how many elements there are up to and including the first that passes a test; all, where none does
+-- how many elements there are up to and including the first that passes a test; all, if none does
 abbrev pub count_to : {X : Type 0} → (X → Bool) → List X → ℕ
 count_to test all = min (length all) (prefix_len (λ x. not (test x)) all + 1)
 
--- how many candidates the answer comes to
+-- how many candidates are examined for the answer
 abbrev pub candidates_seen : List Alert → List InhibitRule → Labels → ℕ → ℕ
 candidates_seen taken rules labels now =
     count_to (candidate_inhibits labels now) (candidates taken rules labels)

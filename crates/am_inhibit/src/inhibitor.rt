@@ -1,15 +1,15 @@
-//! The inhibitor: says which targets are muted by the alerts that it took.
+//! The inhibitor: which targets the alerts that it was given mute.
 
 ghost use Rattle.std.specs.Prelude.{◌≡◌, ◌<◌, ◌≤◌, [], ◌∷◌, ◌++◌, None, Some, map, min, length, position, IfOk, OnOk, OnErr};
 ghost use Rattle.am_inhibit.specs.Muting.{candidate_inhibits, count_to};
-ghost use Rattle.am_inhibit.specs.inside.Indexes.{index_with, indexes_before, indexes_of, rules_of};
+ghost use Rattle.am_inhibit.specs.inside.Indexes.{index_with, indexes_before, indexes_of, rules_indexed};
 ghost use Rattle.am_inhibit.specs.inside.Searches.{candidates_from, first_muted, StandsFor};
 
 use crate::last_alerts::LastAlerts;
 use crate::source_index::{SourceChange, SourceIndex};
 use am_alert::{Alert, Moment};
+use am_config::InhibitRules;
 use am_labels::LabelSet;
-use am_routes::InhibitRules;
 use std::alloc::{AllocError, Global};
 use std::marker::Model;
 
@@ -18,19 +18,19 @@ use std::marker::Model;
 pub(crate) struct Muting {
     // The number of the rule.
     rule: usize,
-    // Where the alert stands among the last alerts.
+    // The index of the alert among the last alerts.
     at: usize,
 }
 
-/// What a search through the rules came to.
+/// What a search through the rules found.
 #[derive(Clone, Copy)]
 pub(crate) struct MutingSearch {
     muting: Option<Muting>,
-    // How many candidates it came to. It stops at the greatest u64.
+    // How many candidates it examined. The count stops at the greatest u64.
     looked: u64,
 }
 
-/// The last alert of each label set that was taken, and the rules by which they mute others.
+/// The last alert of each label set, and the rules by which they mute others.
 #[derive(Drop)]
 pub struct Inhibitor<'r> {
     rules: &'r InhibitRules,
@@ -42,7 +42,7 @@ pub struct Inhibitor<'r> {
 
 impl<'r> Model for Inhibitor<'r> {
     ghost use Rattle.std.specs.Prelude.{◌≡◌};
-    ghost use Rattle.am_routes.specs.contracts.inhibit_rule.InhibitRule as inhibit_rule;
+    ghost use Rattle.am_config.specs.contracts.inhibit_rule.InhibitRule as inhibit_rule;
     ghost use Rattle.am_inhibit.specs.Inhibitors.{InhibitorView, coded_inhibitor};
 
     ghost Value = { InhibitorView };
@@ -69,8 +69,8 @@ impl<'r> Inhibitor<'r> {
     ghost use Rattle.am_inhibit.specs.Muting.{candidates_seen, muted};
     ghost use Rattle.am_inhibit.specs.LastAlerts.{label_sets, last_alerts};
 
-    /// An inhibitor that took nothing yet. It borrows the rules, and has its own searches of their
-    /// patterns: none is compiled anew.
+    /// An inhibitor without alerts. It borrows the rules, and has its own searches of their patterns:
+    /// none is compiled again.
     pub fn new(alloc: Global, rules: &'r InhibitRules) -> Result<Inhibitor<'r>, AllocError>
         ensures { IfOk result (λ made.
             made ≡ record { rules = rules.now; alerts = []; looked = 0 }) }
@@ -83,8 +83,8 @@ impl<'r> Inhibitor<'r> {
         })
     }
 
-    /// Takes an alert in the place of the last one of its label set. If memory runs out, all stays
-    /// as it was.
+    /// Takes an alert, which replaces the last one of its label set. If memory runs out, nothing
+    /// changes.
     pub fn take(&mut self, alert: &Alert) -> Result<(), AllocError>
         ensures taken { OnOk result (self.new
             ≡ record self.old { alerts = last_alerts (self.old.alerts ++ alert.now ∷ []) }) }
@@ -97,8 +97,8 @@ impl<'r> Inhibitor<'r> {
     }
 
     /// Whether a target is muted: by which rule, and by the alert of which label set. The lowest rule
-    /// answers, and of its sources the one whose label set was taken first. If memory runs out, all
-    /// stays as it was.
+    /// answers, and of its sources the one whose label set was taken first. If memory runs out,
+    /// nothing changes.
     pub fn mutes(
         &mut self,
         labels: &LabelSet,
@@ -118,8 +118,8 @@ impl<'r> Inhibitor<'r> {
         Ok(Some((muting.rule as u64, self.label_set(muting.at))))
     }
 
-    /// How many sources the last answer of `mutes` came to: those that the rules name for the
-    /// target and that agree with it, up to the one that mutes it. It stops at the greatest u64.
+    /// How many sources the last `mutes` examined: those that the rules name for the target and that
+    /// agree with it, up to the one that mutes it. The count stops at the greatest u64.
     pub fn looked(&self) -> u64
         ensures { result ≡ self.now.looked }
     {
@@ -134,7 +134,7 @@ impl<'r> Inhibitor<'r> {
         &self.alerts.as_slice()[at].labels
     }
 
-    // Looks for the rule and the alert that mute a target, and notes how many candidates it came to.
+    // Looks for the rule and the alert that mute a target, and notes how many candidates it examined.
     fn search(&mut self, labels: &LabelSet, now: Moment) -> Result<Option<Muting>, AllocError>
         ensures muted { IfOk result (λ muting. StandsFor self.old.alerts muting
             (muted self.old.alerts self.old.rules labels.now now)) }
@@ -161,7 +161,7 @@ impl<'r> Inhibitor<'r> {
         match self.alerts.push(alert) {
             Ok(()) => Ok(()),
             Err(error) => {
-                take_back(&mut self.indexes, changes);
+                undo_all(&mut self.indexes, changes);
                 Err(error)
             }
         }
@@ -189,12 +189,12 @@ fn search_all(
     labels: &LabelSet,
     now: Moment,
 ) -> Result<MutingSearch, AllocError>
-    requires { indexes.old ≡ indexes_of (rules_of indexes.old) alerts.now }
+    requires { indexes.old ≡ indexes_of (rules_indexed indexes.old) alerts.now }
     ensures muting { IfOk result (λ search. StandsFor alerts.now search.muting
-        (first_muted labels.now now (candidates_from 0 labels.now alerts.now (rules_of indexes.old)))) }
+        (first_muted labels.now now (candidates_from 0 labels.now alerts.now (rules_indexed indexes.old)))) }
     ensures looked { IfOk result (λ search. search.looked ≡ min (count_to
         (candidate_inhibits labels.now now)
-        (candidates_from 0 labels.now alerts.now (rules_of indexes.old))) u64.MAX) }
+        (candidates_from 0 labels.now alerts.now (rules_indexed indexes.old))) u64.MAX) }
     ensures same { indexes.new ≡ indexes.old }
 {
     let mut looked = 0u64;
@@ -230,7 +230,7 @@ fn add_to_all(
         match indexes[index].add(labels, at) {
             Ok(change) => changes.push_reserved(change),
             Err(error) => {
-                take_back(indexes, changes);
+                undo_all(indexes, changes);
                 return Err(error);
             }
         }
@@ -238,13 +238,13 @@ fn add_to_all(
     Ok(changes)
 }
 
-// Takes the changes of the first indexes back.
-fn take_back(indexes: &mut [SourceIndex<'_>], changes: Vec<SourceChange>)
+// Undoes the changes of the first indexes.
+fn undo_all(indexes: &mut [SourceIndex<'_>], changes: Vec<SourceChange>)
     requires { length changes.items ≤ length indexes.old }
     ensures { indexes.new ≡ indexes_before changes.items indexes.old }
 {
     let mut left = changes;
     while let Some(change) = left.pop() {
-        indexes[left.len()].take_back(change);
+        indexes[left.len()].undo(change);
     }
 }

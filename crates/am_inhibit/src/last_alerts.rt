@@ -58,14 +58,14 @@ impl LastAlerts {
         self.alerts.values().as_slice()
     }
 
-    /// Where the alert of a label set stands, if there is one.
+    /// The index of the alert of a label set, if there is one.
     pub(crate) fn index_of(&self, labels: &LabelSet) -> Option<usize>
         ensures { result ≡ position (same_labels labels.now) (label_sets self.now) }
     {
         self.alerts.get_index_of(labels)
     }
 
-    /// Puts an alert in the place of its label set's.
+    /// Replaces the alert of its label set.
     pub(crate) fn replace(&mut self, at: usize, alert: &Alert) -> Result<(), AllocError>
         requires { position (same_labels alert.now.labels) (label_sets self.old) ≡ Some at }
         ensures last { OnOk result (self.new ≡ last_alerts (self.old ++ alert.now ∷ [])) }
@@ -77,7 +77,7 @@ impl LastAlerts {
         Ok(())
     }
 
-    /// Puts an alert of a new label set behind the others.
+    /// Adds the alert of a new label set after the others.
     pub(crate) fn push(&mut self, alert: &Alert) -> Result<(), AllocError>
         requires { position (same_labels alert.now.labels) (label_sets self.old) ≡ None }
         ensures pushed { OnOk result (self.new ≡ self.old ++ alert.now ∷ []) }

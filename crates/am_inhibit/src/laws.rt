@@ -3,7 +3,7 @@
 ghost use Rattle.am_inhibit.specs.InhibitionLaws.{LastAlertsDecide, LastAlertsGoOn};
 ghost use Rattle.am_inhibit.specs.InhibitionLaws.{NoAlertMutesItself};
 
-/// The last alerts go on from what they are and decide who is muted, and no alert mutes itself.
+/// The last alerts change by what they are alone and decide who is muted. No alert mutes itself.
 pub fn inhibition_laws()
     ensures last_alerts { LastAlertsGoOn }
     ensures decide { LastAlertsDecide }

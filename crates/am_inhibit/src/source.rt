@@ -8,7 +8,7 @@ use std::marker::Model;
 /// A label set that matches a rule's source side.
 #[derive(Clone, Copy, Debug)]
 pub(crate) struct Source {
-    /// Where its alert stands among the last alerts.
+    /// The index of its alert among the last alerts.
     pub(crate) at: usize,
     /// Whether it matches the rule's target side too.
     pub(crate) is_target: bool,

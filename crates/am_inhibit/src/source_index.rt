@@ -11,8 +11,8 @@ ghost use Rattle.am_inhibit.specs.inside.Indexes.{entries_before, source_inhibit
 use crate::equal_values::EqualValues;
 use crate::source::{Source, Sources};
 use am_alert::{Alert, Moment};
+use am_config::{InhibitRule, LabelNames};
 use am_labels::{LabelSet, PreparedMatchers};
-use am_routes::{InhibitRule, LabelNames};
 use indexmap::IndexMap;
 use std::alloc::{AllocError, Global};
 use std::marker::Model;
@@ -20,7 +20,7 @@ use std::marker::Model;
 // Sources by the values that they have for the names of `equal`.
 type SourceMap = IndexMap<EqualValues, Sources>;
 
-/// A rule with searches of its own, and its sources by the values that a target has to have too.
+/// A rule with its searches, and its sources by the values that a target must share.
 #[derive(Drop)]
 pub(crate) struct SourceIndex<'r> {
     source: PreparedMatchers<'r>,
@@ -29,23 +29,23 @@ pub(crate) struct SourceIndex<'r> {
     sources: SourceMap,
 }
 
-/// What a label set changed in an index, kept to take it back.
+/// What a label set changed in an index, kept to undo it.
 #[derive(Clone, Copy)]
 pub(crate) enum SourceChange {
     /// It is no source of the rule.
     Nothing,
-    /// It began its values, which stand last.
+    /// It began its values, the last ones.
     Begun,
     /// It joined the sources at this index.
     Joined(usize),
 }
 
-/// What a search for a rule's muting source came to.
+/// What a search for a rule's muting source found.
 #[derive(Clone, Copy)]
 pub(crate) struct Found {
-    /// Where the alert of that source stands.
+    /// The index of the alert of that source.
     pub(crate) at: Option<usize>,
-    /// How many sources the search came to.
+    /// How many sources the search examined.
     pub(crate) looked: usize,
 }
 
@@ -72,7 +72,7 @@ impl<'r> SourceIndex<'r> {
         })
     }
 
-    /// Adds a label set whose alert will stand at an index, if it is a source of the rule.
+    /// Adds a label set whose alert will have that index, if it is a source of the rule.
     pub(crate) fn add(&mut self, labels: &LabelSet, at: usize) -> Result<SourceChange, AllocError>
         ensures added { OnOk result (self.new ≡ index_with at labels.now self.old) }
         ensures undo { IfOk result (λ change. index_before change self.new ≡ self.old) }
@@ -87,8 +87,8 @@ impl<'r> SourceIndex<'r> {
         add_source(&mut self.sources, values, Source { at, is_target })
     }
 
-    /// Takes the last change back.
-    pub(crate) fn take_back(&mut self, change: SourceChange)
+    /// Undoes the last change.
+    pub(crate) fn undo(&mut self, change: SourceChange)
         ensures { self.new ≡ index_before change self.old }
     {
         leave_out(&mut self.sources, change);
@@ -154,7 +154,7 @@ fn add_source(
     }
 }
 
-// Takes the last change back.
+// Undoes the last change.
 fn leave_out(sources: &mut SourceMap, change: SourceChange)
     ensures { sources.new.entries ≡ entries_before change sources.old.entries }
 {

@@ -23,7 +23,7 @@ use Rattle.clap.specs.declared.builder.value_parser.ValueParser.TheVariants as v
 use Rattle.clap.proofs.CallerLemmas.{added_plain, default_present, entry_by_id, same_rules_by_id}
 use Rattle.clap.proofs.WalkLemmas.{list_any-map}
 use Rattle.am_provider.specs.declared.answers.Policy.TheVariants.{Refuse, Cut}
-use Rattle.am_replay.specs.declared.arguments.TheConstants.{MOST_PLACES}
+use Rattle.am_replay.specs.declared.arguments.TheConstants.{MAX_PLACES}
 use Rattle.am_replay.specs.Options.{AreModes, ArePolicies, HasOptions, IsCommandOf, IsOption, Choices, mode_name, options_of, policy_name}
 use Rattle.am_replay.specs.declared.arguments.Mode.TheVariants.{Ordered, Free}
 
@@ -198,7 +198,7 @@ module _ (start one two three : Command) (mode places full : Arg) (modes policie
     (made : app_of start ≡ on_top (λ top. record top { no_binary_name = true }) (new_app (codes "replay")))
     (empty : (args_of start ≡ []) × (groups_of start ≡ [])) (local : (out-Command start).has_globals ≡ false)
     (is_mode : IsOption (codes "mode") (mode_name Ordered) (value.Names modes) mode)
-    (is_places : IsOption (codes "places") (codes "256") (value.Unsigned 1 MOST_PLACES) places)
+    (is_places : IsOption (codes "places") (codes "256") (value.Unsigned 1 MAX_PLACES) places)
     (is_full : IsOption (codes "full") (policy_name Refuse) (value.Names policies) full)
     (first : AddsArg start mode one) (second : AddsArg one places two) (third : AddsArg two full three) where
   has_options : app_of three ≡ options_of modes policies
@@ -244,7 +244,7 @@ module _ (start one two three : Command) (mode places full : Arg) (modes policie
   finds : AreModes modes → ArePolicies policies → (m : ArgMatches) → IsParsedFrom three m → HasOptions (found_of m)
   finds mode_names policy_names m p =
       let of_mode = found_at m p 0 mode (value.Names modes) (omega arith) (keeps _ _ _ _ _ is_mode first.rules) in
-      let of_places = found_at m p 1 mode (value.Unsigned 1 MOST_PLACES) (omega arith) (keeps _ _ _ _ _ is_places second.rules) in
+      let of_places = found_at m p 1 mode (value.Unsigned 1 MAX_PLACES) (omega arith) (keeps _ _ _ _ _ is_places second.rules) in
       let of_full = found_at m p 2 mode (value.Names policies) (omega arith) (keeps _ _ _ _ _ is_full third.rules) in
       record {
         mode = elim (one_of_two modes _ _ of_mode.0 mode_names of_mode.3) [

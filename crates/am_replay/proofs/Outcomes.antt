@@ -16,7 +16,7 @@ use Rattle.am_runner.specs.declared.answer.Answer.{Answer}
 use Rattle.am_replay.specs.Printing.{report_text, ran_out_of_memory}
 use Rattle.am_replay.specs.Replays.{ComesTo, ran, status_of}
 use Rattle.am_replay.specs.Runs.{AreCountsOf, IsRun}
-use Rattle.am_routes.specs.declared.config.Config.{Config}
+use Rattle.am_config.specs.declared.config.Config.{Config}
 use Rattle.am_replay.specs.FirstLines.{IsFirstLine}
 use Rattle.am_replay.specs.declared.first_line.FirstLine.TheVariants.{Read}
 use Rattle.am_replay.specs.declared.report.Report.{Report}

@@ -16,7 +16,7 @@ use Rattle.clap.specs.declared.parser.matches.ArgMatches.{ArgMatches}
 use Rattle.clap.specs.declared.parser.matches.Found.{Found}
 use Rattle.am_provider.specs.declared.answers.Policy.{Policy}
 use Rattle.am_provider.specs.declared.answers.Policy.TheVariants.{Refuse, Cut}
-use Rattle.am_replay.specs.declared.arguments.TheConstants.{MOST_PLACES}
+use Rattle.am_replay.specs.declared.arguments.TheConstants.{MAX_PLACES}
 use Rattle.am_replay.specs.declared.arguments.Mode.{Mode}
 use Rattle.am_replay.specs.declared.arguments.Mode.TheVariants.{Ordered, Free}
 
@@ -58,7 +58,7 @@ options_of modes policies =
     with_rule (with_rule (with_rule (on_top (λ top. record top { no_binary_name = true })
     (new_app (codes "replay")))
     (option_rule (codes "mode") (mode_name Ordered) (value.Names modes)))
-    (option_rule (codes "places") (codes "256") (value.Unsigned 1 MOST_PLACES)))
+    (option_rule (codes "places") (codes "256") (value.Unsigned 1 MAX_PLACES)))
     (option_rule (codes "full") (policy_name Refuse) (value.Names policies))
 
 -- the program's options: `--mode` ordered or free, `--places` 1 to the most, `--full` refuse or cut
@@ -91,7 +91,7 @@ IsFoundAs found name text =
 -- a value that the program takes was found of each option
 pub record HasOptions (found : Found) : Type 0 where
   pub mode : (mode : Mode) × IsFoundAs found (codes "mode") (mode_name mode)
-  pub places : (text : Text) × IsFoundAs found (codes "places") text × IsUnsignedIn 1 MOST_PLACES text
+  pub places : (text : Text) × IsFoundAs found (codes "places") text × IsUnsignedIn 1 MAX_PLACES text
   pub full : (policy : Policy) × IsFoundAs found (codes "full") (policy_name policy)
 
 -- a command with the program's options

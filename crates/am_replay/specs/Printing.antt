@@ -1,5 +1,6 @@
 -- How a run is printed: one line for each answer, by the number of the script's line, and a last one.
-use Rattle.std.specs.Prelude.{ℕ, ◌+◌, Bool, List, [], ◌∷◌, ◌++◌, codes, flat_map, slice_get, Option, Some, None}
+use Rattle.std.specs.Prelude.{ℕ, ◌+◌, Bool, List, [], ◌∷◌, ◌++◌, codes, flat_map, slice_get, Option, Some}
+use Rattle.std.specs.Prelude.{None}
 use Rattle.std.specs.Global.{Vec}
 use Rattle.std.specs.Option.{option_and_then}
 use Rattle.std.specs.List.{list_any}
@@ -10,28 +11,30 @@ use Rattle.am_runner.specs.Printing.{answer_text}
 use Rattle.am_runner.specs.declared.answer.Answer.{Answer}
 use Rattle.am_script.specs.declared.command.Line.{Line}
 
+-- the answers, or none
 abbrev pub answers_in : Option (Vec Answer) → List Answer
 answers_in None = []
 answers_in (Some given) = given.items
 
--- what a thread answered to the line at a place of the script, of what each thread answered to each line
+-- what a thread answered to the line at an index of the script, of what each thread answered to each line
 abbrev pub given_at : List (Vec (Vec Answer)) → ℕ → ℕ → List Answer
-given_at answers thread place =
-    answers_in (option_and_then (λ all. slice_get all.items place) (slice_get answers thread))
+given_at answers thread index =
+    answers_in (option_and_then (λ all. slice_get all.items index) (slice_get answers thread))
 
 -- an answer, behind the number of its line
 abbrev pub answer_line : ℕ → Answer → List ℕ
 answer_line number one = decimal number ++ 32 ∷ (answer_text one ++ 10 ∷ [])
 
+-- the lines of the answers to one line of the script
 abbrev pub answers_text : ℕ → List Answer → List ℕ
 answers_text number given = flat_map (answer_line number) given
 
--- what each line, from the one at a place on, was answered by its thread
+-- what each line, from the one at an index on, was answered by its thread
 abbrev pub lines_text : List (Vec (Vec Answer)) → ℕ → List Line → List ℕ
-lines_text answers place [] = []
-lines_text answers place (line ∷ lines) =
-    answers_text line.number (given_at answers line.thread place)
-    ++ lines_text answers (place + 1) lines
+lines_text answers index [] = []
+lines_text answers index (line ∷ lines) =
+    answers_text line.number (given_at answers line.thread index)
+    ++ lines_text answers (index + 1) lines
 
 -- the last line: the places of the log, the accepted posts, the stored alerts
 abbrev pub counts_text : Counts → List ℕ

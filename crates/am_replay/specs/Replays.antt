@@ -2,8 +2,8 @@
 use Rattle.std.specs.Prelude.{ℕ, Bool, List, [], ◌∷◌, ◌++◌, Option, Ok, Err, if◌then◌else◌}
 use Rattle.std.specs.Duration.{as_nanos}
 use Rattle.std.specs.Io.KnownBytes.{Appends, Keeps}
-use Rattle.am_io.specs.Bytes.{AppendsBeginning}
-use Rattle.am_io.specs.Inputs.{IsReadOf}
+use Rattle.am_script.specs.Outputs.{AppendsBeginning}
+use Rattle.am_script.specs.Inputs.{IsReadOf}
 use Rattle.am_replay.specs.Printing.{ran_out_of_memory, report_text}
 use Rattle.am_script.specs.ScriptTexts.{refusal_text}
 use Rattle.am_replay.specs.Runs.{IsRun}
@@ -15,13 +15,14 @@ use Rattle.am_script.specs.Script.{Checks, config_line, lines_of}
 use Rattle.am_script.specs.declared.command.Line.{Line}
 use Rattle.am_script.specs.declared.script.Fault.TheVariants.{TooLarge}
 use Rattle.am_script.specs.declared.script.Refusal.{Refusal}
-use Rattle.am_routes.specs.declared.config.Config.{Config}
-use Rattle.am_routes.specs.declared.config.fault.ConfigFault.{ConfigFault}
+use Rattle.am_config.specs.declared.config.Config.{Config}
+use Rattle.am_config.specs.declared.fault.ConfigFault.{ConfigFault}
 use Rattle.am_replay.specs.FirstLines.{IsFirstLine, config_refusal_text}
 use Rattle.am_replay.specs.declared.first_line.FirstLine.TheVariants.{TooLong}
 use Rattle.am_replay.specs.declared.first_line.FirstLine.TheVariants as first_line
 use Rattle.am_replay.specs.declared.status.Status.{Status}
-use Rattle.am_replay.specs.declared.status.Status.TheVariants.{Done, BadArguments, Refused, CallOutOfMemory, OutOfMemory, ReadFailed, WriteFailed}
+use Rattle.am_replay.specs.declared.status.Status.TheVariants.{Done, BadArguments, Refused, CallOutOfMemory}
+use Rattle.am_replay.specs.declared.status.Status.TheVariants.{OutOfMemory, ReadFailed, WriteFailed}
 
 -- the first line is above the limit
 abbrev pub first_line_too_large : Refusal
@@ -89,7 +90,8 @@ IsTelling text old ReadFailed new = ⊥
 
 -- What the program comes to under its arguments: a replay, or what is told of arguments that are refused
 -- or that ask for help. It may be out of memory before.
-pub data IsProgram (given : List (List ℕ)) (input old : Option (List ℕ)) : Status → Option (List ℕ) → Type 0 where
+pub data IsProgram (given : List (List ℕ)) (input old : Option (List ℕ))
+    : Status → Option (List ℕ) → Type 0 where
   replayed : {status : Status} {new : Option (List ℕ)} (arguments : Arguments) → AreRead given arguments
       → IsReplay input old status new → IsProgram given input old status new
   told : {status : Status} {new : Option (List ℕ)} (text : List ℕ) → AreRefused given

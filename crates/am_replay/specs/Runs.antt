@@ -25,7 +25,8 @@ pub record AreCountsOf (settled : Settled) (counts : Counts) : Type 0 where
 -- The eight threads ran the lines, each its own, and what each answered is told. Their passes settled the
 -- provider: one journal has each post of theirs at the place that its line names, and no other post. The
 -- counts are that journal's.
-pub record IsRun (configuration : List ℕ) (timeout : ℕ) (lines : List Line) (report : Report) (settled : Settled) : Type 0 where
+pub record IsRun (configuration : List ℕ) (timeout : ℕ) (lines : List Line) (report : Report)
+    (settled : Settled) : Type 0 where
   pub outcomes : List (Result (Vec (Vec Answer)) AllocError × PassView Alert Call)
   pub script : report.lines.items ≡ lines
   pub work : AreWork configuration timeout lines 8 outcomes

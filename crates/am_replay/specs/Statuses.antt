@@ -1,7 +1,8 @@
 -- The exit status of each way in which a run ends, and what the error stream is told of it.
 use Rattle.std.specs.Prelude.{ℕ, List, [], codes}
 use Rattle.am_replay.specs.declared.status.Status.{Status}
-use Rattle.am_replay.specs.declared.status.Status.TheVariants.{Done, BadArguments, Refused, CallOutOfMemory, OutOfMemory, ReadFailed, WriteFailed}
+use Rattle.am_replay.specs.declared.status.Status.TheVariants.{Done, BadArguments, Refused, CallOutOfMemory}
+use Rattle.am_replay.specs.declared.status.Status.TheVariants.{OutOfMemory, ReadFailed, WriteFailed}
 
 -- 0 done, 1 bad arguments, 2 refused, 3 a failure
 abbrev pub exit_status_of : Status → ℕ

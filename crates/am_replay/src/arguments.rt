@@ -2,7 +2,7 @@
 
 ghost use Rattle.std.specs.Prelude.{◌≤◌, ◌≡◌, IfOk, IfErr, map, string_bytes};
 ghost use Rattle.clap.specs.Matches.{found_of};
-ghost use Rattle.am_replay.specs.declared.arguments.TheConstants.{MOST_PLACES};
+ghost use Rattle.am_replay.specs.declared.arguments.TheConstants.{MAX_PLACES};
 ghost use Rattle.am_replay.specs.Options.{AreModes, ArePolicies, HasOptions, IsCommandOf, IsOption};
 ghost use Rattle.am_replay.specs.ArgumentsFaults.{IsTold};
 
@@ -22,7 +22,7 @@ pub enum Mode {
 }
 
 /// How many places a log may have.
-pub const MOST_PLACES: u32 = 256;
+pub const MAX_PLACES: u32 = 256;
 
 /// What the command line asks for.
 #[derive(Clone, Copy)]
@@ -32,7 +32,7 @@ pub struct Arguments {
     pub places: u32,
     /// What a post does where the log is full.
     pub full: Policy,
-    ghost in_range: { (1 ≤ places) × (places ≤ MOST_PLACES) },
+    ghost in_range: { (1 ≤ places) × (places ≤ MAX_PLACES) },
 }
 
 /// Why the arguments of a command line weren't read.
@@ -82,7 +82,7 @@ impl Arguments {
                 Some("free") => Mode::Free,
                 _ => Mode::Ordered,
             },
-            places: matches.get_one::<u32>("places").unwrap_or(MOST_PLACES),
+            places: matches.get_one::<u32>("places").unwrap_or(MAX_PLACES),
             full: match matches.get_str("full") {
                 Some("cut") => Policy::Cut,
                 _ => Policy::Refuse,
@@ -132,7 +132,7 @@ fn command<'a>(
     ensures { IfOk result (IsCommandOf modes.entry policies.entry) }
 {
     let mode = option(alloc, "mode", "MODE", "ordered", modes.into(), MODE_HELP);
-    let numbers = ValueParser::unsigned(1, u64::from(MOST_PLACES));
+    let numbers = ValueParser::unsigned(1, u64::from(MAX_PLACES));
     let places = option(alloc, "places", "N", "256", numbers, PLACES_HELP);
     let full = option(
         alloc,

@@ -3,7 +3,7 @@
 ghost use Rattle.std.specs.Prelude.{IfOk};
 ghost use Rattle.am_replay.specs.FirstLines.{IsFirstLine};
 
-use am_routes::{Config, ConfigFault};
+use am_config::{Config, ConfigFault};
 use am_script::{LONGEST_LINE, config_line};
 use std::alloc::{AllocError, Global};
 

@@ -15,7 +15,7 @@ mod tests;
 
 use crate::program::run;
 use crate::status::Status;
-use am_io::write_text;
+use am_script::write_text;
 use std::env;
 use std::io::ErrorKind;
 use std::process::ExitCode;

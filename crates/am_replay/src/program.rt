@@ -10,9 +10,10 @@ use crate::arguments::{Arguments, ArgumentsFault};
 use crate::first_line::FirstLine;
 use crate::script_run::{Ran, run_script};
 use crate::status::Status;
-use am_io::{Failure, read_input, write_text};
-use am_routes::Config;
-use am_script::{Fault, Line, Refusal, ScriptFault, config_line, read_script};
+use am_config::Config;
+use am_script::{
+    Failure, Fault, Line, Refusal, ScriptFault, config_line, read_input, read_script, write_text,
+};
 use std::alloc::{AllocError, Global};
 use std::io::{Read, Write};
 use std::sync::Wait;

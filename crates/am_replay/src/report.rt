@@ -62,8 +62,8 @@ fn write_lines(
     ensures { OnOk result (string_bytes text.new
         ≡ string_bytes text.old ++ lines_text answers.now 0 lines.now) }
 {
-    for (place, line) in lines.iter().enumerate() {
-        write_answers(text, line.number, given_at(answers, line.thread, place))?;
+    for (index, line) in lines.iter().enumerate() {
+        write_answers(text, line.number, given_at(answers, line.thread, index))?;
     }
     Ok(())
 }
@@ -78,12 +78,12 @@ fn write_answers(text: &mut String, number: u32, given: &[Answer]) -> Result<(),
     Ok(())
 }
 
-// What a thread answered to the line at a place of the script.
-fn given_at<'a>(answers: &'a [Vec<Vec<Answer>>], thread: Thread, place: usize) -> &'a [Answer]
-    ensures { result.now ≡ given_at answers.now thread place }
+// What a thread answered to the line at an index of the script.
+fn given_at<'a>(answers: &'a [Vec<Vec<Answer>>], thread: Thread, index: usize) -> &'a [Answer]
+    ensures { result.now ≡ given_at answers.now thread index }
 {
     match answers.get(thread.index()) {
-        Some(all) => match all.get(place) {
+        Some(all) => match all.get(index) {
             Some(given) => given.as_slice(),
             None => &[],
         },

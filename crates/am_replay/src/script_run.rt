@@ -8,7 +8,7 @@ ghost use Rattle.am_replay.specs.Runs.{IsRun};
 use crate::arguments::{Arguments, Mode};
 use crate::report::Report;
 use am_provider::{Origin, Parts, Pass, Policy, Provider, Settled};
-use am_runner::{Answer, Freely, InOrder, Outcome, Turns, run_threads};
+use am_runner::{Answer, Freely, InOrder, ThreadOutcome, Turns, run_threads};
 use am_script::{Line, THREADS};
 use std::alloc::{AllocError, Global};
 use std::marker::Brand;
@@ -118,7 +118,7 @@ fn end<N: Origin, R: Wait>(
     alloc: Global,
     provider: Provider<N>,
     lines: Vec<Line>,
-    outcomes: Vec<Outcome<N>>,
+    outcomes: Vec<ThreadOutcome<N>>,
 ) -> Result<Ran, AllocError>
     requires { N.parts ≡ 8 }
     ensures { IfOk result (λ ran. (configuration : List ℕ) (timeout : ℕ)
@@ -146,7 +146,7 @@ fn end<N: Origin, R: Wait>(
 // What the threads answered, and their passes.
 fn part<N: Origin>(
     alloc: Global,
-    outcomes: Vec<Outcome<N>>,
+    outcomes: Vec<ThreadOutcome<N>>,
 ) -> Result<(Vec<Vec<Vec<Answer>>>, Vec<Pass<N>>), AllocError>
     ensures { IfOk result (λ parted. (map (λ one. one.0) outcomes.items
         ≡ map Ok parted.0.items) × (map (λ one. one.1) outcomes.items ≡ parted.1.items)) }

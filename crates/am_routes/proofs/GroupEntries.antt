@@ -9,26 +9,26 @@ use Rattle.indexmap.proofs.MapLemmas.{Found-position, insert_entry-first}
 use Rattle.am_labels.specs.LabelSets.{Labels, same_labels}
 use Rattle.am_labels.specs.LabelLaws.{labels_decide}
 use Rattle.am_alert.specs.declared.alert.Alert.{Alert}
-use Rattle.am_routes.specs.inside.GroupLists.{with_alert}
-use Rattle.am_routes.specs.inside.GroupChanges.{kept_in, AreKeptByLabels, with_old}
+use Rattle.am_routes.specs.inside.GroupLists.{alerts_with}
+use Rattle.am_routes.specs.inside.GroupChanges.{kept_in, AreKeyedByLabels, with_old}
 use Rattle.am_routes.proofs.Cases.{by_bool}
 
 -- an insertion sets the alert in its label set's place, else at the end
-pub kept_inserted : (entries : List (Labels × Alert)) (labels : Labels) (new : Alert) → AreKeptByLabels entries → new.labels ≡ labels
-    → kept_in (insert_entry same_labels entries labels new) ≡ with_alert new (kept_in entries)
+pub kept_inserted : (entries : List (Labels × Alert)) (labels : Labels) (new : Alert) → AreKeyedByLabels entries → new.labels ≡ labels
+    → kept_in (insert_entry same_labels entries labels new) ≡ alerts_with new (kept_in entries)
 kept_inserted [] labels new kept own = refl
 kept_inserted (entry ∷ entries) labels new kept own =
     elim (same_labels labels entry.0) as (λ b. kept_in (cond b ((entry.0, new) ∷ entries) (entry ∷ insert_entry same_labels entries labels new)) ≡ cond b (new ∷ kept_in entries) (entry.1 ∷ kept_in (insert_entry same_labels entries labels new))) [ true ↦ refl | false ↦ refl ]
     ∙ (ap (λ rest. cond (same_labels labels entry.0) (new ∷ kept_in entries) (entry.1 ∷ rest)) (kept_inserted entries labels new kept.1 own)
-    ∙ (ap (λ l. cond (same_labels l entry.0) (new ∷ kept_in entries) (entry.1 ∷ with_alert new (kept_in entries))) (sym own)
-    ∙ ap (λ l. cond (same_labels new.labels l) (new ∷ kept_in entries) (entry.1 ∷ with_alert new (kept_in entries))) kept.0))
+    ∙ (ap (λ l. cond (same_labels l entry.0) (new ∷ kept_in entries) (entry.1 ∷ alerts_with new (kept_in entries))) (sym own)
+    ∙ ap (λ l. cond (same_labels new.labels l) (new ∷ kept_in entries) (entry.1 ∷ alerts_with new (kept_in entries))) kept.0))
 
-pub still_kept : (entries : List (Labels × Alert)) (labels : Labels) (new : Alert) → AreKeptByLabels entries → new.labels ≡ labels → AreKeptByLabels (insert_entry same_labels entries labels new)
+pub still_kept : (entries : List (Labels × Alert)) (labels : Labels) (new : Alert) → AreKeyedByLabels entries → new.labels ≡ labels → AreKeyedByLabels (insert_entry same_labels entries labels new)
 still_kept [] labels new kept own = (sym own, tt)
 still_kept (entry ∷ entries) labels new kept own =
-    by_bool {P = AreKeptByLabels (insert_entry same_labels (entry ∷ entries) labels new)} (same_labels labels entry.0)
-    (λ t. subst (λ b. AreKeptByLabels (cond b ((entry.0, new) ∷ entries) (entry ∷ insert_entry same_labels entries labels new))) (sym t) (sym ((labels_decide labels entry.0).0 t) ∙ sym own, kept.1))
-    (λ f. subst (λ b. AreKeptByLabels (cond b ((entry.0, new) ∷ entries) (entry ∷ insert_entry same_labels entries labels new))) (sym f) (kept.0, still_kept entries labels new kept.1 own))
+    by_bool {P = AreKeyedByLabels (insert_entry same_labels (entry ∷ entries) labels new)} (same_labels labels entry.0)
+    (λ t. subst (λ b. AreKeyedByLabels (cond b ((entry.0, new) ∷ entries) (entry ∷ insert_entry same_labels entries labels new))) (sym t) (sym ((labels_decide labels entry.0).0 t) ∙ sym own, kept.1))
+    (λ f. subst (λ b. AreKeyedByLabels (cond b ((entry.0, new) ∷ entries) (entry ∷ insert_entry same_labels entries labels new))) (sym f) (kept.0, still_kept entries labels new kept.1 own))
 
 -- a write at the index of a label set is an insertion
 pub written_at : (entries : List (Labels × Alert)) (labels : Labels) (new : Alert) (at : ℕ) → position (same_labels labels) (keys_of entries) ≡ Some at → set_value_at entries at new ≡ insert_entry same_labels entries labels new
@@ -45,7 +45,7 @@ take_last xs x =
 pub has : Labels → List Alert → Bool
 has labels alerts = list_any (λ (alert : Alert). same_labels labels alert.labels) alerts
 
-pub looked_up : (labels : Labels) (entries : List (Labels × Alert)) → AreKeptByLabels entries → is_some (map.lookup (same_labels labels) entries) ≡ has labels (kept_in entries)
+pub looked_up : (labels : Labels) (entries : List (Labels × Alert)) → AreKeyedByLabels entries → is_some (map.lookup (same_labels labels) entries) ≡ has labels (kept_in entries)
 unfolding has
 looked_up labels [] kept = refl
 looked_up labels (entry ∷ entries) kept =
@@ -59,12 +59,12 @@ looked_up labels (entry ∷ entries) kept =
     or_of false b = refl
 
 -- what is put back where there is one is put in its place
-pub old_back : (before : Alert) (alerts : List Alert) → has before.labels alerts ≡ true → with_alert before alerts ≡ with_old before alerts
+pub old_back : (before : Alert) (alerts : List Alert) → has before.labels alerts ≡ true → alerts_with before alerts ≡ with_old before alerts
 unfolding has
 old_back before [] there = absurd (cc)
 old_back before (alert ∷ alerts) there =
-    by_bool {P = with_alert before (alert ∷ alerts) ≡ with_old before (alert ∷ alerts)} (same_labels before.labels alert.labels)
-    (λ t. ap (λ b. cond b (before ∷ alerts) (alert ∷ with_alert before alerts)) t ∙ sym (ap (λ b. cond b (before ∷ alerts) (alert ∷ with_old before alerts)) t))
+    by_bool {P = alerts_with before (alert ∷ alerts) ≡ with_old before (alert ∷ alerts)} (same_labels before.labels alert.labels)
+    (λ t. ap (λ b. cond b (before ∷ alerts) (alert ∷ alerts_with before alerts)) t ∙ sym (ap (λ b. cond b (before ∷ alerts) (alert ∷ with_old before alerts)) t))
     (λ f.
     let rest : has before.labels alerts ≡ true = sym (ap (λ b. b || has before.labels alerts) f) ∙ there in
     ap (λ rest. cond (same_labels before.labels alert.labels) (before ∷ alerts) (alert ∷ rest)) (old_back before alerts rest))
@@ -79,7 +79,7 @@ none_back before (alert ∷ alerts) there =
     let rest : has before.labels alerts ≡ false = sym (ap (λ b. b || has before.labels alerts) f) ∙ there in
     ap (λ rest. alert ∷ rest) (none_back before alerts rest) ∙ sym (ap (λ b. cond b (before ∷ alerts) (alert ∷ with_old before alerts)) f))
 
-lookup_own : (labels : Labels) (entries : List (Labels × Alert)) (before : Alert) → AreKeptByLabels entries → map.lookup (same_labels labels) entries ≡ Some before → before.labels ≡ labels
+lookup_own : (labels : Labels) (entries : List (Labels × Alert)) (before : Alert) → AreKeyedByLabels entries → map.lookup (same_labels labels) entries ≡ Some before → before.labels ≡ labels
 lookup_own labels [] before kept found = absurd (cc)
 lookup_own labels (entry ∷ entries) before kept found =
     by_bool (same_labels labels entry.0)
@@ -90,13 +90,13 @@ lookup_own labels (entry ∷ entries) before kept found =
     (λ f. lookup_own labels entries before kept.1 (sym (ap (λ b. cond b (Some entry.1) (map.lookup (same_labels labels) entries)) f) ∙ found))
 
 -- the alert that a label set had, put back in the place of the one that it has now
-pub replaced_back : (new before : Alert) (entries : List (Labels × Alert)) → AreKeptByLabels entries → map.lookup (same_labels new.labels) entries ≡ Some before
-    → with_old before (with_alert new (kept_in entries)) ≡ kept_in entries
+pub replaced_back : (new before : Alert) (entries : List (Labels × Alert)) → AreKeyedByLabels entries → map.lookup (same_labels new.labels) entries ≡ Some before
+    → with_old before (alerts_with new (kept_in entries)) ≡ kept_in entries
 replaced_back new before [] kept found = absurd (cc)
 replaced_back new before (entry ∷ entries) kept found =
     let own : before.labels ≡ new.labels = lookup_own new.labels (entry ∷ entries) before kept found in
-    let rest = with_alert new (kept_in entries) in
-    by_bool {P = with_old before (with_alert new (kept_in (entry ∷ entries))) ≡ kept_in (entry ∷ entries)} (same_labels new.labels entry.0)
+    let rest = alerts_with new (kept_in entries) in
+    by_bool {P = with_old before (alerts_with new (kept_in (entry ∷ entries))) ≡ kept_in (entry ∷ entries)} (same_labels new.labels entry.0)
     (λ t.
     let here : Some entry.1 ≡ Some before = sym (ap (λ b. cond b (Some entry.1) (map.lookup (same_labels new.labels) entries)) t) ∙ found in
     let is : before ≡ entry.1 = (cc) in
@@ -120,13 +120,13 @@ kept_filtered q (entry ∷ entries) =
     elim (q entry.1) as (λ b. kept_in (cond b (entry ∷ rest) rest) ≡ cond b (entry.1 ∷ kept_in rest) (kept_in rest)) [ true ↦ refl | false ↦ refl ]
     ∙ ap (λ alerts. cond (q entry.1) (entry.1 ∷ alerts) alerts) (kept_filtered q entries)
 
-pub still_filtered : (q : Alert → Bool) (entries : List (Labels × Alert)) → AreKeptByLabels entries → AreKeptByLabels (filter (λ (entry : Labels × Alert). q entry.1) entries)
+pub still_filtered : (q : Alert → Bool) (entries : List (Labels × Alert)) → AreKeyedByLabels entries → AreKeyedByLabels (filter (λ (entry : Labels × Alert). q entry.1) entries)
 still_filtered q [] kept = tt
 still_filtered q (entry ∷ entries) kept =
     let rest = still_filtered q entries kept.1 in
-    elim (q entry.1) as (λ b. AreKeptByLabels (cond b (entry ∷ filter (λ (entry : Labels × Alert). q entry.1) entries) (filter (λ (entry : Labels × Alert). q entry.1) entries))) [ true ↦ (kept.0, rest) | false ↦ rest ]
+    elim (q entry.1) as (λ b. AreKeyedByLabels (cond b (entry ∷ filter (λ (entry : Labels × Alert). q entry.1) entries) (filter (λ (entry : Labels × Alert). q entry.1) entries))) [ true ↦ (kept.0, rest) | false ↦ rest ]
 
-pub still_taken : (n : ℕ) (entries : List (Labels × Alert)) → AreKeptByLabels entries → AreKeptByLabels (take n entries)
+pub still_taken : (n : ℕ) (entries : List (Labels × Alert)) → AreKeyedByLabels entries → AreKeyedByLabels (take n entries)
 still_taken zero entries kept = tt
 still_taken (suc n) [] kept = tt
 still_taken (suc n) (entry ∷ entries) kept = (kept.0, still_taken n entries kept.1)

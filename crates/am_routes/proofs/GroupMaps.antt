@@ -18,9 +18,9 @@ use Rattle.am_routes.specs.declared.dispatcher.GroupKey.{GroupKey}
 use Rattle.am_routes.specs.declared.group.AlertChange.{AlertChange}
 use Rattle.am_routes.specs.RouteAnswers.{Node}
 use Rattle.am_routes.specs.Groups.{GroupView, some_of, is_empty, removed_groups}
-use Rattle.am_routes.specs.inside.GroupLists.{with_alert, joined, with_members, is_group, with_member, unresolved, swept_group, swept, without_resolved}
+use Rattle.am_routes.specs.inside.GroupLists.{alerts_with, joined, with_members, is_group, with_member, unresolved, swept_group, swept, without_resolved}
 use Rattle.am_routes.specs.inside.GroupChanges.{alerts_before}
-use Rattle.am_routes.specs.inside.GroupMaps.{groups_in, AreKeptByKeys, changed_back, groups_before, all_before}
+use Rattle.am_routes.specs.inside.GroupMaps.{groups_in, AreKeyedByGroups, changed_back, groups_before, all_before}
 use Rattle.am_routes.specs.declared.dispatcher.GroupChange.{GroupChange}
 use Rattle.am_routes.proofs.Cases.{by_bool}
 
@@ -46,7 +46,7 @@ both_of true b e = (refl, e)
 both_of false b e = absurd (cc)
 
 -- where no group has the key, one is put at the end
-pub member_begins : (node : Node) (labels : Labels) (alert : Alert) (key : GroupKey) (entries : List (GroupKey × GroupView)) → IsKeyOf node labels key → AreKeptByKeys entries → map_of.lookup (same_key key) entries ≡ None
+pub member_begins : (node : Node) (labels : Labels) (alert : Alert) (key : GroupKey) (entries : List (GroupKey × GroupView)) → IsKeyOf node labels key → AreKeyedByGroups entries → map_of.lookup (same_key key) entries ≡ None
     → groups_in (insert_entry same_key entries key (record { route = node.number; receiver = node.route.receiver; labels = labels; alerts = alert ∷ [] })) ≡ with_member node labels alert (groups_in entries)
 member_begins node labels alert key [] of kept none = refl
 member_begins node labels alert key (entry ∷ entries) of kept none =
@@ -58,38 +58,38 @@ member_begins node labels alert key (entry ∷ entries) of kept none =
     let later : map_of.lookup (same_key key) entries ≡ None = sym (ap (λ b. cond b (Some entry.1) (map_of.lookup (same_key key) entries)) f) ∙ none in
     ap (λ b. groups_in (cond b ((entry.0, new) ∷ entries) (entry ∷ insert_entry same_key entries key new))) f
     ∙ (ap (λ rest. entry.1 ∷ rest) (member_begins node labels alert key entries of kept.1 later)
-    ∙ sym (ap (λ b. cond b (record entry.1 { alerts = with_alert alert entry.1.alerts } ∷ groups_in entries) (entry.1 ∷ with_member node labels alert (groups_in entries))) (sym test ∙ f))))
+    ∙ sym (ap (λ b. cond b (record entry.1 { alerts = alerts_with alert entry.1.alerts } ∷ groups_in entries) (entry.1 ∷ with_member node labels alert (groups_in entries))) (sym test ∙ f))))
 
 -- where a group has the key, the alert is put into it
-pub member_joins : (node : Node) (labels : Labels) (alert : Alert) (key : GroupKey) (group : GroupView) (entries : List (GroupKey × GroupView)) → IsKeyOf node labels key → AreKeptByKeys entries → map_of.lookup (same_key key) entries ≡ Some group
-    → groups_in (insert_entry same_key entries key (record group { alerts = with_alert alert group.alerts })) ≡ with_member node labels alert (groups_in entries)
+pub member_joins : (node : Node) (labels : Labels) (alert : Alert) (key : GroupKey) (group : GroupView) (entries : List (GroupKey × GroupView)) → IsKeyOf node labels key → AreKeyedByGroups entries → map_of.lookup (same_key key) entries ≡ Some group
+    → groups_in (insert_entry same_key entries key (record group { alerts = alerts_with alert group.alerts })) ≡ with_member node labels alert (groups_in entries)
 member_joins node labels alert key group [] of kept found = absurd (cc)
 member_joins node labels alert key group (entry ∷ entries) of kept found =
-    let new : GroupView = record group { alerts = with_alert alert group.alerts } in
+    let new : GroupView = record group { alerts = alerts_with alert group.alerts } in
     let test = test_is node labels key entry of kept.0 in
     by_bool {P = groups_in (insert_entry same_key (entry ∷ entries) key new) ≡ with_member node labels alert (groups_in (entry ∷ entries))} (same_key key entry.0)
     (λ t.
     let here : Some entry.1 ≡ Some group = sym (ap (λ b. cond b (Some entry.1) (map_of.lookup (same_key key) entries)) t) ∙ found in
     let is : group ≡ entry.1 = (cc) in
     ap (λ b. groups_in (cond b ((entry.0, new) ∷ entries) (entry ∷ insert_entry same_key entries key new))) t
-    ∙ (ap (λ (g : GroupView). record g { alerts = with_alert alert g.alerts } ∷ groups_in entries) is
-    ∙ sym (ap (λ b. cond b (record entry.1 { alerts = with_alert alert entry.1.alerts } ∷ groups_in entries) (entry.1 ∷ with_member node labels alert (groups_in entries))) (sym test ∙ t))))
+    ∙ (ap (λ (g : GroupView). record g { alerts = alerts_with alert g.alerts } ∷ groups_in entries) is
+    ∙ sym (ap (λ b. cond b (record entry.1 { alerts = alerts_with alert entry.1.alerts } ∷ groups_in entries) (entry.1 ∷ with_member node labels alert (groups_in entries))) (sym test ∙ t))))
     (λ f.
     let later : map_of.lookup (same_key key) entries ≡ Some group = sym (ap (λ b. cond b (Some entry.1) (map_of.lookup (same_key key) entries)) f) ∙ found in
     ap (λ b. groups_in (cond b ((entry.0, new) ∷ entries) (entry ∷ insert_entry same_key entries key new))) f
     ∙ (ap (λ rest. entry.1 ∷ rest) (member_joins node labels alert key group entries of kept.1 later)
-    ∙ sym (ap (λ b. cond b (record entry.1 { alerts = with_alert alert entry.1.alerts } ∷ groups_in entries) (entry.1 ∷ with_member node labels alert (groups_in entries))) (sym test ∙ f))))
+    ∙ sym (ap (λ b. cond b (record entry.1 { alerts = alerts_with alert entry.1.alerts } ∷ groups_in entries) (entry.1 ∷ with_member node labels alert (groups_in entries))) (sym test ∙ f))))
 
-pub keys_kept : (key : GroupKey) (group : GroupView) (entries : List (GroupKey × GroupView)) → key.route.0 ≡ group.route → key.labels ≡ group.labels → AreKeptByKeys entries → AreKeptByKeys (insert_entry same_key entries key group)
+pub keys_kept : (key : GroupKey) (group : GroupView) (entries : List (GroupKey × GroupView)) → key.route.0 ≡ group.route → key.labels ≡ group.labels → AreKeyedByGroups entries → AreKeyedByGroups (insert_entry same_key entries key group)
 keys_kept key group [] route labels kept = ((route, labels), tt)
 keys_kept key group (entry ∷ entries) route labels kept =
-    by_bool {P = AreKeptByKeys (insert_entry same_key (entry ∷ entries) key group)} (same_key key entry.0)
+    by_bool {P = AreKeyedByGroups (insert_entry same_key (entry ∷ entries) key group)} (same_key key entry.0)
     (λ t.
     let both = both_of (nat_eq key.route.0 entry.0.route.0) (same_labels key.labels entry.0.labels) t in
     let number : key.route.0 ≡ entry.0.route.0 = (Decides-eqb key.route.0 entry.0.route.0).0 both.0 in
     let named : key.labels ≡ entry.0.labels = (labels_decide key.labels entry.0.labels).0 both.1 in
-    subst (λ b. AreKeptByKeys (cond b ((entry.0, group) ∷ entries) (entry ∷ insert_entry same_key entries key group))) (sym t) ((sym number ∙ route, sym named ∙ labels), kept.1))
-    (λ f. subst (λ b. AreKeptByKeys (cond b ((entry.0, group) ∷ entries) (entry ∷ insert_entry same_key entries key group))) (sym f) (kept.0, keys_kept key group entries route labels kept.1))
+    subst (λ b. AreKeyedByGroups (cond b ((entry.0, group) ∷ entries) (entry ∷ insert_entry same_key entries key group))) (sym t) ((sym number ∙ route, sym named ∙ labels), kept.1))
+    (λ f. subst (λ b. AreKeyedByGroups (cond b ((entry.0, group) ∷ entries) (entry ∷ insert_entry same_key entries key group))) (sym f) (kept.0, keys_kept key group entries route labels kept.1))
 
 pub group_written : (entries : List (GroupKey × GroupView)) (key : GroupKey) (group : GroupView) (at : ℕ) → position (same_key key) (keys_of entries) ≡ Some at → set_value_at entries at group ≡ insert_entry same_key entries key group
 group_written entries key group at found = sym (insert_entry-first same_key key group entries at (Found-position (same_key key) entries at found).first)
@@ -101,7 +101,7 @@ written_same [] at group got = refl
 written_same (entry ∷ entries) zero group got = let same : group ≡ entry.1 = (cc) in ap (λ g. (entry.0, g) ∷ entries) same
 written_same (entry ∷ entries) (suc at) group got = ap (λ rest. entry ∷ rest) (written_same entries at group got)
 
-pub written_kept : (entries : List (GroupKey × GroupView)) (at : ℕ) (old new : GroupView) → slice_get (values_of entries) at ≡ Some old → new.route ≡ old.route → new.labels ≡ old.labels → AreKeptByKeys entries → AreKeptByKeys (set_value_at entries at new)
+pub written_kept : (entries : List (GroupKey × GroupView)) (at : ℕ) (old new : GroupView) → slice_get (values_of entries) at ≡ Some old → new.route ≡ old.route → new.labels ≡ old.labels → AreKeyedByGroups entries → AreKeyedByGroups (set_value_at entries at new)
 written_kept [] at old new got route labels kept = tt
 written_kept (entry ∷ entries) zero old new got route labels kept =
     let same : entry.1 ≡ old = (cc) in
@@ -140,7 +140,7 @@ groups_set [] (suc at) group = refl
 groups_set (entry ∷ entries) zero group = refl
 groups_set (entry ∷ entries) (suc at) group = ap (λ rest. entry.1 ∷ rest) (groups_set entries at group)
 
-pub keys_taken : (n : ℕ) (entries : List (GroupKey × GroupView)) → AreKeptByKeys entries → AreKeptByKeys (take n entries)
+pub keys_taken : (n : ℕ) (entries : List (GroupKey × GroupView)) → AreKeyedByGroups entries → AreKeyedByGroups (take n entries)
 keys_taken zero entries kept = tt
 keys_taken (suc n) [] kept = tt
 keys_taken (suc n) (entry ∷ entries) kept = (kept.0, keys_taken n entries kept.1)
@@ -154,11 +154,11 @@ groups_filtered q (entry ∷ entries) =
     elim (q entry.1) as (λ b. groups_in (cond b (entry ∷ rest) rest) ≡ cond b (entry.1 ∷ groups_in rest) (groups_in rest)) [ true ↦ refl | false ↦ refl ]
     ∙ ap (λ groups. cond (q entry.1) (entry.1 ∷ groups) groups) (groups_filtered q entries)
 
-pub keys_filtered : (q : GroupView → Bool) (entries : List (GroupKey × GroupView)) → AreKeptByKeys entries → AreKeptByKeys (filter (λ (entry : GroupKey × GroupView). q entry.1) entries)
+pub keys_filtered : (q : GroupView → Bool) (entries : List (GroupKey × GroupView)) → AreKeyedByGroups entries → AreKeyedByGroups (filter (λ (entry : GroupKey × GroupView). q entry.1) entries)
 keys_filtered q [] kept = tt
 keys_filtered q (entry ∷ entries) kept =
     let rest = keys_filtered q entries kept.1 in
-    elim (q entry.1) as (λ b. AreKeptByKeys (cond b (entry ∷ filter (λ (entry : GroupKey × GroupView). q entry.1) entries) (filter (λ (entry : GroupKey × GroupView). q entry.1) entries))) [ true ↦ (kept.0, rest) | false ↦ rest ]
+    elim (q entry.1) as (λ b. AreKeyedByGroups (cond b (entry ∷ filter (λ (entry : GroupKey × GroupView). q entry.1) entries) (filter (λ (entry : GroupKey × GroupView). q entry.1) entries))) [ true ↦ (kept.0, rest) | false ↦ rest ]
 
 -- one more group without what is resolved
 pub resolved_more : (now : ℕ) (groups all : List GroupView) (at : ℕ) (group : GroupView) → at < length all → groups ≡ map (without_resolved now) (take at all) ++ drop at all → group ≡ get_or groups at group

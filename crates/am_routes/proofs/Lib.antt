@@ -1,17 +1,7 @@
-pub mod Texts
-pub mod Distinct
 pub mod Cases
 pub mod InOrder
 pub mod Groups
-pub mod Readings
-pub mod Elements
-pub mod RouteReadings
-pub mod ArrayReadings
-pub mod RuleReadings
-pub mod Durations
-pub mod Configs
 pub mod Searching
 pub mod RouteAnswers
-pub mod GroupLabels
 pub mod GroupEntries
 pub mod GroupMaps

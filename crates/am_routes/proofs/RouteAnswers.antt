@@ -3,7 +3,7 @@ use Rattle.std.proofs.Common.{◌≡◌, ℕ, ◌+◌, cond, List, [], ◌∷◌
 use Rattle.std.proofs.lemmas.List.{append-nil}
 use Rattle.am_labels.specs.LabelSets.{Labels}
 use Rattle.am_labels.specs.Matchers.{all_admitted}
-use Rattle.am_routes.specs.Routes.{RouteView, Forest, no_routes, route, count_of}
+use Rattle.am_config.specs.Routes.{RouteView, Forest, no_routes, route, count_of}
 use Rattle.am_routes.specs.RouteAnswers.{Node, RouteAnswer, RoutesAnswer, fails, from_below, itself, none_left, stops, gives_nothing, goes_on, own_answer, joined_with, answer_of}
 use Rattle.am_routes.proofs.Cases.{by_bool}
 

@@ -2,12 +2,12 @@
 use Rattle.std.proofs.Common.{◌≡◌, ◌≢◌, ℕ, zero, suc, ◌+◌, ◌-◌, ◌<◌, ◌≤◌, true, false, cond, List, [], ◌∷◌, ◌++◌, length, take, drop, get_or, set, refl, sym, ap, subst, ◌∙◌, arith, length-append}
 use Rattle.std.proofs.lemmas.List.{append_assoc, append-nil, drop_more, drop-drop, drop_at, take_more, set_at, get_or_at}
 use Rattle.am_routes.specs.declared.matching.RouteSearch.{RouteSearch}
-use Rattle.am_routes.specs.declared.route.Route.{Route}
+use Rattle.am_config.specs.declared.route.Route.{Route}
 use Rattle.std.proofs.lemmas.List.{set-get_or}
 use Rattle.am_labels.specs.LabelSets.{Labels}
 use Rattle.am_labels.specs.Matchers.{MatcherView, all_admitted}
-use Rattle.am_routes.specs.Routes.{RouteView, Forest, no_routes, route, count_of}
-use Rattle.am_routes.specs.RouteLists.{route_view, forest_of}
+use Rattle.am_config.specs.Routes.{RouteView, Forest, no_routes, route, count_of}
+use Rattle.am_config.specs.RouteLists.{route_view, forest_of}
 use Rattle.am_routes.specs.RouteAnswers.{Node, own_answer, joined_with, answer_of}
 use Rattle.am_routes.specs.inside.Searches.{searches_of, BeginAt}
 

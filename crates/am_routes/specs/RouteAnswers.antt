@@ -1,9 +1,9 @@
--- To which routes a label set comes (Alertmanager's `dispatch.Route.Match`).
+-- Which routes a label set matches (Alertmanager's `dispatch.Route.Match`).
 use Rattle.std.specs.Prelude.{◌≡◌, ℕ, ◌+◌, Bool, true, false, if◌then◌else◌, List, [], ◌∷◌, ◌++◌, map}
 use Rattle.am_labels.specs.LabelSets.{Labels}
 use Rattle.am_labels.specs.Matchers.{all_admitted}
 use Rattle.am_routes.specs.declared.route_id.RouteId.{RouteId}
-use Rattle.am_routes.specs.Routes.{RouteView, Forest, no_routes, route, count_of}
+use Rattle.am_config.specs.Routes.{RouteView, Forest, no_routes, route, count_of}
 
 -- a route of a tree, with its number in pre-order
 pub record Node : Type 0 where
@@ -12,8 +12,8 @@ pub record Node : Type 0 where
 
 module _ (labels : Labels) where
   mutual
-    -- what a route answers: nothing, where its matchers fail; else what the routes below it answer;
-    -- itself, where they answer nothing
+    -- what a route answers: nothing, if its matchers fail; else what the routes below it answer; itself,
+    -- if they answer nothing
     pub data RouteAnswer : ℕ → RouteView → Forest → List Node → Type 0 where
       fails : {number : ℕ} {first : RouteView} {below : Forest}
           → all_admitted first.matchers labels ≡ false → RouteAnswer number first below []
@@ -39,7 +39,7 @@ module _ (labels : Labels) where
           → RoutesAnswer (number + 1 + count_of below) others rest
           → RoutesAnswer number (route first below others) (own ++ rest)
 
--- the numbers of the routes that a label set comes to
+-- the numbers of the routes that a label set matches
 abbrev pub IsAnswerOf : Labels → Forest → List RouteId → Type 0
 IsAnswerOf labels tree ids =
     (nodes : List Node) × RoutesAnswer labels 0 tree nodes
@@ -52,7 +52,7 @@ own_answer labels number first [] =
 own_answer labels number first (node ∷ nodes) =
     if all_admitted first.matchers labels then node ∷ nodes else []
 
--- an answer with those behind it, unless it isn't empty and its route doesn't continue
+-- an answer with those after it, unless it isn't empty and its route doesn't continue
 abbrev pub joined_with : List Node → Bool → List Node → List Node
 joined_with [] continues rest = rest
 joined_with (node ∷ nodes) continues rest = node ∷ nodes ++ (if continues then rest else [])

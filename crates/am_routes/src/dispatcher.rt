@@ -1,4 +1,4 @@
-//! The dispatcher: groups the alerts that it takes by the routes that they come to.
+//! The dispatcher: groups alerts by the routes that they match.
 
 ghost use Rattle.std.specs.Prelude.{◌≡◌, [], filter, map, min, not, IfOk, OnOk, OnErr};
 ghost use Rattle.std.specs.List.{count_by};
@@ -6,19 +6,19 @@ ghost use Rattle.am_routes.specs.Groups.{Take, Sweep, is_empty, removed_alerts};
 ghost use Rattle.am_routes.specs.inside.Searches.{node_of, nodes_in};
 ghost use Rattle.am_routes.specs.inside.GroupLists.{joined, with_members, without_resolved};
 ghost use Rattle.am_routes.specs.inside.GroupMaps.{all_before, groups_before};
-ghost use Rattle.am_routes.specs.inside.GroupMaps.{groups_in, AreKeptByKeys};
+ghost use Rattle.am_routes.specs.inside.GroupMaps.{groups_in, AreKeyedByGroups};
 
 use crate::group::{AlertChange, Group};
 use crate::matching::{FoundRoute, PreparedTree};
 use crate::route_id::RouteId;
-use crate::tree::RouteTree;
 use am_alert::{Alert, Moment};
+use am_config::RouteTree;
 use am_labels::LabelSet;
 use indexmap::IndexMap;
 use std::alloc::{AllocError, Global};
 use std::marker::Model;
 
-/// What a group is known by.
+/// What identifies a group.
 #[derive(Debug, Drop, PartialEq, Eq, Hash)]
 pub(crate) struct GroupKey {
     route: RouteId,
@@ -28,10 +28,10 @@ pub(crate) struct GroupKey {
 // Groups by their keys, in the order in which they began.
 type GroupMap<'t> = IndexMap<GroupKey, Group<'t>>;
 
-/// What an alert changed in the groups, kept to take it back.
+/// What an alert changed in the groups, kept to undo it.
 #[derive(Drop)]
 pub(crate) enum GroupChange {
-    /// It began a group, which stands last.
+    /// It began a group, the last one.
     Begun,
     /// It changed the group at this index.
     Changed(usize, AlertChange),
@@ -40,14 +40,14 @@ pub(crate) enum GroupChange {
 /// How much a sweep removed.
 #[derive(Clone, Copy, Debug, PartialEq, Eq)]
 pub struct Swept {
-    /// The resolved alerts; one that stands in two groups counts twice. It stops at the greatest
+    /// The resolved alerts; one that is in two groups counts twice. The count stops at the greatest
     /// u64.
     pub alerts: u64,
     /// The groups that were left empty.
     pub groups: u64,
 }
 
-/// The alerts that were taken, grouped by the routes of a tree that they come to.
+/// Alerts, grouped by the routes of a tree that they match.
 #[derive(Drop)]
 pub struct Dispatcher<'t> {
     tree: PreparedTree<'t>,
@@ -55,41 +55,39 @@ pub struct Dispatcher<'t> {
 }
 
 impl<'t> Model for Dispatcher<'t> {
-    ghost use Rattle.am_labels.specs.contracts.operator.Operator as operator;
-    ghost use Rattle.am_routes.specs.contracts.group_by.GroupBy as group_by;
+    ghost use Rattle.am_config.specs.contracts.route.Routes as routes;
     ghost use Rattle.am_routes.specs.Groups.{DispatcherView};
-    ghost use Rattle.am_routes.specs.inside.RouteCodes.{coded_forest};
     ghost use Rattle.am_routes.specs.inside.DispatcherCodes.{coded_dispatcher};
 
     ghost Value = { DispatcherView };
 
-    ghost coded = { coded_dispatcher (coded_forest group_by.the_row.coded operator.the_row.coded) };
+    ghost coded = { coded_dispatcher routes.the_row.coded };
 
-    ghost use Rattle.am_routes.specs.inside.GroupMaps.{groups_in, AreKeptByKeys};
+    ghost use Rattle.am_routes.specs.inside.GroupMaps.{groups_in, AreKeyedByGroups};
 
     ghost view = { λ d. record { tree = d.tree; groups = groups_in d.groups.entries } };
 
-    ghost invariant = { λ d. AreKeptByKeys d.groups.entries };
+    ghost invariant = { λ d. AreKeyedByGroups d.groups.entries };
 }
 
 impl<'t> Dispatcher<'t> {
-    ghost use Rattle.am_routes.specs.RouteLists.{root_of};
+    ghost use Rattle.am_config.specs.RouteLists.{root_of};
     ghost use Rattle.am_routes.specs.Groups.{Follows, removed_alerts, removed_groups};
 
-    /// A dispatcher that took nothing yet. It borrows the tree, and has its own searches of the
-    /// tree's patterns: none is compiled anew.
+    /// A dispatcher without groups. It borrows the tree, and has its own searches of the tree's
+    /// patterns: none is compiled again.
     pub fn new(alloc: Global, tree: &'t RouteTree) -> Result<Dispatcher<'t>, AllocError>
         ensures tree { IfOk result (λ made. made.tree ≡ root_of tree.now) }
         ensures groups { IfOk result (λ made. made.groups ≡ []) }
     {
         Ok(Dispatcher {
-            tree: tree.prepare(alloc)?,
+            tree: PreparedTree::new(alloc, tree)?,
             groups: IndexMap::new(alloc),
         })
     }
 
-    /// Puts an alert into one group of each route that its labels come to, in the place of the last
-    /// alert of its label set there. If memory runs out, all stays as it was.
+    /// Puts an alert into one group of each route that its labels match, where it replaces the last
+    /// alert of its label set. If memory runs out, nothing changes.
     pub fn take(&mut self, alert: &Alert) -> Result<(), AllocError>
         ensures taken { OnOk result (Follows (Take alert.now) self.old self.new) }
         ensures err { OnErr result (self.new ≡ self.old) }
@@ -123,10 +121,10 @@ fn join_all<'t>(
     found: &[FoundRoute<'t>],
     alert: &Alert,
 ) -> Result<(), AllocError>
-    requires { AreKeptByKeys groups.old.entries }
+    requires { AreKeyedByGroups groups.old.entries }
     ensures joined { OnOk result (groups_in groups.new.entries
         ≡ with_members (nodes_in found.now) alert.now (groups_in groups.old.entries)) }
-    ensures kept { AreKeptByKeys groups.new.entries }
+    ensures kept { AreKeyedByGroups groups.new.entries }
     ensures err { OnErr result
         (groups_in groups.new.entries ≡ groups_in groups.old.entries) }
 {
@@ -135,7 +133,7 @@ fn join_all<'t>(
         match join_one(groups, one, alert) {
             Ok(change) => changes.push_reserved(change),
             Err(error) => {
-                take_back(groups, changes);
+                undo_all(groups, changes);
                 return Err(error);
             }
         }
@@ -149,12 +147,12 @@ fn join_one<'t>(
     found: &FoundRoute<'t>,
     alert: &Alert,
 ) -> Result<GroupChange, AllocError>
-    requires { AreKeptByKeys groups.old.entries }
+    requires { AreKeyedByGroups groups.old.entries }
     ensures joined { IfOk result (λ _. groups_in groups.new.entries
         ≡ joined (node_of found.now) alert.now (groups_in groups.old.entries)) }
     ensures undo { IfOk result (λ change. groups_before change (groups_in groups.new.entries)
         ≡ groups_in groups.old.entries) }
-    ensures kept { AreKeptByKeys groups.new.entries }
+    ensures kept { AreKeyedByGroups groups.new.entries }
     ensures err { OnErr result
         (groups_in groups.new.entries ≡ groups_in groups.old.entries) }
 {
@@ -177,44 +175,44 @@ fn join_one<'t>(
     }
 }
 
-// Takes changes back, the last one first.
-fn take_back(groups: &mut GroupMap<'_>, changes: Vec<GroupChange>)
-    requires { AreKeptByKeys groups.old.entries }
+// Undoes changes, the last one first.
+fn undo_all(groups: &mut GroupMap<'_>, changes: Vec<GroupChange>)
+    requires { AreKeyedByGroups groups.old.entries }
     ensures before { groups_in groups.new.entries
         ≡ all_before changes.items (groups_in groups.old.entries) }
-    ensures kept { AreKeptByKeys groups.new.entries }
+    ensures kept { AreKeyedByGroups groups.new.entries }
 {
     let mut left = changes;
     while let Some(change) = left.pop() {
-        take_one_back(groups, change);
+        undo(groups, change);
     }
 }
 
-// Takes the last change back.
-fn take_one_back(groups: &mut GroupMap<'_>, change: GroupChange)
-    requires { AreKeptByKeys groups.old.entries }
+// Undoes the last change.
+fn undo(groups: &mut GroupMap<'_>, change: GroupChange)
+    requires { AreKeyedByGroups groups.old.entries }
     ensures before { groups_in groups.new.entries
         ≡ groups_before change (groups_in groups.old.entries) }
-    ensures kept { AreKeptByKeys groups.new.entries }
+    ensures kept { AreKeyedByGroups groups.new.entries }
 {
     match change {
         GroupChange::Begun => groups.truncate(groups.len().saturating_sub(1)),
         GroupChange::Changed(at, change) => {
             if let Some(group) = groups.get_index_mut(at) {
-                group.take_back(change);
+                group.undo(change);
             }
         }
     }
 }
 
-// Removes what is resolved from each group, and answers how many alerts that were.
+// Removes the resolved alerts from each group, and returns how many they were.
 fn remove_resolved(groups: &mut GroupMap<'_>, now: Moment) -> u64
-    requires { AreKeptByKeys groups.old.entries }
+    requires { AreKeyedByGroups groups.old.entries }
     ensures left { groups_in groups.new.entries
         ≡ map (without_resolved now) (groups_in groups.old.entries) }
     ensures removed { result
         ≡ min (removed_alerts now (groups_in groups.old.entries)) u64.MAX }
-    ensures kept { AreKeptByKeys groups.new.entries }
+    ensures kept { AreKeyedByGroups groups.new.entries }
 {
     let mut removed = 0u64;
     for at in 0..groups.len() {
@@ -223,14 +221,14 @@ fn remove_resolved(groups: &mut GroupMap<'_>, now: Moment) -> u64
     removed
 }
 
-// Removes the groups without an alert, and answers how many those were.
+// Removes the groups without an alert, and returns how many they were.
 fn remove_empty(groups: &mut GroupMap<'_>) -> u64
-    requires { AreKeptByKeys groups.old.entries }
+    requires { AreKeyedByGroups groups.old.entries }
     ensures left { groups_in groups.new.entries
         ≡ filter (λ group. not (is_empty group.alerts)) (groups_in groups.old.entries) }
     ensures removed { result
         ≡ count_by (λ group. is_empty group.alerts) (groups_in groups.old.entries) }
-    ensures kept { AreKeptByKeys groups.new.entries }
+    ensures kept { AreKeyedByGroups groups.new.entries }
 {
     let before = groups.len();
     groups.retain(

@@ -1,10 +1,10 @@
-//! One group of alerts: those that came to a route with the same group labels.
+//! One group of alerts: those that match a route and have the same group labels.
 
 ghost use Rattle.std.specs.Prelude.{◌≡◌, [], ◌∷◌, IfOk, OnErr, not, count_by};
 ghost use Rattle.am_alert.specs.Merging.{is_resolved_at};
 ghost use Rattle.am_routes.specs.Groups.{is_empty};
-ghost use Rattle.am_routes.specs.inside.GroupLists.{with_alert, unresolved};
-ghost use Rattle.am_routes.specs.inside.GroupChanges.{alerts_before, kept_in, AreKeptByLabels};
+ghost use Rattle.am_routes.specs.inside.GroupLists.{alerts_with, unresolved};
+ghost use Rattle.am_routes.specs.inside.GroupChanges.{alerts_before, kept_in, AreKeyedByLabels};
 
 use crate::matching::FoundRoute;
 use crate::route_id::RouteId;
@@ -16,7 +16,7 @@ use std::marker::Model;
 use std::mem;
 
 // Alerts by their label sets, in the order in which those began.
-type AlertMap = IndexMap<LabelSet, Alert>;
+type AlertsByLabels = IndexMap<LabelSet, Alert>;
 
 /// Alerts of one route with the same group labels: of each label set its last one, in the order in
 /// which the label sets began.
@@ -25,13 +25,13 @@ pub struct Group<'t> {
     route: RouteId,
     receiver: &'t str,
     labels: LabelSet,
-    alerts: AlertMap,
+    alerts: AlertsByLabels,
 }
 
-/// What an alert changed in a group, kept to take it back.
+/// What an alert changed in a group, kept to undo it.
 #[derive(Drop)]
 pub(crate) enum AlertChange {
-    /// The alert began its label set, which stands last.
+    /// The alert began its label set, the last one.
     Added,
     /// Its label set held this alert.
     Replaced(Alert),
@@ -44,7 +44,7 @@ impl<'t> Model for Group<'t> {
 
     ghost coded = { coded_group };
 
-    ghost use Rattle.am_routes.specs.inside.GroupChanges.{kept_in, AreKeptByLabels};
+    ghost use Rattle.am_routes.specs.inside.GroupChanges.{kept_in, AreKeyedByLabels};
 
     ghost view = { λ g. record {
       route = g.route.0;
@@ -53,11 +53,11 @@ impl<'t> Model for Group<'t> {
       alerts = kept_in g.alerts.entries;
     } };
 
-    ghost invariant = { λ g. AreKeptByLabels g.alerts.entries };
+    ghost invariant = { λ g. AreKeyedByLabels g.alerts.entries };
 }
 
 impl<'t> Group<'t> {
-    ghost use Rattle.am_routes.specs.RouteLists.{route_view};
+    ghost use Rattle.am_config.specs.RouteLists.{route_view};
 
     /// A group with its first alert.
     pub(crate) fn new(
@@ -83,14 +83,14 @@ impl<'t> Group<'t> {
         })
     }
 
-    /// The route that its alerts came to.
+    /// The route that its alerts match.
     pub fn route(&self) -> RouteId
         ensures { result.0 ≡ self.now.route }
     {
         self.route
     }
 
-    /// Who is told of its alerts.
+    /// Who is notified of its alerts.
     pub fn receiver(&self) -> &str
         ensures { result.now ≡ self.now.receiver }
     {
@@ -117,10 +117,10 @@ impl<'t> Group<'t> {
         self.alerts().is_empty()
     }
 
-    /// Puts an alert in the place of its label set's last one, else at the end.
+    /// Replaces the last alert of an alert's label set by it, or adds it at the end.
     pub(crate) fn put(&mut self, alert: &Alert) -> Result<AlertChange, AllocError>
         ensures put { IfOk result (λ _.
-            self.new ≡ record self.old { alerts = with_alert alert.now self.old.alerts }) }
+            self.new ≡ record self.old { alerts = alerts_with alert.now self.old.alerts }) }
         ensures undo { IfOk result
             (λ change. alerts_before change self.new.alerts ≡ self.old.alerts) }
         ensures err { OnErr result (self.new ≡ self.old) }
@@ -128,14 +128,14 @@ impl<'t> Group<'t> {
         put_alert(&mut self.alerts, alert)
     }
 
-    /// Takes the last change back.
-    pub(crate) fn take_back(&mut self, change: AlertChange)
+    /// Undoes the last change.
+    pub(crate) fn undo(&mut self, change: AlertChange)
         ensures { self.new ≡ record self.old { alerts = alerts_before change self.old.alerts } }
     {
         put_back(&mut self.alerts, change);
     }
 
-    /// Removes what is resolved, and answers how many alerts that were.
+    /// Removes the resolved alerts, and returns how many they were.
     pub(crate) fn remove_resolved(&mut self, now: Moment) -> u64
         ensures group { self.new ≡ record self.old { alerts = unresolved now self.old.alerts } }
         ensures removed { result ≡ count_by (is_resolved_at now) self.old.alerts }
@@ -144,14 +144,14 @@ impl<'t> Group<'t> {
     }
 }
 
-// Sets an alert in the place of its label set's last one, else at the end.
-fn put_alert(alerts: &mut AlertMap, alert: &Alert) -> Result<AlertChange, AllocError>
-    requires { AreKeptByLabels alerts.old.entries }
+// Replaces the last alert of an alert's label set by it, or adds it at the end.
+fn put_alert(alerts: &mut AlertsByLabels, alert: &Alert) -> Result<AlertChange, AllocError>
+    requires { AreKeyedByLabels alerts.old.entries }
     ensures put { IfOk result (λ _.
-        kept_in alerts.new.entries ≡ with_alert alert.now (kept_in alerts.old.entries)) }
+        kept_in alerts.new.entries ≡ alerts_with alert.now (kept_in alerts.old.entries)) }
     ensures undo { IfOk result (λ change.
         alerts_before change (kept_in alerts.new.entries) ≡ kept_in alerts.old.entries) }
-    ensures kept { AreKeptByLabels alerts.new.entries }
+    ensures kept { AreKeyedByLabels alerts.new.entries }
     ensures err { OnErr result (alerts.new.entries ≡ alerts.old.entries) }
 {
     let labels = alert.labels.copy()?;
@@ -168,12 +168,12 @@ fn put_alert(alerts: &mut AlertMap, alert: &Alert) -> Result<AlertChange, AllocE
     }
 }
 
-// Takes the last change back.
-fn put_back(alerts: &mut AlertMap, change: AlertChange)
-    requires { AreKeptByLabels alerts.old.entries }
+// Undoes the last change.
+fn put_back(alerts: &mut AlertsByLabels, change: AlertChange)
+    requires { AreKeyedByLabels alerts.old.entries }
     ensures before { kept_in alerts.new.entries
         ≡ alerts_before change (kept_in alerts.old.entries) }
-    ensures kept { AreKeptByLabels alerts.new.entries }
+    ensures kept { AreKeyedByLabels alerts.new.entries }
 {
     match change {
         AlertChange::Added => alerts.truncate(alerts.len().saturating_sub(1)),
@@ -185,12 +185,12 @@ fn put_back(alerts: &mut AlertMap, change: AlertChange)
     }
 }
 
-// Removes what is resolved, and answers how many alerts that were.
-fn remove_from(alerts: &mut AlertMap, now: Moment) -> u64
-    requires { AreKeptByLabels alerts.old.entries }
+// Removes the resolved alerts, and returns how many they were.
+fn remove_from(alerts: &mut AlertsByLabels, now: Moment) -> u64
+    requires { AreKeyedByLabels alerts.old.entries }
     ensures left { kept_in alerts.new.entries ≡ unresolved now (kept_in alerts.old.entries) }
     ensures removed { result ≡ count_by (is_resolved_at now) (kept_in alerts.old.entries) }
-    ensures kept { AreKeptByLabels alerts.new.entries }
+    ensures kept { AreKeyedByLabels alerts.new.entries }
 {
     let before = alerts.len();
     alerts.retain(

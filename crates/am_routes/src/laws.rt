@@ -2,7 +2,7 @@
 
 ghost use Rattle.am_routes.specs.DispatchLaws.{GroupsGoOn, RoutesAnswerEach, RoutesAnswerOnce};
 
-/// Routes have one answer for each label set, and groups go on from what they are.
+/// Routes have one answer for each label set, and an event changes groups by what they are alone.
 pub fn dispatch_laws()
     ensures each { RoutesAnswerEach }
     ensures once { RoutesAnswerOnce }

@@ -1,8 +1,9 @@
-//! Who is told of an alert: the configuration, its routing tree and its inhibition rules.
+//! Who is notified of an alert: the routes that its label set matches, and its groups there.
 //!
-//! A configuration is read once and never changes. Its tree is the routes that the text states,
-//! each with the receiver and the grouping that it has from the routes above it where it states
-//! none, and with its own matchers alone.
+//! A [`PreparedTree`] is a routing tree made ready to be asked often. It gives the numbers of the
+//! routes that a label set matches, as Alertmanager's `dispatch.Route.Match`. A [`Dispatcher`] puts
+//! each alert that it is given into one group of each of these routes, by the labels that the route
+//! groups by. A sweep removes the resolved alerts, and then the empty groups.
 //!
 //! ```text
 //! let config = Config::read(alloc, bytes)?;           // {"route":{"receiver":"ops", ..}}
@@ -11,32 +12,20 @@
 //! for group in dispatcher.groups() {
 //!     println!(rt; "{} {}", group.receiver(), group.labels())?;       // ops {job="api"}
 //! }
-//! let swept = dispatcher.sweep(now);                  // what is resolved is gone
+//! let swept = dispatcher.sweep(now);                  // resolved alerts are removed
 //! ```
 //!
-//! This crate knows of no provider: it is handed labels and alerts, and says where they belong.
+//! This crate knows of no provider and sends nothing: it is given alerts and moments.
 #![tactic(auto)]
 
-mod config;
 mod dispatcher;
 mod group;
-mod group_by;
-mod inhibit_rule;
-mod label_names;
 mod laws;
 mod matching;
-mod route;
 mod route_id;
-mod tree;
 
-pub use config::{Config, ConfigFault, DEFAULT_MILLISECONDS, MAX_DEPTH, MAX_MILLISECONDS, Path};
 pub use dispatcher::{Dispatcher, Swept};
 pub use group::Group;
-pub use group_by::GroupBy;
-pub use inhibit_rule::{InhibitRule, InhibitRules};
-pub use label_names::LabelNames;
 pub use laws::dispatch_laws;
-pub use matching::PreparedTree;
-pub use route::{Route, Routes};
+pub use matching::{PreparedTree, matching_routes};
 pub use route_id::RouteId;
-pub use tree::RouteTree;

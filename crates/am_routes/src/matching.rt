@@ -1,13 +1,12 @@
-//! Asking a routing tree to which of its routes a label set comes.
+//! Asking a routing tree which of its routes a label set matches.
 
 ghost use Rattle.std.specs.Prelude.{◌≡◌, ◌++◌, IfOk, OnOk};
-ghost use Rattle.am_routes.specs.RouteLists.{forest_of};
-ghost use Rattle.am_routes.specs.RouteAnswers.{answer_of};
+ghost use Rattle.am_config.specs.RouteLists.{forest_of, root_of};
+ghost use Rattle.am_routes.specs.RouteAnswers.{answer_of, IsAnswerOf};
 ghost use Rattle.am_routes.specs.inside.Searches.{nodes_in, searches_of, BeginAt};
 
-use crate::route::Route;
 use crate::route_id::RouteId;
-use crate::tree::RouteTree;
+use am_config::{Route, RouteTree};
 use am_labels::{LabelSet, PreparedMatchers};
 use std::alloc::{AllocError, Global};
 use std::marker::Model;
@@ -24,16 +23,14 @@ pub struct PreparedTree<'t> {
 
 impl<'t> Model for PreparedTree<'t> {
     ghost use Rattle.std.specs.Prelude.{◌≡◌};
-    ghost use Rattle.am_labels.specs.contracts.operator.Operator as operator;
-    ghost use Rattle.am_routes.specs.contracts.group_by.GroupBy as group_by;
-    ghost use Rattle.am_routes.specs.Routes.{Forest};
-    ghost use Rattle.am_routes.specs.inside.RouteCodes.{coded_forest};
+    ghost use Rattle.am_config.specs.contracts.route.Routes as routes;
+    ghost use Rattle.am_config.specs.Routes.{Forest};
 
     ghost Value = { Forest };
 
-    ghost coded = { coded_forest group_by.the_row.coded operator.the_row.coded };
+    ghost coded = { routes.the_row.coded };
 
-    ghost use Rattle.am_routes.specs.RouteLists.{root_of};
+    ghost use Rattle.am_config.specs.RouteLists.{root_of};
     ghost use Rattle.am_routes.specs.inside.Searches.{searches_of};
 
     ghost view = { λ p. root_of p.tree.now };
@@ -42,10 +39,11 @@ impl<'t> Model for PreparedTree<'t> {
 }
 
 impl<'t> PreparedTree<'t> {
-    ghost use Rattle.am_routes.specs.RouteLists.{root_of};
+    ghost use Rattle.am_config.specs.RouteLists.{root_of};
     ghost use Rattle.am_routes.specs.RouteAnswers.{IsAnswerOf};
 
-    pub(crate) fn new(alloc: Global, tree: &'t RouteTree) -> Result<PreparedTree<'t>, AllocError>
+    /// The tree made ready. It borrows the tree's patterns and compiles none.
+    pub fn new(alloc: Global, tree: &'t RouteTree) -> Result<PreparedTree<'t>, AllocError>
         ensures { IfOk result (λ prepared. prepared ≡ root_of tree.now) }
     {
         let mut searches = Vec::new(alloc);
@@ -53,7 +51,9 @@ impl<'t> PreparedTree<'t> {
         Ok(PreparedTree { tree, searches })
     }
 
-    /// The routes that a label set comes to, in pre-order.
+    /// The routes that a label set matches, in pre-order. A route whose matchers fail gives nothing.
+    /// The routes below a route are asked in order; after one that gave something and doesn't
+    /// continue no more are asked. If none gave anything, the route itself is the answer.
     pub fn matches(&mut self, labels: &LabelSet) -> Result<Vec<RouteId>, AllocError>
         ensures answer { IfOk result (λ ids. IsAnswerOf labels.now self.old ids.items) }
         ensures same { self.new ≡ self.old }
@@ -66,7 +66,7 @@ impl<'t> PreparedTree<'t> {
         Ok(ids)
     }
 
-    /// The routes that a label set comes to, themselves.
+    /// As `matches`, with the routes themselves.
     pub(crate) fn find(&mut self, labels: &LabelSet) -> Result<Vec<FoundRoute<'t>>, AllocError>
         ensures found { IfOk result (λ found.
             nodes_in found.items ≡ answer_of labels.now 0 self.old) }
@@ -79,18 +79,30 @@ impl<'t> PreparedTree<'t> {
     }
 }
 
-/// A route that a label set comes to.
+/// The routes that a label set matches, as [`PreparedTree::matches`] gives them. It prepares the tree
+/// for this one question.
+pub fn matching_routes(
+    alloc: Global,
+    tree: &RouteTree,
+    labels: &LabelSet,
+) -> Result<Vec<RouteId>, AllocError>
+    ensures { IfOk result (λ ids. IsAnswerOf labels.now (root_of tree.now) ids.items) }
+{
+    PreparedTree::new(alloc, tree)?.matches(labels)
+}
+
+/// A route that a label set matches.
 #[derive(Clone, Copy)]
 pub(crate) struct FoundRoute<'t> {
     pub(crate) id: RouteId,
     pub(crate) route: &'t Route,
 }
 
-// What asking one route takes: its matchers with their searches, and where its next one stands.
+// What is kept to ask one route: its matchers with their searches, and the size of its subtree.
 #[derive(Drop)]
 pub(crate) struct RouteSearch<'t> {
     matchers: PreparedMatchers<'t>,
-    // How many routes stand below it.
+    // How many routes are below it.
     below: usize,
 }
 
@@ -113,8 +125,7 @@ fn prepare_each<'t>(
     Ok(())
 }
 
-// Asks routes in order, the first of which has the number, and adds those that a label set comes
-// to.
+// Asks routes in order, the first of which has the number, and adds those that a label set matches.
 fn ask<'t>(
     searches: &mut [RouteSearch<'t>],
     routes: &'t [Route],

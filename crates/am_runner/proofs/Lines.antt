@@ -1,7 +1,7 @@
 -- One line after another.
 use Rattle.std.proofs.Common.{ℕ, List, [], ◌∷◌, ◌++◌, Result, IfOk, sym, subst}
 use Rattle.std.specs.Global.{Vec}
-use Rattle.am_routes.specs.declared.config.Config.{Config}
+use Rattle.am_config.specs.declared.config.Config.{Config}
 use Rattle.am_script.specs.declared.command.Line.{Line}
 use Rattle.am_runner.specs.Sessions.{SessionView}
 use Rattle.am_runner.specs.Working.{Works, RunsLine, Adds, one_more}

@@ -5,7 +5,7 @@ use Rattle.std.proofs.lemmas.List.Quantifiers.{position-Some}
 use Rattle.std.proofs.lemmas.Option.{slice_get-get_or}
 use Rattle.std.specs.Str.{bytes_eq}
 use Rattle.am_provider.specs.Subscriptions.{taken}
-use Rattle.am_routes.specs.declared.config.Config.{Config}
+use Rattle.am_config.specs.declared.config.Config.{Config}
 use Rattle.am_script.specs.declared.command.Command.{Command}
 use Rattle.am_script.specs.declared.command.Command.TheVariants.{Subscribe}
 use Rattle.am_script.specs.declared.command.Verb.{Verb}
@@ -13,19 +13,19 @@ use Rattle.am_script.specs.declared.kind.Kind.{Kind}
 use Rattle.am_script.specs.declared.kind.Kind.TheVariants.{Plain, Dispatch, Inhibit}
 use Rattle.am_runner.specs.Consuming.{HasTaken, fresh_consumer}
 use Rattle.am_runner.specs.Reading.{OpenView}
-use Rattle.am_runner.specs.Sessions.{SessionView, Does, subscribed, OnNamed, one_named, none_named, place_of}
+use Rattle.am_runner.specs.Sessions.{SessionView, Does, subscribed, OnNamed, one_named, none_named, index_named}
 use Rattle.am_runner.specs.declared.answer.Answer.{Answer}
 use Rattle.am_runner.specs.declared.answer.Answer.TheVariants.{Subscribed}
 
-pub there : (name : List ℕ) (opened : List OpenView) (place : ℕ) (found : OpenView) → place_of name opened ≡ Some place → found ≡ get_or opened place found → slice_get opened place ≡ Some found
-there name opened place found here is =
-    slice_get-get_or opened place found (position-Some (λ (other : OpenView). bytes_eq other.name name) opened place found here).0 ∙ ap Some (sym is)
+pub there : (name : List ℕ) (opened : List OpenView) (index : ℕ) (found : OpenView) → index_named name opened ≡ Some index → found ≡ get_or opened index found → slice_get opened index ≡ Some found
+there name opened index found here is =
+    slice_get-get_or opened index found (position-Some (λ (other : OpenView). bytes_eq other.name name) opened index found here).0 ∙ ap Some (sym is)
 
 -- the same of one that is lent to be changed
-pub on_place : (name : List ℕ) (word : Verb) (does : OpenView → List Answer → OpenView → Type 0) (opened : List OpenView) (place : ℕ) (other after : OpenView) (answers : List Answer)
-    → place_of name opened ≡ Some place → does (get_or opened place other) answers after → OnNamed name word does opened answers (slice_set opened place after)
-on_place name word does opened place other after answers here done =
-    one_named here (slice_get-get_or opened place other (position-Some (λ (each : OpenView). bytes_eq each.name name) opened place other here).0) done
+pub on_index : (name : List ℕ) (word : Verb) (does : OpenView → List Answer → OpenView → Type 0) (opened : List OpenView) (index : ℕ) (other after : OpenView) (answers : List Answer)
+    → index_named name opened ≡ Some index → does (get_or opened index other) answers after → OnNamed name word does opened answers (slice_set opened index after)
+on_index name word does opened index other after answers here done =
+    one_named here (slice_get-get_or opened index other (position-Some (λ (each : OpenView). bytes_eq each.name name) opened index other here).0) done
 
 pub fresh_took : (config : Config) (kind : Kind) → IfSome (fresh_consumer config kind) (HasTaken [])
 fresh_took config Plain = tt
@@ -51,5 +51,5 @@ with_opened config timeout old new command answers kept does =
 
 -- as many subscriptions are there as before
 pub as_many : (name : List ℕ) (word : Verb) (does : OpenView → List Answer → OpenView → Type 0) (old new : List OpenView) (answers : List Answer) → OnNamed name word does old answers new → length new ≡ length old
-as_many name word does old new answers (one_named {place = place} {after = after} here found done) = length-set old place after
+as_many name word does old new answers (one_named {index = index} {after = after} here found done) = length-set old index after
 as_many name word does old new answers (none_named here) = refl

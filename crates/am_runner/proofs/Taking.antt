@@ -6,8 +6,8 @@ use Rattle.am_alert.specs.declared.alert.Alert.{Alert}
 use Rattle.am_provider.specs.Subscriptions.{SubscriptionView, taken}
 use Rattle.am_cast.specs.Cursors as cast
 use Rattle.am_provider.specs.Showings.{ShowsItem, ShowsNone}
-use Rattle.am_inhibit.proofs.Muting.{last_alerts_go_on}
 use Rattle.am_inhibit.specs.LastAlerts.{last_alerts}
+use Rattle.am_inhibit.specs.InhibitionLaws.{LastAlertsGoOn}
 use Rattle.am_routes.specs.Groups.{Take, Sweep}
 use Rattle.am_runner.specs.Answers.{is_item}
 use Rattle.am_runner.specs.Consuming.{HasTaken, TakesAlert, IsSwept, swept, no_dispatcher, alert_taken}
@@ -18,13 +18,13 @@ use Rattle.am_runner.specs.declared.consumer.Consumer.{Consumer}
 use Rattle.am_runner.specs.declared.consumer.Consumer.TheVariants.{Dispatcher, Inhibitor}
 
 -- one alert more was taken
-pub one_taken : (alerts : List Alert) (alert : Alert) (old new : Consumer) → TakesAlert alert old new → HasTaken alerts old → HasTaken (alerts ++ alert ∷ []) new
-one_taken alerts alert (Dispatcher old) (Dispatcher new) follows (events, are, groups) =
+pub one_taken : LastAlertsGoOn → (alerts : List Alert) (alert : Alert) (old new : Consumer) → TakesAlert alert old new → HasTaken alerts old → HasTaken (alerts ++ alert ∷ []) new
+one_taken go_on alerts alert (Dispatcher old) (Dispatcher new) follows (events, are, groups) =
     (events ++ Take alert ∷ [], filter_map-append alert_taken events (Take alert ∷ []) ∙ ap (λ (taken : List Alert). taken ++ alert ∷ []) are, follows.1 events groups)
-one_taken alerts alert (Inhibitor old) (Inhibitor new) same is =
-    ap (λ one. one.alerts) same ∙ (ap (λ (taken : List Alert). last_alerts (taken ++ alert ∷ [])) is ∙ last_alerts_go_on alerts alert)
-one_taken alerts alert (Dispatcher old) (Inhibitor new) never is = absurd never
-one_taken alerts alert (Inhibitor old) (Dispatcher new) never is = absurd never
+one_taken go_on alerts alert (Inhibitor old) (Inhibitor new) same is =
+    ap (λ one. one.alerts) same ∙ (ap (λ (taken : List Alert). last_alerts (taken ++ alert ∷ [])) is ∙ go_on alerts alert)
+one_taken go_on alerts alert (Dispatcher old) (Inhibitor new) never is = absurd never
+one_taken go_on alerts alert (Inhibitor old) (Dispatcher new) never is = absurd never
 
 -- a sweep takes nothing
 pub sweep_takes_none : (alerts : List Alert) (now : ℕ) (old new : Consumer) (given : Answer) → IsSwept now old new given → HasTaken alerts old → HasTaken alerts new
@@ -34,11 +34,11 @@ sweep_takes_none alerts now (Inhibitor old) (Inhibitor new) given no_dispatcher 
 sweep_takes_none alerts now (Dispatcher old) (Inhibitor new) given never is = elim never [ ]
 sweep_takes_none alerts now (Inhibitor old) (Dispatcher new) given never is = elim never [ ]
 
-pub beside_taken : (alerts : List Alert) (alert : Alert) (old new : Option Consumer) → TakenBeside alert old new → IfSome old (HasTaken alerts) → IfSome new (HasTaken (alerts ++ alert ∷ []))
-beside_taken alerts alert None None did took = tt
-beside_taken alerts alert (Some old) (Some new) did took = one_taken alerts alert old new did took
-beside_taken alerts alert (Some old) None did took = absurd did
-beside_taken alerts alert None (Some new) did took = absurd did
+pub beside_taken : LastAlertsGoOn → (alerts : List Alert) (alert : Alert) (old new : Option Consumer) → TakenBeside alert old new → IfSome old (HasTaken alerts) → IfSome new (HasTaken (alerts ++ alert ∷ []))
+beside_taken go_on alerts alert None None did took = tt
+beside_taken go_on alerts alert (Some old) (Some new) did took = one_taken go_on alerts alert old new did took
+beside_taken go_on alerts alert (Some old) None did took = absurd did
+beside_taken go_on alerts alert None (Some new) did took = absurd did
 
 pub beside_swept : (alerts : List Alert) (now : ℕ) (without given : Answer) (old new : Option Consumer) → AsksBeside (IsSwept now) without old given new → IfSome old (HasTaken alerts) → IfSome new (HasTaken alerts)
 beside_swept alerts now without given (Some old) (Some new) (asks does) took = sweep_takes_none alerts now old new given does took
@@ -47,9 +47,9 @@ beside_swept alerts now without given None (Some new) never took = elim never [ 
 beside_swept alerts now without given (Some old) None never took = elim never [ ]
 
 -- an alert was shown, and taken beside
-pub took_one : (old new : SubscriptionView) (alert : Alert) (before after : Option Consumer) (missed : Bool) → ShowsItem old alert new → TakenBeside alert before after → TookAll old before missed → TookAll new after missed
-took_one old new alert before after missed shows did took none =
-    subst (λ (alerts : List Alert). IfSome after (HasTaken alerts)) (sym shows.taken) (beside_taken (taken old) alert before after did (took none))
+pub took_one : LastAlertsGoOn → (old new : SubscriptionView) (alert : Alert) (before after : Option Consumer) (missed : Bool) → ShowsItem old alert new → TakenBeside alert before after → TookAll old before missed → TookAll new after missed
+took_one go_on old new alert before after missed shows did took none =
+    subst (λ (alerts : List Alert). IfSome after (HasTaken alerts)) (sym shows.taken) (beside_taken go_on (taken old) alert before after did (took none))
 
 -- an alert was missed
 pub missed_one : (new : SubscriptionView) (after : Option Consumer) (missed : Bool) → missed ≡ true → TookAll new after missed
@@ -66,32 +66,32 @@ module _ (old new : SubscriptionView) (before after : Option Consumer) (missed g
       (subst (λ (alerts : List Alert). IfSome before (HasTaken alerts)) (sym same) (took none))
 
   -- an answer of `next` was taken: what was taken beside goes on from what it was
-  pub took_shown : (given : Answer) → NextIs old given new → IsTaken given before goes_on after → TookAll old before missed → TookAll new after missed
-  took_shown (answer.Item alert) next taken_it took = took_one old new alert before after missed next taken_it.1 took
-  took_shown answer.Pending next kept took = after_none (none_taken old.closed_told next.0 next.1.taken) kept.1 took
-  took_shown answer.SawClosed next kept took = after_none (none_taken true next.0 next.1.taken) kept.1 took
-  took_shown answer.SawCut next kept took = after_none (none_taken old.closed_told next.0 next.1.taken) kept.1 took
-  took_shown (answer.Posted v p) next kept took = absurd next
-  took_shown (answer.Invalid i f) next kept took = absurd next
-  took_shown (answer.CutLane l) next kept took = absurd next
-  took_shown (answer.PostRefused w) next kept took = absurd next
-  took_shown (answer.Subscribed l o) next kept took = absurd next
-  took_shown (answer.SubscribeRefused w) next kept took = absurd next
-  took_shown (answer.Left t c u) next kept took = absurd next
-  took_shown (answer.Collected n) next kept took = absurd next
-  took_shown answer.CollectRefused next kept took = absurd next
-  took_shown answer.CloseAccepted next kept took = absurd next
-  took_shown answer.CloseRefused next kept took = absurd next
-  took_shown (answer.Trimmed n) next kept took = absurd next
-  took_shown answer.TrimRefused next kept took = absurd next
-  took_shown answer.TakeRefused next kept took = absurd next
-  took_shown (answer.Group r c l a) next kept took = absurd next
-  took_shown (answer.Member a) next kept took = absurd next
-  took_shown (answer.Swept s) next kept took = absurd next
-  took_shown (answer.Muted r b) next kept took = absurd next
-  took_shown answer.NotMuted next kept took = absurd next
-  took_shown answer.MutesRefused next kept took = absurd next
-  took_shown (answer.NotOpen v) next kept took = absurd next
+  pub took_shown : LastAlertsGoOn → (given : Answer) → NextIs old given new → IsTaken given before goes_on after → TookAll old before missed → TookAll new after missed
+  took_shown law (answer.Item alert) next taken_it took = took_one law old new alert before after missed next taken_it.1 took
+  took_shown law answer.Pending next kept took = after_none (none_taken old.closed_told next.0 next.1.taken) kept.1 took
+  took_shown law answer.SawClosed next kept took = after_none (none_taken true next.0 next.1.taken) kept.1 took
+  took_shown law answer.SawCut next kept took = after_none (none_taken old.closed_told next.0 next.1.taken) kept.1 took
+  took_shown law (answer.Posted v p) next kept took = absurd next
+  took_shown law (answer.Invalid i f) next kept took = absurd next
+  took_shown law (answer.CutLane l) next kept took = absurd next
+  took_shown law (answer.PostRefused w) next kept took = absurd next
+  took_shown law (answer.Subscribed l o) next kept took = absurd next
+  took_shown law (answer.SubscribeRefused w) next kept took = absurd next
+  took_shown law (answer.Left t c u) next kept took = absurd next
+  took_shown law (answer.Collected n) next kept took = absurd next
+  took_shown law answer.CollectRefused next kept took = absurd next
+  took_shown law answer.CloseAccepted next kept took = absurd next
+  took_shown law answer.CloseRefused next kept took = absurd next
+  took_shown law (answer.Trimmed n) next kept took = absurd next
+  took_shown law answer.TrimRefused next kept took = absurd next
+  took_shown law answer.TakeRefused next kept took = absurd next
+  took_shown law (answer.Group r c l a) next kept took = absurd next
+  took_shown law (answer.Member a) next kept took = absurd next
+  took_shown law (answer.Swept s) next kept took = absurd next
+  took_shown law (answer.Muted r b) next kept took = absurd next
+  took_shown law answer.NotMuted next kept took = absurd next
+  took_shown law answer.MutesRefused next kept took = absurd next
+  took_shown law (answer.NotOpen v) next kept took = absurd next
 
   abbrev pub view_before : List ℕ → OpenView
   view_before name = record { name = name; subscription = old; consumer = before; missed = missed }

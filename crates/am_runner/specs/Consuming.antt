@@ -1,12 +1,14 @@
 -- What stands beside a subscription, a dispatcher or an inhibitor: what it takes of what the
 -- subscription shows, and what it answers.
-use Rattle.std.specs.Prelude.{◌≡◌, ℕ, ◌^◌, ◌-◌, min, List, [], ◌∷◌, ◌++◌, map, length, flat_map, Option, Some, None}
+use Rattle.std.specs.Prelude.{◌≡◌, ℕ, ◌^◌, ◌-◌, min, List, [], ◌∷◌, ◌++◌, map, length, flat_map, Option, Some}
+use Rattle.std.specs.Prelude.{None}
 use Rattle.std.specs.List.{filter_map}
 use Rattle.am_alert.specs.declared.alert.Alert.{Alert}
 use Rattle.am_labels.specs.LabelSets.{Labels}
-use Rattle.am_routes.specs.Groups.{DispatchEvent, DispatcherView, GroupView, Follows, Take, Sweep, groups_of, removed_alerts, removed_groups}
-use Rattle.am_routes.specs.RouteLists.{root_of}
-use Rattle.am_routes.specs.declared.config.Config.{Config}
+use Rattle.am_routes.specs.Groups.{DispatchEvent, DispatcherView, GroupView, Follows, Take, Sweep, groups_of}
+use Rattle.am_routes.specs.Groups.{removed_alerts, removed_groups}
+use Rattle.am_config.specs.RouteLists.{root_of}
+use Rattle.am_config.specs.declared.config.Config.{Config}
 use Rattle.am_routes.specs.declared.dispatcher.Swept.{Swept}
 use Rattle.am_inhibit.specs.Inhibitors.{InhibitorView, having_looked}
 use Rattle.am_inhibit.specs.LastAlerts.{last_alerts}

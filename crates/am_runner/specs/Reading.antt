@@ -1,5 +1,6 @@
 -- An open subscription with the consumer beside it, and what reading it answers.
-use Rattle.std.specs.Prelude.{◌≡◌, ℕ, ◌+◌, ◌<◌, Bool, true, false, List, [], ◌∷◌, ◌++◌, Option, Some, None, IfSome}
+use Rattle.std.specs.Prelude.{◌≡◌, ℕ, ◌+◌, ◌<◌, Bool, true, false, List, [], ◌∷◌, ◌++◌, Option, Some, None}
+use Rattle.std.specs.Prelude.{IfSome}
 use Rattle.am_alert.specs.declared.alert.Alert.{Alert}
 use Rattle.am_provider.specs.Subscriptions.{SubscriptionView, taken}
 use Rattle.am_provider.specs.Showings.{ShowsItem, Shows}
@@ -80,7 +81,8 @@ groups_beside (Some consumer) = answers_of_groups consumer
 groups_beside None = answer.NotOpen verb.Groups ∷ []
 
 -- what a consumer, if there is one, does and answers; where there is none, nothing is done
-pub data AsksBeside (does : Consumer → Consumer → Answer → Type 0) (without_one : Answer) : Option Consumer → Answer → Option Consumer → Type 0 where
+pub data AsksBeside (does : Consumer → Consumer → Answer → Type 0) (without_one : Answer)
+    : Option Consumer → Answer → Option Consumer → Type 0 where
   asks : {before after : Consumer} {given : Answer} → does before after given
       → AsksBeside does without_one (Some before) given (Some after)
   none_beside : AsksBeside does without_one None without_one None

@@ -1,5 +1,6 @@
 -- A thread's pass and its open subscriptions, and what each command of its lines does to them.
-use Rattle.std.specs.Prelude.{◌≡◌, ℕ, zero, suc, List, [], ◌∷◌, ◌++◌, map, length, position, slice_get, slice_set, remove, Option, Some, None, if◌then◌else◌}
+use Rattle.std.specs.Prelude.{◌≡◌, ℕ, zero, suc, List, [], ◌∷◌, ◌++◌, map, length, position, slice_get}
+use Rattle.std.specs.Prelude.{slice_set, remove, Option, Some, None, if◌then◌else◌}
 use Rattle.std.specs.Option.{option_and_then}
 use Rattle.std.specs.Str.{bytes_eq}
 use Rattle.am_alert.specs.declared.alert.Alert.{Alert}
@@ -15,9 +16,10 @@ use Rattle.am_provider.specs.declared.faults.PostRefused.{PostRefused}
 use Rattle.am_provider.specs.declared.faults.SubFault.{SubFault}
 use Rattle.am_labels.specs.LabelSets.{Labels}
 use Rattle.am_script.specs.declared.kind.Kind.{Kind}
-use Rattle.am_routes.specs.declared.config.Config.{Config}
+use Rattle.am_config.specs.declared.config.Config.{Config}
 use Rattle.am_script.specs.declared.command.Command.{Command}
-use Rattle.am_script.specs.declared.command.Command.TheVariants.{Post, Subscribe, Read, Leave, Collect, Close, Trim, Groups, Sweep, Mutes}
+use Rattle.am_script.specs.declared.command.Command.TheVariants.{Post, Subscribe, Read, Leave, Collect, Close}
+use Rattle.am_script.specs.declared.command.Command.TheVariants.{Trim, Groups, Sweep, Mutes}
 use Rattle.am_script.specs.declared.command.Verb.{Verb}
 use Rattle.am_script.specs.declared.command.Verb.TheVariants as verb
 use Rattle.am_runner.specs.Consuming.{fresh_consumer, IsAsked, IsSwept}
@@ -39,8 +41,8 @@ abbrev pub new_session : SessionView
 new_session = record { pass = new_pass; opened = [] }
 
 -- where the subscription of this name stands
-abbrev pub place_of : List ℕ → List OpenView → Option ℕ
-place_of name opened = position (λ one. bytes_eq one.name name) opened
+abbrev pub index_named : List ℕ → List OpenView → Option ℕ
+index_named name opened = position (λ one. bytes_eq one.name name) opened
 
 -- the lanes below a number that a post cut, in their order
 abbrev pub cut_below : ℕ → ℕ → List ℕ
@@ -57,19 +59,20 @@ posted_answers posted = (answer.Posted posted.valid posted.place
 
 -- what a command on the subscription of a name does to that one, and answers; where no subscription has
 -- the name, nothing is done and that is answered
-pub data OnNamed (name : List ℕ) (word : Verb) (does : OpenView → List Answer → OpenView → Type 0) (old : List OpenView) : List Answer → List OpenView → Type 0 where
-  one_named : {place : ℕ} {before after : OpenView} {answers : List Answer}
-      → place_of name old ≡ Some place → slice_get old place ≡ Some before
+pub data OnNamed (name : List ℕ) (word : Verb) (does : OpenView → List Answer → OpenView → Type 0)
+    (old : List OpenView) : List Answer → List OpenView → Type 0 where
+  one_named : {index : ℕ} {before after : OpenView} {answers : List Answer}
+      → index_named name old ≡ Some index → slice_get old index ≡ Some before
       → does before answers after
-      → OnNamed name word does old answers (slice_set old place after)
-  none_named : place_of name old ≡ None
+      → OnNamed name word does old answers (slice_set old index after)
+  none_named : index_named name old ≡ None
       → OnNamed name word does old (answer.NotOpen word ∷ []) old
 
--- the subscription at a place is left, once the pass has met it, and the rest stay in their order
-pub record LeavesAt (place : ℕ) (old : SessionView) (ended : Ended) (new : SessionView) : Type 0 where
+-- the subscription at an index is left, once the pass has met it, and the rest stay in their order
+pub record LeavesAt (index : ℕ) (old : SessionView) (ended : Ended) (new : SessionView) : Type 0 where
   pub one : OpenView
-  pub there : slice_get old.opened place ≡ Some one
-  pub opened : new.opened ≡ remove old.opened place
+  pub there : slice_get old.opened index ≡ Some one
+  pub opened : new.opened ≡ remove old.opened index
   pub taken : ended.taken ≡ length (taken one.subscription)
   pub closed : ended.closed ≡ one.subscription.closed_told
   pub met : HasMet one.subscription.cursor.lane.front old.pass new.pass
@@ -90,7 +93,7 @@ groups_told (Some open_one) = groups_beside open_one.consumer
 
 -- the subscription of a name
 abbrev pub named_in : List ℕ → List OpenView → Option OpenView
-named_in name opened = option_and_then (slice_get opened) (place_of name opened)
+named_in name opened = option_and_then (slice_get opened) (index_named name opened)
 
 -- the dispatcher beside it is swept
 abbrev pub SweepsNamed : List ℕ → ℕ → List OpenView → List Answer → List OpenView → Type 0
@@ -100,11 +103,13 @@ SweepsNamed name at old answers new = OnNamed name verb.Sweep (λ before given a
 -- the inhibitor beside it is asked of a target
 abbrev pub AsksNamed : List ℕ → Labels → ℕ → List OpenView → List Answer → List OpenView → Type 0
 AsksNamed name labels at old answers new = OnNamed name verb.Mutes (λ before given after.
-    IsOne (λ one. Asks (IsAsked labels at) (answer.NotOpen verb.Mutes) before one after) given) old answers new
+    IsOne (λ one. Asks (IsAsked labels at) (answer.NotOpen verb.Mutes) before one after) given)
+    old answers new
 
 -- What a command does to a session, and what it answers, under a configuration and a resolve timeout in
 -- nanoseconds. What the provider makes of it is what its calls say.
-pub data Does (config : Config) (timeout : ℕ) (old : SessionView) : Command → List Answer → SessionView → Type 0 where
+pub data Does (config : Config) (timeout : ℕ) (old : SessionView)
+    : Command → List Answer → SessionView → Type 0 where
   posted : {at : ℕ} {body : List ℕ} {posted : Posted} {pass : PassView Alert Call}
       → IsPostedAs at timeout body posted old.pass pass
       → Does config timeout old (Post at body) (posted_answers posted) (record old { pass = pass })
@@ -121,11 +126,11 @@ pub data Does (config : Config) (timeout : ℕ) (old : SessionView) : Command �
   read : {name : List ℕ} {max : ℕ} {answers : List Answer} {opened : List OpenView}
       → ReadsNamed name max old.opened answers opened
       → Does config timeout old (Read name max) answers (record old { opened = opened })
-  left : {name : List ℕ} {place : ℕ} {ended : Ended} {new : SessionView}
-      → place_of name old.opened ≡ Some place → LeavesAt place old ended new
+  left : {name : List ℕ} {index : ℕ} {ended : Ended} {new : SessionView}
+      → index_named name old.opened ≡ Some index → LeavesAt index old ended new
       → Does config timeout old (Leave name)
       (answer.Left ended.taken ended.closed ended.cut ∷ []) new
-  nothing_to_leave : {name : List ℕ} → place_of name old.opened ≡ None
+  nothing_to_leave : {name : List ℕ} → index_named name old.opened ≡ None
       → Does config timeout old (Leave name) (answer.NotOpen verb.Leave ∷ []) old
   collected : {at removed : ℕ}
       → Does config timeout old (Collect at) (answer.Collected removed ∷ []) old

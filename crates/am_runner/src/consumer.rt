@@ -8,9 +8,10 @@ ghost use Rattle.am_alert.specs.declared.alert.Alert.{Alert};
 
 use crate::answer::{Answer, one};
 use am_alert::{Alert, Moment};
+use am_config::Config;
 use am_inhibit::Inhibitor;
 use am_labels::{LabelSet, Text};
-use am_routes::{Config, Dispatcher, Group};
+use am_routes::{Dispatcher, Group};
 use am_script::{Kind, Verb};
 use std::alloc::{AllocError, Global};
 

@@ -30,5 +30,5 @@ pub use answer::Answer;
 pub use consumer::Consumer;
 pub use open_subscription::OpenSubscription;
 pub use session::Session;
-pub use threads::{Outcome, run_threads};
+pub use threads::{ThreadOutcome, run_threads};
 pub use turns::{Freely, InOrder, Turn, Turns};

@@ -12,6 +12,7 @@ ghost use Rattle.am_runner.specs.Reading.{ReadsOne, TakenBeside, TookAll, groups
 use crate::answer::{Answer, one};
 use crate::consumer::Consumer;
 use am_alert::{Alert, Moment};
+use am_inhibit::inhibition_laws;
 use am_labels::{LabelSet, Text};
 use am_provider::{Origin, Step, Subscription};
 use am_script::Verb;
@@ -161,6 +162,7 @@ fn read_beside<N: Origin>(
         answers.old.items goes_on answers.new.items
         (record { name = name; subscription = subscription.new; consumer = consumer.new; missed = missed.new })) }
 {
+    inhibition_laws();
     let answer = match next_answer(subscription) {
         Ok(answer) => answer,
         Err(error) => {

@@ -5,15 +5,15 @@ ghost use Rattle.std.specs.Duration.{as_nanos};
 ghost use Rattle.am_store.specs.Journal.{has_lane};
 ghost use Rattle.am_runner.specs.Sessions.{AsksNamed, Does, LeavesAt, ReadsNamed, SessionView};
 ghost use Rattle.am_runner.specs.Sessions.{SweepsNamed, cut_below, groups_told, named_in};
-ghost use Rattle.am_runner.specs.Sessions.{place_of, posted_answers};
+ghost use Rattle.am_runner.specs.Sessions.{index_named, posted_answers};
 
 use crate::answer::{Answer, one};
 use crate::consumer::Consumer;
 use crate::open_subscription::OpenSubscription;
 use am_alert::{AlertFault, Moment};
+use am_config::Config;
 use am_labels::{LabelSet, Text};
 use am_provider::{AlreadyClosed, Ended, Gate, Origin, Pass, Posted, Provider};
-use am_routes::Config;
 use am_script::{Command, Kind, Verb};
 use std::alloc::{AllocError, Global};
 use std::marker::Model;
@@ -145,25 +145,25 @@ impl<'p, 'c, N: Origin> Session<'p, 'c, N> {
         ensures { (config : Config) (timeout : ℕ) → Does config timeout
             self.old (Command.Leave name.now) (result ∷ []) self.new }
     {
-        match place_of(&self.opened, name) {
-            Some(place) => {
+        match index_named(&self.opened, name) {
+            Some(index) => {
                 let Ended {
                     at: _,
                     taken,
                     closed,
                     cut,
-                } = self.leave_at(rt, provider, place);
+                } = self.leave_at(rt, provider, index);
                 Answer::Left { taken, closed, cut }
             }
             None => Answer::NotOpen(Verb::Leave),
         }
     }
 
-    fn leave_at<R: Wait>(&mut self, rt: &R, provider: &'p Provider<N>, place: usize) -> Ended
-        requires { place < length self.old.opened }
-        ensures { LeavesAt place self.old result self.new }
+    fn leave_at<R: Wait>(&mut self, rt: &R, provider: &'p Provider<N>, index: usize) -> Ended
+        requires { index < length self.old.opened }
+        ensures { LeavesAt index self.old result self.new }
     {
-        let mut subscription = self.opened.remove(place).into_subscription();
+        let mut subscription = self.opened.remove(index).into_subscription();
         provider.meet(&mut subscription, &mut self.pass);
         provider.leave(rt, subscription)
     }
@@ -247,8 +247,8 @@ fn read_named<N: Origin>(
     ensures { IfOk result (λ answers.
         ReadsNamed name.now max opened.old answers.items opened.new) }
 {
-    match place_of(opened, name) {
-        Some(place) => opened[place].read(alloc, max),
+    match index_named(opened, name) {
+        Some(index) => opened[index].read(alloc, max),
         None => one(alloc, Answer::NotOpen(Verb::Read)),
     }
 }
@@ -261,8 +261,8 @@ fn groups_named<N: Origin>(
     ensures { IfOk result (λ answers.
         answers.items ≡ groups_told (named_in name.now opened.now)) }
 {
-    match place_of(opened, name) {
-        Some(place) => opened[place].groups(alloc),
+    match index_named(opened, name) {
+        Some(index) => opened[index].groups(alloc),
         None => one(alloc, Answer::NotOpen(Verb::Groups)),
     }
 }
@@ -276,8 +276,8 @@ fn sweep_named<N: Origin>(
     ensures { IfOk result (λ answers.
         SweepsNamed name.now at opened.old answers.items opened.new) }
 {
-    match place_of(opened, name) {
-        Some(place) => one(alloc, opened[place].sweep(at)),
+    match index_named(opened, name) {
+        Some(index) => one(alloc, opened[index].sweep(at)),
         None => one(alloc, Answer::NotOpen(Verb::Sweep)),
     }
 }
@@ -292,15 +292,15 @@ fn ask_named<N: Origin>(
     ensures { IfOk result (λ answers.
         AsksNamed name.now labels.now at opened.old answers.items opened.new) }
 {
-    match place_of(opened, name) {
-        Some(place) => one(alloc, opened[place].mutes(labels, at)?),
+    match index_named(opened, name) {
+        Some(index) => one(alloc, opened[index].mutes(labels, at)?),
         None => one(alloc, Answer::NotOpen(Verb::Mutes)),
     }
 }
 
 // Where the subscription of that name stands.
-fn place_of<N: Origin>(opened: &[OpenSubscription<'_, '_, N>], name: &Text) -> Option<usize>
-    ensures { result ≡ place_of name.now opened.now }
+fn index_named<N: Origin>(opened: &[OpenSubscription<'_, '_, N>], name: &Text) -> Option<usize>
+    ensures { result ≡ index_named name.now opened.now }
 {
     opened.iter().position(|open| open.has_name(name))
 }

@@ -10,8 +10,8 @@ use crate::answer::Answer;
 use crate::start::Start;
 use crate::turns::Turns;
 use crate::work::work;
+use am_config::Config;
 use am_provider::{Origin, Pass, Provider};
-use am_routes::Config;
 use am_script::{Line, THREADS, Thread};
 use std::alloc::{AllocError, Global};
 use std::sync::Wait;
@@ -22,7 +22,7 @@ use std::time::Duration;
 /// What a thread's run came to: what each line of the script answered, which is nothing where it is
 /// another thread's, or an error where memory ran out or the threads weren't started; and the pass, which
 /// has what the thread posted.
-pub type Outcome<N> = (Result<Vec<Vec<Answer>>, AllocError>, Pass<N>);
+pub type ThreadOutcome<N> = (Result<Vec<Vec<Answer>>, AllocError>, Pass<N>);
 
 // What all threads share.
 #[derive(Drop)]
@@ -45,7 +45,7 @@ struct RunsLines<'s> {
     thread: Thread,
 }
 
-impl<'s, N: Origin> Promise<Outcome<N>> for RunsLines<'s> {
+impl<'s, N: Origin> Promise<ThreadOutcome<N>> for RunsLines<'s> {
     ghost use Rattle.std.specs.Duration.{as_nanos};
     ghost use Rattle.am_runner.specs.Working.{IsWorkUnder};
 
@@ -64,7 +64,7 @@ pub fn run_threads<N: Origin + Send + Sync, R: Threads + Wait + Sync, T: Turns +
     configuration: &[u8],
     lines: &[Line],
     turns: &T,
-) -> Result<Vec<Outcome<N>>, AllocError>
+) -> Result<Vec<ThreadOutcome<N>>, AllocError>
     requires count { vec_len passes ≡ 8 }
     requires fresh { All (λ pass. pass ≡ new_pass) passes.items }
     ensures { IfOk result (λ all. AreWork configuration.now
@@ -87,7 +87,7 @@ fn run_shared<N: Origin + Send + Sync, R: Threads + Wait + Sync, T: Turns + Sync
     rt: &R,
     shared: &Shared<'_, N, R, T>,
     passes: Vec<Pass<N>>,
-) -> Result<Vec<Outcome<N>>, AllocError>
+) -> Result<Vec<ThreadOutcome<N>>, AllocError>
     requires count { vec_len passes ≡ 8 }
     requires fresh { All (λ pass. pass ≡ new_pass) passes.items }
     ensures { IfOk result (λ all. AreWork shared.now.configuration.now
@@ -96,7 +96,7 @@ fn run_shared<N: Origin + Send + Sync, R: Threads + Wait + Sync, T: Turns + Sync
     thread::scope(
         thread::scope_env(),
         rt,
-        |scope| -> Result<Vec<Outcome<N>>, AllocError>
+        |scope| -> Result<Vec<ThreadOutcome<N>>, AllocError>
             requires count { vec_len passes ≡ 8 }
             requires fresh { All (λ pass. pass ≡ new_pass) passes.items }
             ensures { IfOk result (λ all. AreWork shared.entry.now.configuration.now
@@ -112,7 +112,7 @@ fn run_from<'s, E, N: Origin + Send + Sync, R: Threads + Wait + Sync, T: Turns +
     scope: &Scope<'s, E>,
     shared: &'s Shared<'s, N, R, T>,
     passes: Vec<Pass<N>>,
-) -> Result<Vec<Outcome<N>>, AllocError>
+) -> Result<Vec<ThreadOutcome<N>>, AllocError>
     requires count { vec_len passes ≤ 8 }
     requires fresh { All (λ pass. pass ≡ new_pass) passes.items }
     ensures { IfOk result (λ all. AreWork shared.now.configuration.now
@@ -149,7 +149,7 @@ fn work_when_told<N: Origin, R: Wait, T: Turns>(
     shared: &Shared<'_, N, R, T>,
     thread: Thread,
     pass: Pass<N>,
-) -> Outcome<N>
+) -> ThreadOutcome<N>
     requires { pass ≡ new_pass }
     ensures { IsWorkUnder shared.now.configuration.now
         (as_nanos shared.now.provider.now.resolve_timeout) shared.now.lines.now thread
@@ -175,7 +175,7 @@ fn work_when_told<N: Origin, R: Wait, T: Turns>(
     )
 }
 
-fn not_run<N: Origin>(pass: Pass<N>) -> Outcome<N>
+fn not_run<N: Origin>(pass: Pass<N>) -> ThreadOutcome<N>
     ensures { IsErr result.0 × (result.1 ≡ pass) }
 {
     (Err(AllocError), pass)

@@ -7,10 +7,10 @@ ghost use Rattle.am_runner.specs.Working.{Adds, IsWork, RunsLine, Works};
 
 use crate::answer::Answer;
 use crate::session::Session;
-use crate::threads::Outcome;
+use crate::threads::ThreadOutcome;
 use crate::turns::{Turn, Turns};
+use am_config::Config;
 use am_provider::{Origin, Pass, Provider};
-use am_routes::Config;
 use am_script::{Line, Thread};
 use std::alloc::{AllocError, Global};
 use std::sync::Wait;
@@ -25,7 +25,7 @@ pub(crate) fn work<'p, 'c, N: Origin, R: Wait, T: Turns>(
     turns: &T,
     thread: Thread,
     pass: Pass<N>,
-) -> Outcome<N>
+) -> ThreadOutcome<N>
     requires { pass ≡ new_pass }
     ensures { IsWork config.now (as_nanos provider.now.resolve_timeout) lines.now thread
         result.0 result.1 }

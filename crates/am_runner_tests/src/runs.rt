@@ -3,7 +3,7 @@
 ghost use Rattle.std.specs.Prelude.{◌≡◌, ◌≤◌};
 
 use am_provider::{Counts, Ended, Origin, Parts, Pass, Policy, Provider, Settled};
-use am_runner::{Answer, Freely, InOrder, Outcome, Turns, run_threads};
+use am_runner::{Answer, Freely, InOrder, ThreadOutcome, Turns, run_threads};
 use am_script::{Line, ScriptFault, THREADS, config_line, read_script};
 use am_store::Call;
 use std::alloc::{AllocError, AllocFailed, Global};
@@ -227,7 +227,7 @@ fn run_over<N: Origin + Send + Sync, R: Threads + Wait + Sync, T: Turns + Sync>(
 // them.
 fn take_passes<N: Origin>(
     alloc: Global,
-    ran: Result<Vec<Outcome<N>>, AllocError>,
+    ran: Result<Vec<ThreadOutcome<N>>, AllocError>,
     passes: &mut Vec<Pass<N>>,
 ) -> Result<Answers, Stopped> {
     let mut threads = Vec::new(alloc);

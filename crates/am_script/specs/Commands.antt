@@ -1,5 +1,7 @@
 -- The command of a script's line, over the value that its JSON is.
-use Rattle.std.specs.Prelude.{◌≡◌, ◌⊎◌, ◌≤◌, ⊤, ℕ, ◌&&◌, false, nat_le, if◌then◌else◌, List, [], ◌∷◌, codes, Option, Some, None, is_some, option_map, option_and_then, IfSome, MatchOption, Result, Ok, Err, IsUtf8}
+use Rattle.std.specs.Prelude.{◌≡◌, ◌⊎◌, ◌≤◌, ⊤, ℕ, ◌&&◌, false, nat_le, if◌then◌else◌, List, [], ◌∷◌, codes}
+use Rattle.std.specs.Prelude.{Option, Some, None, is_some, option_map, option_and_then, IfSome, MatchOption}
+use Rattle.std.specs.Prelude.{Result, Ok, Err, IsUtf8}
 use Rattle.std.specs.Str.{bytes_eq}
 use Rattle.serde_json.specs.Data.{Data, Members, object, depth}
 use Rattle.serde_json.specs.Find.{get, as_str, as_number, as_u64}
@@ -9,7 +11,8 @@ use Rattle.am_labels.specs.LabelSets.{Labels}
 use Rattle.am_alert.specs.Postables.{labels_of}
 use Rattle.am_alert.specs.TimeTexts.{time_of}
 use Rattle.am_script.specs.declared.command.Command.{Command}
-use Rattle.am_script.specs.declared.command.Command.TheVariants.{Post, Subscribe, Read, Leave, Collect, Close, Trim, Groups, Sweep, Mutes}
+use Rattle.am_script.specs.declared.command.Command.TheVariants.{Post, Subscribe, Read, Leave, Collect, Close}
+use Rattle.am_script.specs.declared.command.Command.TheVariants.{Trim, Groups, Sweep, Mutes}
 use Rattle.am_script.specs.declared.command.Line.{Line}
 use Rattle.am_script.specs.declared.command.LineFault.{LineFault}
 use Rattle.am_script.specs.declared.command.LineFault.TheVariants.{BadLine, NoMemory}
@@ -19,6 +22,7 @@ use Rattle.am_script.specs.declared.kind.Kind.TheVariants.{Plain}
 use Rattle.am_script.specs.declared.command.Verb.{Verb}
 use Rattle.am_script.specs.declared.command.Verb.TheVariants as verb
 
+-- one reading after another, each of which may fail
 infixl 10 ◌>>=◌
 abbrev pub ◌>>=◌ : {A B : Type 0} → Option A → (A → Option B) → Option B
 o >>= f = option_and_then f o
@@ -44,6 +48,7 @@ thread_of d = number_member (codes "thread") 0 7 d
 abbrev pub moment_of : Data → Option ℕ
 moment_of d = option_and_then (λ time. time) (option_and_then time_of (text_member (codes "at") d))
 
+-- a text that isn't empty
 abbrev pub unless_empty : List ℕ → Option (List ℕ)
 unless_empty [] = None
 unless_empty (byte ∷ bytes) = Some (byte ∷ bytes)
@@ -52,18 +57,18 @@ unless_empty (byte ∷ bytes) = Some (byte ∷ bytes)
 abbrev pub name_of : Data → Option (List ℕ)
 name_of d = option_and_then unless_empty (text_member (codes "sub") d)
 
--- the kind of a subscription: `plain`, where it is absent
+-- the kind of a subscription: `plain`, if it is absent
 abbrev pub kind_of : Data → Option Kind
 kind_of d =
     if is_some (get (codes "kind") d)
     then option_and_then kind_named (text_member (codes "kind") d) else Some Plain
 
--- at most how many calls of `next` a read makes: one, where `max` is absent
+-- the greatest number of calls of `next` that a read makes: one, if `max` is absent
 abbrev pub max_of : Data → Option ℕ
 max_of d = if is_some (get (codes "max") d) then number_member (codes "max") 1 65536 d else Some 1
 
 -- the label set of an object's members as an alert's is made of them: each is a text, those with an
--- empty value are dropped, and of two with one name the last holds
+-- empty value are ignored, and of two with one name the last holds
 abbrev pub label_set_of : Members → Option Labels
 label_set_of members = labels_of (object members)
 
@@ -71,6 +76,7 @@ label_set_of members = labels_of (object members)
 abbrev pub labels_at : Data → Option Labels
 labels_at d = option_and_then labels_of (get (codes "labels") d)
 
+-- the verb of a word
 abbrev pub verb_of : List ℕ → Option Verb
 verb_of text =
     if bytes_eq text (codes "post") then Some verb.Post

@@ -1,4 +1,4 @@
--- What stands beside a subscription.
+-- The kind of a subscription: what consumes its alerts.
 use Rattle.std.specs.Prelude.{ℕ, Bool, true, false, List, codes, Option, Some, None, if◌then◌else◌}
 use Rattle.std.specs.Str.{bytes_eq}
 use Rattle.am_script.specs.declared.kind.Kind.{Kind}

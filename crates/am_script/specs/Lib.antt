@@ -3,3 +3,6 @@ pub mod Commands
 pub mod Script
 pub mod Names
 pub mod ScriptTexts
+pub mod Inputs
+pub mod Outputs
+pub mod inside

@@ -1,6 +1,8 @@
 -- Checking a whole script before anything runs: its lines, its limits, and the names of its
 -- subscriptions.
-use Rattle.std.specs.Prelude.{◌≡◌, ◌⊎◌, ◌<◌, ◌≤◌, ◌+◌, ℕ, ◌&&◌, ◌==◌, Bool, true, false, if◌then◌else◌, List, [], ◌∷◌, ◌++◌, length, fold, Option, Some, None, is_some, is_none, Result, Ok, Err, ⊤}
+use Rattle.std.specs.Prelude.{◌≡◌, ◌⊎◌, ◌<◌, ◌≤◌, ◌+◌, ℕ, ◌&&◌, ◌==◌, Bool, true, false, if◌then◌else◌, List}
+use Rattle.std.specs.Prelude.{[], ◌∷◌, ◌++◌, length, fold, Option, Some, None, is_some, is_none, Result, Ok}
+use Rattle.std.specs.Prelude.{Err, ⊤}
 use Rattle.am_script.specs.Kinds.{is_some_dispatch, is_some_inhibit}
 use Rattle.am_script.specs.declared.kind.Kind.{Kind}
 use Rattle.am_script.specs.declared.limits.TheConstants.{LONGEST_LINE, MOST_LINES}
@@ -8,7 +10,8 @@ use Rattle.std.specs.List.{onto_first}
 use Rattle.std.specs.Str.{bytes_eq}
 use Rattle.am_script.specs.Commands.{IsLineOf}
 use Rattle.am_script.specs.declared.command.Command.{Command}
-use Rattle.am_script.specs.declared.command.Command.TheVariants.{Post, Subscribe, Read, Leave, Collect, Close, Trim, Groups, Sweep, Mutes}
+use Rattle.am_script.specs.declared.command.Command.TheVariants.{Post, Subscribe, Read, Leave, Collect, Close}
+use Rattle.am_script.specs.declared.command.Command.TheVariants.{Trim, Groups, Sweep, Mutes}
 use Rattle.am_script.specs.declared.command.Line.{Line}
 use Rattle.am_script.specs.declared.command.LineFault.TheVariants as line_fault
 use Rattle.am_script.specs.declared.script.Fault.TheVariants.{BadLine, BadName, TooLarge}
@@ -16,6 +19,7 @@ use Rattle.am_script.specs.declared.script.Refusal.{Refusal}
 use Rattle.am_script.specs.declared.script.ScriptFault.{ScriptFault}
 use Rattle.am_script.specs.declared.script.ScriptFault.TheVariants.{Refused, NoMemory}
 
+-- whether a byte is a line feed
 abbrev pub is_line_feed : ℕ → Bool
 is_line_feed byte = byte == 10
 
@@ -64,11 +68,12 @@ is_named_well subscribed Trim = true
 abbrev pub is_well_named : List Line → Line → Bool
 is_well_named earlier line = is_named_well (subscribed_as earlier line.thread) line.command
 
+-- the first of some lines, or an empty one
 abbrev pub first_of : List (List ℕ) → List ℕ
 first_of [] = []
 first_of (line ∷ lines) = line
 
--- the first line, which is the configuration's; it is empty where there is none
+-- the first line, which is the configuration's; it is empty if there is none
 abbrev pub config_line : List ℕ → List ℕ
 config_line text = first_of (lines_of text)
 
@@ -76,6 +81,7 @@ config_line text = first_of (lines_of text)
 abbrev pub IsTooLarge : ℕ → List ℕ → Type 0
 IsTooLarge number bytes = (MOST_LINES < number) ⊎ (LONGEST_LINE < length bytes)
 
+-- within both limits
 abbrev pub IsWithinLimits : ℕ → List ℕ → Type 0
 IsWithinLimits number bytes = (number ≤ MOST_LINES) × (length bytes ≤ LONGEST_LINE)
 
@@ -90,7 +96,8 @@ pub data Checks : ℕ → List Line → List (List ℕ) → Result (List Line) R
   too_large : {number : ℕ} {earlier : List Line} {bytes : List ℕ} {rest : List (List ℕ)}
       → IsTooLarge number bytes
       → Checks number earlier (bytes ∷ rest) (Err (record { number = number; fault = TooLarge }))
-  skipped : {number : ℕ} {earlier : List Line} {bytes : List ℕ} {rest : List (List ℕ)} {result : Result (List Line) Refusal}
+  skipped : {number : ℕ} {earlier : List Line} {bytes : List ℕ} {rest : List (List ℕ)}
+      {result : Result (List Line) Refusal}
       → IsWithinLimits number bytes → IsSkipped number bytes
       → Checks (number + 1) earlier rest result
       → Checks number earlier (bytes ∷ rest) result
@@ -103,7 +110,8 @@ pub data Checks : ℕ → List Line → List (List ℕ) → Result (List Line) R
       → IsLineOf number bytes (Ok line)
       → is_well_named earlier line ≡ false
       → Checks number earlier (bytes ∷ rest) (Err (record { number = number; fault = BadName }))
-  command : {number : ℕ} {earlier : List Line} {bytes : List ℕ} {rest : List (List ℕ)} {line : Line} {result : Result (List Line) Refusal}
+  command : {number : ℕ} {earlier : List Line} {bytes : List ℕ} {rest : List (List ℕ)} {line : Line}
+      {result : Result (List Line) Refusal}
       → IsWithinLimits number bytes → 1 < number → 0 < length bytes
       → IsLineOf number bytes (Ok line)
       → is_well_named earlier line ≡ true → Checks (number + 1) (earlier ++ line ∷ []) rest result
@@ -114,7 +122,7 @@ abbrev pub IsRefused : List ℕ → ScriptFault → Type 0
 IsRefused text (Refused refusal) = Checks 1 [] (lines_of text) (Err refusal)
 IsRefused text NoMemory = ⊤
 
--- a line that is right: what the lines after it answer, it answers too
+-- a correct line: what the lines after it answer, it answers too
 abbrev pub Continues : ℕ → List Line → List ℕ → List Line → Type 0
 Continues number earlier bytes later =
     (rest : List (List ℕ)) (result : Result (List Line) Refusal)

@@ -39,13 +39,13 @@ pub enum Command {
     Groups {
         name: Text,
     },
-    /// Its dispatcher drops what is resolved at the moment.
+    /// Its dispatcher removes what is resolved at the moment.
     Sweep {
         name: Text,
         at: Moment,
     },
     /// Whether a subscription's inhibitor mutes a target at the moment. The label set is made as an
-    /// alert's is: labels with an empty value are dropped, and of two with one name the last holds.
+    /// alert's is: labels with an empty value are ignored, and of two with one name the last holds.
     Mutes {
         name: Text,
         at: Moment,

@@ -1,9 +1,9 @@
-//! What stands beside a subscription, to take what it shows.
+//! The kind of a subscription: what consumes its alerts.
 
 ghost use Rattle.std.specs.Prelude.{◌≡◌};
 ghost use Rattle.am_script.specs.Kinds.{is_dispatch, is_inhibit};
 
-/// What stands beside a subscription.
+/// What consumes the alerts of a subscription.
 #[derive(Clone, Copy, Debug, PartialEq, Eq)]
 pub enum Kind {
     /// Nothing.

@@ -1,31 +1,49 @@
-//! The replay program's scripts: what a script's text says, before anything of it runs.
+//! The replay program's scripts: reading one from any reader, what its text says, and writing the
+//! output to any writer.
 //!
-//! Its first line is the configuration, which is read elsewhere. Each later one is one JSON object,
-//! which is one command of one thread. A script is checked whole: the limits of its lines, then each
-//! line's members, then whether its subscription is there, and of the kind that the command needs.
-//! The first fault in the order of lines refuses it.
+//! The first line is the configuration, which am_config reads. Each later line is one JSON object,
+//! one command of one thread. A script is checked whole: the limits of its lines, then each line's
+//! members, then whether its subscription exists and has the kind that the command needs. The first
+//! fault in the order of lines refuses it.
 //!
-//!     match read_script(alloc, text) {
-//!         Ok(lines) => run(lines),
-//!         Err(ScriptFault::Refused(refusal)) => println!(rt; "{refusal}")?,
-//!         Err(ScriptFault::NoMemory) => ..,
-//!     }
+//! Reading ends at the input's end, or at the first excess over a limit, so that no input takes more
+//! memory than a script may. A failed write has written a prefix of the text. An interrupted read or
+//! write is tried again, up to 1,000 times in a row.
 //!
-//! This crate knows the moments of alerts and no Book: what a command does is told elsewhere.
+//! ```text
+//! let text = read_input(alloc, &mut input)?;          // all, or a prefix that exceeds a limit
+//! match read_script(alloc, text.as_slice()) {
+//!     Ok(lines) => run(lines),
+//!     Err(ScriptFault::Refused(refusal)) => write_text(&mut output, refusal_line(refusal))?,
+//!     Err(ScriptFault::NoMemory) => ..,
+//! }
+//! ```
+//!
+//! This crate knows alerts' moments and no provider: what a command does is in am_runner.
 #![tactic(auto)]
 
 mod command;
+mod failure;
+mod input;
 mod kind;
 mod limits;
+mod line_counter;
 mod line_reader;
 mod members;
 mod names;
+mod output;
 mod script;
 mod thread;
 
 pub use command::{Command, Line, LineFault, Verb};
+pub use failure::Failure;
+pub use input::read_input;
 pub use kind::Kind;
 pub use limits::{LONGEST_LINE, MOST_LINES};
 pub use line_reader::read_line;
+pub use output::write_text;
 pub use script::{Fault, Refusal, ScriptFault, config_line, read_script};
 pub use thread::{THREADS, Thread};
+
+#[cfg(test)]
+mod tests;

@@ -1,7 +1,10 @@
-//! How large a script can be.
+//! How large a script can be, and how often a read or write is tried.
 
 /// How many bytes a line may have without its line feed.
 pub const LONGEST_LINE: usize = 8_388_608;
 
 /// How many lines a script may have.
 pub const MOST_LINES: u32 = 65_536;
+
+/// How many tries in a row an interrupted read or write gets: the first, and 1,000 more.
+pub(crate) const TRIES: u32 = 1_001;

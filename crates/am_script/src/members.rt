@@ -20,7 +20,7 @@ pub(crate) fn thread_at(value: &Value) -> Result<Thread, LineFault>
     Ok(Thread::new(number_member(value, "thread", 0, 7)?))
 }
 
-// At most how many calls of `next` a read makes.
+// The greatest number of calls of `next` that a read makes.
 pub(crate) fn max_at(value: &Value) -> Result<u32, LineFault>
     ensures { IsReadAs result (max_of (view value.now)) }
 {
@@ -70,7 +70,7 @@ fn verb_of(text: &str) -> Option<Verb>
     }
 }
 
-// The kind of a subscription: plain, where it is absent.
+// The kind of a subscription: plain, if it is absent.
 pub(crate) fn kind_at(value: &Value) -> Result<Kind, LineFault>
     ensures { IsReadAs result (kind_of (view value.now)) }
 {

@@ -38,7 +38,7 @@ pub(crate) fn follow(names: &mut Names, line: &Line) -> Result<bool, AllocError>
     }
 }
 
-// Adds a name that isn't there, and answers whether it wasn't.
+// Adds a name that isn't there, and returns whether it wasn't.
 fn subscribe(names: &mut Names, name: (Thread, Text), kind: Kind) -> Result<bool, AllocError>
     ensures fits { IfOk result (λ fits. fits ≡ is_none (get name_cmp names.old name)) }
     ensures added { IfOk result

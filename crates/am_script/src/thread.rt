@@ -1,10 +1,10 @@
-//! The threads that a script speaks of.
+//! The threads of a script.
 
 ghost use Rattle.std.specs.Prelude.{◌≡◌, ◌<◌};
 
 use std::marker::Model;
 
-/// How many threads a script speaks of.
+/// How many threads a script has.
 pub const THREADS: u32 = 8;
 
 /// One of the threads, which contracts see as its number.

@@ -1,13 +1,14 @@
 -- How an inhibitor finds the sources of a target: for each rule, by the values that source and target have in
 -- common. Only code of this crate cites it.
-use Rattle.std.specs.Prelude.{◌-◌, ◌+◌, ℕ, zero, suc, Bool, false, not, ◌&&◌, if◌then◌else◌, List, [], ◌∷◌, ◌++◌, map, take, length}
+use Rattle.std.specs.Prelude.{◌-◌, ◌+◌, ℕ, zero, suc, Bool, false, not, ◌&&◌, if◌then◌else◌, List, [], ◌∷◌}
+use Rattle.std.specs.Prelude.{◌++◌, map, take, length}
 use Rattle.std.specs.List.{slice_get}
 use Rattle.std.specs.Option.{option_map_or}
 use Rattle.am_alert.specs.declared.alert.Alert.{Alert}
 use Rattle.am_alert.specs.Merging.{is_resolved_at}
 use Rattle.am_labels.specs.LabelSets.{Labels, value_of}
 use Rattle.am_labels.specs.Matchers.{all_admitted}
-use Rattle.am_routes.specs.declared.inhibit_rule.InhibitRule.{InhibitRule}
+use Rattle.am_config.specs.declared.inhibit_rule.InhibitRule.{InhibitRule}
 use Rattle.am_inhibit.specs.declared.source.Source.{Source}
 use Rattle.am_inhibit.specs.declared.source_index.SourceChange.{SourceChange}
 use Rattle.am_inhibit.specs.declared.source_index.SourceChange.TheVariants.{Nothing, Begun, Joined}
@@ -15,36 +16,37 @@ use Rattle.am_inhibit.specs.LastAlerts.{label_sets}
 use Rattle.am_inhibit.specs.inside.Sources.{same_values}
 
 -- values, each with its sources
-abbrev pub Entries : Type 0
-Entries = List (List (List ℕ) × List Source)
+abbrev pub SourceEntries : Type 0
+SourceEntries = List (List (List ℕ) × List Source)
 
 -- a rule, with its sources by their values
 pub record IndexView : Type 0 where
   pub rule : InhibitRule
-  pub entries : Entries
+  pub entries : SourceEntries
 
 -- the values that a label set has for some names
 abbrev pub values_of : List (List ℕ) → Labels → List (List ℕ)
 values_of names labels = map (value_of labels) names
 
+-- the source that a label set is
 abbrev pub source_of : InhibitRule → ℕ → Labels → Source
 source_of rule at labels = record { at = at; is_target = all_admitted rule.target labels }
 
 -- entries, with one source more
-abbrev pub with_source : List (List ℕ) → Source → Entries → Entries
+abbrev pub with_source : List (List ℕ) → Source → SourceEntries → SourceEntries
 with_source values source [] = (values, source ∷ []) ∷ []
 with_source values source (entry ∷ entries) =
     if same_values values entry.0 then (entry.0, entry.1 ++ source ∷ []) ∷ entries
     else entry ∷ with_source values source entries
 
 -- a rule's entries, with one label set more
-abbrev pub with_labels : InhibitRule → ℕ → Labels → Entries → Entries
+abbrev pub with_labels : InhibitRule → ℕ → Labels → SourceEntries → SourceEntries
 with_labels rule at labels entries =
     if all_admitted rule.source labels
     then with_source (values_of rule.equal labels) (source_of rule at labels) entries else entries
 
 -- with several, counted from a number
-abbrev pub with_all_labels : InhibitRule → ℕ → List Labels → Entries → Entries
+abbrev pub with_all_labels : InhibitRule → ℕ → List Labels → SourceEntries → SourceEntries
 with_all_labels rule at [] entries = entries
 with_all_labels rule at (labels ∷ rest) entries =
     with_all_labels rule (at + 1) rest (with_labels rule at labels entries)
@@ -53,11 +55,13 @@ with_all_labels rule at (labels ∷ rest) entries =
 abbrev pub index_of : List Alert → InhibitRule → IndexView
 index_of alerts rule = record { rule = rule; entries = with_all_labels rule 0 (label_sets alerts) [] }
 
+-- the sources of each rule among some alerts
 abbrev pub indexes_of : List InhibitRule → List Alert → List IndexView
 indexes_of rules alerts = map (index_of alerts) rules
 
-abbrev pub rules_of : List IndexView → List InhibitRule
-rules_of indexes = map (λ index. index.rule) indexes
+-- the rules of indexes
+abbrev pub rules_indexed : List IndexView → List InhibitRule
+rules_indexed indexes = map (λ index. index.rule) indexes
 
 -- an index, with one label set more
 abbrev pub index_with : ℕ → Labels → IndexView → IndexView
@@ -65,17 +69,18 @@ index_with at labels index =
     record index { entries = with_labels index.rule at labels index.entries }
 
 -- entries without the last source of the one at an index
-abbrev pub left_back : ℕ → Entries → Entries
+abbrev pub left_back : ℕ → SourceEntries → SourceEntries
 left_back at [] = []
 left_back zero (entry ∷ entries) = (entry.0, take (length entry.1 - 1) entry.1) ∷ entries
 left_back (suc at) (entry ∷ entries) = entry ∷ left_back at entries
 
 -- entries before their last change
-abbrev pub entries_before : SourceChange → Entries → Entries
+abbrev pub entries_before : SourceChange → SourceEntries → SourceEntries
 entries_before Nothing entries = entries
 entries_before Begun entries = take (length entries - 1) entries
 entries_before (Joined at) entries = left_back at entries
 
+-- an index before its last change
 abbrev pub index_before : SourceChange → IndexView → IndexView
 index_before change index = record index { entries = entries_before change index.entries }
 

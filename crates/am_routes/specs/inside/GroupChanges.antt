@@ -1,4 +1,4 @@
--- How a group keeps its alerts, and what a change leads back to. Only code of this crate cites it.
+-- How a group keeps its alerts, and what undoing a change gives. Only code of this crate cites it.
 use Rattle.std.specs.Prelude.{◌≡◌, ◌-◌, List, [], ◌∷◌, map, take, length, if◌then◌else◌}
 use Rattle.am_labels.specs.LabelSets.{Labels, same_labels}
 use Rattle.am_alert.specs.declared.alert.Alert.{Alert}
@@ -9,10 +9,10 @@ use Rattle.am_routes.specs.declared.group.AlertChange.TheVariants.{Added, Replac
 abbrev pub kept_in : List (Labels × Alert) → List Alert
 kept_in entries = map (λ entry. entry.1) entries
 
--- each alert stands under its label set
-abbrev pub AreKeptByLabels : List (Labels × Alert) → Type 0
-AreKeptByLabels [] = Unit {0}
-AreKeptByLabels (entry ∷ entries) = (entry.0 ≡ entry.1.labels) × AreKeptByLabels entries
+-- each alert has its label set as its key
+abbrev pub AreKeyedByLabels : List (Labels × Alert) → Type 0
+AreKeyedByLabels [] = Unit {0}
+AreKeyedByLabels (entry ∷ entries) = (entry.0 ≡ entry.1.labels) × AreKeyedByLabels entries
 
 -- alerts with one put back in its label set's place
 abbrev pub with_old : Alert → List Alert → List Alert

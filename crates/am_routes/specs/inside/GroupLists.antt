@@ -6,14 +6,14 @@ use Rattle.am_alert.specs.declared.alert.Alert.{Alert}
 use Rattle.am_alert.specs.Merging.{is_resolved_at}
 use Rattle.am_labels.specs.LabelSets.{Labels, same_labels}
 use Rattle.am_routes.specs.RouteAnswers.{Node}
-use Rattle.am_routes.specs.GroupLabels.{group_labels}
+use Rattle.am_config.specs.GroupLabels.{group_labels}
 use Rattle.am_routes.specs.Groups.{GroupView, some_of}
 
--- alerts with one set: in its label set's place, else at the end
-abbrev pub with_alert : Alert → List Alert → List Alert
-with_alert alert [] = alert ∷ []
-with_alert alert (old ∷ olds) =
-    if same_labels alert.labels old.labels then alert ∷ olds else old ∷ with_alert alert olds
+-- alerts with one more: it replaces that of its label set, or is added at the end
+abbrev pub alerts_with : Alert → List Alert → List Alert
+alerts_with alert [] = alert ∷ []
+alerts_with alert (old ∷ olds) =
+    if same_labels alert.labels old.labels then alert ∷ olds else old ∷ alerts_with alert olds
 
 -- the group of a route and labels
 abbrev pub is_group : Node → Labels → GroupView → Bool
@@ -25,7 +25,7 @@ with_member node labels alert [] =
     record { route = node.number; receiver = node.route.receiver; labels = labels; alerts = alert ∷ [] } ∷ []
 with_member node labels alert (group ∷ groups) =
     if is_group node labels group
-    then record group { alerts = with_alert alert group.alerts } ∷ groups
+    then record group { alerts = alerts_with alert group.alerts } ∷ groups
     else group ∷ with_member node labels alert groups
 
 -- groups with an alert put into one of a route
@@ -42,7 +42,7 @@ with_members (node ∷ nodes) alert groups = with_members nodes alert (joined no
 abbrev pub unresolved : ℕ → List Alert → List Alert
 unresolved now alerts = filter (λ alert. not (is_resolved_at now alert)) alerts
 
--- a group without what is resolved, where an alert is left
+-- a group without what is resolved, if an alert is left
 abbrev pub swept_group : ℕ → GroupView → Option GroupView
 swept_group now group =
     option_map (λ alerts. record group { alerts = alerts }) (some_of (unresolved now group.alerts))

@@ -1,4 +1,4 @@
--- How a dispatcher keeps its groups, and what a change leads back to. Only code of this crate cites it.
+-- How a dispatcher keeps its groups, and what undoing a change gives. Only code of this crate cites it.
 use Rattle.std.specs.Prelude.{◌≡◌, ℕ, zero, suc, ◌-◌, List, [], ◌∷◌, map, take, length}
 use Rattle.am_routes.specs.declared.dispatcher.GroupKey.{GroupKey}
 use Rattle.am_routes.specs.declared.dispatcher.GroupChange.{GroupChange}
@@ -11,11 +11,11 @@ use Rattle.am_routes.specs.inside.GroupChanges.{alerts_before}
 abbrev pub groups_in : List (GroupKey × GroupView) → List GroupView
 groups_in entries = map (λ entry. entry.1) entries
 
--- each group stands under its route and its labels
-abbrev pub AreKeptByKeys : List (GroupKey × GroupView) → Type 0
-AreKeptByKeys [] = Unit {0}
-AreKeptByKeys (entry ∷ entries) =
-    ((entry.0.route.0 ≡ entry.1.route) × (entry.0.labels ≡ entry.1.labels)) × AreKeptByKeys entries
+-- each group has its route and its labels as its key
+abbrev pub AreKeyedByGroups : List (GroupKey × GroupView) → Type 0
+AreKeyedByGroups [] = Unit {0}
+AreKeyedByGroups (entry ∷ entries) =
+    ((entry.0.route.0 ≡ entry.1.route) × (entry.0.labels ≡ entry.1.labels)) × AreKeyedByGroups entries
 
 -- groups before the last change of the one at an index
 abbrev pub changed_back : ℕ → AlertChange → List GroupView → List GroupView

@@ -2,14 +2,15 @@
 use Rattle.std.specs.Prelude.{◌≡◌, ℕ, List, [], ◌∷◌, ◌++◌, map, drop}
 use Rattle.am_routes.specs.declared.matching.FoundRoute.{FoundRoute}
 use Rattle.am_routes.specs.declared.matching.RouteSearch.{RouteSearch}
-use Rattle.am_routes.specs.Routes.{Forest, no_routes, route, count_of}
-use Rattle.am_routes.specs.RouteLists.{route_view}
+use Rattle.am_config.specs.Routes.{Forest, no_routes, route, count_of}
+use Rattle.am_config.specs.RouteLists.{route_view}
 use Rattle.am_routes.specs.RouteAnswers.{Node}
 
 -- a route that was found, as a node
 abbrev pub node_of : FoundRoute → Node
 node_of found = record { number = found.id.0; route = route_view found.route.now }
 
+-- the routes that were found, as nodes
 abbrev pub nodes_in : List FoundRoute → List Node
 nodes_in found = map node_of found
 
@@ -19,6 +20,6 @@ searches_of no_routes = []
 searches_of (route first below others) =
     record { matchers = first.matchers; below = count_of below } ∷ (searches_of below ++ searches_of others)
 
--- some searches stand from an index on
+-- some searches are those from an index on
 abbrev pub BeginAt : ℕ → List RouteSearch → List RouteSearch → Type 0
 BeginAt at some all = (rest : List RouteSearch) × (drop at all ≡ some ++ rest)

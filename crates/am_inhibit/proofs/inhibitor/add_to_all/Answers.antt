@@ -9,8 +9,8 @@ push_reserved-requires c =
     let long : vec_len c.loop-index.changes ≡ length c.loop-index.changes.items = search rules in
     omega (arith, long, c.loop-index.invariant.count, c.loop-index.invariant.room, c.loop-index-test.true)
 
-pub take_back-requires : goal.take_back-requires
-take_back-requires c =
+pub undo_all-requires : goal.undo_all-requires
+undo_all-requires c =
     omega (arith, c.loop-index.invariant.count, c.loop-index-test.true, length-set c.loop-index.indexes c.loop-index.index c.add.new.self)
 
 pub returns-in-Err-clause-err : goal.returns-in-Err-clause-err
@@ -18,7 +18,7 @@ returns-in-Err-clause-err c =
     let indexes = c.loop-index.indexes in
     let at = c.loop-index.index in
     let same : set indexes at c.add.new.self ≡ indexes = ap (set indexes at) c.in-Err.ensures.err ∙ set-get_or indexes at c.index-indexes-index.result in
-    c.take_back.ensures ∙ (ap (indexes_before c.loop-index.changes.items) same ∙ c.loop-index.invariant.before)
+    c.undo_all.ensures ∙ (ap (indexes_before c.loop-index.changes.items) same ∙ c.loop-index.invariant.before)
 
 pub loop-index-preserved : goal.loop-index-preserved
 loop-index-preserved c =

@@ -6,7 +6,7 @@ use Rattle.std.proofs.lemmas.List.{drop_more, drop_all, set-get_or}
 use Rattle.am_alert.specs.declared.alert.Alert.{Alert}
 use Rattle.am_labels.specs.LabelSets.{Labels}
 use Rattle.am_inhibit.specs.Muting.{Candidate, candidate_inhibits, count_to, rule_candidates}
-use Rattle.am_inhibit.specs.inside.Indexes.{IndexView, index_of, rules_of}
+use Rattle.am_inhibit.specs.inside.Indexes.{IndexView, index_of, rules_indexed}
 use Rattle.am_inhibit.specs.inside.Searches.{candidates_from}
 use Rattle.am_inhibit.proofs.Counting.{count_to-found, count_to-past}
 use Rattle.am_inhibit.proofs.RuleSearch.{IsFound, candidate_of, rule-none, rule-some, rule-count, find-first, find-later, got_within, label_set_at, indexed_at}
@@ -30,10 +30,10 @@ pub returns-in-Some-clause-same : goal.returns-in-Some-clause-same
 returns-in-Some-clause-same c = same_set c.args.indexes.now c.loop-rule.indexes c.loop-rule.rule c.index-indexes-rule.result c.find.new.self c.loop-rule.invariant.same c.in_ok-found.ensures.same
 
 split_at : (olds indexes : List IndexView) (labels : Labels) (alerts : List Alert) (at : ℕ) (index : IndexView) → indexes ≡ olds → at < length olds
-    → candidates_from at labels alerts (rules_of (drop at olds)) ≡ rule_candidates labels alerts (at, (get_or indexes at index).rule) ++ candidates_from (at + 1) labels alerts (rules_of (drop (at + 1) olds))
+    → candidates_from at labels alerts (rules_indexed (drop at olds)) ≡ rule_candidates labels alerts (at, (get_or indexes at index).rule) ++ candidates_from (at + 1) labels alerts (rules_indexed (drop (at + 1) olds))
 split_at olds indexes labels alerts at index same early =
-    ap (λ l. candidates_from at labels alerts (rules_of l)) (drop_more olds at index early)
-    ∙ ap (λ (l : List IndexView). rule_candidates labels alerts (at, (get_or l at index).rule) ++ candidates_from (at + 1) labels alerts (rules_of (drop (at + 1) olds))) (sym same)
+    ap (λ l. candidates_from at labels alerts (rules_indexed l)) (drop_more olds at index early)
+    ∙ ap (λ (l : List IndexView). rule_candidates labels alerts (at, (get_or l at index).rule) ++ candidates_from (at + 1) labels alerts (rules_indexed (drop (at + 1) olds))) (sym same)
 
 is_found : (c : goal.In-Some) → IsFound c.args.labels.now c.args.now c.args.alerts.now (get_or c.loop-rule.indexes c.loop-rule.rule c.index-indexes-rule.result).rule (Some c.in-Some.at) c.in_ok-found.found.looked
 is_found c = record {
@@ -53,7 +53,7 @@ returns-in-Some-clause-muting c =
     let at = c.loop-rule.rule in
     let rule = (get_or c.loop-rule.indexes at c.index-indexes-rule.result).rule in
     let test = candidate_inhibits labels c.args.now in
-    let later = candidates_from (at + 1) labels alerts (rules_of (drop (at + 1) c.args.indexes.now)) in
+    let later = candidates_from (at + 1) labels alerts (rules_indexed (drop (at + 1) c.args.indexes.now)) in
     let first = first_is c in
     let here = rule-some labels c.args.now at alerts rule c.in-Some.at c.in_ok-found.found.looked first.0 (is_found c) first.1 in
     let all = c.loop-rule.invariant.found
@@ -74,10 +74,10 @@ returns-in-Some-clause-looked c =
     let at = c.loop-rule.rule in
     let rule = (get_or c.loop-rule.indexes at c.index-indexes-rule.result).rule in
     let test = candidate_inhibits labels c.args.now in
-    let later = candidates_from (at + 1) labels alerts (rules_of (drop (at + 1) c.args.indexes.now)) in
+    let later = candidates_from (at + 1) labels alerts (rules_indexed (drop (at + 1) c.args.indexes.now)) in
     let first = first_is c in
     let here = rule-some labels c.args.now at alerts rule c.in-Some.at c.in_ok-found.found.looked first.0 (is_found c) first.1 in
-    let count : count_to test (candidates_from at labels alerts (rules_of (drop at c.args.indexes.now))) ≡ c.in_ok-found.found.looked =
+    let count : count_to test (candidates_from at labels alerts (rules_indexed (drop at c.args.indexes.now))) ≡ c.in_ok-found.found.looked =
     ap (count_to test) (split_at c.args.indexes.now c.loop-rule.indexes labels alerts at c.index-indexes-rule.result c.loop-rule.invariant.same c.loop-rule-test.true)
     ∙ (count_to-found test (rule_candidates labels alerts (at, rule)) later (candidate_of at rule first.0) here
     ∙ rule-count labels c.args.now at alerts rule (Some c.in-Some.at) c.in_ok-found.found.looked (is_found c)) in
@@ -92,7 +92,7 @@ loop-rule-preserved c =
     let at = c.loop-rule.rule in
     let rule = (get_or c.loop-rule.indexes at c.index-indexes-rule.result).rule in
     let test = candidate_inhibits labels c.args.now in
-    let later = candidates_from (at + 1) labels alerts (rules_of (drop (at + 1) olds)) in
+    let later = candidates_from (at + 1) labels alerts (rules_indexed (drop (at + 1) olds)) in
     let looked = c.in_ok-found.found.looked in
     let is : IsFound labels c.args.now alerts rule None looked = record {
       found = ap (option_and_then (slice_get alerts)) (sym c.in_default.is) ∙ c.in_ok-found.ensures.at;
@@ -100,7 +100,7 @@ loop-rule-preserved c =
     } in
     let split = split_at olds c.loop-rule.indexes labels alerts at c.index-indexes-rule.result c.loop-rule.invariant.same c.loop-rule-test.true in
     let none = rule-none labels c.args.now at alerts rule looked is in
-    let count : count_to test (candidates_from at labels alerts (rules_of (drop at olds))) ≡ looked + count_to test later =
+    let count : count_to test (candidates_from at labels alerts (rules_indexed (drop at olds))) ≡ looked + count_to test later =
     ap (count_to test) split
     ∙ (count_to-past test (rule_candidates labels alerts (at, rule)) later none
     ∙ ap (λ n. n + count_to test later) (rule-count labels c.args.now at alerts rule None looked is)) in
@@ -122,7 +122,7 @@ returns-clause-muting c =
     let labels = c.args.labels.now in
     let alerts = c.args.alerts.now in
     let at = c.loop-rule.rule in
-    let none = ap (λ l. find (candidate_inhibits labels c.args.now) (candidates_from at labels alerts (rules_of l))) (drop_all at c.args.indexes.now c.loop-rule-test.false) in
+    let none = ap (λ l. find (candidate_inhibits labels c.args.now) (candidates_from at labels alerts (rules_indexed l))) (drop_all at c.args.indexes.now c.loop-rule-test.false) in
     ap (option_map {U = ℕ × Labels} (λ (candidate : Candidate). (candidate.number, candidate.alert.labels))) (c.loop-rule.invariant.found ∙ none)
 
 pub returns-clause-looked : goal.returns-clause-looked
@@ -130,7 +130,7 @@ returns-clause-looked c =
     let labels = c.args.labels.now in
     let alerts = c.args.alerts.now in
     let at = c.loop-rule.rule in
-    let none : count_to (candidate_inhibits labels c.args.now) (candidates_from at labels alerts (rules_of (drop at c.args.indexes.now))) ≡ 0 = ap (λ l. count_to (candidate_inhibits labels c.args.now) (candidates_from at labels alerts (rules_of l))) (drop_all at c.args.indexes.now c.loop-rule-test.false) in
+    let none : count_to (candidate_inhibits labels c.args.now) (candidates_from at labels alerts (rules_indexed (drop at c.args.indexes.now))) ≡ 0 = ap (λ l. count_to (candidate_inhibits labels c.args.now) (candidates_from at labels alerts (rules_indexed l))) (drop_all at c.args.indexes.now c.loop-rule-test.false) in
     let fits : c.loop-rule.looked ≡ min (c.loop-rule.looked + 0) 18446744073709551615 = omega (arith, c.loop-rule.invariant.fits) in
     fits ∙ sym (c.loop-rule.invariant.looked ∙ ap (λ n. min (c.loop-rule.looked + n) 18446744073709551615) none)
 

@@ -9,11 +9,11 @@ use Rattle.am_labels.specs.LabelSets.{Labels}
 use Rattle.am_alert.specs.declared.alert.Alert.{Alert}
 use Rattle.am_routes.specs.declared.dispatcher.GroupKey.{GroupKey}
 use Rattle.am_routes.specs.RouteAnswers.{Node}
-use Rattle.am_routes.specs.GroupLabels.{group_labels}
+use Rattle.am_config.specs.GroupLabels.{group_labels}
 use Rattle.am_routes.specs.Groups.{GroupView}
 use Rattle.am_routes.specs.inside.Searches.{node_of}
-use Rattle.am_routes.specs.inside.GroupLists.{with_alert}
-use Rattle.am_routes.specs.inside.GroupMaps.{groups_in, AreKeptByKeys, changed_back}
+use Rattle.am_routes.specs.inside.GroupLists.{alerts_with}
+use Rattle.am_routes.specs.inside.GroupMaps.{groups_in, AreKeyedByGroups, changed_back}
 use Rattle.am_routes.proofs.GroupEntries.{take_last}
 use Rattle.am_routes.proofs.GroupMaps.{same_key, IsKeyOf, member_begins, member_joins, keys_kept, group_written, written_same, written_kept, change_undone, nothing, err_holds}
 use Rattle.am_routes.specs.inside.GroupChanges.{alerts_before}
@@ -25,7 +25,7 @@ begun node alert labels = record { route = node.number; receiver = node.route.re
 pub returns-in_err-change-in-Some-clause-kept : goal.returns-in_err-change-in-Some-clause-kept
 returns-in_err-change-in-Some-clause-kept c =
     let entries = c.args.groups.now.entries in
-    subst AreKeptByKeys (sym (ap (set_value_at entries c.in-Some.at) c.in_err-change-in-Some.ensures.err ∙ written_same entries c.in-Some.at c.index_mut.result.now c.index_mut.ensures.value)) c.requires
+    subst AreKeyedByGroups (sym (ap (set_value_at entries c.in-Some.at) c.in_err-change-in-Some.ensures.err ∙ written_same entries c.in-Some.at c.index_mut.result.now c.index_mut.ensures.value)) c.requires
 
 pub returns-in_err-change-in-Some-clause-err : goal.returns-in_err-change-in-Some-clause-err
 returns-in_err-change-in-Some-clause-err c =
@@ -45,7 +45,7 @@ returns-in_ok-change-in-Some-clause-joined c =
     let found : position (same_key key) (keys_of entries) ≡ Some c.in-Some.at = sym c.in-Some.ensures.index in
     let there : map_of.lookup (same_key key) entries ≡ Some group = sym c.in-Some.ensures.value ∙ c.index_mut.ensures.value in
     ap (λ g. groups_in (set_value_at entries c.in-Some.at g)) c.in_ok-change-in-Some.ensures.put
-    ∙ (ap groups_in (group_written entries key (record group { alerts = with_alert alert group.alerts }) c.in-Some.at found)
+    ∙ (ap groups_in (group_written entries key (record group { alerts = alerts_with alert group.alerts }) c.in-Some.at found)
     ∙ member_joins node labels alert key group entries of c.requires there)
 
 pub returns-in_ok-change-in-Some-clause-undo : goal.returns-in_ok-change-in-Some-clause-undo
@@ -56,7 +56,7 @@ returns-in_ok-change-in-Some-clause-undo c =
     let change = c.in_ok-change-in-Some.change in
     let put = c.in_ok-change-in-Some.ensures.put in
     ap (λ g. changed_back c.in-Some.at change (groups_in (set_value_at entries c.in-Some.at g))) put
-    ∙ change_undone entries c.in-Some.at group (with_alert alert group.alerts) change c.index_mut.ensures.value
+    ∙ change_undone entries c.in-Some.at group (alerts_with alert group.alerts) change c.index_mut.ensures.value
     (ap (λ (g : GroupView). alerts_before change g.alerts) (sym put) ∙ c.in_ok-change-in-Some.ensures.undo)
 
 pub returns-in_ok-change-in-Some-clause-kept : goal.returns-in_ok-change-in-Some-clause-kept
@@ -96,4 +96,4 @@ returns-in_ok-insert-in-None-clause-kept c =
     let key : GroupKey = record { route = c.args.found.now.id; labels = c.in_ok-labels.labels } in
     let put : c.insert.new.self.entries ≡ insert_entry same_key entries key c.in_ok-group-in-None.group = c.in_ok-insert-in-None.ensures.entries in
     let group = c.in_ok-group-in-None.ensures in
-    subst AreKeptByKeys (sym put) (keys_kept key c.in_ok-group-in-None.group entries (sym (ap (λ (g : GroupView). g.route) group)) (sym (ap (λ (g : GroupView). g.labels) group ∙ c.in_ok-copy-in-None.ensures)) c.requires)
+    subst AreKeyedByGroups (sym put) (keys_kept key c.in_ok-group-in-None.group entries (sym (ap (λ (g : GroupView). g.route) group)) (sym (ap (λ (g : GroupView). g.labels) group ∙ c.in_ok-copy-in-None.ensures)) c.requires)

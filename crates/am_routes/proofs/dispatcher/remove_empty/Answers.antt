@@ -6,7 +6,7 @@ use Rattle.std.proofs.lemmas.List.{length-map}
 use Rattle.indexmap.proofs.CallerLemmas.{filter-RetainsPairs}
 use Rattle.am_routes.specs.declared.dispatcher.GroupKey.{GroupKey}
 use Rattle.am_routes.specs.Groups.{GroupView, is_empty}
-use Rattle.am_routes.specs.inside.GroupMaps.{groups_in, AreKeptByKeys}
+use Rattle.am_routes.specs.inside.GroupMaps.{groups_in, AreKeyedByGroups}
 use Rattle.am_routes.proofs.GroupMaps.{groups_filtered, keys_filtered}
 use Rattle.am_routes.proofs.dispatcher.remove_empty.Goals as goal
 
@@ -17,7 +17,7 @@ pub returns-clause-left : goal.returns-clause-left
 returns-clause-left c = ap groups_in (left c) ∙ groups_filtered (λ group. not (is_empty group.alerts)) c.args.groups.now.entries
 
 pub returns-clause-kept : goal.returns-clause-kept
-returns-clause-kept c = subst AreKeptByKeys (sym (left c)) (keys_filtered (λ group. not (is_empty group.alerts)) c.args.groups.now.entries c.requires)
+returns-clause-kept c = subst AreKeyedByGroups (sym (left c)) (keys_filtered (λ group. not (is_empty group.alerts)) c.args.groups.now.entries c.requires)
 
 pub returns-clause-removed : goal.returns-clause-removed
 returns-clause-removed c =

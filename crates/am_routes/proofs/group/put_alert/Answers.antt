@@ -7,8 +7,8 @@ use Rattle.indexmap.specs.IndexMap.{get, insert_entry, set_value_at}
 use Rattle.indexmap.proofs.CallerLemmas.{insert_entry-new}
 use Rattle.am_labels.specs.LabelSets.{Labels, same_labels}
 use Rattle.am_alert.specs.declared.alert.Alert.{Alert}
-use Rattle.am_routes.specs.inside.GroupLists.{with_alert}
-use Rattle.am_routes.specs.inside.GroupChanges.{kept_in, AreKeptByLabels, with_old}
+use Rattle.am_routes.specs.inside.GroupLists.{alerts_with}
+use Rattle.am_routes.specs.inside.GroupChanges.{kept_in, AreKeyedByLabels, with_old}
 use Rattle.am_routes.proofs.GroupEntries.{kept_inserted, still_kept, written_at, take_last, replaced_back}
 use Rattle.am_routes.proofs.group.put_alert.Goals as goal
 
@@ -20,7 +20,7 @@ returns-in-Some-clause-put c =
     let found : position (same_labels labels) (keys_of entries) ≡ Some c.in-Some.at = search rules in
     let after : c.replace-before.new.dest ≡ c.in_ok-copy.copy = c.replace-before.ensures.after in
     ap kept_in (ap (set_value_at entries c.in-Some.at) after ∙ written_at entries labels c.in_ok-copy.copy c.in-Some.at found)
-    ∙ (kept_inserted entries labels c.in_ok-copy.copy c.requires own ∙ ap (λ a. with_alert a (kept_in entries)) c.in_ok-copy.ensures)
+    ∙ (kept_inserted entries labels c.in_ok-copy.copy c.requires own ∙ ap (λ a. alerts_with a (kept_in entries)) c.in_ok-copy.ensures)
 
 pub returns-in-Some-clause-undo : goal.returns-in-Some-clause-undo
 returns-in-Some-clause-undo c =
@@ -40,7 +40,7 @@ returns-in-Some-clause-kept c =
     let own : c.in_ok-copy.copy.labels ≡ labels = ap (λ (a : Alert). a.labels) c.in_ok-copy.ensures ∙ sym c.in_ok-labels.ensures in
     let found : position (same_labels labels) (keys_of entries) ≡ Some c.in-Some.at = search rules in
     let after : c.replace-before.new.dest ≡ c.in_ok-copy.copy = c.replace-before.ensures.after in
-    subst AreKeptByLabels (sym (ap (set_value_at entries c.in-Some.at) after ∙ written_at entries labels c.in_ok-copy.copy c.in-Some.at found)) (still_kept entries labels c.in_ok-copy.copy c.requires own)
+    subst AreKeyedByLabels (sym (ap (set_value_at entries c.in-Some.at) after ∙ written_at entries labels c.in_ok-copy.copy c.in-Some.at found)) (still_kept entries labels c.in_ok-copy.copy c.requires own)
 
 pub returns-in_ok-insert-in-None-clause-put : goal.returns-in_ok-insert-in-None-clause-put
 returns-in_ok-insert-in-None-clause-put c =
@@ -48,7 +48,7 @@ returns-in_ok-insert-in-None-clause-put c =
     let labels = c.in_ok-labels.labels in
     let own : c.in_ok-copy.copy.labels ≡ labels = ap (λ (a : Alert). a.labels) c.in_ok-copy.ensures ∙ sym c.in_ok-labels.ensures in
     let put : c.insert.new.self.entries ≡ insert_entry same_labels entries labels c.in_ok-copy.copy = search rules in
-    ap kept_in put ∙ (kept_inserted entries labels c.in_ok-copy.copy c.requires own ∙ ap (λ a. with_alert a (kept_in entries)) c.in_ok-copy.ensures)
+    ap kept_in put ∙ (kept_inserted entries labels c.in_ok-copy.copy c.requires own ∙ ap (λ a. alerts_with a (kept_in entries)) c.in_ok-copy.ensures)
 
 pub returns-in_ok-insert-in-None-clause-undo : goal.returns-in_ok-insert-in-None-clause-undo
 returns-in_ok-insert-in-None-clause-undo c =
@@ -66,4 +66,4 @@ returns-in_ok-insert-in-None-clause-kept c =
     let labels = c.in_ok-labels.labels in
     let own : c.in_ok-copy.copy.labels ≡ labels = ap (λ (a : Alert). a.labels) c.in_ok-copy.ensures ∙ sym c.in_ok-labels.ensures in
     let put : c.insert.new.self.entries ≡ insert_entry same_labels entries labels c.in_ok-copy.copy = search rules in
-    subst AreKeptByLabels (sym put) (still_kept entries labels c.in_ok-copy.copy c.requires own)
+    subst AreKeyedByLabels (sym put) (still_kept entries labels c.in_ok-copy.copy c.requires own)

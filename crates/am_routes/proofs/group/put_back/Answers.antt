@@ -5,7 +5,7 @@ use Rattle.std.proofs.lemmas.List.{length-map, take-map}
 use Rattle.indexmap.specs.IndexMap.{set_value_at}
 use Rattle.am_labels.specs.LabelSets.{Labels, same_labels}
 use Rattle.am_alert.specs.declared.alert.Alert.{Alert}
-use Rattle.am_routes.specs.inside.GroupChanges.{alerts_before, kept_in, AreKeptByLabels}
+use Rattle.am_routes.specs.inside.GroupChanges.{alerts_before, kept_in, AreKeyedByLabels}
 use Rattle.am_routes.proofs.GroupEntries.{kept_inserted, still_kept, written_at, has, looked_up, old_back, none_back, still_taken}
 use Rattle.am_routes.proofs.group.put_back.Goals as goal
 
@@ -19,7 +19,7 @@ returns-in-Added-clause-before c =
     ∙ ap (λ change. alerts_before change (kept_in entries)) (sym c.in-Added.is)))
 
 pub returns-in-Added-clause-kept : goal.returns-in-Added-clause-kept
-returns-in-Added-clause-kept c = subst AreKeptByLabels (sym c.truncate.ensures.entries) (still_taken c.saturating_sub.result c.args.alerts.now.entries c.requires)
+returns-in-Added-clause-kept c = subst AreKeyedByLabels (sym c.truncate.ensures.entries) (still_taken c.saturating_sub.result c.args.alerts.now.entries c.requires)
 
 pub returns-in-Some-clause-before : goal.returns-in-Some-clause-before
 returns-in-Some-clause-before c =
@@ -36,7 +36,7 @@ returns-in-Some-clause-kept c =
     let entries = c.args.alerts.now.entries in
     let before = c.in-Replaced.before in
     let found : position (same_labels before.labels) (keys_of entries) ≡ Some c.in-Some.at = search rules in
-    subst AreKeptByLabels (sym (ap (set_value_at entries c.in-Some.at) c.replace-newer.ensures.after ∙ written_at entries before.labels before c.in-Some.at found)) (still_kept entries before.labels before c.requires refl)
+    subst AreKeyedByLabels (sym (ap (set_value_at entries c.in-Some.at) c.replace-newer.ensures.after ∙ written_at entries before.labels before c.in-Some.at found)) (still_kept entries before.labels before c.requires refl)
 
 pub returns-in_default-clause-before : goal.returns-in_default-clause-before
 returns-in_default-clause-before c =

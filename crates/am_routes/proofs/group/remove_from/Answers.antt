@@ -7,7 +7,7 @@ use Rattle.indexmap.proofs.CallerLemmas.{filter-RetainsPairs}
 use Rattle.am_labels.specs.LabelSets.{Labels}
 use Rattle.am_alert.specs.declared.alert.Alert.{Alert}
 use Rattle.am_alert.specs.Merging.{is_resolved_at}
-use Rattle.am_routes.specs.inside.GroupChanges.{kept_in, AreKeptByLabels}
+use Rattle.am_routes.specs.inside.GroupChanges.{kept_in, AreKeyedByLabels}
 use Rattle.am_routes.proofs.GroupEntries.{kept_filtered, still_filtered}
 use Rattle.am_routes.proofs.group.remove_from.Goals as goal
 
@@ -18,7 +18,7 @@ pub returns-clause-left : goal.returns-clause-left
 returns-clause-left c = ap kept_in (left c) ∙ kept_filtered (λ alert. not (is_resolved_at c.args.now alert)) c.args.alerts.now.entries
 
 pub returns-clause-kept : goal.returns-clause-kept
-returns-clause-kept c = subst AreKeptByLabels (sym (left c)) (still_filtered (λ alert. not (is_resolved_at c.args.now alert)) c.args.alerts.now.entries c.requires)
+returns-clause-kept c = subst AreKeyedByLabels (sym (left c)) (still_filtered (λ alert. not (is_resolved_at c.args.now alert)) c.args.alerts.now.entries c.requires)
 
 pub returns-clause-removed : goal.returns-clause-removed
 returns-clause-removed c =

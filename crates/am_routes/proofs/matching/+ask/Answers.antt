@@ -1,7 +1,7 @@
 use Rattle.std.proofs.Common.{rules, ◌≡◌, ◌++◌, ◌+◌, ◌<◌, ◌≤◌, length, drop, true, get_or, sym, ap, subst, ◌∙◌, arith}
 use Rattle.am_routes.specs.declared.matching.RouteSearch.{RouteSearch}
-use Rattle.am_routes.specs.Routes.{count_of}
-use Rattle.am_routes.specs.RouteLists.{route_view, forest_of}
+use Rattle.am_config.specs.Routes.{count_of}
+use Rattle.am_config.specs.RouteLists.{route_view, forest_of}
 use Rattle.am_routes.specs.RouteAnswers.{answer_of, own_answer}
 use Rattle.am_routes.specs.inside.Searches.{node_of, nodes_in, searches_of, BeginAt}
 use Rattle.am_routes.proofs.Searching.{search-first, search-bound, search-below, search-others, begins-drop, asked, count-below, own-pushed, own-kept, step-past, step-on}
@@ -36,7 +36,7 @@ ask-requires t c =
     let i = c.loop-route.route-index in
     let others = forest_of (drop (i + 1) rs) in
     let begins = begins-drop rs i r c.loop-route.at c.loop-route.searches (omega arith) c.route-item.is c.loop-route.invariant.here in
-    let fewer : count_of r.children < count_of (forest_of rs) = subst (λ (one : Rattle.am_routes.specs.declared.route.Route.Route). count_of one.children < count_of (forest_of rs)) (sym c.route-item.is) (count-below rs i r (omega arith)) in
+    let fewer : count_of r.children < count_of (forest_of rs) = subst (λ (one : Rattle.am_config.specs.declared.route.Route.Route). count_of one.children < count_of (forest_of rs)) (sym c.route-item.is) (count-below rs i r (omega arith)) in
     let falls : count_of (forest_of c.as_slice.result.now) < t = let e : count_of (forest_of c.as_slice.result.now) ≡ count_of r.children = ap count_of c.as_slice.ensures in let d : count_of (forest_of rs) ≡ t = c.decreases in omega arith in
     let same = asked c.loop-route.searches c.loop-route.at c.index-searches-at.result c.admits.new.self c.admits.ensures.same in
     let there : BeginAt (c.loop-route.at + 1) (searches_of (forest_of c.as_slice.result.now)) c.loop-route.searches =

@@ -1,6 +1,6 @@
 use Rattle.std.proofs.Common.{◌≡◌, ◌++◌, drop}
-use Rattle.am_routes.specs.Routes.{count_of}
-use Rattle.am_routes.specs.RouteLists.{forest_of}
+use Rattle.am_config.specs.Routes.{count_of}
+use Rattle.am_config.specs.RouteLists.{forest_of}
 use Rattle.am_routes.specs.RouteAnswers.{answer_of}
 use Rattle.am_routes.specs.inside.Searches.{nodes_in, searches_of, BeginAt}
 use Rattle.am_routes.proofs.matching.+ask.Given as goal

@@ -1,7 +1,7 @@
 use Rattle.std.proofs.Common.{◌≡◌, ◌++◌, ◌-◌, ◌<◌, length, List, [], ◌∷◌, sym, ap, subst, ◌∙◌, arith, get_or, set}
-use Rattle.am_routes.specs.declared.route.Route.{Route}
-use Rattle.am_routes.specs.Routes.{Forest, count_of}
-use Rattle.am_routes.specs.RouteLists.{forest_of}
+use Rattle.am_config.specs.declared.route.Route.{Route}
+use Rattle.am_config.specs.Routes.{Forest, count_of}
+use Rattle.am_config.specs.RouteLists.{forest_of}
 use Rattle.am_routes.specs.inside.Searches.{searches_of}
 use Rattle.am_routes.proofs.Searching.{count-below, search-written, searches-more}
 use Rattle.am_labels.specs.Matchers.{MatcherView}

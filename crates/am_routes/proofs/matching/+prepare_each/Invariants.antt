@@ -1,6 +1,6 @@
 use Rattle.std.proofs.Common.{◌≡◌, ◌++◌, take}
-use Rattle.am_routes.specs.Routes.{count_of}
-use Rattle.am_routes.specs.RouteLists.{forest_of}
+use Rattle.am_config.specs.Routes.{count_of}
+use Rattle.am_config.specs.RouteLists.{forest_of}
 use Rattle.am_routes.specs.inside.Searches.{searches_of}
 use Rattle.am_routes.proofs.matching.+prepare_each.Given as goal
 

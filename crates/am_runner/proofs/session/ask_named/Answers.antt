@@ -6,16 +6,16 @@ use Rattle.am_runner.specs.Sessions.{AsksNamed, IsOne, just, none_named}
 use Rattle.am_runner.specs.declared.answer.Answer.{Answer}
 use Rattle.am_runner.specs.declared.answer.Answer.TheVariants.{NotOpen}
 use Rattle.am_script.specs.declared.command.Verb.TheVariants.{Mutes}
-use Rattle.am_runner.proofs.Named.{on_place}
+use Rattle.am_runner.proofs.Named.{on_index}
 use Rattle.am_runner.proofs.Results.{if_ok_map}
 use Rattle.am_runner.proofs.session.ask_named.Goals as goal
 
 pub returns-in_ok-mutes-in-Some : goal.returns-in_ok-mutes-in-Some
 returns-in_ok-mutes-in-Some g c =
-    if_ok_map c.one.result c.one.ensures (λ answers are. subst (λ (given : List Answer). AsksNamed c.args.name.now c.args.labels.now c.args.at c.args.opened.now given (slice_set c.args.opened.now c.in-Some.place c.mutes.new.self)) (sym are)
-    (on_place c.args.name.now Mutes (λ before given after. IsOne (λ told. Asks (IsAsked c.args.labels.now c.args.at) (NotOpen Mutes) before told after) given) c.args.opened.now c.in-Some.place c.index-opened-place.result c.mutes.new.self (_ ∷ [])
-    (sym c.place_of.ensures ∙ c.in-Some.is) (just c.in_ok-mutes-in-Some.ensures)))
+    if_ok_map c.one.result c.one.ensures (λ answers are. subst (λ (given : List Answer). AsksNamed c.args.name.now c.args.labels.now c.args.at c.args.opened.now given (slice_set c.args.opened.now c.in-Some.index c.mutes.new.self)) (sym are)
+    (on_index c.args.name.now Mutes (λ before given after. IsOne (λ told. Asks (IsAsked c.args.labels.now c.args.at) (NotOpen Mutes) before told after) given) c.args.opened.now c.in-Some.index c.index-opened-index.result c.mutes.new.self (_ ∷ [])
+    (sym c.index_named.ensures ∙ c.in-Some.is) (just c.in_ok-mutes-in-Some.ensures)))
 
 pub returns-in-None : goal.returns-in-None
 returns-in-None g c =
-    if_ok_map c.one-in-None.result c.one-in-None.ensures (λ answers are. subst (λ (given : List Answer). AsksNamed c.args.name.now c.args.labels.now c.args.at c.args.opened.now given c.args.opened.now) (sym are) (none_named (sym c.place_of.ensures ∙ c.in-None.is)))
+    if_ok_map c.one-in-None.result c.one-in-None.ensures (λ answers are. subst (λ (given : List Answer). AsksNamed c.args.name.now c.args.labels.now c.args.at c.args.opened.now given c.args.opened.now) (sym are) (none_named (sym c.index_named.ensures ∙ c.in-None.is)))

@@ -6,16 +6,16 @@ use Rattle.am_runner.specs.Sessions.{SweepsNamed, IsOne, just, none_named}
 use Rattle.am_runner.specs.declared.answer.Answer.{Answer}
 use Rattle.am_runner.specs.declared.answer.Answer.TheVariants.{NotOpen}
 use Rattle.am_script.specs.declared.command.Verb.TheVariants.{Sweep}
-use Rattle.am_runner.proofs.Named.{on_place}
+use Rattle.am_runner.proofs.Named.{on_index}
 use Rattle.am_runner.proofs.Results.{if_ok_map}
 use Rattle.am_runner.proofs.session.sweep_named.Goals as goal
 
 pub returns-in-Some : goal.returns-in-Some
 returns-in-Some g c =
-    if_ok_map c.one.result c.one.ensures (λ answers are. subst (λ (given : List Answer). SweepsNamed c.args.name.now c.args.at c.args.opened.now given (slice_set c.args.opened.now c.in-Some.place c.sweep.new.self)) (sym are)
-    (on_place c.args.name.now Sweep (λ before given after. IsOne (λ told. Asks (IsSwept c.args.at) (NotOpen Sweep) before told after) given) c.args.opened.now c.in-Some.place c.index-opened-place.result c.sweep.new.self (_ ∷ [])
-    (sym c.place_of.ensures ∙ c.in-Some.is) (just c.sweep.ensures)))
+    if_ok_map c.one.result c.one.ensures (λ answers are. subst (λ (given : List Answer). SweepsNamed c.args.name.now c.args.at c.args.opened.now given (slice_set c.args.opened.now c.in-Some.index c.sweep.new.self)) (sym are)
+    (on_index c.args.name.now Sweep (λ before given after. IsOne (λ told. Asks (IsSwept c.args.at) (NotOpen Sweep) before told after) given) c.args.opened.now c.in-Some.index c.index-opened-index.result c.sweep.new.self (_ ∷ [])
+    (sym c.index_named.ensures ∙ c.in-Some.is) (just c.sweep.ensures)))
 
 pub returns-in-None : goal.returns-in-None
 returns-in-None g c =
-    if_ok_map c.one-in-None.result c.one-in-None.ensures (λ answers are. subst (λ (given : List Answer). SweepsNamed c.args.name.now c.args.at c.args.opened.now given c.args.opened.now) (sym are) (none_named (sym c.place_of.ensures ∙ c.in-None.is)))
+    if_ok_map c.one-in-None.result c.one-in-None.ensures (λ answers are. subst (λ (given : List Answer). SweepsNamed c.args.name.now c.args.at c.args.opened.now given c.args.opened.now) (sym are) (none_named (sym c.index_named.ensures ∙ c.in-None.is)))

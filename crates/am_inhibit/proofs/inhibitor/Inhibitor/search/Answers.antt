@@ -1,12 +1,12 @@
 use Rattle.std.proofs.Common.{◌≡◌, min, List, sym, ap, subst, ◌∙◌}
 use Rattle.am_alert.specs.declared.alert.Alert.{Alert}
-use Rattle.am_routes.specs.declared.inhibit_rule.InhibitRule.{InhibitRule}
+use Rattle.am_config.specs.declared.inhibit_rule.InhibitRule.{InhibitRule}
 use Rattle.am_inhibit.specs.Inhibitors.{InhibitorView}
 use Rattle.am_inhibit.specs.LastAlerts.{last_alerts}
 use Rattle.am_inhibit.specs.Muting.{candidate_inhibits, count_to}
-use Rattle.am_inhibit.specs.inside.Indexes.{indexes_of, rules_of}
+use Rattle.am_inhibit.specs.inside.Indexes.{indexes_of, rules_indexed}
 use Rattle.am_inhibit.specs.inside.Searches.{candidates_from, first_muted, StandsFor}
-use Rattle.am_inhibit.proofs.RuleSearch.{rules_of-indexes}
+use Rattle.am_inhibit.proofs.RuleSearch.{rules_indexed-indexes}
 use Rattle.am_inhibit.proofs.inhibitor.Inhibitor.search.Goals as goal
 
 pub search_all-requires : goal.search_all-requires
@@ -15,14 +15,14 @@ search_all-requires c =
     let alerts = c.self.inside.alerts in
     let are : c.deref_mut.result.now ≡ indexes_of rules_now alerts = c.deref_mut.ensures.value ∙ c.self.invariant in
     are
-    ∙ (ap (λ l. indexes_of l alerts) (sym (rules_of-indexes rules_now alerts) ∙ ap rules_of (sym are))
-    ∙ ap (indexes_of (rules_of c.deref_mut.result.now)) (sym c.as_slice.ensures.alerts))
+    ∙ (ap (λ l. indexes_of l alerts) (sym (rules_indexed-indexes rules_now alerts) ∙ ap rules_indexed (sym are))
+    ∙ ap (indexes_of (rules_indexed c.deref_mut.result.now)) (sym c.as_slice.ensures.alerts))
 
 -- the rules that are searched
-rules_are : (c : goal.After-self-2-1) → rules_of c.deref_mut.result.now ≡ c.args.self.now.rules
+rules_are : (c : goal.After-self-2-1) → rules_indexed c.deref_mut.result.now ≡ c.args.self.now.rules
 rules_are c =
-    ap rules_of (c.deref_mut.ensures.value ∙ c.self.invariant)
-    ∙ (rules_of-indexes c.self.inside.rules.now c.self.inside.alerts ∙ ap (λ (i : InhibitorView). i.rules) c.self.view_is)
+    ap rules_indexed (c.deref_mut.ensures.value ∙ c.self.invariant)
+    ∙ (rules_indexed-indexes c.self.inside.rules.now c.self.inside.alerts ∙ ap (λ (i : InhibitorView). i.rules) c.self.view_is)
 
 -- and the alerts
 alerts_are : (c : goal.After-self-2-1) → c.as_slice.result.now ≡ c.args.self.now.alerts
@@ -38,7 +38,7 @@ returns-clause-muted c =
     let labels = c.args.labels.now in
     let alerts = c.args.self.now.alerts in
     let answer = λ (l : List Alert) (r : List InhibitRule). first_muted labels c.args.now (candidates_from 0 labels l r) in
-    let one = subst (λ l. StandsFor l c.in_ok-search.search.muting (answer l (rules_of c.deref_mut.result.now))) (alerts_are c) c.in_ok-search.ensures.muting in
+    let one = subst (λ l. StandsFor l c.in_ok-search.search.muting (answer l (rules_indexed c.deref_mut.result.now))) (alerts_are c) c.in_ok-search.ensures.muting in
     let two = subst (λ r. StandsFor alerts c.in_ok-search.search.muting (answer alerts r)) (rules_are c) one in
     subst (λ l. StandsFor alerts c.in_ok-search.search.muting (answer l c.args.self.now.rules)) (last_are c) two
 
@@ -48,7 +48,7 @@ returns-clause-looked c =
     let count = λ (l : List Alert) (r : List InhibitRule). min (count_to (candidate_inhibits labels c.args.now) (candidates_from 0 labels l r)) 18446744073709551615 in
     let looked : c.in_ok-search.search.looked ≡ count (last_alerts c.args.self.now.alerts) c.args.self.now.rules =
     c.in_ok-search.ensures.looked
-    ∙ (ap (λ l. count l (rules_of c.deref_mut.result.now)) (alerts_are c)
+    ∙ (ap (λ l. count l (rules_indexed c.deref_mut.result.now)) (alerts_are c)
     ∙ (ap (count c.args.self.now.alerts) (rules_are c) ∙ ap (λ l. count l c.args.self.now.rules) (last_are c))) in
     ap (λ (i : InhibitorView). record i { looked = c.in_ok-search.search.looked }) c.self.view_is
     ∙ ap (λ n. record c.args.self.now { looked = n }) looked

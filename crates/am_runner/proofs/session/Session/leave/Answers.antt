@@ -1,13 +1,13 @@
 use Rattle.std.proofs.Common.{◌≡◌, ◌∙◌, Some, ap, sym}
-use Rattle.am_runner.specs.Sessions.{SessionView, left, nothing_to_leave, place_of}
+use Rattle.am_runner.specs.Sessions.{SessionView, left, nothing_to_leave, index_named}
 use Rattle.am_runner.proofs.session.Session.leave.Goals as goal
 
 pub returns-in-Some : goal.returns-in-Some
 returns-in-Some g c config timeout =
-    let here : place_of c.args.name.now c.args.self.now.opened ≡ Some c.in-Some.place =
-    ap (λ (s : SessionView). place_of c.args.name.now s.opened) (sym c.self.view_is) ∙ (ap (place_of c.args.name.now) (sym c.deref.ensures.value) ∙ (sym c.place_of.ensures ∙ c.in-Some.is)) in
+    let here : index_named c.args.name.now c.args.self.now.opened ≡ Some c.in-Some.index =
+    ap (λ (s : SessionView). index_named c.args.name.now s.opened) (sym c.self.view_is) ∙ (ap (index_named c.args.name.now) (sym c.deref.ensures.value) ∙ (sym c.index_named.ensures ∙ c.in-Some.is)) in
     left here c.leave_at-taken.ensures
 
 pub returns-in-None : goal.returns-in-None
 returns-in-None g c config timeout =
-    nothing_to_leave (ap (λ (s : SessionView). place_of c.args.name.now s.opened) (sym c.self.view_is) ∙ (ap (place_of c.args.name.now) (sym c.deref.ensures.value) ∙ (sym c.place_of.ensures ∙ c.in-None.is)))
+    nothing_to_leave (ap (λ (s : SessionView). index_named c.args.name.now s.opened) (sym c.self.view_is) ∙ (ap (index_named c.args.name.now) (sym c.deref.ensures.value) ∙ (sym c.index_named.ensures ∙ c.in-None.is)))

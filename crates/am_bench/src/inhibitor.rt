@@ -1,0 +1,153 @@
+//! The inhibitor: many sources, and many questions. `bench/inhibitor` runs it.
+
+use crate::failure::Failure;
+use crate::printed::Printed;
+use crate::words::small_number;
+use am_alert::{Alert, Moment};
+use am_config::Config;
+use am_inhibit::Inhibitor;
+use am_labels::{LabelSet, SharedText};
+use std::alloc::{AllocError, Global};
+
+const RULE: &str =
+    "{\"route\":{\"receiver\":\"ops\"},\"inhibit_rules\":[{\"source_matchers\":[\"severity=critical\"],\"target_matchers\":[\"severity=warning\"],\"equal\":[\"instance\"]}]}";
+
+/// How many targets a round asks about.
+const TARGETS: u32 = 1_000;
+
+/// What is asked.
+#[derive(Clone, Copy, Debug)]
+pub(crate) struct Load {
+    /// How many alerts fire, each with its own value of `equal`, the values counted from 0.
+    sources: u32,
+    /// How often each target is asked about.
+    rounds: u32,
+    /// The first value of the targets, which have as many values as there are sources.
+    first: u32,
+}
+
+impl Load {
+    pub(crate) fn read(words: &[String]) -> Option<Load> {
+        Some(Load {
+            sources: small_number(words, 0)?,
+            rounds: small_number(words, 1)?,
+            first: small_number(words, 2)?,
+        })
+    }
+
+    /// Two rounds over ten sources, each of which mutes.
+    pub(crate) fn small() -> Load {
+        Load {
+            sources: 10,
+            rounds: 2,
+            first: 0,
+        }
+    }
+}
+
+/// The sums of all answers.
+#[derive(Clone, Copy, Debug)]
+struct Answers {
+    /// How often a target was muted.
+    muted: u64,
+    /// How many sources were examined.
+    looked: u64,
+}
+
+// A moment that many nanoseconds after the first one.
+fn moment(nanoseconds: u128) -> Moment {
+    Moment::try_new(nanoseconds).unwrap_or(Moment::MAX)
+}
+
+fn pair_of(alloc: Global, label: &str, value: &str) -> Result<(String, String), AllocError> {
+    Ok((
+        String::from_str(alloc, label)?,
+        String::from_str(alloc, value)?,
+    ))
+}
+
+// The labels of an alert at an instance.
+fn labels_at(
+    alloc: Global,
+    name: &str,
+    severity: &str,
+    instance: u32,
+) -> Result<LabelSet, AllocError> {
+    let host = format!(in alloc; "host-{instance:06}:9100")?;
+    let mut pairs = Vec::new(alloc);
+    pairs.push(pair_of(alloc, "alertname", name)?)?;
+    pairs.push(pair_of(alloc, "severity", severity)?)?;
+    pairs.push(pair_of(alloc, "job", "node")?)?;
+    pairs.push(pair_of(alloc, "cluster", "eu-west-1")?)?;
+    pairs.push(pair_of(alloc, "instance", host.as_str())?)?;
+    LabelSet::from_pairs(alloc, pairs)
+}
+
+// Takes a firing alert at each of some instances.
+fn take_all(alloc: Global, inhibitor: &mut Inhibitor<'_>, sources: u32) -> Result<(), AllocError> {
+    for instance in 0..sources {
+        inhibitor.take(&Alert {
+            labels: labels_at(alloc, "InstanceDown", "critical", instance)?,
+            annotations: LabelSet::new(),
+            start: moment(1),
+            end: moment(3),
+            updated: moment(1),
+            timeout: false,
+            generator: SharedText::new(),
+        })?;
+    }
+    Ok(())
+}
+
+// The labels of the targets, with as many values as there are sources.
+fn targets_of(alloc: Global, load: Load) -> Result<Vec<LabelSet>, AllocError> {
+    let mut targets = Vec::new(alloc);
+    for number in 0..TARGETS {
+        let value = number.checked_rem(load.sources).unwrap_or(0);
+        let instance = load.first.wrapping_add(value);
+        targets.push(labels_at(alloc, "DiskFull", "warning", instance)?)?;
+    }
+    Ok(targets)
+}
+
+// Asks about each target once.
+fn ask_each(
+    inhibitor: &mut Inhibitor<'_>,
+    targets: &[LabelSet],
+    answers: &mut Answers,
+) -> Result<(), AllocError> {
+    for target in targets {
+        if inhibitor.mutes(target, moment(2))?.is_some() {
+            answers.muted = answers.muted.wrapping_add(1);
+        }
+        answers.looked = answers.looked.wrapping_add(inhibitor.looked());
+    }
+    Ok(())
+}
+
+// Takes the sources, and asks about the targets in each round.
+fn run(alloc: Global, load: Load) -> Result<Answers, Failure> {
+    let config = Config::read(alloc, RULE.as_bytes())?;
+    Ok(ask(alloc, &config, load)?)
+}
+
+fn ask(alloc: Global, config: &Config, load: Load) -> Result<Answers, AllocError> {
+    let mut inhibitor = Inhibitor::new(alloc, &config.rules)?;
+    take_all(alloc, &mut inhibitor, load.sources)?;
+    let targets = targets_of(alloc, load)?;
+    let mut answers = Answers {
+        muted: 0,
+        looked: 0,
+    };
+    for _ in 0..load.rounds {
+        ask_each(&mut inhibitor, &targets, &mut answers)?;
+    }
+    Ok(answers)
+}
+
+/// Runs a load, and prints how often a target was muted, and how many sources were examined.
+pub(crate) fn time(alloc: Global, load: Load, printed: &mut Printed) -> Result<(), Failure> {
+    let answers = run(alloc, load)?;
+    write!(printed.counts, "{} {}\n", answers.muted, answers.looked)?;
+    Ok(())
+}

@@ -1,0 +1,288 @@
+//! The log: one writer and up to eight readers, each in a thread of its own. `bench/log` runs it
+//! beside what it is compared with.
+
+ghost use Rattle.std.specs.Prelude.{◌≡◌, ◌<◌, ◌≤◌, length, IfOk};
+
+use crate::failure::Failure;
+use crate::printed::Printed;
+use crate::words::number;
+use am_cast::{Begun, Cast, Cursor, Feed, Parts, Pass, Refused, Step, Writer, begin, end};
+use am_segment::SegmentBuilder;
+use std::alloc::{AllocError, Global};
+use std::marker::Brand;
+use std::snapshot::Snapshot;
+use std::sync::Wait;
+use std::thread;
+use std::thread::Threads;
+use std::time::{Clock, Duration};
+
+/// How much is published, and to how many readers.
+#[derive(Clone, Copy, Debug, Drop)]
+pub(crate) struct Load {
+    readers: usize,
+    batches: u64,
+    /// How many items each batch has.
+    items: usize,
+    places: u64,
+    ghost some: { 0 < items },
+    ghost within: { (0 < places) × (places ≤ 256) },
+}
+
+impl Load {
+    pub(crate) fn read(words: &[String]) -> Option<Load> {
+        let readers = number(words, 0)?;
+        let batches = number(words, 1)?;
+        let items = number(words, 2)? as usize;
+        let places = number(words, 3)?;
+        if readers > 8 || items == 0 || places == 0 || places > 256 {
+            return None;
+        }
+        Some(Load {
+            readers: readers as usize,
+            batches,
+            items,
+            places,
+        })
+    }
+
+    /// Two readers of a few batches.
+    pub(crate) fn small() -> Load {
+        Load {
+            readers: 2,
+            batches: 100,
+            items: 3,
+            places: 4,
+        }
+    }
+}
+
+/// What a reader received.
+#[derive(Clone, Copy, Debug, Drop)]
+struct Shown {
+    items: u64,
+    sum: u64,
+}
+
+impl Shown {
+    // What two readers received together.
+    fn and(self, other: Shown) -> Shown {
+        Shown {
+            items: self.items.wrapping_add(other.items),
+            sum: self.sum.wrapping_add(other.sum),
+        }
+    }
+}
+
+// A batch of numbers from a first one on.
+fn batch_of(alloc: Global, first: u64, count: usize) -> Result<SegmentBuilder<u64>, AllocError>
+    requires { 0 < count }
+    ensures { IfOk result (λ batch. 0 < length batch.items) }
+{
+    let mut batch = SegmentBuilder::with_places(alloc, count)?;
+    let _pushed = batch.push(first);
+    for at in 1..count {
+        let _pushed = batch.push(first.wrapping_add(at as u64));
+    }
+    Ok(batch)
+}
+
+// How many microseconds a thread sleeps that can't go on.
+const NAP: u64 = 20;
+
+fn nap<R: Clock>(rt: &R) {
+    thread::sleep(rt, Duration::from_micros(NAP));
+}
+
+// Publishes all items in batches, waiting while the log is full, and closes the log. Returns whether
+// there was memory.
+fn publish_all<N: Feed, R: Clock>(
+    rt: &R,
+    alloc: Global,
+    cast: &Cast<u64, u64, u64, N>,
+    writer: &mut Writer<u64, u64, u64, N>,
+    pass: &mut Pass<u64, u64, u64, N>,
+    load: Load,
+) -> bool {
+    for number in 0..load.batches {
+        let first = number.wrapping_mul(load.items as u64);
+        match batch_of(alloc, first, load.items) {
+            Ok(batch) => publish(rt, cast, writer, pass, batch),
+            Err(_) => {
+                let _closed = writer.close(cast);
+                return false;
+            }
+        }
+    }
+    let _closed = writer.close(cast);
+    true
+}
+
+// Publishes a batch, trying again while the log is full.
+fn publish<N: Feed, R: Clock>(
+    rt: &R,
+    cast: &Cast<u64, u64, u64, N>,
+    writer: &mut Writer<u64, u64, u64, N>,
+    pass: &mut Pass<u64, u64, u64, N>,
+    batch: SegmentBuilder<u64>,
+)
+    requires { 0 < length batch.items }
+{
+    let said = 0;
+    let mut batch = batch;
+    for _turn in 0..u64::MAX {
+        match writer.publish(cast, batch, Snapshot::of(&said), pass) {
+            Ok(_) => return,
+            Err(
+                Refused {
+                    fault: _,
+                    batch: back,
+                },
+            ) => batch = back,
+        }
+        thread::yield_now();
+    }
+    batch.discard();
+}
+
+// Reads to the end of the log.
+fn read_all<N: Feed, R: Clock>(rt: &R, cursor: &mut Option<Cursor<'_, u64, u64, u64, N>>) -> Shown {
+    let mut shown = Shown { items: 0, sum: 0 };
+    let Some(cursor) = cursor else {
+        return shown;
+    };
+    for _turn in 0..u64::MAX {
+        match cursor.next() {
+            Step::Item(item) => {
+                shown.items = shown.items.wrapping_add(1);
+                shown.sum = shown.sum.wrapping_add(*item);
+            }
+            Step::Pending => nap(rt),
+            Step::Closed | Step::Cut => return shown,
+        }
+    }
+    shown
+}
+
+// A lane for a reader that is wanted.
+fn admit<'a, N: Feed>(
+    cast: &'a Cast<u64, u64, u64, N>,
+    writer: &mut Writer<u64, u64, u64, N>,
+    wanted: bool,
+) -> Option<Cursor<'a, u64, u64, u64, N>> {
+    let note = 0;
+    if !wanted {
+        return None;
+    }
+    match writer.admit(cast, Snapshot::of(&note)) {
+        Ok(cursor) => Some(cursor),
+        Err(_) => None,
+    }
+}
+
+fn retire<N: Feed>(
+    cast: &Cast<u64, u64, u64, N>,
+    writer: &mut Writer<u64, u64, u64, N>,
+    cursor: Option<Cursor<'_, u64, u64, u64, N>>,
+) {
+    if let Some(cursor) = cursor {
+        writer.retire(cast, cursor);
+    }
+}
+
+// What two readers receive, each in its thread.
+fn read_both<N: Feed + Send + Sync, R: Threads + Wait + Clock + Sync>(
+    rt: &R,
+    one: &mut Option<Cursor<'_, u64, u64, u64, N>>,
+    other: &mut Option<Cursor<'_, u64, u64, u64, N>>,
+) -> Shown {
+    let (one, other) = thread::join(rt, move || read_all(rt, one), move || read_all(rt, other));
+    one.and(other)
+}
+
+// The whole run: what all readers received, if there was memory.
+fn run<N: Feed + Send + Sync, R: Threads + Wait + Clock + Sync>(
+    rt: &R,
+    parts: Parts<u64, u64, u64>,
+    alloc: Global,
+    load: Load,
+) -> Result<Shown, AllocError>
+    requires { parts.board.shared.table_id ≡ N.table }
+{
+    let Begun {
+        cast,
+        mut writer,
+        mut passes,
+    } = begin::<u64, u64, u64, N>(parts, 1)?;
+    let log = &cast;
+    let Some(mut pass) = passes.pop() else {
+        end(cast, writer);
+        return Err(AllocError);
+    };
+    let mut a = admit(log, &mut writer, load.readers > 0);
+    let mut b = admit(log, &mut writer, load.readers > 1);
+    let mut c = admit(log, &mut writer, load.readers > 2);
+    let mut d = admit(log, &mut writer, load.readers > 3);
+    let mut e = admit(log, &mut writer, load.readers > 4);
+    let mut f = admit(log, &mut writer, load.readers > 5);
+    let mut g = admit(log, &mut writer, load.readers > 6);
+    let mut h = admit(log, &mut writer, load.readers > 7);
+    let (well, shown) = {
+        let (writer, pass) = (&mut writer, &mut pass);
+        let (a, b, c, d) = (&mut a, &mut b, &mut c, &mut d);
+        let (e, f, g, h) = (&mut e, &mut f, &mut g, &mut h);
+        thread::join(
+            rt,
+            move || publish_all(rt, alloc, log, writer, pass, load),
+            move || {
+                let (first, second) = thread::join(
+                    rt,
+                    move || {
+                        let (one, other) = thread::join(
+                            rt,
+                            move || read_both(rt, a, b),
+                            move || read_both(rt, c, d),
+                        );
+                        one.and(other)
+                    },
+                    move || {
+                        let (one, other) = thread::join(
+                            rt,
+                            move || read_both(rt, e, f),
+                            move || read_both(rt, g, h),
+                        );
+                        one.and(other)
+                    },
+                );
+                first.and(second)
+            },
+        )
+    };
+    retire(log, &mut writer, a);
+    retire(log, &mut writer, b);
+    retire(log, &mut writer, c);
+    retire(log, &mut writer, d);
+    retire(log, &mut writer, e);
+    retire(log, &mut writer, f);
+    retire(log, &mut writer, g);
+    retire(log, &mut writer, h);
+    if !writer.is_idle() {
+        // No proof follows the lanes through the threads. If a lane weren't given back, the program
+        // would stop here for ever.
+        for _ in rt.forever() {}
+    }
+    end(cast, writer);
+    if well { Ok(shown) } else { Err(AllocError) }
+}
+
+/// Runs a load, and prints how many items the readers received in all, and their sum.
+pub(crate) fn time<R: Threads + Wait + Clock + Sync>(
+    rt: &R,
+    alloc: Global,
+    load: Load,
+    printed: &mut Printed,
+) -> Result<(), Failure> {
+    let parts = Parts::<u64, u64, u64>::make(alloc, load.places)?;
+    let shown = run::<Brand, R>(rt, parts, alloc, load)?;
+    write!(printed.counts, "{} {}\n", shown.items, shown.sum)?;
+    Ok(())
+}

@@ -1,0 +1,440 @@
+//! The provider for threads, with posters and readers. `bench/provider` runs it with many loads.
+//!
+//! Each poster posts POSTS bodies of ALERTS alerts, with LABELS label sets in turn, and has the journal
+//! trimmed after each TRIM posts, or never if that is 0. The readers read meanwhile. With `ready` there
+//! is one poster, and its posts were read before.
+
+ghost use Rattle.std.specs.Prelude.{◌≡◌, ◌<◌, ◌≤◌};
+
+use crate::failure::Failure;
+use crate::printed::Printed;
+use crate::words::{number, small_number};
+use am_alert::{Moment, Post, read_post};
+use am_provider::{
+    Begun, Book, Cast, NoGate, Origin, Parts, Pass, Policy, Provider, Step, Subscription,
+};
+use std::alloc::{AllocError, Global};
+use std::hint::spin_loop;
+use std::marker::Brand;
+use std::sync::atomic::{AtomicU64, Ordering};
+use std::sync::{Mutex, Wait};
+use std::thread::Threads;
+use std::time::{Clock, Duration, Instant};
+use std::{io, thread};
+
+// 2024-01-01T00:00:00Z, in nanoseconds since 0001-01-01T00:00:00Z.
+const NEW_YEAR: u128 = 63_839_664_000_000_000_000;
+
+/// How much is posted, by how many posters, and to how many readers.
+#[derive(Clone, Copy, Debug, Drop)]
+pub(crate) struct Load {
+    ready: bool,
+    posters: u32,
+    readers: u32,
+    posts: u64,
+    alerts: u64,
+    labels: u64,
+    trim: u64,
+    ghost some: { (1 ≤ posters) × (posters ≤ 64) × (1 ≤ labels) },
+}
+
+impl Load {
+    pub(crate) fn read(words: &[String]) -> Option<Load> {
+        let ready = words.first()?.as_str() == "ready";
+        let posters = small_number(words, 1)?;
+        let readers = small_number(words, 2)?;
+        let posts = number(words, 3)?;
+        let alerts = number(words, 4)?;
+        let labels = number(words, 5)?;
+        let trim = number(words, 6)?;
+        if posters == 0 || posters > 64 || readers > 8 || alerts == 0 || labels == 0 {
+            return None;
+        }
+        Some(Load {
+            ready,
+            posters,
+            readers,
+            posts,
+            alerts,
+            labels,
+            trim,
+        })
+    }
+
+    /// Two posters and two readers of a few posts, with trims.
+    pub(crate) fn small() -> Load {
+        Load {
+            ready: false,
+            posters: 2,
+            readers: 2,
+            posts: 100,
+            alerts: 3,
+            labels: 10,
+            trim: 50,
+        }
+    }
+}
+
+/// How many posts were accepted, and the nanoseconds of the posts, and of one more subscription.
+#[derive(Clone, Copy, Debug, Drop)]
+struct Posted {
+    accepted: u64,
+    posting: u128,
+    subscribing: u128,
+}
+
+/// What was measured of a run.
+#[derive(Clone, Copy, Debug, Drop)]
+struct Measured {
+    posted: Posted,
+    shown: u64,
+    stored: u64,
+}
+
+// A moment that many nanoseconds after the beginning of 2024.
+fn moment(nanoseconds: u64) -> Moment {
+    Moment::try_new(NEW_YEAR + u128::from(nanoseconds)).unwrap_or(Moment::MAX)
+}
+
+// The body of one post, with label sets from a first one on.
+fn body_of(alloc: Global, first: u64, load: Load) -> Result<String, AllocError> {
+    let mut body = String::new(alloc);
+    for at in 0..load.alerts {
+        let begin = if at == 0 { '[' } else { ',' };
+        let host = first.wrapping_add(at) % load.labels;
+        write!(
+            body,
+            "{begin}{{\"labels\":{{\"alertname\":\"DiskFull\",\"instance\":\"host-{host}\",\"job\":\"node\",\"severity\":\"page\"}}}}"
+        )?;
+    }
+    body.push(']')?;
+    Ok(body)
+}
+
+// As many bodies as there are label sets. Each continues with the label set after the last one of
+// the body before it.
+fn bodies_of(alloc: Global, load: Load) -> Result<Vec<String>, AllocError> {
+    let mut bodies = Vec::new(alloc);
+    for number in 0..load.labels {
+        bodies.push(body_of(alloc, number.wrapping_mul(load.alerts), load)?)?;
+    }
+    Ok(bodies)
+}
+
+// Spins a little, and then lets another thread run.
+fn wait(turns: &mut u64) {
+    *turns = turns.wrapping_add(1);
+    if *turns % 64 == 0 {
+        thread::yield_now();
+    } else {
+        spin_loop();
+    }
+}
+
+// Waits until all readers have subscribed.
+fn wait_for(arrived: &AtomicU64, readers: u32) {
+    let mut turns = 0;
+    for _turn in 0..u64::MAX {
+        if arrived.load(Ordering::SeqCst) >= u64::from(readers) {
+            return;
+        }
+        wait(&mut turns);
+    }
+}
+
+// How many microseconds an idle reader sleeps.
+const NAP: u64 = 100;
+
+// How many alerts a subscription delivers until its log ends.
+fn count_shown<N: Origin, R: Clock>(rt: &R, subscription: &mut Subscription<'_, N>) -> u64 {
+    let mut shown: u64 = 0;
+    for _turn in 0..u64::MAX {
+        match subscription.next() {
+            Step::Item(_) => shown = shown.wrapping_add(1),
+            Step::Pending => thread::sleep(rt, Duration::from_micros(NAP)),
+            Step::Closed | Step::Cut => return shown,
+        }
+    }
+    shown
+}
+
+// How many nanoseconds have passed.
+fn since<R: Clock>(rt: &R, begin: io::Result<Instant>) -> u128 {
+    match begin {
+        Ok(begin) => match begin.elapsed(rt) {
+            Ok(gone) => gone.as_nanos(),
+            Err(_) => 0,
+        },
+        Err(_) => 0,
+    }
+}
+
+// Subscribes, and reads until the log ends.
+fn read<N: Origin, R: Wait + Clock>(rt: &R, provider: &Provider<N>, arrived: &AtomicU64) -> u64 {
+    let Ok(mut subscription) = provider.subscribe(rt) else {
+        return 0;
+    };
+    arrived.fetch_add(1, Ordering::SeqCst);
+    let shown = count_shown(rt, &mut subscription);
+    provider.leave(rt, subscription);
+    shown
+}
+
+// Posts the bodies in turn, trying each again while the log is full. Returns how many were accepted.
+fn post<N: Origin, R: Wait>(
+    rt: &R,
+    provider: &Provider<N>,
+    pass: &mut Pass<N>,
+    bodies: &[String],
+    load: Load,
+) -> u64 {
+    let mut turns = 0;
+    let mut accepted: u64 = 0;
+    for at in 0..load.posts {
+        let Some(body) = bodies.get((at % load.labels) as usize) else {
+            return accepted;
+        };
+        for _turn in 0..u64::MAX {
+            if provider
+                .post(rt, pass, &NoGate, body.as_bytes(), moment(at))
+                .is_ok()
+            {
+                accepted = accepted.wrapping_add(1);
+                break;
+            }
+            wait(&mut turns);
+        }
+        if load.trim > 0 && at % load.trim == 0 {
+            let _dropped = provider.trim(rt);
+        }
+    }
+    accepted
+}
+
+// Posts in a thread for each poster once the readers have subscribed, subscribes once more, and closes
+// the log.
+fn post_all<N: Origin + Send + Sync, R: Threads + Wait + Clock + Sync>(
+    rt: &R,
+    provider: &Provider<N>,
+    passes: &mut [Pass<N>],
+    bodies: &[String],
+    arrived: &AtomicU64,
+    load: Load,
+) -> Posted {
+    let accepted = AtomicU64::new(0);
+    wait_for(arrived, load.readers);
+    let begin = Instant::now(rt);
+    thread::for_each_mut(
+        rt,
+        passes,
+        64,
+        &|_poster, pass| {
+            accepted.fetch_add(post(rt, provider, pass, bodies, load), Ordering::SeqCst);
+        },
+    );
+    let posting = since(rt, begin);
+    let begin = Instant::now(rt);
+    let last = provider.subscribe(rt);
+    let subscribing = since(rt, begin);
+    if let Ok(last) = last {
+        provider.leave(rt, last);
+    }
+    let _closed = provider.close(rt);
+    Posted {
+        accepted: accepted.load(Ordering::SeqCst),
+        posting,
+        subscribing,
+    }
+}
+
+// How many alerts all readers received.
+fn sum_of(shown: Result<Vec<u64>, AllocError>) -> u64 {
+    let mut sum: u64 = 0;
+    if let Ok(shown) = shown {
+        for one in &shown {
+            sum = sum.wrapping_add(*one);
+        }
+    }
+    sum
+}
+
+// Posts bodies to a provider while the readers read.
+fn run_bytes<N: Origin + Send + Sync, R: Threads + Wait + Clock + Sync>(
+    rt: &R,
+    alloc: Global,
+    parts: Parts,
+    bodies: &[String],
+    load: Load,
+) -> Result<Measured, AllocError>
+    requires table { parts.log.board.shared.table_id ≡ N.table }
+    requires ledger { (parts.ledger.name ≡ N.name) × (parts.ledger.parts ≡ N.parts) }
+{
+    let timeout = Duration::from_secs(300);
+    let (provider, mut passes) = Provider::<N>::begin(alloc, parts, Policy::Refuse, timeout)?;
+    let arrived = AtomicU64::new(0);
+    let (shared, posters, come) = (&provider, &mut passes, &arrived);
+    let readers = load.readers as usize;
+    let (posted, shown) = thread::join(
+        rt,
+        move || post_all(rt, shared, posters, bodies, come, load),
+        move || thread::map_indices(rt, alloc, readers, &|_reader| read(rt, shared, come)),
+    );
+    let settled = provider.settle(rt, passes);
+    Ok(Measured {
+        posted,
+        shown: sum_of(shown),
+        stored: settled.store.len() as u64,
+    })
+}
+
+// The posts, read from their bodies.
+fn read_posts(alloc: Global, bodies: &[String], load: Load) -> Result<Vec<Post>, AllocError> {
+    let mut posts = Vec::new(alloc);
+    for at in 0..load.posts {
+        if let Some(body) = bodies.get((at % load.labels) as usize)
+            && let Ok(post) = read_post(
+                alloc,
+                body.as_bytes(),
+                moment(at),
+                Duration::from_secs(300),
+            )
+        {
+            posts.push(post)?;
+        }
+    }
+    Ok(posts)
+}
+
+// As `read`, over a Book.
+fn read_book<N: Origin, R: Wait + Clock>(
+    rt: &R,
+    cast: &Cast<N>,
+    book: &Mutex<Book<N>>,
+    arrived: &AtomicU64,
+) -> u64 {
+    let Ok(mut subscription) = book.lock(rt).subscribe(cast) else {
+        return 0;
+    };
+    arrived.fetch_add(1, Ordering::SeqCst);
+    let shown = count_shown(rt, &mut subscription);
+    book.lock(rt).leave(cast, subscription);
+    shown
+}
+
+// Posts what was read once the readers have subscribed, and closes the log. What a full log refuses
+// isn't posted again.
+fn post_ready<N: Origin, R: Wait + Clock>(
+    rt: &R,
+    cast: &Cast<N>,
+    book: &Mutex<Book<N>>,
+    pass: &mut Pass<N>,
+    posts: Vec<Post>,
+    arrived: &AtomicU64,
+    load: Load,
+) -> Posted {
+    let mut turns = 0;
+    let mut accepted: u64 = 0;
+    let mut at: u64 = 0;
+    wait_for(arrived, load.readers);
+    let begin = Instant::now(rt);
+    for post in posts {
+        match book.lock(rt).post(cast, pass, post, moment(at)) {
+            Ok(_) => accepted = accepted.wrapping_add(1),
+            Err(_) => wait(&mut turns),
+        }
+        at = at.wrapping_add(1);
+    }
+    let posting = since(rt, begin);
+    let _closed = book.lock(rt).close(cast);
+    Posted {
+        accepted,
+        posting,
+        subscribing: 0,
+    }
+}
+
+// Posts that were read before, to a Book, while the readers read.
+fn run_ready<N: Origin + Send + Sync, R: Threads + Wait + Clock + Sync>(
+    rt: &R,
+    alloc: Global,
+    parts: Parts,
+    posts: Vec<Post>,
+    load: Load,
+) -> Result<Measured, AllocError>
+    requires table { parts.log.board.shared.table_id ≡ N.table }
+    requires ledger { (parts.ledger.name ≡ N.name) × (parts.ledger.parts ≡ N.parts) }
+{
+    let Begun {
+        cast,
+        book,
+        mut passes,
+    } = Book::<N>::begin(alloc, parts, Policy::Refuse)?;
+    let book = Mutex::new(book);
+    let arrived = AtomicU64::new(0);
+    let nothing = Posted {
+        accepted: 0,
+        posting: 0,
+        subscribing: 0,
+    };
+    let (log, shared, come) = (&cast, &book, &arrived);
+    let poster = passes.first_mut();
+    let readers = load.readers as usize;
+    let (posted, shown) = thread::join(
+        rt,
+        move || match poster {
+            Some(pass) => post_ready(rt, log, shared, pass, posts, come, load),
+            None => nothing,
+        },
+        move || thread::map_indices(
+            rt,
+            alloc,
+            readers,
+            &|_reader| read_book(rt, log, shared, come),
+        ),
+    );
+    let settled = book.into_inner().settle(rt, cast, passes);
+    Ok(Measured {
+        posted,
+        shown: sum_of(shown),
+        stored: settled.store.len() as u64,
+    })
+}
+
+// A run with a new provider of 256 places.
+fn run<R: Threads + Wait + Clock + Sync>(
+    rt: &R,
+    alloc: Global,
+    load: Load,
+) -> Result<Measured, AllocError> {
+    let bodies = bodies_of(alloc, load)?;
+    if load.ready {
+        let posts = read_posts(alloc, &bodies, load)?;
+        let parts = Parts::make(alloc, 256, 1)?;
+        return run_ready::<Brand, R>(rt, alloc, parts, posts, load);
+    }
+    let parts = Parts::make(alloc, 256, load.posters)?;
+    run_bytes::<Brand, R>(rt, alloc, parts, &bodies, load)
+}
+
+/// Runs a load. It prints how many posts were accepted, how many alerts the readers received, and how
+/// many are stored; and to standard error the nanoseconds of the posts, and of one more subscription.
+pub(crate) fn time<R: Threads + Wait + Clock + Sync>(
+    rt: &R,
+    alloc: Global,
+    load: Load,
+    printed: &mut Printed,
+) -> Result<(), Failure> {
+    let measured = run(rt, alloc, load)?;
+    let Posted {
+        accepted,
+        posting,
+        subscribing,
+    } = measured.posted;
+    write!(
+        printed.counts,
+        "{accepted} {} {}\n",
+        measured.shown, measured.stored
+    )?;
+    write!(printed.nanoseconds, "{posting} {subscribing}\n")?;
+    Ok(())
+}

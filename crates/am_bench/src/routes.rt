@@ -1,0 +1,186 @@
+//! Routes and groups: a tree of 101 routes (ten teams with nine routes below each, a third of them
+//! with a pattern) and alerts of five labels. `bench/routes` runs it.
+
+use crate::failure::Failure;
+use crate::printed::Printed;
+use crate::words::small_number;
+use am_alert::{Alert, Moment};
+use am_config::{Config, RouteTree};
+use am_labels::{LabelSet, SharedText};
+use am_routes::{Dispatcher, PreparedTree};
+use std::alloc::{AllocError, Global};
+
+/// What a round does.
+#[derive(Clone, Copy, Debug)]
+enum RouteWork {
+    /// It asks the tree about the labels of each alert.
+    Matches,
+    /// It has a dispatcher take each alert, into a group of one alert.
+    Takes,
+}
+
+/// How many alerts there are, and how many rounds of them.
+#[derive(Clone, Copy, Debug)]
+pub(crate) struct Load {
+    work: RouteWork,
+    alerts: u32,
+    rounds: u32,
+}
+
+impl Load {
+    pub(crate) fn read(words: &[String]) -> Option<Load> {
+        let work = match words.first()?.as_str() {
+            "matches" => RouteWork::Matches,
+            "takes" => RouteWork::Takes,
+            _ => return None,
+        };
+        Some(Load {
+            work,
+            alerts: small_number(words, 1)?,
+            rounds: small_number(words, 2)?,
+        })
+    }
+
+    /// Two rounds of ten alerts.
+    pub(crate) fn small() -> Load {
+        Load {
+            work: RouteWork::Takes,
+            alerts: 10,
+            rounds: 2,
+        }
+    }
+}
+
+fn config_text(alloc: Global) -> Result<String, AllocError> {
+    let mut text = String::from_str(
+        alloc,
+        r#"{"route":{"receiver":"root","group_by":["instance"],"routes":["#,
+    )?;
+    for team in 0..10u32 {
+        if team > 0 {
+            text.push_str(",")?;
+        }
+        add_team(&mut text, team)?;
+    }
+    text.push_str("]}}")?;
+    Ok(text)
+}
+
+fn add_team(text: &mut String, team: u32) -> Result<(), AllocError> {
+    write!(
+        text,
+        "{{\"receiver\":\"team{team}\",\"matchers\":[\"team=t{team}\"],\"routes\":["
+    )?;
+    for service in 0..9u32 {
+        if service > 0 {
+            text.push_str(",")?;
+        }
+        add_service(text, service)?;
+    }
+    text.push_str("]}")
+}
+
+fn add_service(text: &mut String, service: u32) -> Result<(), AllocError> {
+    if service % 3 == 2 {
+        write!(
+            text,
+            "{{\"matchers\":[\"service=~\\\"s{service}-(web|api)\\\"\"]}}"
+        )
+    } else {
+        write!(text, "{{\"matchers\":[\"service=s{service}-web\"]}}")
+    }
+}
+
+fn pair(alloc: Global, name: &str, value: String) -> Result<(String, String), AllocError> {
+    Ok((String::from_str(alloc, name)?, value))
+}
+
+// The labels of the alert of that number.
+fn labels_of(alloc: Global, number: u32) -> Result<LabelSet, AllocError> {
+    let team = number % 10;
+    let service = number / 10 % 9;
+    let rack = number / 250;
+    let host = number % 250;
+    let mut pairs = Vec::new(alloc);
+    pairs.push(pair(alloc, "alertname", String::from_str(alloc, "HighLatency")?)?)?;
+    pairs.push(pair(
+        alloc,
+        "instance",
+        format!(in alloc; "10.0.{rack}.{host}:9090")?,
+    )?)?;
+    pairs.push(pair(alloc, "service", format!(in alloc; "s{service}-web")?)?)?;
+    pairs.push(pair(alloc, "severity", String::from_str(alloc, "page")?)?)?;
+    pairs.push(pair(alloc, "team", format!(in alloc; "t{team}")?)?)?;
+    LabelSet::from_pairs(alloc, pairs)
+}
+
+fn alert_of(alloc: Global, number: u32) -> Result<Alert, AllocError> {
+    Ok(Alert {
+        labels: labels_of(alloc, number)?,
+        annotations: LabelSet::new(),
+        start: Moment::MAX,
+        end: Moment::MAX,
+        updated: Moment::MAX,
+        timeout: false,
+        generator: SharedText::new(),
+    })
+}
+
+fn alerts(alloc: Global, count: u32) -> Result<Vec<Alert>, AllocError> {
+    let mut alerts = Vec::new(alloc);
+    for number in 0..count {
+        alerts.push(alert_of(alloc, number)?)?;
+    }
+    Ok(alerts)
+}
+
+// How many routes the rounds find.
+fn matches(
+    alloc: Global,
+    tree: &RouteTree,
+    alerts: &[Alert],
+    rounds: u32,
+) -> Result<u64, AllocError> {
+    let mut tree = PreparedTree::new(alloc, tree)?;
+    let mut found = 0u64;
+    for _round in 0..rounds {
+        for alert in alerts {
+            found = found.wrapping_add(tree.matches(&alert.labels)?.len() as u64);
+        }
+    }
+    Ok(found)
+}
+
+// How many groups there are after the rounds.
+fn takes(
+    alloc: Global,
+    tree: &RouteTree,
+    alerts: &[Alert],
+    rounds: u32,
+) -> Result<u64, AllocError> {
+    let mut dispatcher = Dispatcher::new(alloc, tree)?;
+    for _round in 0..rounds {
+        for alert in alerts {
+            dispatcher.take(alert)?;
+        }
+    }
+    Ok(dispatcher.groups().len() as u64)
+}
+
+// How many routes the rounds found, or how many groups there are after them.
+fn run(alloc: Global, load: Load) -> Result<u64, Failure> {
+    let text = config_text(alloc)?;
+    let config = Config::read(alloc, text.as_bytes())?;
+    let alerts = alerts(alloc, load.alerts)?;
+    Ok(match load.work {
+        RouteWork::Matches => matches(alloc, &config.tree, &alerts, load.rounds)?,
+        RouteWork::Takes => takes(alloc, &config.tree, &alerts, load.rounds)?,
+    })
+}
+
+/// Runs a load, and prints how many routes were found, or how many groups there are.
+pub(crate) fn time(alloc: Global, load: Load, printed: &mut Printed) -> Result<(), Failure> {
+    let found = run(alloc, load)?;
+    write!(printed.counts, "{found}\n")?;
+    Ok(())
+}

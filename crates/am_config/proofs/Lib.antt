@@ -1,0 +1,10 @@
+pub mod TextsSoFar
+pub mod Distinct
+pub mod Readings
+pub mod Elements
+pub mod RouteReadings
+pub mod ArrayReadings
+pub mod RuleReadings
+pub mod Durations
+pub mod Configs
+pub mod GroupLabels

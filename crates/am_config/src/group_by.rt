@@ -1,0 +1,61 @@
+//! How a route groups its alerts.
+
+ghost use Rattle.std.specs.Prelude.{◌≡◌, IfOk};
+ghost use Rattle.std.specs.List.{list_any};
+ghost use Rattle.std.specs.FinMap.{retain_keys};
+ghost use Rattle.am_labels.specs.Texts.{same_text};
+
+use crate::label_names::LabelNames;
+use am_labels::LabelSet;
+use std::alloc::{AllocError, Global};
+
+/// By which labels a route groups its alerts.
+#[derive(Debug, Drop)]
+pub enum GroupBy {
+    /// By all labels that an alert has: `group_by` holds `...`.
+    All,
+    /// By these, each named once.
+    Names(LabelNames),
+}
+
+impl GroupBy {
+    ghost use Rattle.am_config.specs.GroupLabels.{group_labels};
+
+    /// Those of an alert's labels by which it is grouped. A label that is missing stays missing.
+    pub fn labels_of(&self, alloc: Global, labels: &LabelSet) -> Result<LabelSet, AllocError>
+        ensures { IfOk result (λ group. group ≡ group_labels self.now labels.now) }
+    {
+        match self {
+            GroupBy::All => labels.copy(),
+            GroupBy::Names(names) => labels_named(alloc, labels, names),
+        }
+    }
+
+    /// A copy.
+    pub fn copy(&self, alloc: Global) -> Result<GroupBy, AllocError>
+        ensures { IfOk result (λ copy. copy ≡ self.now) }
+    {
+        Ok(match self {
+            GroupBy::All => GroupBy::All,
+            GroupBy::Names(names) => GroupBy::Names(names.copy(alloc)?),
+        })
+    }
+}
+
+// The labels of some names.
+fn labels_named(
+    alloc: Global,
+    labels: &LabelSet,
+    names: &LabelNames,
+) -> Result<LabelSet, AllocError>
+    ensures { IfOk result (λ named.
+        named ≡ retain_keys labels.now (λ name. list_any (same_text name) names.now)) }
+{
+    let mut named = Vec::new(alloc);
+    for (name, value) in labels.names_and_values() {
+        if names.contains(name.as_str()) {
+            named.push((name.copy()?, value.copy()?))?;
+        }
+    }
+    LabelSet::from_texts(alloc, named)
+}

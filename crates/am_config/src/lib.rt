@@ -1,0 +1,49 @@
+//! The configuration: Alertmanager's JSON, read once and never changed.
+//!
+//! It has the resolve timeout, the routing tree and the inhibition rules. Each route of the tree has
+//! the receiver and the grouping that the text gives it, else those of the route above it, and its
+//! own matchers alone. Reading reports the first fault in a fixed order, with the path of the member
+//! at fault. Members that nothing here uses are ignored.
+//!
+//! ```text
+//! match Config::read(alloc, bytes) {                  // {"route":{"receiver":"ops", ..}}
+//!     Ok(config) => {
+//!         let root = &config.tree.root;
+//!         let group = root.group_by.labels_of(alloc, &alert.labels)?;
+//!         println!(rt; "{} {group}", root.receiver)?; // ops {job="api"}
+//!     }
+//!     Err(fault) => println!(rt; "{fault}")?,         // E17 Missing route.receiver
+//! }
+//! ```
+//!
+//! This crate decides nothing about alerts: which routes an alert matches is in am_routes, and which
+//! alerts a rule mutes is in am_inhibit.
+#![tactic(auto)]
+
+mod config;
+mod duration;
+mod fault;
+mod group_by;
+mod inhibit_rule;
+mod label_names;
+mod matcher_reader;
+mod members;
+mod path;
+mod route;
+mod route_head;
+mod route_reader;
+mod rule_reader;
+mod texts;
+mod timeout;
+mod tree;
+
+pub use config::{Config, DEFAULT_MILLISECONDS};
+pub use duration::MAX_MILLISECONDS;
+pub use fault::ConfigFault;
+pub use group_by::GroupBy;
+pub use inhibit_rule::{InhibitRule, InhibitRules};
+pub use label_names::LabelNames;
+pub use path::Path;
+pub use route::{Route, Routes};
+pub use route_reader::MAX_DEPTH;
+pub use tree::RouteTree;

@@ -1,0 +1,131 @@
+//! Groups at real size, and of two dispatchers of one tree.
+
+use crate::configurations::{configuration, labels};
+use crate::expectation::expect;
+use am_alert::{Alert, Moment};
+use am_config::RouteTree;
+use am_labels::{LabelSet, SharedText};
+use am_routes::{Dispatcher, Swept};
+use std::alloc::{AllocError, Global};
+use std::test::Fail;
+
+const TEAMS: &str = r#"{"route":{"receiver":"root","group_by":["job"],"routes":[
+    {"receiver":"db","matchers":["team=db"],"continue":true},
+    {"receiver":"pager","matchers":["severity=~\"page|crit\""],"group_by":["..."]}]}}"#;
+
+// So many seconds after the first moment.
+fn second(seconds: u32) -> Moment {
+    match Moment::try_new(u128::from(seconds) * 1_000_000_000) {
+        Some(moment) => moment,
+        None => Moment::MAX,
+    }
+}
+
+// A report of these labels that ends so many seconds after the first moment, made once more where
+// memory was refused.
+fn alert(alloc: Global, text: &str, end: u32) -> Result<Alert, AllocError> {
+    match new_alert(alloc, text, end) {
+        Err(AllocError) => new_alert(alloc, text, end),
+        Ok(alert) => Ok(alert),
+    }
+}
+
+fn new_alert(alloc: Global, text: &str, end: u32) -> Result<Alert, AllocError> {
+    Ok(Alert {
+        labels: labels(alloc, text)?,
+        annotations: LabelSet::new(),
+        start: second(0),
+        end: second(end),
+        updated: second(0),
+        timeout: false,
+        generator: SharedText::new(),
+    })
+}
+
+fn dispatcher(alloc: Global, tree: &RouteTree) -> Result<Dispatcher<'_>, AllocError> {
+    match Dispatcher::new(alloc, tree) {
+        Err(AllocError) => Dispatcher::new(alloc, tree),
+        Ok(dispatcher) => Ok(dispatcher),
+    }
+}
+
+// Takes an alert, once more where memory was refused.
+fn take(dispatcher: &mut Dispatcher<'_>, alert: &Alert) -> Result<(), AllocError> {
+    match dispatcher.take(alert) {
+        Err(AllocError) => dispatcher.take(alert),
+        Ok(()) => Ok(()),
+    }
+}
+
+fn is_swept(swept: Swept, alerts: u64, groups: u64) -> bool {
+    swept.alerts == alerts && swept.groups == groups
+}
+
+// The alert stands in two groups of each dispatcher, and counts twice when it is swept from one.
+fn goes_from_one(one: &mut Dispatcher<'_>, other: &mut Dispatcher<'_>) -> bool {
+    one.groups().len() == 2
+        && other.groups().len() == 2
+        && is_swept(one.sweep(second(4)), 0, 0)
+        && is_swept(one.sweep(second(5)), 2, 2)
+        && one.groups().is_empty()
+        && other.groups().len() == 2
+}
+
+fn take_one(alloc: Global, dispatcher: &mut Dispatcher<'_>) -> Result<(), AllocError> {
+    take(dispatcher, &alert(alloc, "job=a severity=crit team=db", 5)?)
+}
+
+// Two dispatchers share one tree and nothing else.
+#[test]
+fn two_dispatchers_of_one_tree(rt: HostRuntime) -> Result<(), Fail> {
+    let config = configuration(rt.alloc(), TEAMS)?;
+    let mut one = dispatcher(rt.alloc(), &config.tree)?;
+    take_one(rt.alloc(), &mut one)?;
+    let mut other = dispatcher(rt.alloc(), &config.tree)?;
+    take_one(rt.alloc(), &mut other)?;
+    expect(
+        goes_from_one(&mut one, &mut other),
+        "the groups of one changed with the other's",
+    )
+}
+
+// One alert of each of so many jobs.
+fn take_jobs(
+    alloc: Global,
+    dispatcher: &mut Dispatcher<'_>,
+    jobs: u32,
+    instance: u32,
+    end: u32,
+) -> Result<(), AllocError> {
+    for job in 0..jobs {
+        let text = format!(in alloc; "job={job} instance={instance}")?;
+        take(dispatcher, &alert(alloc, text.as_str(), end)?)?;
+    }
+    Ok(())
+}
+
+// There are so many groups of two alerts, of which one is resolved first.
+fn go_in_turn(dispatcher: &mut Dispatcher<'_>, count: usize) -> bool {
+    dispatcher.groups().len() == count
+        && dispatcher
+            .groups()
+            .iter()
+            .all(|group| group.alerts().len() == 2)
+        && is_swept(dispatcher.sweep(second(5)), count as u64, 0)
+        && is_swept(dispatcher.sweep(second(6)), count as u64, count as u64)
+}
+
+fn take_many(alloc: Global, tree: &RouteTree) -> Result<bool, AllocError> {
+    let mut dispatcher = dispatcher(alloc, tree)?;
+    take_jobs(alloc, &mut dispatcher, 10_000, 1, 5)?;
+    take_jobs(alloc, &mut dispatcher, 10_000, 2, 6)?;
+    Ok(go_in_turn(&mut dispatcher, 10_000))
+}
+
+// Ten thousand groups, each of which is found again.
+#[test]
+fn many_groups(rt: HostRuntime) -> Result<(), Fail> {
+    let config = configuration(rt.alloc(), TEAMS)?;
+    let right = take_many(rt.alloc(), &config.tree)?;
+    expect(right, "other groups stand")
+}

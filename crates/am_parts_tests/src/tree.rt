@@ -1,0 +1,95 @@
+//! Asking a tree: each call once, and a tree of real size.
+
+use crate::configurations::{configuration, labels};
+use crate::expectation::expect;
+use am_config::RouteTree;
+use am_labels::LabelSet;
+use am_routes::{PreparedTree, RouteId, dispatch_laws, matching_routes};
+use std::alloc::{AllocError, Global};
+use std::test::Fail;
+
+const NESTED: &str = r#"{"route":{"receiver":"root","continue":true,"routes":[
+    {"matchers":["a=1"],"continue":true,"routes":[{"matchers":["b=1"],"continue":true},{"matchers":["c=1"]},{"matchers":["b=1"]}]},
+    {"matchers":["a=1","b=1"],"routes":[{"matchers":["c=2"]}]},
+    {}]}}"#;
+
+fn are_numbered(found: &[RouteId], numbers: &[u64]) -> bool {
+    found.len() == numbers.len()
+        && found
+            .iter()
+            .zip(numbers)
+            .all(|(id, number)| id.0 == *number)
+}
+
+// Labels come to these routes.
+fn come_to(alloc: Global, tree: &RouteTree, of: &str, numbers: &[u64]) -> Result<(), Fail> {
+    let labels = labels(alloc, of)?;
+    let found = matching_routes(alloc, tree, &labels)?;
+    expect(are_numbered(&found, numbers), "other routes are found")
+}
+
+fn come_where_they_should(alloc: Global, tree: &RouteTree) -> Result<(), Fail> {
+    come_to(alloc, tree, "a=1", &[1, 7])?;
+    come_to(alloc, tree, "a=1 b=1 c=1", &[2, 3, 5])?;
+    come_to(alloc, tree, "b=1", &[7])
+}
+
+#[test]
+fn routes_of_labels(rt: HostRuntime) -> Result<(), Fail> {
+    dispatch_laws();
+    let config = configuration(rt.alloc(), NESTED)?;
+    come_where_they_should(rt.alloc(), &config.tree)
+}
+
+fn answers_twice(tree: &mut PreparedTree<'_>, labels: &LabelSet) -> Result<bool, AllocError> {
+    let first = tree.matches(labels)?;
+    let again = tree.matches(labels)?;
+    Ok(are_numbered(&first, &[2, 4, 6]) && are_numbered(&again, &[2, 4, 6]))
+}
+
+fn prepared_answers_twice(alloc: Global, tree: &RouteTree) -> Result<bool, AllocError> {
+    let labels = labels(alloc, "a=1 b=1 c=2")?;
+    answers_twice(&mut PreparedTree::new(alloc, tree)?, &labels)
+}
+
+// A prepared tree answers the same when it is asked again.
+#[test]
+fn asked_again(rt: HostRuntime) -> Result<(), Fail> {
+    let config = configuration(rt.alloc(), NESTED)?;
+    let same = prepared_answers_twice(rt.alloc(), &config.tree)?;
+    expect(same, "other routes are found")
+}
+
+// A root with 1,000 routes below it, all but the first with a pattern each.
+fn wide(alloc: Global) -> Result<String, AllocError> {
+    let mut text = String::from_str(
+        alloc,
+        r#"{"route":{"receiver":"root","routes":[{"matchers":["a=1"]}"#,
+    )?;
+    for number in 1..1_000u32 {
+        add_route(&mut text, number)?;
+    }
+    text.push_str("]}}")?;
+    Ok(text)
+}
+
+fn add_route(text: &mut String, number: u32) -> Result<(), AllocError> {
+    write!(
+        text,
+        ",{{\"continue\":true,\"matchers\":[\"team=~\\\"t{number}|all\\\"\"]}}"
+    )
+}
+
+fn finds_all_or_one(alloc: Global, tree: &RouteTree) -> Result<(), Fail> {
+    come_to(alloc, tree, "team=t999", &[1_000])?;
+    let labels = labels(alloc, "team=all")?;
+    let all = matching_routes(alloc, tree, &labels)?;
+    expect(all.len() == 999, "each route but the first")
+}
+
+#[test]
+fn thousand_routes(rt: HostRuntime) -> Result<(), Fail> {
+    let text = wide(rt.alloc())?;
+    let config = configuration(rt.alloc(), text.as_str())?;
+    finds_all_or_one(rt.alloc(), &config.tree)
+}

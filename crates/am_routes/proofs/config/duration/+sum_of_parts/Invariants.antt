@@ -1,5 +1,0 @@
-use Rattle.std.proofs.Common.{◌-◌}
-use Rattle.am_routes.proofs.config.duration.+sum_of_parts.Given as goal
-
-abbrev pub decreases-sum_of_parts : goal.decreases-sum_of_parts
-decreases-sum_of_parts l = 7 - l.from

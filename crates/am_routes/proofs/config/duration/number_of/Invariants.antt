@@ -1,7 +1,0 @@
-use Rattle.std.proofs.Common.{◌≡◌, drop}
-use Rattle.std.specs.Str.Parse.{digits_value, digits_value_after}
-use Rattle.am_routes.proofs.config.duration.number_of.Given as goal
-
--- what is left goes on from the number so far
-abbrev pub invariant-loop-digit : goal.invariant-loop-digit
-invariant-loop-digit l = digits_value_after 10 l.number (drop l.digit-index l.digits) ≡ digits_value 10 l.digits

@@ -1,6 +1,0 @@
-use Rattle.std.proofs.Common.{◌≡◌}
-use Rattle.am_routes.specs.RouteHeads.{distinct}
-use Rattle.am_routes.proofs.config.route_head.distinct.Given as goal
-
-abbrev pub invariant-loop-name : goal.invariant-loop-name
-invariant-loop-name l = l.kept.items ≡ distinct l.yielded

@@ -1,0 +1,45 @@
+//! Writing the output to any writer.
+
+ghost use Rattle.std.specs.Prelude.{◌≡◌, ◌≤◌, ◌<◌, IfOk, OnErr, length, take};
+ghost use Rattle.std.specs.Io.KnownBytes.{Appends, Keeps};
+ghost use Rattle.am_script.specs.Outputs.{WritesText};
+
+use crate::failure::Failure;
+use crate::limits::TRIES;
+use std::io::{ErrorKind, Write};
+
+/// Writes the whole text. If a write fails, a prefix of it has been written. No contract says when a
+/// write fails; tests check that it doesn't fail without cause.
+pub fn write_text<W: Write>(out: &mut W, text: &[u8]) -> Result<(), Failure>
+    ensures { WritesText (W.contents out.old) (W.contents out.new) result text.now }
+{
+    let mut rest = text;
+    while !rest.is_empty() {
+        match write_some(out, rest) {
+            Ok(count) => rest = rest.split_at(count).1,
+            Err(failure) => return Err(failure),
+        }
+    }
+    Ok(())
+}
+
+// One write of at least one byte. An interrupted one is tried again.
+fn write_some<W: Write>(out: &mut W, bytes: &[u8]) -> Result<usize, Failure>
+    ensures some { IfOk result (λ count. (0 < count) × (count ≤ length bytes.now)) }
+    ensures written { IfOk result
+        (λ count. Appends (W.contents out.old) (W.contents out.new) (take count bytes.now)) }
+    ensures err { OnErr result (Keeps (W.contents out.old) (W.contents out.new)) }
+{
+    for _ in 0..TRIES {
+        match out.write(bytes) {
+            Ok(0) => return Err(Failure::Write),
+            Ok(count) => return Ok(count),
+            Err(error) => {
+                if error.kind() != ErrorKind::Interrupted {
+                    return Err(Failure::Write);
+                }
+            }
+        }
+    }
+    Err(Failure::Write)
+}
