@@ -132,11 +132,11 @@ shut q = record q { tail = shut_tail q.tail }
 
 -- a place that is a seat's own
 abbrev pub own_at : {B : Type 0} → ℕ → B → Own B
-own_at place x = record { place = place; name = x }
+own_at place x = record { place = place; batch = x }
 
 -- the seat's own places stand in the log, each once
-abbrev pub Stand : {B : Type 0} → List (Own B) → List B → Type 0
-Stand {B = B} own log = (k : ℕ) (o : Own B) → get_elem? own k ≡ some o → get_elem? log o.place ≡ some o.name
+abbrev pub AreInLog : {B : Type 0} → List (Own B) → List B → Type 0
+AreInLog {B = B} own log = (k : ℕ) (o : Own B) → get_elem? own k ≡ some o → get_elem? log o.place ≡ some o.batch
 
 -- the log that the writer's part knows, or else h
 abbrev pub log_of : {B K A : Type 0} → Option (WriterView B K A) → List B → List B

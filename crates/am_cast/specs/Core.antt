@@ -37,7 +37,7 @@ module _ {B A : Type 0} where
 
 module _ {B : Type 0} where
   abbrev pub post_of : Own B → ℕ × B
-  post_of o = (o.place, o.name)
+  post_of o = (o.place, o.batch)
 
   -- a poster that knows of so many places, and noted these posts as its own
   abbrev pub poster_of : ℕ → List (Own B) → Poster B

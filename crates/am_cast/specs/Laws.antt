@@ -13,7 +13,7 @@ use Rattle.am_cast.specs.declared.views.Account.{Account}
 use Rattle.am_cast.specs.declared.views.LaneView.{LaneView}
 use Rattle.am_cast.specs.declared.views.View.{View}
 use Rattle.am_cast.specs.declared.views.WriterView.{WriterView}
-use Rattle.am_cast.specs.Rule.{idle, live, cut, gone, most, tail_word, lane_word, writer_word, slot, blank, first_view, Ruled}
+use Rattle.am_cast.specs.Rule.{idle, live, cut, gone, longest_log, tail_word, lane_word, writer_word, slot, blank, first_view, Ruled}
 use Rattle.am_cast.specs.Steps.{SeatState, KnowsOf, Opens, Looks, Takes, Passes, Leaves, Harvests, Recovers, Cuts, Admits, Retires, Publishes, Closes, Reaches, Lays, Gathers, Clears, Notes, Weighs}
 use Rattle.am_cast.specs.Changes.{copied, without_lane, only_lane, without_own, only_own, both_of}
 use Rattle.am_cast.specs.Freed.{IsGathered, IsOut, IsFreedFor}
@@ -104,7 +104,7 @@ module _ (B K A : Type 0) (key : B → ℕ → K) where
   -- the writer makes a place, where each live lane has its key of it: Publish
   abbrev pub PublishesTheBatch : Type 0
   PublishesTheBatch = (x : B) (slots id : ℕ) (me : SeatState B K A) (q : WriterView B K A) (new : ℕ)
-      → me.0.writer ≡ Some q → q.tail.closed ≡ false → length q.tail.log < most
+      → me.0.writer ≡ Some q → q.tail.closed ≡ false → length q.tail.log < longest_log
       → ((l : ℕ) (b : Account K A) → get_elem? q.accounts l ≡ some b → (b.out ≡ 0) × (b.stand ≡ live → b.laid ≡ Some (key x l))) → new ≡ tail_word (length q.tail.log + 1) false → AllowsAs key slots id me 0 (λ _. new) (λ _. does.Publish x ∷ []) (λ _. Publishes (Some x) (step slots 0 new 0 none) me new)
 
   -- the writer closes the log: Close

@@ -4,16 +4,13 @@ pub mod Steps
 pub mod Seats
 pub mod Keys
 pub mod Cursors
-pub mod Starts
 pub mod Lent
 pub mod Writers
 pub mod Posters
 pub mod Refusals
-pub mod Names
+pub mod Tables
 pub mod Core
-pub mod Benches
 pub mod FaultTexts
-pub mod Tags
 pub mod inside
 pub mod Laws
 pub mod Freed

@@ -5,20 +5,20 @@ use Rattle.am_cast.specs.declared.faults.PublishFault.{PublishFault}
 use Rattle.am_cast.specs.declared.faults.PublishFault.TheVariants.{NoMemory, Closed, Full, LogEnd}
 use Rattle.am_cast.specs.declared.faults.AdmitFault.{AdmitFault}
 use Rattle.am_cast.specs.declared.faults.AdmitFault.TheVariants as admit
-use Rattle.am_cast.specs.Rule.{idle, most}
+use Rattle.am_cast.specs.Rule.{idle, longest_log}
 use Rattle.am_cast.specs.Seats.{account_of}
 use Rattle.am_cast.specs.Writers.{HasRoom, IsBehind}
 
 module _ {B K A : Type 0} where
   -- the log may grow
   abbrev pub IsOpen : WriterView B K A → Type 0
-  IsOpen q = (q.tail.closed ≡ false) × (length q.tail.log < most)
+  IsOpen q = (q.tail.closed ≡ false) × (length q.tail.log < longest_log)
 
   -- why nothing was published: the first cause in this order. `q` is what the writer knew before,
   -- and `q'` what it found
   abbrev pub IsRefusal : WriterView B K A → WriterView B K A → PublishFault → Type 0
   IsRefusal q q' Closed = q.tail.closed ≡ true
-  IsRefusal q q' LogEnd = (q.tail.closed ≡ false) × (most ≤ length q.tail.log)
+  IsRefusal q q' LogEnd = (q.tail.closed ≡ false) × (longest_log ≤ length q.tail.log)
   -- the lowest lane that is as many places behind as there are
   IsRefusal q q' (Full lane passed) = IsOpen q × (lane < 8) × (passed ≡ (account_of q' lane).known) × IsBehind q' lane × HasRoom q' lane
   IsRefusal q q' NoMemory = IsOpen q × HasRoom q' 8
@@ -26,7 +26,7 @@ module _ {B K A : Type 0} where
   -- where slow lanes are cut no lane is full
   abbrev pub IsCutRefusal : WriterView B K A → PublishFault → Type 0
   IsCutRefusal q Closed = q.tail.closed ≡ true
-  IsCutRefusal q LogEnd = (q.tail.closed ≡ false) × (most ≤ length q.tail.log)
+  IsCutRefusal q LogEnd = (q.tail.closed ≡ false) × (longest_log ≤ length q.tail.log)
   IsCutRefusal q (Full lane passed) = ⊥
   IsCutRefusal q NoMemory = IsOpen q
 

@@ -35,8 +35,8 @@ abbrev pub vacated : ℕ
 vacated = 3
 
 -- the longest log, 2 ^ 51 places, so that no word overflows
-abbrev pub most : ℕ
-most = 2251799813685248
+abbrev pub longest_log : ℕ
+longest_log = 2251799813685248
 
 -- the word of a lane that is idle or has left, the greatest u64
 abbrev pub gone : ℕ
@@ -155,7 +155,7 @@ Once (o ∷ os) = IsApart o.place os × Once os
 
 -- these places stand in the log, and are the seat's own
 pub record Owns {B : Type 0} (log : List B) (owner : ℕ → ℕ) (j : ℕ) (own : List (Own B)) : Type 0 where
-  pub each : (k : ℕ) (o : Own B) → get_elem? own k ≡ some o → (get_elem? log o.place ≡ some o.name)
+  pub each : (k : ℕ) (o : Own B) → get_elem? own k ≡ some o → (get_elem? log o.place ≡ some o.batch)
       × (owner o.place ≡ j)
   pub once : Once own
 
@@ -200,7 +200,7 @@ pub record Ruled {B K A : Type 0} (key : B → ℕ → K) (s : State (Option K) 
   pub wide : length s.words ≡ 144
   pub deep : length s.homes ≡ 8 * tail.places
   pub some_places : 0 < tail.places
-  pub few : length tail.log ≤ most
+  pub few : length tail.log ≤ longest_log
   pub word : slice_index s.words 0 ≡ tail_word (length tail.log) tail.closed
   pub spare : (l : ℕ) → l < 8 → (account l).stand ≡ idle → lane_seat l ≡ seat
   pub each_lane : (l : ℕ) → l < 8 → LaneOk key tail (account l) (lane l) s.words s.homes l

@@ -10,8 +10,8 @@ use Rattle.am_cast.specs.declared.views.WriterView.{WriterView}
 use Rattle.am_cast.specs.declared.views.LaneView.{LaneView}
 use Rattle.am_cast.specs.declared.views.Own.{Own}
 use Rattle.am_cast.specs.declared.views.View.{View}
-use Rattle.am_cast.specs.Rule.{idle, most, gone, tail_word, writer_word, lane_word, slot, Sound, Once}
-use Rattle.am_cast.specs.Changes.{with_writer, with_lane, opened, seeing, holding, cut_off, further, left, laid_down, with_account, loaded, marked, known_to, back, retired, given_out, new_lane, severed, reaching, laying, clearing, longer, shut, own_at, Stand}
+use Rattle.am_cast.specs.Rule.{idle, longest_log, gone, tail_word, writer_word, lane_word, slot, Sound, Once}
+use Rattle.am_cast.specs.Changes.{with_writer, with_lane, opened, seeing, holding, cut_off, further, left, laid_down, with_account, loaded, marked, known_to, back, retired, given_out, new_lane, severed, reaching, laying, clearing, longer, shut, own_at, AreInLog}
 
 -- a seat: its view, and the slots in its hand, each with its value
 abbrev pub SeatState : Type 0 → Type 0 → Type 0 → Type 0
@@ -30,7 +30,7 @@ module _ {B K A : Type 0} where
   abbrev pub Looks : StepAt K → SeatState B K A → ℕ → SeatState B K A → Type 0
   Looks st m n m' = (m'.1 ≡ m.1) × ((v : LaneView B A) → m.0.lane ≡ Some v → (front : List B) × (told : Bool)
       × IsPrefix v.front front × IsPrefix m.0.heard front × (n ≡ tail_word (length front) told)
-      × (length front ≤ most) × (m'.0 ≡ with_lane (seeing front told v) m.0))
+      × (length front ≤ longest_log) × (m'.0 ≡ with_lane (seeing front told v) m.0))
 
   -- a lane exchanges its word: where it was the one looked for the slot of the next place comes into its hand, and else it was cut
   abbrev pub Takes : (B → ℕ → K) → StepAt K → SeatState B K A → ℕ → SeatState B K A → Type 0
@@ -116,8 +116,8 @@ module _ {B K A : Type 0} where
 
   -- the log has one batch more, the one named, and it is the seat's own
   abbrev pub Publishes : Option B → StepAt K → SeatState B K A → ℕ → SeatState B K A → Type 0
-  Publishes name st m n m' = (m'.1 ≡ m.1)
-      × ((x : B) → name ≡ Some x → (q : WriterView B K A) → m.0.writer ≡ Some q
+  Publishes batch st m n m' = (m'.1 ≡ m.1)
+      × ((x : B) → batch ≡ Some x → (q : WriterView B K A) → m.0.writer ≡ Some q
       → m'.0 ≡ record m.0 { writer = Some (longer x q); own = m.0.own ++ own_at (length q.tail.log) x ∷ [] })
 
   -- the log is closed
@@ -128,9 +128,9 @@ module _ {B K A : Type 0} where
   pub record Weighed (w : View B K A) : Type 0 where
     pub once : Once w.own
     pub heard : (k : ℕ) (o : Own B) → get_elem? w.own k ≡ some o → o.place < length w.heard
-        → get_elem? w.heard o.place ≡ some o.name
+        → get_elem? w.heard o.place ≡ some o.batch
     pub writer : (q : WriterView B K A) → w.writer ≡ Some q → IsPrefix w.heard q.tail.log
-        × (w.whole ≡ true → (q.tail.closed ≡ true) × (w.heard ≡ q.tail.log)) × Stand w.own q.tail.log
+        × (w.whole ≡ true → (q.tail.closed ≡ true) × (w.heard ≡ q.tail.log)) × AreInLog w.own q.tail.log
     pub lane : (v : LaneView B A) (q : WriterView B K A) (b : Account K A) → w.lane ≡ Some v
         → KnowsOf w v.number q b → Sound q.tail b v v.number × (b.stand ≢ idle)
 
@@ -141,6 +141,6 @@ module _ {B K A : Type 0} where
   -- a seat notes the log, and its own places stand there
   abbrev pub Notes : StepAt K → SeatState B K A → ℕ → SeatState B K A → Type 0
   Notes st m n m' = (m'.1 ≡ m.1)
-      × ((front : List B) × (told : Bool) × IsPrefix m.0.noted front × IsPrefix m.0.heard front × Stand m.0.own front
-      × (n ≡ tail_word (length front) told) × (length front ≤ most)
+      × ((front : List B) × (told : Bool) × IsPrefix m.0.noted front × IsPrefix m.0.heard front × AreInLog m.0.own front
+      × (n ≡ tail_word (length front) told) × (length front ≤ longest_log)
       × (m'.0 ≡ record m.0 { noted = front; counted = length m.0.own }))

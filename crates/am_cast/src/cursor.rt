@@ -3,11 +3,11 @@ ghost use Rattle.std.specs.Prelude.{◌≡◌, ◌+◌, ◌<◌, ◌≤◌, true
 ghost use mathlib.Core.List.{IsPrefix};
 ghost use Rattle.am_cast.specs.Rule.{bit};
 ghost use Rattle.am_cast.specs.Changes.{holding, cut_off, seeing, left};
-ghost use Rattle.am_cast.specs.Cursors.{taken, items_at};
+ghost use Rattle.am_cast.specs.Cursors.{shown_items, items_at};
 
+use crate::batch_view::{Board, LogSeat};
 use crate::board;
 use crate::feed::Feed;
-use crate::name::{Board, LogSeat};
 use crate::pass::Pass;
 use am_segment::SegKey;
 use std::marker::{Model, PhantomData};
@@ -37,7 +37,8 @@ pub struct Cursor<'a, T, P, A, N: Feed> {
 
 impl<'a, T, P, A, N: Feed> Model for Cursor<'a, T, P, A, N> {
     ghost use Rattle.am_cast.specs.Seats.{lane_of};
-    ghost use Rattle.am_cast.specs.Cursors.{CursorView, CursorOk};
+    ghost use Rattle.am_cast.specs.Cursors.{CursorView};
+    ghost use Rattle.am_cast.specs.inside.Cursors.{CursorOk};
 
     ghost Value = { CursorView T P A };
 
@@ -83,7 +84,7 @@ impl<'a, T, P, A, N: Feed> Cursor<'a, T, P, A, N> {
         ensures same { self.old.lane.held ≡ false → self.new.lane.cut ≡ self.old.lane.cut }
         ensures bounds { (self.new.lane.start ≤ self.new.lane.passed)
             × (self.new.lane.passed ≤ length self.new.lane.front) }
-        ensures taken { taken self.new ≡ taken self.old }
+        ensures taken { shown_items self.new ≡ shown_items self.old }
     {
         if let Some(key) = self.hand.take() {
             let at = board::slot_at(self.places, self.number, self.passed);

@@ -5,8 +5,9 @@ ghost use mathlib.Core.Option.{none, some};
 ghost use mathlib.Core.List.{IsPrefix};
 ghost use mir.Syntax.{named};
 ghost use Rattle.am_cast.specs.contracts.cursor.Cursor.{the_row};
-ghost use Rattle.am_cast.specs.Cursors.{taken, GoesOn};
-ghost use Rattle.am_cast.specs.Lent.{Moves, Takes, Found, NeedsLook, AreAllSeen, MovesPast, Lends, LendsPast, IsInHand};
+ghost use Rattle.am_cast.specs.Cursors.{shown_items, GoesOn};
+ghost use Rattle.am_cast.specs.Lent.{Moves, MovesPast, Lends, LendsPast, IsInHand};
+ghost use Rattle.am_cast.specs.inside.Moving.{TriesTake, AfterLook, NeedsLook, AreAllSeen};
 
 use crate::cursor::Cursor;
 use crate::feed::Feed;
@@ -55,7 +56,7 @@ impl<'a, T, P, A, N: Feed> Cursor<'a, T, P, A, N> {
         requires { (self.old.lane.held ≡ false) × (self.old.shown ≡ 0)
             × (self.old.lane.cut ≡ false) × (self.old.lane.passed < length self.old.lane.front) }
         ensures on { GoesOn self.old self.new }
-        ensures takes { Takes self.old self.new result }
+        ensures takes { TriesTake self.old self.new result }
     {
         if self.take() { Moved::One } else { Moved::Cut }
     }
@@ -85,7 +86,7 @@ impl<'a, T, P, A, N: Feed> Cursor<'a, T, P, A, N> {
         requires { (self.old.lane.held ≡ false) × (self.old.shown ≡ 0)
             × (self.old.lane.cut ≡ false) }
         ensures on { GoesOn self.old self.new }
-        ensures found { Found self.old self.new result }
+        ensures found { AfterLook self.old self.new result }
     {
         if self.has_more() {
             return self.take_one();

@@ -57,7 +57,7 @@
 //! ```
 #![tactic(auto)]
 
-mod bench;
+mod batch_view;
 mod board;
 mod cursor;
 mod faults;
@@ -65,7 +65,6 @@ mod feed;
 mod key_rows;
 pub mod laws;
 mod lends;
-mod name;
 mod parts;
 mod pass;
 pub mod rule;
@@ -73,11 +72,11 @@ mod tag;
 pub mod views;
 mod writer;
 
+pub use batch_view::{BatchView, SegmentKeys};
 pub use cursor::{Cast, Cursor};
 pub use faults::{AdmitFault, AlreadyClosed, PublishFault, Refused};
 pub use feed::Feed;
 pub use lends::{Moved, Step};
-pub use name::{Name, SegmentKeys};
 pub use parts::{Begun, Parts, begin, end};
 pub use pass::Pass;
-pub use writer::{MOST_PLACES, Published, Writer};
+pub use writer::{LONGEST_LOG, Published, Writer};

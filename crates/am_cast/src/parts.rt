@@ -3,17 +3,17 @@ ghost use Rattle.std.specs.Prelude.{false, ◌≡◌, ◌*◌, ◌<◌, ◌≤�
 ghost use Rattle.std.specs.List.{All};
 ghost use Rattle.am_cast.specs.Rule.{gone, lane_word, idle, blank};
 ghost use Rattle.am_cast.specs.Changes.{copied};
-ghost use Rattle.am_cast.specs.Starts.{PartsOk};
+ghost use Rattle.am_cast.specs.inside.Starts.{PartsOk};
 ghost use Rattle.am_cast.specs.Seats.{account_of};
 
-use crate::bench::Bench;
+use crate::batch_view::{Board, LogSeat};
 use crate::board;
 use crate::cursor::Cast;
 use crate::feed::Feed;
 use crate::key_rows::KeyRows;
-use crate::name::{Board, LogSeat};
 use crate::pass::Pass;
 use crate::writer::Writer;
+use crate::writer::state::WriterState;
 use std::alloc::{AllocError, Global};
 use std::marker::PhantomData;
 
@@ -116,7 +116,7 @@ pub fn begin<T: Drop, P, A, N: Feed>(
         board,
         of: PhantomData,
     };
-    let bench = Bench {
+    let state = WriterState {
         seat,
         rows,
         alloc,
@@ -129,7 +129,7 @@ pub fn begin<T: Drop, P, A, N: Feed>(
         away: [0; 8],
         of: PhantomData,
     };
-    let writer = Writer { bench };
+    let writer = Writer { state };
     match passes {
         Ok(passes) => Ok(Begun {
             cast,
@@ -148,8 +148,8 @@ pub fn end<T: Drop, P, A, N: Feed>(cast: Cast<T, P, A, N>, writer: Writer<T, P, 
     requires { (l : ℕ) → l < 8 → (account_of writer l).stand ≡ idle }
 {
     let Cast { board, of: _ } = cast;
-    let Writer { bench } = writer;
-    let Bench {
+    let Writer { state } = writer;
+    let WriterState {
         seat,
         rows,
         alloc: _,
@@ -161,7 +161,7 @@ pub fn end<T: Drop, P, A, N: Feed>(cast: Cast<T, P, A, N>, writer: Writer<T, P, 
         half: _,
         away: _,
         of: _,
-    } = bench;
+    } = state;
     rows.end();
     let mut closed = board.close_with(seat);
     for index in 0..closed.slot_count() {

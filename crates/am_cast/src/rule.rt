@@ -46,13 +46,13 @@ impl<A> Noted<A> for Brand {
     ghost note = { None };
 }
 
-/// The name of a new batch. A caller picks it.
-pub trait Named<B> {
-    ghost name: { Option B };
+/// A new batch, as contracts see it. A caller picks it.
+pub trait NewBatch<B> {
+    ghost batch: { Option B };
 }
 
-impl<B> Named<B> for Brand {
+impl<B> NewBatch<B> for Brand {
     ghost use Rattle.std.specs.Prelude.{None};
 
-    ghost name = { None };
+    ghost batch = { None };
 }

@@ -72,10 +72,10 @@ pub struct LaneView<B, A> {
     pub looks: u64,
 }
 
-/// A place of the log, and what stands there.
+/// A place of the log, and the batch there.
 pub struct Own<B> {
     pub place: u64,
-    pub name: B,
+    pub batch: B,
 }
 
 /// What a seat knows. Each part goes its own way at a split.

@@ -6,7 +6,7 @@
 ghost use Rattle.std.specs.Prelude.{◌≡◌, ◌<◌, length, IfOk};
 
 use am_cast::{
-    Begun, Cast, Cursor, Feed, MOST_PLACES, Parts, Pass, PublishFault, Refused, Step, Writer,
+    Begun, Cast, Cursor, Feed, LONGEST_LOG, Parts, Pass, PublishFault, Refused, Step, Writer,
     begin, end,
 };
 use am_segment::SegmentBuilder;
@@ -114,7 +114,7 @@ impl<'a, N: Feed> Both<'a, N> {
         self.harvest()?;
         let full = writer.harvest(self.cast);
         let may = self.state.apply(Event::Publish(name))?;
-        if writer.is_closed() || writer.len() >= MOST_PLACES {
+        if writer.is_closed() || writer.len() >= LONGEST_LOG {
             return Ok(!may);
         }
         if let Some(lane) = full {

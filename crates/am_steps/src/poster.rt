@@ -4,7 +4,7 @@ ghost use Rattle.std.specs.List.{Contains};
 ghost use Rattle.am_steps.specs.inside.LaneRows.{DoesNote};
 ghost use Rattle.am_steps.specs.Steps.{MayOwn};
 
-use crate::names::OwnPosts;
+use crate::batch_names::OwnPosts;
 use std::alloc::AllocError;
 
 /// What a poster knows of the log.

@@ -12,8 +12,8 @@ mod freed;
 #[cfg(test)]
 mod shows;
 
+use crate::batch_names::OwnPosts;
 use crate::lane::Lane;
-use crate::names::OwnPosts;
 use crate::poster::Poster;
 use std::alloc::{AllocError, Global};
 use std::marker::Model;

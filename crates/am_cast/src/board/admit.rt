@@ -1,6 +1,6 @@
 //! A lane is given out.
 ghost use Rattle.std.specs.Prelude.{None, Some, [], false, length, ◌<◌, ◌≡◌, ◌≤◌};
-ghost use Rattle.am_cast.specs.Rule.{idle, most};
+ghost use Rattle.am_cast.specs.Rule.{idle, longest_log};
 ghost use Rattle.am_cast.specs.Changes.{given_out, left, new_lane, only_lane, with_account, with_writer};
 ghost use Rattle.am_cast.specs.Changes.{without_lane};
 ghost use Rattle.am_cast.specs.Steps.{Admits};
@@ -38,7 +38,7 @@ pub(crate) fn admit_lane<B, K, A, R: Keyed<B, K>, X: Noted<A>>(
 ) -> LogSeat<B, K, A>
     requires tag { X.note ≡ Some tag.now.value }
     requires table { (seat.old.table_id ≡ top.now.table_id) × IsSized top.now.table_id
-        × (lane < 8) × (count ≤ most) }
+        × (lane < 8) × (count ≤ longest_log) }
     requires writer { let q = writer_of seat.old.me.0 in
         IsWriter seat.old.me q × (length q.accounts ≡ 8) × (q.tail.closed ≡ false)
         × (count ≡ length q.tail.log) × (seat.old.me.0.lane ≡ None) }

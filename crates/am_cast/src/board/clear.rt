@@ -3,7 +3,7 @@ ghost use Rattle.std.specs.Prelude.{[], length, ◌<◌, ◌≡◌};
 ghost use Rattle.am_cast.specs.Rule.{slot};
 ghost use Rattle.am_cast.specs.Changes.{clearing, with_account, with_writer};
 ghost use Rattle.am_cast.specs.Steps.{Clears, Gathers};
-ghost use Rattle.am_cast.specs.Seats.{IsKey, IsPast, IsSized, IsWriter, account_of, writer_of};
+ghost use Rattle.am_cast.specs.Seats.{IsKeyAt, IsPast, IsSized, IsWriter, account_of, writer_of};
 
 use crate::rule::{Keyed, LogSeat, Top};
 use crate::views::View;
@@ -41,7 +41,7 @@ pub(crate) fn clear_slot<B, K, A, R: Keyed<B, K>>(
     ensures writer { let q = writer_of seat.old.me.0 in
         seat.new.me.0 ≡ with_writer (with_account lane (clearing (account_of q lane)) q) seat.old.me.0 }
     ensures key { let q = writer_of seat.old.me.0 in
-        IsKey R.key q.tail.log (account_of q lane).cleared lane result }
+        IsKeyAt R.key q.tail.log (account_of q lane).cleared lane result }
 {
     top.load::<Gather<R>>(seat, lane + 8);
     let key = match top.exchange(seat, at, None) {

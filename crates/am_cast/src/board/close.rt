@@ -1,6 +1,6 @@
 //! The writer closes the log.
 ghost use Rattle.std.specs.Prelude.{false, [], length, ◌≡◌, ◌≤◌};
-ghost use Rattle.am_cast.specs.Rule.{most};
+ghost use Rattle.am_cast.specs.Rule.{longest_log};
 ghost use Rattle.am_cast.specs.Changes.{shut, with_writer};
 ghost use Rattle.am_cast.specs.Steps.{Closes};
 ghost use Rattle.am_cast.specs.Seats.{IsSized, IsWriter, writer_of};
@@ -21,7 +21,7 @@ pub(crate) fn close_log<B, K, A, R: Keyed<B, K>>(
     count: u64,
 )
     requires table { (seat.old.table_id ≡ top.now.table_id) × IsSized top.now.table_id
-        × (count ≤ most) }
+        × (count ≤ longest_log) }
     requires writer { let q = writer_of seat.old.me.0 in
         IsWriter seat.old.me q × (q.tail.closed ≡ false) × (count ≡ length q.tail.log) }
     ensures same { (seat.new.table_id ≡ seat.old.table_id) × (seat.new.me.1 ≡ []) }

@@ -3,7 +3,7 @@ ghost use Rattle.std.specs.Prelude.{[], false, true, ◌<◌, ◌≡◌};
 ghost use Rattle.am_cast.specs.Rule.{slot};
 ghost use Rattle.am_cast.specs.Changes.{left, with_lane};
 ghost use Rattle.am_cast.specs.Steps.{Leaves};
-ghost use Rattle.am_cast.specs.Seats.{HasOut, IsKey, IsLane, IsSized, lane_of};
+ghost use Rattle.am_cast.specs.Seats.{HasOut, IsKeyAt, IsLane, IsSized, lane_of};
 
 use crate::board::slot::lay_in;
 use crate::rule::{Keyed, LogSeat, Top};
@@ -46,7 +46,7 @@ pub(crate) fn leave_with_key<B, K, A, R: Keyed<B, K>>(
         IsLane seat.old.me v × (lane ≡ v.number) × (at ≡ slot v.places v.number v.passed) }
     requires held { let v = lane_of seat.old.me.0 in
         (v.begun ≡ true) × (v.held ≡ true) × HasOut seat.old.me v
-        × IsKey R.key v.front v.passed v.number key }
+        × IsKeyAt R.key v.front v.passed v.number key }
     ensures same { (seat.new.table_id ≡ seat.old.table_id) × (seat.new.me.1 ≡ []) }
     ensures lane { seat.new.me.0 ≡ with_lane (left (lane_of seat.old.me.0)) seat.old.me.0 }
 {

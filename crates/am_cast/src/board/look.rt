@@ -1,7 +1,7 @@
 //! A lane looks how long the log is.
 ghost use Rattle.std.specs.Prelude.{true, length, ◌≡◌, ◌≤◌};
 ghost use mathlib.Core.List.{IsPrefix};
-ghost use Rattle.am_cast.specs.Rule.{most};
+ghost use Rattle.am_cast.specs.Rule.{longest_log};
 ghost use Rattle.am_cast.specs.Changes.{seeing, with_lane};
 ghost use Rattle.am_cast.specs.Steps.{Looks};
 ghost use Rattle.am_cast.specs.Seats.{IsLane, IsSized, lane_of};
@@ -29,7 +29,7 @@ pub(crate) fn look_at_log<B, K, A, R: Keyed<B, K>>(
         (seat.new.me.0 ≡ with_lane w seat.old.me.0) × (w ≡ seeing w.front result.1 v) }
     ensures seen { let v = lane_of seat.old.me.0 in let w = lane_of seat.new.me.0 in
         IsPrefix v.front w.front × IsPrefix seat.old.me.0.heard w.front
-        × (result.0 ≡ length w.front) × (result.0 ≤ most) }
+        × (result.0 ≡ length w.front) × (result.0 ≤ longest_log) }
 {
     let n = top.load::<Look>(seat, 0);
     (n / 2, n % 2 == 1)

@@ -1,8 +1,8 @@
 //! A seat notes how long the log is.
 ghost use Rattle.std.specs.Prelude.{length, ◌≡◌, ◌≤◌};
 ghost use mathlib.Core.List.{IsPrefix};
-ghost use Rattle.am_cast.specs.Rule.{most};
-ghost use Rattle.am_cast.specs.Changes.{Stand};
+ghost use Rattle.am_cast.specs.Rule.{longest_log};
+ghost use Rattle.am_cast.specs.Changes.{AreInLog};
 ghost use Rattle.am_cast.specs.Steps.{Notes};
 ghost use Rattle.am_cast.specs.Seats.{IsSized};
 
@@ -26,7 +26,7 @@ pub(crate) fn note_log<B, K, A, R: Keyed<B, K>>(
         × (seat.new.me.0 ≡ record seat.old.me.0 { noted = seat.new.me.0.noted; counted = length seat.old.me.0.own }) }
     ensures noted { let front = seat.new.me.0.noted in
         IsPrefix seat.old.me.0.noted front × IsPrefix seat.old.me.0.heard front
-        × Stand seat.old.me.0.own front × (result ≡ length front) × (result ≤ most) }
+        × AreInLog seat.old.me.0.own front × (result ≡ length front) × (result ≤ longest_log) }
 {
     top.load::<Note>(seat, 0) / 2
 }

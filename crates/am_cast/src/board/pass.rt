@@ -3,7 +3,7 @@ ghost use Rattle.std.specs.Prelude.{[], false, true, ◌+◌, ◌<◌, ◌≡◌
 ghost use Rattle.am_cast.specs.Rule.{cut, slot};
 ghost use Rattle.am_cast.specs.Changes.{with_lane};
 ghost use Rattle.am_cast.specs.Steps.{Passes};
-ghost use Rattle.am_cast.specs.Seats.{HasOut, IsKey, IsLane, IsSized, lane_of};
+ghost use Rattle.am_cast.specs.Seats.{HasOut, IsKeyAt, IsLane, IsSized, lane_of};
 
 use crate::board::slot::lay_in;
 use crate::rule::{Keyed, LogSeat, Top};
@@ -30,7 +30,7 @@ pub(crate) fn pass_place<B, K, A, R: Keyed<B, K>>(
         IsLane seat.old.me v × (lane ≡ v.number) × (at ≡ slot v.places v.number v.passed) }
     requires held { let v = lane_of seat.old.me.0 in
         (v.begun ≡ true) × (v.held ≡ true) × HasOut seat.old.me v
-        × IsKey R.key v.front v.passed v.number key }
+        × IsKeyAt R.key v.front v.passed v.number key }
     ensures same { (seat.new.table_id ≡ seat.old.table_id) × (seat.new.me.1 ≡ []) }
     ensures lane { let v = lane_of seat.old.me.0 in
         seat.new.me.0 ≡ with_lane (record v { passed = v.passed + 1; held = false; cut = result }) seat.old.me.0 }

@@ -1,6 +1,6 @@
 //! A lane takes the key of its next place.
 ghost use Rattle.std.specs.Prelude.{[], false, length, true, ◌<◌, ◌≡◌, ◌≤◌};
-ghost use Rattle.am_cast.specs.Rule.{most, slot};
+ghost use Rattle.am_cast.specs.Rule.{longest_log, slot};
 ghost use Rattle.am_cast.specs.Changes.{cut_off, holding};
 ghost use Rattle.am_cast.specs.Steps.{Takes};
 ghost use Rattle.am_cast.specs.Seats.{IsLane, IsSized, Took, lane_of};
@@ -27,7 +27,7 @@ pub(crate) fn take_key<B, K, A, R: Keyed<B, K>>(
     passed: u64,
 ) -> Option<K>
     requires table { (seat.old.table_id ≡ top.now.table_id) × IsSized top.now.table_id
-        × (lane < 8) × (passed ≤ most) }
+        × (lane < 8) × (passed ≤ longest_log) }
     requires lane { let v = lane_of seat.old.me.0 in
         IsLane seat.old.me v × (lane ≡ v.number) × (passed ≡ v.passed)
         × (at ≡ slot v.places v.number v.passed) }
