@@ -2,6 +2,7 @@
 pub mod Cursors
 pub mod Filling
 pub mod KeyRows
+pub mod LaneAccounts
 pub mod Moving
 pub mod Posters
 pub mod Starts

@@ -13,6 +13,7 @@ use crate::feed::Feed;
 use crate::key_rows::KeyRows;
 use crate::pass::Pass;
 use crate::writer::Writer;
+use crate::writer::lane_account::{LaneAccount, Stand};
 use crate::writer::state::WriterState;
 use std::alloc::{AllocError, Global};
 use std::marker::PhantomData;
@@ -123,10 +124,10 @@ pub fn begin<T: Drop, P, A, N: Feed>(
         places,
         count: 0,
         closed: false,
-        stand: [0; 8],
-        known: [0; 8],
-        half: [0; 8],
-        away: [0; 8],
+        lanes: [LaneAccount {
+            stand: Stand::Idle,
+            word: 0,
+        }; 8],
         of: PhantomData,
     };
     let writer = Writer { state };
@@ -156,10 +157,7 @@ pub fn end<T: Drop, P, A, N: Feed>(cast: Cast<T, P, A, N>, writer: Writer<T, P, 
         places: _,
         count: _,
         closed: _,
-        stand: _,
-        known: _,
-        half: _,
-        away: _,
+        lanes: _,
         of: _,
     } = state;
     rows.end();

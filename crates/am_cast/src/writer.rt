@@ -12,6 +12,7 @@ ghost use Rattle.am_cast.specs.Freed.{IsFreedFor};
 mod admit;
 mod cut;
 mod harvest;
+pub(crate) mod lane_account;
 mod publish;
 mod retire;
 pub(crate) mod state;
@@ -20,6 +21,7 @@ use crate::cursor::Cast;
 use crate::faults::AlreadyClosed;
 use crate::feed::Feed;
 use crate::pass::Pass;
+use crate::writer::lane_account::Stand;
 use crate::writer::state::WriterState;
 use std::marker::Model;
 
@@ -55,7 +57,7 @@ impl<T: Drop, P, A, N: Feed> Writer<T, P, A, N> {
     pub fn len(&self) -> u64
         ensures { (result ≡ length self.now.tail.log) × (result ≤ longest_log) }
     {
-        self.state.len()
+        self.state.count
     }
 
     /// Whether the place is there and the writer keeps no key of it: all its keys came home, and its
@@ -63,13 +65,13 @@ impl<T: Drop, P, A, N: Feed> Writer<T, P, A, N> {
     pub fn freed(&self, place: u64) -> bool
         ensures { IsTrue result ↔ IsFreedFor self.now place }
     {
-        self.state.freed(place)
+        place < self.state.count && !self.state.rows.has(place)
     }
 
     pub fn is_closed(&self) -> bool
         ensures { result ≡ self.now.tail.closed }
     {
-        self.state.is_closed()
+        self.state.closed
     }
 
     /// Whether no lane is given out. Then the log may be ended.
@@ -77,7 +79,12 @@ impl<T: Drop, P, A, N: Feed> Writer<T, P, A, N> {
         ensures yes { result ≡ true → (l : ℕ) → l < 8 → (account_of self.now l).stand ≡ idle }
         ensures no { result ≡ false → (l : ℕ) × (l < 8) × ((account_of self.now l).stand ≢ idle) }
     {
-        self.state.is_idle()
+        for lane in 0..8 {
+            if !matches!(self.state.stand(lane), Stand::Idle) {
+                return false;
+            }
+        }
+        true
     }
 
     /// Whether the lane was cut since it was given out.
@@ -86,7 +93,7 @@ impl<T: Drop, P, A, N: Feed> Writer<T, P, A, N> {
         ensures yes { result ≡ true → (account_of self.now lane).stand ≡ cut }
         ensures no { result ≡ false → (account_of self.now lane).stand ≢ cut }
     {
-        self.state.is_cut(lane)
+        matches!(self.state.stand(lane), Stand::Cut)
     }
 
     /// What a pass has posted stands in the log, each once.
@@ -109,7 +116,7 @@ impl<T: Drop, P, A, N: Feed> Writer<T, P, A, N> {
         ensures open { IsOk result ↔ (self.old.tail.closed ≡ false) }
         ensures err { OnErr result (self.new ≡ self.old) }
     {
-        if self.state.is_closed() {
+        if self.is_closed() {
             return Err(AlreadyClosed);
         }
         self.state.close(cast);

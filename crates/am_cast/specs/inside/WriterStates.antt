@@ -1,15 +1,17 @@
 -- The writer's view and its rows of keys.
-use Rattle.std.specs.Prelude.{◌≡◌, ◌≢◌, ℕ, ◌+◌, ◌*◌, ◌<◌, ◌≤◌, List, [], length, slice_index, None, Bool}
+use Rattle.std.specs.Prelude.{◌≡◌, ◌≢◌, ℕ, ◌+◌, ◌*◌, ◌<◌, ◌≤◌, List, [], length, slice_index_or, None, Bool}
 use Rattle.atomic_table.specs.Seated.{TableId}
 use Rattle.am_segment.specs.Segments.{KeyView}
 use Rattle.am_cast.specs.declared.batch_view.BatchView.{BatchView}
 use Rattle.am_cast.specs.declared.views.Account.{Account}
 use Rattle.am_cast.specs.declared.views.WriterView.{WriterView}
+use Rattle.am_cast.specs.declared.writer.lane_account.LaneAccount.{LaneAccount}
 use Rattle.am_cast.specs.Rule.{longest_log, bit}
 use Rattle.am_cast.specs.Changes.{with_account}
 use Rattle.am_cast.specs.Steps.{SeatState}
 use Rattle.am_cast.specs.Seats.{writer_of, account_of, IsWriter}
 use Rattle.am_cast.specs.inside.KeyRows.{BucketView, bucket_of}
+use Rattle.am_cast.specs.inside.LaneAccounts.{IsKeptAs, no_lane}
 
 -- what the writer's seat knows, and the rows of keys that came home
 pub record WriterStateView (T P A : Type 0) : Type 0 where
@@ -29,18 +31,9 @@ module _ {T P A : Type 0} where
 abbrev pub KeepsRoom : {T : Type 0} → List (BucketView T) → List (BucketView T) → Type 0
 KeepsRoom rows rows' = (p : ℕ) → (bucket_of rows p).room ≤ (bucket_of rows' p).room
 
--- the numbers that the writer keeps of one lane
-pub record IsKeptAs {K A : Type 0} (b : Account K A) (stand known half away : ℕ) : Type 0 where
-  pub stand_is : b.stand ≡ stand
-  pub known_is : b.known ≡ known
-  pub half_is : b.half ≡ half
-  pub away_is : bit b.away ≡ away
-  pub bound : known ≤ longest_log
-  pub half_bound : half ≤ 2 * longest_log + 1
-
 module _ {B K A : Type 0} where
   -- how the writer's numbers stand to its seat
-  pub record WriterStateOk (table seat_table : TableId) (m : SeatState B K A) (places count : ℕ) (closed : Bool) (stand known half away : List ℕ) : Type 0 where
+  pub record WriterStateOk (table seat_table : TableId) (m : SeatState B K A) (places count : ℕ) (closed : Bool) (lanes : List LaneAccount) : Type 0 where
     pub same : seat_table ≡ table
     pub writer : IsWriter m (writer_of m.0)
     pub alone : m.0.lane ≡ None
@@ -51,4 +44,5 @@ module _ {B K A : Type 0} where
     pub count_is : length (writer_of m.0).tail.log ≡ count
     pub bound : count ≤ longest_log
     pub closed_is : (writer_of m.0).tail.closed ≡ closed
-    pub each : (l : ℕ) → l < 8 → IsKeptAs (account_of (writer_of m.0) l) (slice_index stand l) (slice_index known l) (slice_index half l) (slice_index away l)
+    pub wide : length lanes ≡ 8
+    pub each : (l : ℕ) → l < 8 → IsKeptAs (account_of (writer_of m.0) l) (slice_index_or lanes l no_lane)

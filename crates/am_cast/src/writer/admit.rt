@@ -15,6 +15,7 @@ use crate::cursor::{Cast, Cursor};
 use crate::faults::AdmitFault;
 use crate::feed::Feed;
 use crate::writer::Writer;
+use crate::writer::lane_account::{LaneAccount, Stand};
 use crate::writer::state::WriterState;
 use am_segment::SegKey;
 use std::marker::Brand;
@@ -42,7 +43,7 @@ impl<T: Drop, P, A, N: Feed> Writer<T, P, A, N> {
         ensures err { OnErr result (self.new ≡ self.old) }
         ensures refused { IfErr result (λ e. IsAdmitRefusal self.old e) }
     {
-        if self.state.is_closed() {
+        if self.is_closed() {
             return Err(AdmitFault::Closed);
         }
         match self.state.idle_lane() {
@@ -60,7 +61,7 @@ impl<T: Drop, P, A, N: Feed> WriterState<T, P, A, N> {
         ensures none { IfNone result ((m : ℕ) → m < 8 → (account_of self.now.known m).stand ≢ idle) }
     {
         for lane in 0..8 {
-            if self.stand[lane] == 0 {
+            if matches!(self.lanes[lane].stand, Stand::Idle) {
                 return Some(lane);
             }
         }
@@ -87,10 +88,10 @@ impl<T: Drop, P, A, N: Feed> WriterState<T, P, A, N> {
             self.count,
             note,
         );
-        self.stand[lane] = 1;
-        self.known[lane] = self.count;
-        self.half[lane] = 2 * self.count;
-        self.away[lane] = 0;
+        self.lanes[lane] = LaneAccount {
+            stand: Stand::Live,
+            word: 4 * self.count,
+        };
         board::open_lane(top, &mut seat, lane);
         Cursor {
             cast,

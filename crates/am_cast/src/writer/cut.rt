@@ -1,7 +1,7 @@
 //! Publishing that cuts, from the call down to the steps: a lane that is as far behind as may be gets
 //! no more keys.
 ghost use mathlib.Core.List.{IsPrefix};
-ghost use Rattle.std.specs.Prelude.{◌≡◌, ◌≢◌, ◌+◌, ◌*◌, ◌/◌, ◌%◌, ◌<◌, ◌≤◌, true, false, length, [], ℕ, IfOk, ◌++◌, ◌∷◌, slice_index_or, IfErr, OnOk, OnErr};
+ghost use Rattle.std.specs.Prelude.{◌≡◌, ◌≢◌, ◌+◌, ◌/◌, ◌%◌, ◌<◌, ◌≤◌, true, false, length, [], ℕ, IfOk, ◌++◌, ◌∷◌, slice_index_or, IfErr, OnOk, OnErr};
 ghost use Rattle.am_cast.specs.declared.batch_view.BatchView.{BatchView};
 ghost use Rattle.am_cast.specs.Rule.{live, cut, vacated, gone};
 ghost use Rattle.am_cast.specs.Changes.{longer_tail, marked, severed, known_to, AreInLog, own_at};
@@ -16,6 +16,7 @@ use crate::cursor::Cast;
 use crate::faults::{PublishFault, Refused};
 use crate::feed::Feed;
 use crate::pass::Pass;
+use crate::writer::lane_account::Stand;
 use crate::writer::state::WriterState;
 use crate::writer::{LONGEST_LOG, Published, Writer};
 use am_segment::SegmentBuilder;
@@ -49,13 +50,13 @@ impl<T: Drop, P, A, N: Feed> Writer<T, P, A, N> {
         ensures refused { IfErr result (λ e. (e.batch ≡ batch) × IsCutRefusal self.old e.fault) }
     {
         self.state.harvest(cast);
-        if self.state.is_closed() {
+        if self.is_closed() {
             return Err(Refused {
                 fault: PublishFault::Closed,
                 batch,
             });
         }
-        if self.state.len() >= LONGEST_LOG {
+        if self.len() >= LONGEST_LOG {
             return Err(Refused {
                 fault: PublishFault::LogEnd,
                 batch,
@@ -68,7 +69,7 @@ impl<T: Drop, P, A, N: Feed> Writer<T, P, A, N> {
             });
         };
         let cut = self.state.make_all_room(cast);
-        let place = self.state.len();
+        let place = self.len();
         self.state.post(cast, batch, post, row, &mut pass.seat);
         pass.note(cast);
         Ok(Published { place, cut })
@@ -109,18 +110,8 @@ impl<T: Drop, P, A, N: Feed> WriterState<T, P, A, N> {
         if !self.is_live(lane) || !self.is_behind(lane) {
             return false;
         }
-        let word = 2 * self.half[lane];
+        let word = self.lanes[lane].word;
         self.cut_or_move(cast, lane, word)
-    }
-
-    fn is_behind(&self, lane: usize) -> bool
-        requires { (lane < 8) × Calm self.now.known
-            × ((account_of self.now.known lane).stand ≡ live) }
-        ensures yes { result ≡ true → IsBehind self.now.known lane }
-        ensures no { result ≡ false
-            → length self.now.known.tail.log < (account_of self.now.known lane).known + self.now.known.tail.places }
-    {
-        self.count - self.known[lane] >= self.places
     }
 
     // A lane whose word was `word` has room for one place more, or is cut by one of two exchanges.
@@ -173,12 +164,12 @@ impl<T: Drop, P, A, N: Feed> WriterState<T, P, A, N> {
         let known = self.known_of(lane);
         let found = self.sever(cast, lane, word);
         if found == word {
-            let to = self.len();
+            let to = self.count;
             self.clear_to(cast, lane, known + word / 2 % 2, to);
             return found;
         }
         if found == u64::MAX {
-            let to = self.len();
+            let to = self.count;
             self.clear_to(cast, lane, known, to);
             return found;
         }
@@ -205,16 +196,14 @@ impl<T: Drop, P, A, N: Feed> WriterState<T, P, A, N> {
     {
         let found = board::cut_lane(&cast.board.shared, &mut self.seat, lane, word);
         if found == word {
-            self.stand[lane] = 2;
-            self.away[lane] = found / 2 % 2;
+            self.lanes[lane].stand = Stand::Cut;
             return found;
         }
         if found == u64::MAX {
-            self.stand[lane] = 3;
+            self.lanes[lane].stand = Stand::Vacated;
             return found;
         }
-        self.known[lane] = found / 4;
-        self.half[lane] = found / 2;
+        self.lanes[lane].word = found;
         found
     }
 }

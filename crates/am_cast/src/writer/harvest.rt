@@ -11,6 +11,7 @@ use crate::board;
 use crate::cursor::Cast;
 use crate::feed::Feed;
 use crate::writer::Writer;
+use crate::writer::lane_account::Stand;
 use crate::writer::state::WriterState;
 
 impl<T: Drop, P, A, N: Feed> Writer<T, P, A, N> {
@@ -76,7 +77,7 @@ impl<T: Drop, P, A, N: Feed> WriterState<T, P, A, N> {
         let from = self.known_of(lane);
         let found = self.load(cast, lane);
         if found == u64::MAX {
-            let to = self.len();
+            let to = self.count;
             self.clear_to(cast, lane, from, to);
             return found;
         }
@@ -100,11 +101,10 @@ impl<T: Drop, P, A, N: Feed> WriterState<T, P, A, N> {
     {
         let found = board::find_word(&cast.board.shared, &mut self.seat, lane);
         if found == u64::MAX {
-            self.stand[lane] = 3;
+            self.lanes[lane].stand = Stand::Vacated;
             return found;
         }
-        self.known[lane] = found / 4;
-        self.half[lane] = found / 2;
+        self.lanes[lane].word = found;
         found
     }
 
@@ -135,8 +135,7 @@ impl<T: Drop, P, A, N: Feed> WriterState<T, P, A, N> {
     {
         let found = board::recover_key(&cast.board.shared, &mut self.seat, lane);
         if found / 2 % 2 == 0 {
-            self.away[lane] = 0;
-            self.known[lane] = found / 4;
+            self.lanes[lane].word = found;
             return true;
         }
         false
@@ -150,7 +149,7 @@ impl<T: Drop, P, A, N: Feed> WriterState<T, P, A, N> {
             × HasRoom self.now.known l) }
     {
         for lane in 0..8 {
-            if self.stand[lane] == 1 && self.count - self.known[lane] >= self.places {
+            if self.is_live(lane) && self.is_behind(lane) {
                 return Some(lane);
             }
         }

@@ -56,13 +56,13 @@ impl<T: Drop, P, A, N: Feed> Writer<T, P, A, N> {
             × IsRefusal self.old self.new e.fault) }
     {
         let full = self.harvest(cast);
-        if self.state.is_closed() {
+        if self.is_closed() {
             return Err(Refused {
                 fault: PublishFault::Closed,
                 batch,
             });
         }
-        if self.state.len() >= LONGEST_LOG {
+        if self.len() >= LONGEST_LOG {
             return Err(Refused {
                 fault: PublishFault::LogEnd,
                 batch,
@@ -108,7 +108,7 @@ impl<T: Drop, P, A, N: Feed> Writer<T, P, A, N> {
         let Ok(row) = self.state.reserve() else {
             return Err(batch);
         };
-        let place = self.state.len();
+        let place = self.len();
         self.state.post(cast, batch, post, row, &mut pass.seat);
         pass.note(cast);
         Ok(place)

@@ -14,6 +14,7 @@ use crate::board;
 use crate::cursor::{Cast, Cursor};
 use crate::feed::Feed;
 use crate::writer::Writer;
+use crate::writer::lane_account::Stand;
 use crate::writer::state::WriterState;
 
 impl<T: Drop, P, A, N: Feed> Writer<T, P, A, N> {
@@ -100,7 +101,6 @@ impl<T: Drop, P, A, N: Feed> WriterState<T, P, A, N> {
             × ((account_of self.old.known lane).stand ≢ idle) }
     {
         board::retire_lane(&cast.board.shared, &mut self.seat, other, lane);
-        self.stand[lane] = 0;
-        self.away[lane] = 0;
+        self.lanes[lane].stand = Stand::Idle;
     }
 }

@@ -1,12 +1,12 @@
 //! What a writer keeps: its seat at the table, the keys that came home, and one account for each lane.
 //! What several calls need of it stands here; the files beside it have a call each.
 ghost use mathlib.Core.List.{IsPrefix};
-ghost use Rattle.std.specs.Prelude.{◌↔◌, IsTrue, ◌≡◌, ◌≢◌, ◌+◌, ◌<◌, ◌≤◌, true, false, length, None, ℕ};
-ghost use Rattle.am_cast.specs.Rule.{idle, live, cut, longest_log};
+ghost use Rattle.std.specs.Prelude.{◌≡◌, ◌≢◌, ◌+◌, ◌<◌, ◌≤◌, true, false, length, None};
+ghost use Rattle.am_cast.specs.Rule.{live, longest_log};
 ghost use Rattle.am_cast.specs.Changes.{clearing, shut};
 ghost use Rattle.am_cast.specs.Seats.{account_of, IsPast};
-ghost use Rattle.am_cast.specs.Writers.{Calm};
-ghost use Rattle.am_cast.specs.Freed.{IsFreedFor};
+ghost use Rattle.am_cast.specs.Writers.{Calm, IsBehind};
+ghost use Rattle.am_cast.specs.inside.LaneAccounts.{stand_number};
 ghost use Rattle.am_cast.specs.inside.WriterStates.{OnlyAccount, KeepsRoom};
 ghost use Rattle.am_cast.specs.inside.Waiting.{is_live};
 
@@ -15,6 +15,7 @@ use crate::board;
 use crate::cursor::Cast;
 use crate::feed::Feed;
 use crate::key_rows::KeyRows;
+use crate::writer::lane_account::{LaneAccount, Stand};
 use std::alloc::Global;
 use std::marker::{Model, PhantomData};
 
@@ -26,15 +27,11 @@ pub(crate) struct WriterState<T, P, A, N: Feed> {
     pub(crate) places: u64,
     pub(crate) count: u64,
     pub(crate) closed: bool,
-    pub(crate) stand: [u64; 8],
-    pub(crate) known: [u64; 8],
-    pub(crate) half: [u64; 8],
-    pub(crate) away: [u64; 8],
+    pub(crate) lanes: [LaneAccount; 8],
     pub(crate) of: PhantomData<N>,
 }
 
 impl<T, P, A, N: Feed> Model for WriterState<T, P, A, N> {
-    ghost use Rattle.am_cast.specs.Freed.{IsFreedFor};
     ghost use Rattle.am_cast.specs.inside.WriterStates.{WriterStateView};
     ghost use Rattle.am_cast.specs.Seats.{writer_of};
     ghost use Rattle.am_cast.specs.inside.WriterStates.{WriterStateOk};
@@ -44,17 +41,25 @@ impl<T, P, A, N: Feed> Model for WriterState<T, P, A, N> {
 
     ghost view = { λ w. record { known = writer_of w.seat.me.0; rows = w.rows } };
 
-    ghost invariant = { λ w. WriterStateOk N.table w.seat.table_id w.seat.me w.places w.count w.closed w.stand w.known w.half w.away
+    ghost invariant = { λ w. WriterStateOk N.table w.seat.table_id w.seat.me w.places w.count w.closed w.lanes
         × RowsFit (writer_of w.seat.me.0) w.rows };
 }
 
 impl<T: Drop, P, A, N: Feed> WriterState<T, P, A, N> {
+    /// How the writer has the lane stand.
+    pub(crate) fn stand(&self, lane: usize) -> Stand
+        requires { lane < 8 }
+        ensures { stand_number result ≡ (account_of self.now.known lane).stand }
+    {
+        self.lanes[lane].stand
+    }
+
     pub(crate) fn is_live(&self, lane: usize) -> bool
         requires { lane < 8 }
         ensures yes { result ≡ true → (account_of self.now.known lane).stand ≡ live }
         ensures no { result ≡ false → (account_of self.now.known lane).stand ≢ live }
     {
-        self.stand[lane] == 1
+        self.lanes[lane].is_live()
     }
 
     pub(crate) fn is_away(&self, lane: usize) -> bool
@@ -62,7 +67,17 @@ impl<T: Drop, P, A, N: Feed> WriterState<T, P, A, N> {
         ensures yes { result ≡ true → (account_of self.now.known lane).away ≡ true }
         ensures no { result ≡ false → (account_of self.now.known lane).away ≡ false }
     {
-        self.away[lane] == 1
+        self.lanes[lane].is_away()
+    }
+
+    pub(crate) fn is_behind(&self, lane: usize) -> bool
+        requires { (lane < 8) × Calm self.now.known
+            × ((account_of self.now.known lane).stand ≡ live) }
+        ensures yes { result ≡ true → IsBehind self.now.known lane }
+        ensures no { result ≡ false
+            → length self.now.known.tail.log < (account_of self.now.known lane).known + self.now.known.tail.places }
+    {
+        self.count - self.known_of(lane) >= self.places
     }
 
     pub(crate) fn known_of(&self, lane: usize) -> u64
@@ -70,7 +85,7 @@ impl<T: Drop, P, A, N: Feed> WriterState<T, P, A, N> {
         ensures { (result ≡ (account_of self.now.known lane).known) × (result ≤ longest_log)
             × (0 < self.now.known.tail.places) }
     {
-        self.known[lane]
+        self.lanes[lane].known()
     }
 
     /// The lane's key of the place `place`, which it has passed, goes to the others of its place.
@@ -120,47 +135,5 @@ impl<T: Drop, P, A, N: Feed> WriterState<T, P, A, N> {
         let top = &cast.board.shared;
         board::tell_seat(top, other, &mut self.seat);
         board::weigh_view(top, &mut self.seat);
-    }
-
-    pub(crate) fn len(&self) -> u64
-        ensures { (result ≡ length self.now.known.tail.log) × (result ≤ longest_log) }
-    {
-        self.count
-    }
-
-    /// Whether the place is there and all its keys are back.
-    pub(crate) fn freed(&self, place: u64) -> bool
-        requires { Calm self.now.known }
-        ensures { IsTrue result ↔ IsFreedFor self.now.known place }
-    {
-        place < self.count && !self.rows.has(place)
-    }
-
-    pub(crate) fn is_closed(&self) -> bool
-        ensures { result ≡ self.now.known.tail.closed }
-    {
-        self.closed
-    }
-
-    /// Whether every lane is idle.
-    pub(crate) fn is_idle(&self) -> bool
-        ensures yes { result ≡ true → (l : ℕ) → l < 8 → (account_of self.now.known l).stand ≡ idle }
-        ensures no { result ≡ false → (l : ℕ) × (l < 8)
-            × ((account_of self.now.known l).stand ≢ idle) }
-    {
-        for lane in 0..8 {
-            if self.stand[lane] != 0 {
-                return false;
-            }
-        }
-        true
-    }
-
-    pub(crate) fn is_cut(&self, lane: usize) -> bool
-        requires { lane < 8 }
-        ensures yes { result ≡ true → (account_of self.now.known lane).stand ≡ cut }
-        ensures no { result ≡ false → (account_of self.now.known lane).stand ≢ cut }
-    {
-        self.stand[lane] == 2
     }
 }

@@ -1,4 +1,8 @@
-use Rattle.std.proofs.Common.{arith, ◌≡◌, ◌<◌, ℕ, ap, subst, sym, refl}
+use Rattle.std.proofs.Common.{arith, ◌≡◌, ◌<◌, ◌∙◌, ◌∷◌, [], ℕ, zero, suc, List, Bool, false, set, get_or, get_or-set_other, ap, subst, sym, refl}
+use lib.ListN.{get_elem?}
+use mathlib.Core.Logic.{dite}
+use native.Mathlib.Decide.{ℕ_discrete}
+use Rattle.std.specs.Slots.{slots_filled}
 use Rattle.am_segment.specs.Segments.{KeyView}
 use Rattle.am_cast.specs.declared.batch_view.BatchView.{BatchView}
 use Rattle.am_cast.specs.declared.views.WriterView.{WriterView}
@@ -26,3 +30,18 @@ loop-index-init g c = let known : writer_of c.state.inside.seat.me.0 ≡ c.write
       emptied = λ k h. absurd (omega arith);
       none = no_keys_left key_of (writer_of c.state.inside.seat.me.0) _ c.state.inside.seat.me.0 _ _ c.state.invariant.0.writer.0 calm.0 calm.1 v.2;
     }
+
+set_down : (xs : List Bool) (n : ℕ) → get_or (set xs n false) n false ≡ false
+set_down [] n = refl
+set_down (x ∷ xs) zero = refl
+set_down (x ∷ xs) (suc n) = set_down xs n
+
+pub loop-index-preserved : goal.loop-index-preserved
+loop-index-preserved g c = let i = c.loop-index.invariant in let o = c.take.ensures.others in let at = c.loop-index.index in let was = slots_filled c.loop-index.closed.slots in record {
+  len = o.2 ∙ i.len;
+  filled = λ k low high. ap (λ (fs : List Bool). get_or fs k false) o.1 ∙ get_or-set_other was at k false false (λ e. omega arith) ∙ i.filled k (omega arith) (omega arith);
+  emptied = λ k small. ap (λ (fs : List Bool). get_or fs k false) o.1 ∙ dite (ℕ_discrete k at)
+      (λ (e : k ≡ at). ap (λ (m : ℕ). get_or (set was at false) m false) e ∙ set_down was at)
+      (λ ne. get_or-set_other was at k false false ne ∙ i.emptied k (omega arith));
+  none = λ k y e. i.none k y (ap (λ xs. get_elem? xs k) (sym o.0) ∙ e);
+}
