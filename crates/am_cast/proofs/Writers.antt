@@ -3,10 +3,11 @@ use Rattle.std.proofs.Common.{◌≡◌, ◌≢◌, ℕ, zero, suc, ◌+◌, ◌
 use mathlib.Core.Logic.{dite}
 use native.Mathlib.Decide.{ℕ_discrete}
 use Rattle.atomic_table.specs.Seated.{TableId}
+use Rattle.am_cast.specs.declared.limits.TheConstants.{LONGEST_LOG}
 use Rattle.am_cast.specs.declared.views.Tail.{Tail}
 use Rattle.am_cast.specs.declared.views.Account.{Account}
 use Rattle.am_cast.specs.declared.views.WriterView.{WriterView}
-use Rattle.am_cast.specs.Rule.{first_account, first_writer, live, bit, longest_log}
+use Rattle.am_cast.specs.Rule.{first_account, first_writer, live, bit}
 use Rattle.am_cast.specs.declared.views.View.{View}
 use Rattle.am_cast.specs.Changes.{with_account, without_own, longer, grown, grown_as, laying, retired, back_if}
 use Rattle.am_cast.proofs.steps.Retire.{either_bool}
@@ -162,7 +163,7 @@ grown_numbers (suc (suc n)) b = (refl, refl, refl, refl)
 module _ {B K A : Type 0} where
   -- the log has grown, and its place went to another seat
   pub state_longer : (T t t' : TableId) (m m' : SeatState B K A) (places count : ℕ) (closed : Bool) (lanes : List LaneAccount) (x : B) (w : View B K A)
-      → WriterStateOk T t m places count closed lanes → t' ≡ t → m'.1 ≡ [] → w ≡ record m.0 { writer = Some (longer x (writer_of m.0)); own = w.own } → m'.0 ≡ without_own w → count < longest_log
+      → WriterStateOk T t m places count closed lanes → t' ≡ t → m'.1 ≡ [] → w ≡ record m.0 { writer = Some (longer x (writer_of m.0)); own = w.own } → m'.0 ≡ without_own w → count < LONGEST_LOG
       → WriterStateOk T t' m' places (count + 1) closed lanes
   state_longer T t t' m m' places count closed lanes x w ok same bare grew handed few =
       let q : WriterView B K A = writer_of m.0 in let all = ok.all in

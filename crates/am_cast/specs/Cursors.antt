@@ -1,4 +1,4 @@
--- What a cursor knows, and the items that it has taken.
+-- What a cursor knows, and the items that it has shown.
 use Rattle.std.specs.Prelude.{◌≡◌, ℕ, List, ◌++◌, take, drop, length, true, false}
 use mathlib.Core.List.{IsPrefix}
 use Rattle.am_cast.specs.declared.batch_view.BatchView.{BatchView}
@@ -22,16 +22,19 @@ module _ {T P A : Type 0} where
   -- all that the cursor has shown: the items of the places that it passed, from its start on, and
   -- those of the place in its hand that were shown
   abbrev pub shown_items : CursorView T P A → List T
-  shown_items c = all_items (drop c.lane.start (take c.lane.passed c.lane.front)) ++ take c.shown (items_at c.lane.front c.lane.passed)
+  shown_items c = all_items (drop c.lane.start (take c.lane.passed c.lane.front))
+      ++ take c.shown (items_at c.lane.front c.lane.passed)
 
-  -- it was told that its lane was cut, and has shown what it had in hand
+  -- it has answered that its lane was cut, and has shown what it had in hand
   abbrev pub HasCut : CursorView T P A → Type 0
   HasCut c = (c.lane.cut ≡ true) × (c.lane.held ≡ false)
 
   -- its last look showed the log closed, and it has passed all places
   abbrev pub HasEnded : CursorView T P A → Type 0
-  HasEnded c = (c.lane.told ≡ true) × (c.lane.passed ≡ length c.lane.front) × (c.lane.held ≡ false) × (c.lane.cut ≡ false)
+  HasEnded c = (c.lane.told ≡ true) × (c.lane.passed ≡ length c.lane.front) × (c.lane.held ≡ false)
+      × (c.lane.cut ≡ false)
 
   -- the same lane, admitted once, which has seen as much or more
   abbrev pub GoesOn : CursorView T P A → CursorView T P A → Type 0
-  GoesOn c d = (d.lane.number ≡ c.lane.number) × (d.lane.turn ≡ c.lane.turn) × (d.lane.note ≡ c.lane.note) × (d.lane.start ≡ c.lane.start) × IsPrefix c.lane.front d.lane.front
+  GoesOn c d = (d.lane.number ≡ c.lane.number) × (d.lane.turn ≡ c.lane.turn) × (d.lane.note ≡ c.lane.note)
+      × (d.lane.start ≡ c.lane.start) × IsPrefix c.lane.front d.lane.front

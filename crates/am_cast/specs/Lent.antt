@@ -1,4 +1,5 @@
--- The answers of a `next` that lends.
+-- What an answer of `next` says of the cursor. `Pending`, `Closed` and `Cut` are `Empty`, `Closed` and
+-- `Lagged` of tokio's `broadcast::Receiver::try_recv`, but a cut lane stays cut.
 use Rattle.std.specs.Prelude.{◌≡◌, ◌+◌, ◌-◌, List, [], ◌∷◌, ◌++◌, Some, true, false, length, slice_get}
 use mathlib.Core.List.{IsPrefix}
 use Rattle.am_cast.specs.declared.batch_view.BatchView.{BatchView}
@@ -50,17 +51,19 @@ module _ {T P A : Type 0} where
   Moves c d moved.Closed = IsClosed c d
   Moves c d moved.Cut = IsCut c d
 
+  -- what an answer that lends its item says of the cursor
   abbrev pub Lends : CursorView T P A → CursorView T P A → Step T → Type 0
   Lends c d (step.Item x) = (shown_items d ≡ shown_items c ++ x.now ∷ []) × (HasEnded c → ⊥) × (HasCut c → ⊥)
   Lends c d step.Pending = IsPending c d
   Lends c d step.Closed = IsClosed c d
   Lends c d step.Cut = IsCut c d
 
-  -- where nothing is left, all that the pass knew was seen
+  -- if nothing is left, all that the pass knew was seen
   abbrev pub LendsPast : List (BatchView T P) → CursorView T P A → Step T → Type 0
   LendsPast noted d step.Pending = IsPrefix noted d.lane.front
   LendsPast noted d other = Unit {0}
 
+  -- the same of an answer without its item
   abbrev pub MovesPast : List (BatchView T P) → CursorView T P A → Moved → Type 0
   MovesPast noted d moved.Pending = IsPrefix noted d.lane.front
   MovesPast noted d other = Unit {0}

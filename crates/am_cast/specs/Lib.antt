@@ -4,6 +4,7 @@ pub mod Steps
 pub mod Seats
 pub mod Keys
 pub mod Cursors
+pub mod Lending
 pub mod Lent
 pub mod Writers
 pub mod Posters

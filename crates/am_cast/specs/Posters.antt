@@ -5,12 +5,14 @@ use Rattle.am_cast.specs.declared.batch_view.BatchView.{BatchView}
 use Rattle.am_cast.specs.declared.views.Own.{Own}
 use Rattle.am_cast.specs.declared.views.View.{View}
 
+-- what contracts see of a pass
 pub record PassView (T P : Type 0) : Type 0 where
   -- the log when it was noted last
   pub noted : List (BatchView T P)
-  -- the places that it posted
+  -- the places that it owns: those that it posted, and those of passes that were merged into it
   pub own : List (Own (BatchView T P))
 
 module _ {T P A : Type 0} where
+  -- the pass that a seat with this view is
   abbrev pub pass_view : View (BatchView T P) (KeyView T) A → PassView T P
   pass_view w = record { noted = w.noted; own = w.own }

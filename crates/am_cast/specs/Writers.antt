@@ -1,5 +1,6 @@
--- The writer's numbers, and what it knows between two calls.
+-- What the writer knows between two calls.
 use Rattle.std.specs.Prelude.{◌≡◌, ◌≢◌, ℕ, ◌+◌, ◌/◌, ◌<◌, ◌≤◌, length, None, Bool, true, false}
+use Rattle.am_cast.specs.declared.limits.TheConstants.{LANES}
 use Rattle.am_cast.specs.declared.views.Account.{Account}
 use Rattle.am_cast.specs.declared.views.WriterView.{WriterView}
 use Rattle.am_cast.specs.Rule.{live, cut, vacated}
@@ -12,7 +13,8 @@ pub record IsCalm {K A : Type 0} (n places : ℕ) (b : Account K A) : Type 0 whe
   pub low : b.start ≤ b.known
   pub known : b.known ≤ n
   pub stops : b.stop ≤ n
-  pub live_is : b.stand ≡ live → (b.cleared ≡ b.known) × (b.stop ≡ n) × (n ≤ b.known + places) × (b.half / 2 ≡ b.known) × (b.away ≡ false)
+  pub live_is : b.stand ≡ live → (b.cleared ≡ b.known) × (b.stop ≡ n) × (n ≤ b.known + places)
+      × (b.half / 2 ≡ b.known) × (b.away ≡ false)
   pub rest_is : b.stand ≢ live → b.cleared ≡ b.stop
   pub away_is : b.away ≡ true → (b.stand ≡ cut) × (b.known < n) × (b.known < b.cleared)
 
@@ -20,33 +22,41 @@ pub record IsCalm {K A : Type 0} (n places : ℕ) (b : Account K A) : Type 0 whe
 abbrev pub SameAdmission : {K A : Type 0} → Account K A → Account K A → Type 0
 SameAdmission b c = (c.turn ≡ b.turn) × (c.note ≡ b.note) × (c.start ≡ b.start) × (b.loads ≤ c.loads)
 
--- a lane stands as it stood, but that a live one may be found vacated
+-- a lane stands as before, except that a live one may be found vacated
 abbrev pub StandsOn : {K A : Type 0} → Account K A → Account K A → Type 0
 StandsOn b c = (c.stand ≢ b.stand → (b.stand ≡ live) × (c.stand ≡ vacated))
 
+-- the same admission, and the lane stands on
 abbrev pub StaysAs : {K A : Type 0} → Account K A → Account K A → Type 0
 StaysAs b c = SameAdmission b c × StandsOn b c
 
--- whether the lane was cut between two moments, in a log of n places: only where it was as many places
--- behind as there are
+-- whether the lane was cut between two moments, in a log of n places: only if it was as many places behind as
+-- there are. It is the lag that tokio's `broadcast::Receiver` reports as `Lagged`
 abbrev pub IsCutAs : {K A : Type 0} → ℕ → ℕ → Account K A → Account K A → Bool → Type 0
 IsCutAs n places b c true = (b.stand ≡ live) × (c.stand ≡ cut) × (n ≡ c.known + places)
 IsCutAs n places b c false = StandsOn b c
 
 module _ {B K A : Type 0} where
+  -- each account is as between two calls
   abbrev pub Calm : WriterView B K A → Type 0
-  Calm q = (length q.accounts ≡ 8) × ((l : ℕ) → l < 8 → IsCalm (length q.tail.log) q.tail.places (account_of q l))
+  Calm q = (length q.accounts ≡ LANES) × ((l : ℕ) → l < LANES
+      → IsCalm (length q.tail.log) q.tail.places (account_of q l))
 
   -- the live lanes below k have room for one place more
   abbrev pub HasRoom : WriterView B K A → ℕ → Type 0
-  HasRoom q k = (l : ℕ) → l < k → (account_of q l).stand ≡ live → length q.tail.log < (account_of q l).known + q.tail.places
+  HasRoom q k = (l : ℕ) → l < k → (account_of q l).stand ≡ live
+      → length q.tail.log < (account_of q l).known + q.tail.places
 
+  -- the lane is live, and as many places behind as there are: the test for a full ring of crossbeam's
+  -- `start_send`
   abbrev pub IsBehind : WriterView B K A → ℕ → Type 0
-  IsBehind q l = ((account_of q l).stand ≡ live) × (length q.tail.log ≡ (account_of q l).known + q.tail.places)
+  IsBehind q l = ((account_of q l).stand ≡ live)
+      × (length q.tail.log ≡ (account_of q l).known + q.tail.places)
 
   -- of the lanes below k only what is known has changed, and each live one was looked at
   pub record Harvested (q q' : WriterView B K A) (k : ℕ) : Type 0 where
     pub tail : q'.tail ≡ q.tail
-    pub each : (l : ℕ) → l < 8 → StaysAs (account_of q l) (account_of q' l)
-    pub below : (l : ℕ) → l < k → (account_of q l).stand ≡ live → (account_of q l).loads < (account_of q' l).loads
+    pub each : (l : ℕ) → l < LANES → StaysAs (account_of q l) (account_of q' l)
+    pub below : (l : ℕ) → l < k → (account_of q l).stand ≡ live
+        → (account_of q l).loads < (account_of q' l).loads
     pub above : (l : ℕ) → k ≤ l → account_of q' l ≡ account_of q l

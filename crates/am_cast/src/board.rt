@@ -11,12 +11,12 @@
 //! (`tell`, `hand`, `take_in`, `weigh`): each such load tells that the log which it knew begins the log.
 //!
 //! **Word 16 l + 16, lane l's.** Four times the number of places that the lane has passed, 2 more while the key of the
-//! next place is in its cursor's hand, and 1 more once the lane is cut. The greatest u64 where the lane is idle or has
-//! left. The lane's own seat exchanges it (`take`: plus 2, only where it shows neither), adds to it (`pass`: plus 2, so
+//! next place is in its cursor's hand, and 1 more once the lane is cut. The greatest u64 if the lane is idle or has
+//! left. The lane's own seat exchanges it (`take`: plus 2, only if it shows neither), adds to it (`pass`: plus 2, so
 //! that the hand's bit carries into the number) and stores it (`leave`: the greatest u64); it loads it once (`open`).
-//! The writer stores it once (`admit`), loads it (`harvest`, `recover`, `retire`), and exchanges it where a slow lane is
-//! cut (`cut`: plus 1, only where it is still the word found last). So of a take and a cut one is first, and the other
-//! finds it. Lanes' words stand 128 bytes apart, so that no two share a cache line or a pair of lines.
+//! The writer stores it once (`admit`), loads it (`harvest`, `recover`, `retire`), and exchanges it to cut a slow
+//! lane (`cut`: plus 1, only if it is still the word found last). So of a take and a cut one is first, and the other
+//! finds it. Lanes' words are 128 bytes apart, so that no two share a cache line or a pair of lines.
 //!
 //! **Words 8 to 15.** Nobody stores them. The writer loads word l + 8 at its silent steps on lane l's slots (`fill`,
 //! `clear`), so that the step's word says which lane it is. The line is never dirty.

@@ -1,20 +1,19 @@
-//! A bounded broadcast log: one writer sends batches to up to eight readers, and no lock stands
-//! between them.
+//! A bounded broadcast log without a lock: one writer publishes batches to up to eight subscribers.
+//! It is as tokio's `sync::broadcast`, but a slow subscriber is the writer's choice at each call.
 //!
 //! # Lagging
 //!
-//! Each subscriber reads at its own pace, and none sees another. The log has so many places; a
-//! subscriber that is as many places behind holds the next batch up. What then happens is the
+//! Each subscriber reads at its own pace, and none waits for another. A log has a number of places; a
+//! subscriber that is as many batches behind holds the next batch up. What then happens is the
 //! writer's choice, call by call. `publish` refuses the batch, gives it back, and names the lowest
 //! such lane. `publish_cutting` cuts each such lane: its subscriber still shows the items of the
-//! place that it has in hand, is then told `Cut`, and from then on nothing else. Every other one
-//! goes on as before. A slow subscriber never makes another one miss, repeat or wait for an item,
+//! place that it has in hand, and from then on `next` answers `Cut`. All others go on as before. A slow subscriber never makes another one miss, repeat or wait for an item,
 //! and its memory is kept until it has passed the place in its hand.
 //!
 //! # Closing
 //!
-//! A closed log takes no batch and no subscriber. Those that are there read on to its end, and only
-//! then are told `Closed`, and from then on always. `Pending` means that the log was open at this
+//! A closed log takes no batch and no subscriber. Those that it has read on to its end, and from then
+//! on `next` answers `Closed`. `Pending` means that the log was open at this
 //! very call and that all that was there was shown.
 //!
 //! # Inside
@@ -65,6 +64,7 @@ mod feed;
 mod key_rows;
 pub mod laws;
 mod lends;
+mod limits;
 mod parts;
 mod pass;
 pub mod rule;
@@ -77,6 +77,7 @@ pub use cursor::{Cast, Cursor};
 pub use faults::{AdmitFault, AlreadyClosed, PublishFault, Refused};
 pub use feed::Feed;
 pub use lends::{Moved, Step};
+pub use limits::{LANES, LONGEST_LOG, MAX_PLACES};
 pub use parts::{Begun, Parts, begin, end};
 pub use pass::Pass;
-pub use writer::{LONGEST_LOG, Published, Writer};
+pub use writer::{Published, Writer};

@@ -1,4 +1,4 @@
-//! A token of what a poster has posted, and of how far it knows the log.
+//! A publisher's token: what it has posted, and how far it knows the log.
 ghost use Rattle.std.specs.Prelude.{◌≡◌, ◌<◌, ◌≤◌, ◌++◌, ◌∷◌, [], ℕ, length};
 ghost use mathlib.Core.Option.{some};
 ghost use mathlib.Core.List.{IsPrefix};
@@ -41,7 +41,8 @@ impl<T, P, A, N: Feed> Pass<T, P, A, N> {
         board::note_log(&cast.board.shared, &mut self.seat);
     }
 
-    /// Each own post that the cursor has seen stands at its place there, and the pass knows at least as much as the cursor.
+    /// Each own post that the cursor has seen is at its place there. From then on the pass knows at
+    /// least as much of the log as the cursor.
     pub fn meet(&mut self, cast: &Cast<T, P, A, N>, cursor: &mut Cursor<'_, T, P, A, N>)
         ensures same { (self.new.own ≡ self.old.own) × (cursor.new ≡ cursor.old) }
         ensures own { (k : ℕ) (o : Own (BatchView T P)) → get_elem? self.old.own k ≡ some o

@@ -26,14 +26,14 @@ impl<B, K, A, R: Keyed<B, K>> TableRule<Option<K>, View<B, K, A>, u64> for LogRu
     ghost first = { λ places. first_view places };
 }
 
-/// The table of a log. `B` is what is known of a batch, `K` a key of one, `A` what a subscription notes down.
-pub type Board<B, K, A, R> = Table<Option<K>, View<B, K, A>, u64, LogRule<R>, Global>;
+/// The table of a log of any batches. `B` is what is known of one, `K` a key of it, `A` what a subscription notes down.
+pub type AnyBoard<B, K, A, R> = Table<Option<K>, View<B, K, A>, u64, LogRule<R>, Global>;
 
 /// What the seats share of it.
-pub type Top<B, K, A, R> = Shared<Option<K>, View<B, K, A>, u64, LogRule<R>>;
+pub type AnyTop<B, K, A, R> = Shared<Option<K>, View<B, K, A>, u64, LogRule<R>>;
 
 /// One seat: what it knows, and the slots in its hand.
-pub type LogSeat<B, K, A> = Seat<Option<K>, View<B, K, A>>;
+pub type AnySeat<B, K, A> = Seat<Option<K>, View<B, K, A>>;
 
 /// What a subscription notes down. A caller picks it.
 pub trait Noted<A> {

@@ -1,9 +1,10 @@
-//! The writer of a log. It stands under the lock. Here is what it is and what it answers at once; each of
-//! its calls that take several steps has a file in `writer`.
+//! The writer of a log: its type, and what it answers at once. Each call that takes several steps has a file
+//! in `writer/`, from the public function down to the steps of `board`. Its caller holds it under a lock.
 ghost use mathlib.Core.List.{IsPrefix};
 ghost use Rattle.std.specs.Prelude.{◌↔◌, IsTrue, ◌≡◌, ◌≢◌, ◌<◌, ◌≤◌, true, false, length, ℕ, OnOk, OnErr, IsOk};
+ghost use Rattle.am_cast.specs.declared.limits.TheConstants.{LONGEST_LOG};
 ghost use Rattle.am_cast.specs.declared.batch_view.BatchView.{BatchView};
-ghost use Rattle.am_cast.specs.Rule.{idle, cut, longest_log, Once};
+ghost use Rattle.am_cast.specs.Rule.{idle, cut, Once};
 ghost use Rattle.am_cast.specs.Changes.{AreInLog, shut_tail};
 ghost use Rattle.am_cast.specs.Seats.{account_of};
 ghost use Rattle.am_cast.specs.Writers.{Calm};
@@ -20,13 +21,11 @@ pub(crate) mod state;
 use crate::cursor::Cast;
 use crate::faults::AlreadyClosed;
 use crate::feed::Feed;
+use crate::limits::LANES;
 use crate::pass::Pass;
 use crate::writer::lane_account::Stand;
 use crate::writer::state::WriterState;
 use std::marker::Model;
-
-/// The most places of a log.
-pub const LONGEST_LOG: u64 = 2_251_799_813_685_248;
 
 /// Contracts see it as what it knows of its log.
 pub struct Writer<T, P, A, N: Feed> {
@@ -50,12 +49,12 @@ impl<T, P, A, N: Feed> Model for Writer<T, P, A, N> {
 #[derive(Clone, Copy, Debug, PartialEq, Eq, Drop)]
 pub struct Published {
     pub place: u64,
-    pub cut: [bool; 8],
+    pub cut: [bool; LANES],
 }
 
 impl<T: Drop, P, A, N: Feed> Writer<T, P, A, N> {
     pub fn len(&self) -> u64
-        ensures { (result ≡ length self.now.tail.log) × (result ≤ longest_log) }
+        ensures { (result ≡ length self.now.tail.log) × (result ≤ LONGEST_LOG) }
     {
         self.state.count
     }
@@ -76,10 +75,10 @@ impl<T: Drop, P, A, N: Feed> Writer<T, P, A, N> {
 
     /// Whether no lane is given out. Then the log may be ended.
     pub fn is_idle(&self) -> bool
-        ensures yes { result ≡ true → (l : ℕ) → l < 8 → (account_of self.now l).stand ≡ idle }
-        ensures no { result ≡ false → (l : ℕ) × (l < 8) × ((account_of self.now l).stand ≢ idle) }
+        ensures yes { result ≡ true → (l : ℕ) → l < LANES → (account_of self.now l).stand ≡ idle }
+        ensures no { result ≡ false → (l : ℕ) × (l < LANES) × ((account_of self.now l).stand ≢ idle) }
     {
-        for lane in 0..8 {
+        for lane in 0..LANES {
             if !matches!(self.state.stand(lane), Stand::Idle) {
                 return false;
             }
@@ -89,14 +88,14 @@ impl<T: Drop, P, A, N: Feed> Writer<T, P, A, N> {
 
     /// Whether the lane was cut since it was given out.
     pub fn is_cut(&self, lane: usize) -> bool
-        requires { lane < 8 }
+        requires { lane < LANES }
         ensures yes { result ≡ true → (account_of self.now lane).stand ≡ cut }
         ensures no { result ≡ false → (account_of self.now lane).stand ≢ cut }
     {
         matches!(self.state.stand(lane), Stand::Cut)
     }
 
-    /// What a pass has posted stands in the log, each once.
+    /// Each place that a pass owns is in the log with its batch, and none twice.
     pub fn confirm(&mut self, cast: &Cast<T, P, A, N>, pass: &mut Pass<T, P, A, N>)
         ensures same { self.new ≡ self.old }
         ensures own { pass.new.own ≡ pass.old.own }

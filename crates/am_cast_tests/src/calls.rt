@@ -5,9 +5,9 @@
 
 ghost use Rattle.std.specs.Prelude.{◌≡◌, ◌<◌, length, IfOk};
 
+use crate::log::{Log, begin_log, end_log};
 use am_cast::{
-    Begun, Cast, Cursor, Feed, LONGEST_LOG, Parts, Pass, PublishFault, Refused, Step, Writer,
-    begin, end,
+    Cast, Cursor, Feed, LANES, LONGEST_LOG, Parts, Pass, PublishFault, Refused, Step, Writer,
 };
 use am_segment::SegmentBuilder;
 use am_steps::{Event, Lane, State};
@@ -73,7 +73,7 @@ fn answer_of(step: Step<'_, u64>) -> Result<u64, u8> {
 impl<'a, N: Feed> Both<'a, N> {
     // The writer loads the word of each lane that is given out.
     fn harvest(&mut self) -> Result<(), AllocError> {
-        for lane in 0..8 {
+        for lane in 0..LANES {
             let _made = self.state.apply(Event::Harvest(lane))?;
         }
         Ok(())
@@ -147,7 +147,7 @@ impl<'a, N: Feed> Both<'a, N> {
 
     // The lowest lane that is a place behind, as the writer knows it, and how many it has passed.
     fn full_lane(&self) -> Option<(usize, u64)> {
-        for lane in 0..8 {
+        for lane in 0..LANES {
             if let Some(Lane::Open(record, _)) = self.state.lane(lane) {
                 if !record.cut && record.known.wrapping_add(1) == self.length {
                     return Some((lane, record.known));
@@ -170,7 +170,7 @@ impl<'a, N: Feed> Both<'a, N> {
         match writer.publish_cutting(self.cast, batch, Snapshot::of(&said), pass) {
             Ok(made) => {
                 let mut same = made.place == name;
-                for lane in 0..8 {
+                for lane in 0..LANES {
                     same &= self.state.apply(Event::Cut(lane))? == made.cut[lane];
                 }
                 same &= self.state.apply(Event::Publish(name))?;
@@ -470,16 +470,16 @@ fn run<N: Feed, R: Wait>(
 ) -> Result<bool, AllocError>
     requires { parts.board.shared.table_id ≡ N.table }
 {
-    let Begun {
+    let Log {
         cast,
         mut writer,
-        mut passes,
-    } = begin::<u64, u64, u64, N>(parts, 1)?;
+        mut pass,
+    } = begin_log::<u64, N>(parts)?;
     let log = &cast;
     let mut first = new_reader(alloc);
     let mut second = new_reader(alloc);
-    let same = match (State::new(alloc, 1, 8, 1), passes.pop()) {
-        (Ok(state), Some(mut pass)) => {
+    let same = match State::new(alloc, 1, LANES, 1) {
+        Ok(state) => {
             let mut both = Both {
                 alloc,
                 cast: log,
@@ -495,14 +495,11 @@ fn run<N: Feed, R: Wait>(
                 &mut second,
             )
         }
-        _ => Err(AllocError),
+        Err(error) => Err(error),
     };
     give_back(log, &mut writer, first);
     give_back(log, &mut writer, second);
-    if !writer.is_idle() {
-        for _ in rt.forever() {}
-    }
-    end(cast, writer);
+    end_log(rt, cast, writer);
     same
 }
 

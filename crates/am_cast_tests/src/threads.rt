@@ -3,7 +3,8 @@
 
 ghost use Rattle.std.specs.Prelude.{◌≡◌, ◌<◌, ◌≤◌, length, IfOk};
 
-use am_cast::{Begun, Cast, Cursor, Feed, Parts, Pass, Refused, Step, Writer, begin, end};
+use crate::log::{Log, begin_log, end_log};
+use am_cast::{Cast, Cursor, Feed, Parts, Pass, Refused, Step, Writer};
 use am_segment::SegmentBuilder;
 use std::alloc::{AllocError, Global};
 use std::marker::Brand;
@@ -196,20 +197,13 @@ fn beside<N: Feed + Send + Sync, R: Threads + Wait + Sync>(
 ) -> Result<Run, AllocError>
     requires { parts.board.shared.table_id ≡ N.table }
 {
-    let Begun {
+    let Log {
         cast,
         mut writer,
-        mut passes,
-    } = begin::<u64, u64, u64, N>(parts, 1)?;
-    let run = match passes.pop() {
-        Some(mut pass) => drive(rt, alloc, &cast, &mut writer, &mut pass, load),
-        None => Err(AllocError),
-    };
-    if !writer.is_idle() {
-        // No proof follows the lanes through the threads.
-        for _ in rt.forever() {}
-    }
-    end(cast, writer);
+        mut pass,
+    } = begin_log::<u64, N>(parts)?;
+    let run = drive(rt, alloc, &cast, &mut writer, &mut pass, load);
+    end_log(rt, cast, writer);
     run
 }
 
@@ -309,21 +303,16 @@ fn come_and_go<N: Feed, R: Wait>(
 ) -> Result<bool, AllocError>
     requires { parts.board.shared.table_id ≡ N.table }
 {
-    let Begun {
+    let Log {
         cast,
         mut writer,
-        mut passes,
-    } = begin::<u64, u64, u64, N>(parts, 1)?;
+        mut pass,
+    } = begin_log::<u64, N>(parts)?;
     let mut right = true;
-    if let Some(mut pass) = passes.pop() {
-        for round in 0..rounds {
-            right &= come_once(alloc, &cast, &mut writer, &mut pass, round);
-        }
+    for round in 0..rounds {
+        right &= come_once(alloc, &cast, &mut writer, &mut pass, round);
     }
-    if !writer.is_idle() {
-        for _ in rt.forever() {}
-    }
-    end(cast, writer);
+    end_log(rt, cast, writer);
     Ok(right)
 }
 
@@ -375,23 +364,18 @@ fn race<N: Feed + Send + Sync, R: Threads + Wait + Sync>(
 ) -> Result<bool, AllocError>
     requires { parts.board.shared.table_id ≡ N.table }
 {
-    let Begun {
+    let Log {
         cast,
         mut writer,
-        mut passes,
-    } = begin::<u64, u64, u64, N>(parts, 1)?;
+        mut pass,
+    } = begin_log::<u64, N>(parts)?;
     let mut right = Ok(true);
-    if let Some(mut pass) = passes.pop() {
-        for round in 0..rounds {
-            if right == Ok(true) {
-                right = race_once(rt, alloc, &cast, &mut writer, &mut pass, round);
-            }
+    for round in 0..rounds {
+        if right == Ok(true) {
+            right = race_once(rt, alloc, &cast, &mut writer, &mut pass, round);
         }
     }
-    if !writer.is_idle() {
-        for _ in rt.forever() {}
-    }
-    end(cast, writer);
+    end_log(rt, cast, writer);
     right
 }
 

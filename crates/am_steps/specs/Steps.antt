@@ -91,7 +91,7 @@ module _ {X : Type 0} where
   MayOwn log v None = Unit {0}
   MayOwn log v (Some post) = (slice_get log post.0 ≡ Some post.1) × (Contains v.own post → ⊥)
 
-  -- the own posts with one more, where there is one
+  -- the own posts with one more, if there is one
   abbrev pub with_own : List (ℕ × X) → Option (ℕ × X) → List (ℕ × X)
   with_own own None = own
   with_own own (Some post) = own ++ post ∷ []

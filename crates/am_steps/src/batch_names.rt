@@ -1,7 +1,7 @@
-//! Lists of batches' names: those that a cursor has got, and a poster's own with their places.
+//! Lists of batches: those that a cursor has got, by name, and a poster's own with their places.
 use std::marker::Model;
 
-/// BatchNames of batches in order.
+/// The names of batches, in order.
 #[derive(Drop)]
 pub struct BatchNames<N> {
     pub names: Vec<N>,

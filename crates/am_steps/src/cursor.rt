@@ -1,7 +1,7 @@
 //! What one reader knows: how far it is and what it has got. Its lane decides what it may do.
 use crate::batch_names::BatchNames;
 
-/// What the reader of an open lane has passed, seen and been told.
+/// What the reader of an open lane has passed and seen, and what it has answered.
 #[derive(Drop)]
 pub struct Cursor<N> {
     /// The number of places before it: the place at which it is.

@@ -1,10 +1,11 @@
--- How what the running writer keeps of a lane stands to what its seat knows of it.
+-- How what the running writer keeps of a lane agrees with what its seat knows of it.
 use Rattle.std.specs.Prelude.{◌≡◌, ◌≢◌, ℕ, ◌+◌, ◌*◌, ◌/◌, ◌%◌, ◌≤◌, false}
+use Rattle.am_cast.specs.declared.limits.TheConstants.{LONGEST_LOG}
 use Rattle.am_cast.specs.declared.views.Account.{Account}
 use Rattle.am_cast.specs.declared.writer.lane_account.LaneAccount.{LaneAccount}
 use Rattle.am_cast.specs.declared.writer.lane_account.Stand.{Stand}
 use Rattle.am_cast.specs.declared.writer.lane_account.Stand.TheVariants.{Idle, Live, Cut, Vacated}
-use Rattle.am_cast.specs.Rule.{bit, cut, idle, live, longest_log, vacated}
+use Rattle.am_cast.specs.Rule.{bit, cut, idle, live, vacated}
 
 -- the number of a stand in what contracts see of a lane
 abbrev pub stand_number : Stand → ℕ
@@ -25,4 +26,4 @@ pub record IsKeptAs {K A : Type 0} (b : Account K A) (a : LaneAccount) : Type 0 
   -- a key that was in a cut lane's hand is away
   pub cut_is : b.stand ≡ cut → bit b.away ≡ a.word / 2 % 2
   pub rest_is : b.stand ≢ cut → b.away ≡ false
-  pub bound : a.word ≤ 4 * longest_log + 3
+  pub bound : a.word ≤ 4 * LONGEST_LOG + 3

@@ -1,4 +1,4 @@
--- How a pass stands to its seat.
+-- How a pass agrees with its seat.
 use Rattle.std.specs.Prelude.{◌≡◌, [], None}
 use Rattle.atomic_table.specs.Seated.{TableId}
 use Rattle.am_segment.specs.Segments.{KeyView}

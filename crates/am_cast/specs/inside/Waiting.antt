@@ -1,9 +1,11 @@
--- Which keys are out, and how the rows of keys stand to what the writer knows.
-use Rattle.std.specs.Prelude.{◌≡◌, ℕ, zero, suc, ◌+◌, ◌<◌, ◌≤◌, nat_eq, nat_le, nat_lt, ◌&&◌, ◌||◌, List, length, count_by, Option, Some, None, Bool, false}
+-- Which keys are out, and how the rows of keys agree with what the writer knows.
+use Rattle.std.specs.Prelude.{◌≡◌, ℕ, zero, suc, ◌+◌, ◌<◌, ◌≤◌, nat_eq, nat_le, nat_lt, ◌&&◌, ◌||◌, List}
+use Rattle.std.specs.Prelude.{length, count_by, Option, Some, None, Bool, false}
 use Rattle.std.specs.List.{All}
 use mathlib.Core.Option.{some}
 use lib.ListN.{get_elem?}
 use Rattle.am_segment.specs.Segments.{KeyView}
+use Rattle.am_cast.specs.declared.limits.TheConstants.{LANES}
 use Rattle.am_cast.specs.declared.batch_view.BatchView.{BatchView}
 use Rattle.am_cast.specs.declared.views.Account.{Account}
 use Rattle.am_cast.specs.declared.views.WriterView.{WriterView}
@@ -36,8 +38,10 @@ module _ {T P : Type 0} where
   module _ {A : Type 0} where
     -- the row of the place has its keys that aren't out, and is there as long as one is out
     abbrev pub FitsAt : WriterView (BatchView T P) (KeyView T) A → ℕ → Option (List (KeyView T)) → Type 0
-    FitsAt q i None = (l : ℕ) → l < 8 → is_out (account_of q l) i ≡ false
-    FitsAt q i (Some keys) = (x : BatchView T P) × (get_elem? q.tail.log i ≡ some x) × Gathered x (λ l. is_out (account_of q l) i) 8 keys × (length keys < 8)
+    FitsAt q i None = (l : ℕ) → l < LANES → is_out (account_of q l) i ≡ false
+    FitsAt q i (Some keys) = (x : BatchView T P) × (get_elem? q.tail.log i ≡ some x)
+        × Gathered x (λ l. is_out (account_of q l) i) LANES keys × (length keys < LANES)
 
+    -- the rows have each place's keys that aren't out
     abbrev pub RowsFit : WriterView (BatchView T P) (KeyView T) A → List (BucketView T) → Type 0
     RowsFit q rows = (i : ℕ) → FitsAt q i (row_at rows i)

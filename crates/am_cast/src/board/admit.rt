@@ -1,12 +1,13 @@
 //! A lane is given out.
 ghost use Rattle.std.specs.Prelude.{None, Some, [], false, length, ◌<◌, ◌≡◌, ◌≤◌};
-ghost use Rattle.am_cast.specs.Rule.{idle, longest_log};
+ghost use Rattle.am_cast.specs.declared.limits.TheConstants.{LANES, LONGEST_LOG};
+ghost use Rattle.am_cast.specs.Rule.{idle};
 ghost use Rattle.am_cast.specs.Changes.{given_out, left, new_lane, only_lane, with_account, with_writer};
 ghost use Rattle.am_cast.specs.Changes.{without_lane};
 ghost use Rattle.am_cast.specs.Steps.{Admits};
 ghost use Rattle.am_cast.specs.Seats.{IsSized, IsWriter, account_of, writer_of};
 
-use crate::rule::{Keyed, LogSeat, Noted, Top};
+use crate::rule::{AnySeat, AnyTop, Keyed, Noted};
 use crate::views::View;
 use atomic_table::{Play, Split};
 use std::marker::PhantomData;
@@ -30,17 +31,17 @@ impl<B, K, A> Split<View<B, K, A>> for Deal {
 
 /// The lane begins at the next place. Its seat is cut off from the writer's.
 pub(crate) fn admit_lane<B, K, A, R: Keyed<B, K>, X: Noted<A>>(
-    top: &Top<B, K, A, R>,
-    seat: &mut LogSeat<B, K, A>,
+    top: &AnyTop<B, K, A, R>,
+    seat: &mut AnySeat<B, K, A>,
     lane: usize,
     count: u64,
     tag: &Snapshot<A>,
-) -> LogSeat<B, K, A>
+) -> AnySeat<B, K, A>
     requires tag { X.note ≡ Some tag.now.value }
     requires table { (seat.old.table_id ≡ top.now.table_id) × IsSized top.now.table_id
-        × (lane < 8) × (count ≤ longest_log) }
+        × (lane < LANES) × (count ≤ LONGEST_LOG) }
     requires writer { let q = writer_of seat.old.me.0 in
-        IsWriter seat.old.me q × (length q.accounts ≡ 8) × (q.tail.closed ≡ false)
+        IsWriter seat.old.me q × (length q.accounts ≡ LANES) × (q.tail.closed ≡ false)
         × (count ≡ length q.tail.log) × (seat.old.me.0.lane ≡ None) }
     requires account { let b = account_of (writer_of seat.old.me.0) lane in
         (b.stand ≡ idle) × (b.cleared ≡ b.stop) × (b.out ≡ 0) × (b.laid ≡ None) }

@@ -1,12 +1,13 @@
 //! A lane gives the key in its hand back, and has passed its place.
 ghost use Rattle.std.specs.Prelude.{[], false, true, ◌+◌, ◌<◌, ◌≡◌};
+ghost use Rattle.am_cast.specs.declared.limits.TheConstants.{LANES};
 ghost use Rattle.am_cast.specs.Rule.{cut, slot};
 ghost use Rattle.am_cast.specs.Changes.{with_lane};
 ghost use Rattle.am_cast.specs.Steps.{Passes};
 ghost use Rattle.am_cast.specs.Seats.{HasOut, IsKeyAt, IsLane, IsSized, lane_of};
 
 use crate::board::slot::lay_in;
-use crate::rule::{Keyed, LogSeat, Top};
+use crate::rule::{AnySeat, AnyTop, Keyed};
 use crate::views::View;
 use atomic_table::Play;
 
@@ -18,14 +19,14 @@ impl<B, K, A> Play<Option<K>, View<B, K, A>> for Pass {
 
 /// The key goes home, and its place is passed. Answers whether the lane was cut.
 pub(crate) fn pass_place<B, K, A, R: Keyed<B, K>>(
-    top: &Top<B, K, A, R>,
-    seat: &mut LogSeat<B, K, A>,
+    top: &AnyTop<B, K, A, R>,
+    seat: &mut AnySeat<B, K, A>,
     at: usize,
     key: K,
     lane: usize,
 ) -> bool
     requires table { (seat.old.table_id ≡ top.now.table_id) × IsSized top.now.table_id
-        × (lane < 8) }
+        × (lane < LANES) }
     requires lane { let v = lane_of seat.old.me.0 in
         IsLane seat.old.me v × (lane ≡ v.number) × (at ≡ slot v.places v.number v.passed) }
     requires held { let v = lane_of seat.old.me.0 in

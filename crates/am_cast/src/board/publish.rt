@@ -1,11 +1,12 @@
 //! The writer makes a place.
 ghost use Rattle.std.specs.Prelude.{Some, [], false, length, ℕ, ◌++◌, ◌+◌, ◌<◌, ◌∷◌, ◌≡◌};
-ghost use Rattle.am_cast.specs.Rule.{live, longest_log};
+ghost use Rattle.am_cast.specs.declared.limits.TheConstants.{LONGEST_LOG};
+ghost use Rattle.am_cast.specs.Rule.{live};
 ghost use Rattle.am_cast.specs.Changes.{longer, own_at};
 ghost use Rattle.am_cast.specs.Steps.{Publishes};
 ghost use Rattle.am_cast.specs.Seats.{IsSized, IsWriter, account_of, writer_of};
 
-use crate::rule::{Keyed, LogSeat, NewBatch, Top};
+use crate::rule::{AnySeat, AnyTop, Keyed, NewBatch};
 use crate::views::View;
 use atomic_table::Play;
 use std::marker::PhantomData;
@@ -20,13 +21,13 @@ impl<B, K, A, N: NewBatch<B>> Play<Option<K>, View<B, K, A>> for Publish<N> {
 
 /// The place is there. What the batch is made of is a tag, of any type.
 pub(crate) fn publish_batch<B, K, A, R: Keyed<B, K>, X: NewBatch<B>, E>(
-    top: &Top<B, K, A, R>,
-    seat: &mut LogSeat<B, K, A>,
+    top: &AnyTop<B, K, A, R>,
+    seat: &mut AnySeat<B, K, A>,
     count: u64,
     tag: &E,
 )
     requires table { (seat.old.table_id ≡ top.now.table_id) × IsSized top.now.table_id
-        × (count < longest_log) }
+        × (count < LONGEST_LOG) }
     requires writer { let q = writer_of seat.old.me.0 in
         IsWriter seat.old.me q × (q.tail.closed ≡ false) × (count ≡ length q.tail.log) }
     requires laid { let q = writer_of seat.old.me.0 in (x : B) × (X.batch ≡ Some x) × ((l : ℕ)

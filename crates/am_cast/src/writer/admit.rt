@@ -14,6 +14,7 @@ use crate::board;
 use crate::cursor::{Cast, Cursor};
 use crate::faults::AdmitFault;
 use crate::feed::Feed;
+use crate::limits::LANES;
 use crate::writer::Writer;
 use crate::writer::lane_account::{LaneAccount, Stand};
 use crate::writer::state::WriterState;
@@ -29,7 +30,7 @@ impl<T: Drop, P, A, N: Feed> Writer<T, P, A, N> {
         note: Snapshot<A>,
     ) -> Result<Cursor<'a, T, P, A, N>, AdmitFault>
         ensures tail { self.new.tail ≡ self.old.tail }
-        ensures ok { IfOk result (λ c. (c.lane.number < 8)
+        ensures ok { IfOk result (λ c. (c.lane.number < LANES)
             × ((account_of self.old c.lane.number).stand ≡ idle) × ((m : ℕ) → m < c.lane.number
             → (account_of self.old m).stand ≢ idle)
             × (c ≡ as_cursor (opened (new_lane (Some note.value) c.lane.number self.old.tail (account_of self.old c.lane.number))))) }
@@ -56,11 +57,11 @@ impl<T: Drop, P, A, N: Feed> Writer<T, P, A, N> {
 impl<T: Drop, P, A, N: Feed> WriterState<T, P, A, N> {
     /// The lowest lane that is idle.
     pub(crate) fn idle_lane(&self) -> Option<usize>
-        ensures some { IfSome result (λ l. (l < 8) × ((account_of self.now.known l).stand ≡ idle)
+        ensures some { IfSome result (λ l. (l < LANES) × ((account_of self.now.known l).stand ≡ idle)
             × ((m : ℕ) → m < l → (account_of self.now.known m).stand ≢ idle)) }
-        ensures none { IfNone result ((m : ℕ) → m < 8 → (account_of self.now.known m).stand ≢ idle) }
+        ensures none { IfNone result ((m : ℕ) → m < LANES → (account_of self.now.known m).stand ≢ idle) }
     {
-        for lane in 0..8 {
+        for lane in 0..LANES {
             if matches!(self.lanes[lane].stand, Stand::Idle) {
                 return Some(lane);
             }
@@ -75,7 +76,7 @@ impl<T: Drop, P, A, N: Feed> WriterState<T, P, A, N> {
         lane: usize,
         note: &Snapshot<A>,
     ) -> Cursor<'a, T, P, A, N>
-        requires { (lane < 8) × Calm self.old.known
+        requires { (lane < LANES) × Calm self.old.known
             × ((account_of self.old.known lane).stand ≡ idle) × (self.old.known.tail.closed ≡ false) }
         ensures writer { OneAccount self.old self.new lane (given_out (Some note.now.value) (length self.old.known.tail.log) (account_of self.old.known lane)) }
         ensures cursor { result ≡ as_cursor (opened (new_lane (Some note.now.value) lane self.old.known.tail (account_of self.old.known lane))) }

@@ -15,10 +15,11 @@ use crate::board;
 use crate::cursor::Cast;
 use crate::faults::{PublishFault, Refused};
 use crate::feed::Feed;
+use crate::limits::{LANES, LONGEST_LOG};
 use crate::pass::Pass;
 use crate::writer::lane_account::Stand;
 use crate::writer::state::WriterState;
-use crate::writer::{LONGEST_LOG, Published, Writer};
+use crate::writer::{Published, Writer};
 use am_segment::SegmentBuilder;
 use std::snapshot::Snapshot;
 
@@ -36,17 +37,17 @@ impl<T: Drop, P, A, N: Feed> Writer<T, P, A, N> {
             × ((x : BatchView T P) × (x.post ≡ post.value) × (batch_items x ≡ batch.items)
             × (self.new.tail ≡ longer_tail x self.old.tail)
             × (pass.new.own ≡ pass.old.own ++ own_at r.place x ∷ []))) }
-        ensures cut { IfOk result (λ r. (l : ℕ) → l < 8
+        ensures cut { IfOk result (λ r. (l : ℕ) → l < LANES
             → IsCutAs (length self.old.tail.log) self.old.tail.places (account_of self.old l) (account_of self.new l) (slice_index_or r.cut l false)) }
         ensures known { OnOk result (AreInLog pass.new.own pass.new.noted
             × IsPrefix pass.old.noted pass.new.noted) }
-        ensures lanes { (l : ℕ) → l < 8
+        ensures lanes { (l : ℕ) → l < LANES
             → SameAdmission (account_of self.old l) (account_of self.new l) }
-        ensures loads { (l : ℕ) → l < 8 → (account_of self.old l).stand ≡ live
+        ensures loads { (l : ℕ) → l < LANES → (account_of self.old l).stand ≡ live
             → (account_of self.old l).loads < (account_of self.new l).loads }
 
         ensures err { OnErr result ((self.new.tail ≡ self.old.tail) × (pass.new ≡ pass.old)
-            × ((l : ℕ) → l < 8 → StaysAs (account_of self.old l) (account_of self.new l))) }
+            × ((l : ℕ) → l < LANES → StaysAs (account_of self.old l) (account_of self.new l))) }
         ensures refused { IfErr result (λ e. (e.batch ≡ batch) × IsCutRefusal self.old e.fault) }
     {
         self.state.harvest(cast);
@@ -78,19 +79,19 @@ impl<T: Drop, P, A, N: Feed> Writer<T, P, A, N> {
 
 impl<T: Drop, P, A, N: Feed> WriterState<T, P, A, N> {
     /// Each lane has room for one place more, or gets no key. Answers which lanes were cut.
-    pub(crate) fn make_all_room(&mut self, cast: &Cast<T, P, A, N>) -> [bool; 8]
+    pub(crate) fn make_all_room(&mut self, cast: &Cast<T, P, A, N>) -> [bool; LANES]
         requires { Calm self.old.known }
         ensures calm { Calm self.new.known }
         ensures tail { self.new.known.tail ≡ self.old.known.tail }
-        ensures room { HasRoom self.new.known 8 }
+        ensures room { HasRoom self.new.known LANES }
         ensures rows { KeepsRoom self.old.rows self.new.rows }
-        ensures same { (l : ℕ) → l < 8
+        ensures same { (l : ℕ) → l < LANES
             → SameAdmission (account_of self.old.known l) (account_of self.new.known l) }
-        ensures cut { (l : ℕ) → l < 8
+        ensures cut { (l : ℕ) → l < LANES
             → IsCutAs (length self.old.known.tail.log) self.old.known.tail.places (account_of self.old.known l) (account_of self.new.known l) (slice_index_or result l false) }
     {
-        let mut lanes = [false; 8];
-        for lane in 0..8 {
+        let mut lanes = [false; LANES];
+        for lane in 0..LANES {
             lanes[lane] = self.make_room(cast, lane);
         }
         lanes
@@ -98,7 +99,7 @@ impl<T: Drop, P, A, N: Feed> WriterState<T, P, A, N> {
 
     /// After it the lane has room for one place more, or gets no key. Answers whether it was cut.
     fn make_room(&mut self, cast: &Cast<T, P, A, N>, lane: usize) -> bool
-        requires { (lane < 8) × Calm self.old.known }
+        requires { (lane < LANES) × Calm self.old.known }
         ensures only { OnlyAccount self.old self.new lane (account_of self.new.known lane) }
         ensures rows { KeepsRoom self.old.rows self.new.rows }
         ensures calm { IsCalm (length self.old.known.tail.log) self.old.known.tail.places (account_of self.new.known lane) }
@@ -116,7 +117,7 @@ impl<T: Drop, P, A, N: Feed> WriterState<T, P, A, N> {
 
     // A lane whose word was `word` has room for one place more, or is cut by one of two exchanges.
     fn cut_or_move(&mut self, cast: &Cast<T, P, A, N>, lane: usize, word: u64) -> bool
-        requires calm { (lane < 8) × Calm self.old.known }
+        requires calm { (lane < LANES) × Calm self.old.known }
         requires word { (word < gone) × IsBehind self.old.known lane
             × (word / 4 ≡ (account_of self.old.known lane).known)
             × (word / 2 ≡ (account_of self.old.known lane).half) × (word % 2 ≡ 0) }
@@ -142,9 +143,10 @@ impl<T: Drop, P, A, N: Feed> WriterState<T, P, A, N> {
         last == next
     }
 
-    // One exchange on the word of a lane that is as far behind as may be, and its keys that are free then are taken out.
+    // One exchange on the word of a lane that is as far behind as may be. The keys that are free then come
+    // home.
     fn cut_once(&mut self, cast: &Cast<T, P, A, N>, lane: usize, word: u64) -> u64
-        requires calm { (lane < 8) × Calm self.old.known }
+        requires calm { (lane < LANES) × Calm self.old.known }
         requires word { (word < gone) × IsBehind self.old.known lane
             × (word / 4 ≡ (account_of self.old.known lane).known)
             × (word / 2 ≡ (account_of self.old.known lane).half) }
@@ -180,7 +182,7 @@ impl<T: Drop, P, A, N: Feed> WriterState<T, P, A, N> {
 
     // The lane is cut, if its word is still `word`. Answers the word that was found.
     fn sever(&mut self, cast: &Cast<T, P, A, N>, lane: usize, word: u64) -> u64
-        requires account { let b = account_of self.old.known lane in (lane < 8) × (word < gone)
+        requires account { let b = account_of self.old.known lane in (lane < LANES) × (word < gone)
             × IsBehind self.old.known lane
             × IsCalm (length self.old.known.tail.log) self.old.known.tail.places b
             × (word / 4 ≡ b.known) × (word / 2 ≡ b.half) }

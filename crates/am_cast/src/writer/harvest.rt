@@ -10,6 +10,7 @@ ghost use Rattle.am_cast.specs.inside.WriterStates.{OneAccount, OnlyAccount};
 use crate::board;
 use crate::cursor::Cast;
 use crate::feed::Feed;
+use crate::limits::LANES;
 use crate::writer::Writer;
 use crate::writer::lane_account::Stand;
 use crate::writer::state::WriterState;
@@ -18,11 +19,11 @@ impl<T: Drop, P, A, N: Feed> Writer<T, P, A, N> {
     /// Loads each live lane's word, and ends the segments that all lanes have passed. Answers the
     /// lane that a publish would name as full.
     pub fn harvest(&mut self, cast: &Cast<T, P, A, N>) -> Option<(usize, u64)>
-        ensures harvested { Harvested self.old self.new 8 }
+        ensures harvested { Harvested self.old self.new LANES }
 
-        ensures full { IfSome result (λ r. (r.0 < 8) × (r.1 ≡ (account_of self.new r.0).known)
+        ensures full { IfSome result (λ r. (r.0 < LANES) × (r.1 ≡ (account_of self.new r.0).known)
             × IsBehind self.new r.0 × HasRoom self.new r.0) }
-        ensures room { IfNone result (HasRoom self.new 8) }
+        ensures room { IfNone result (HasRoom self.new LANES) }
     {
         self.state.harvest(cast);
         match self.state.full_lane() {
@@ -37,16 +38,17 @@ impl<T: Drop, P, A, N: Feed> WriterState<T, P, A, N> {
     pub(crate) fn harvest(&mut self, cast: &Cast<T, P, A, N>)
         requires { Calm self.old.known }
         ensures calm { Calm self.new.known }
-        ensures same { Harvested self.old.known self.new.known 8 }
+        ensures same { Harvested self.old.known self.new.known LANES }
     {
-        for lane in 0..8 {
+        for lane in 0..LANES {
             self.harvest_lane(cast, lane);
         }
     }
 
-    /// Loads the lane's word, where that may tell something, and takes out the keys that it has passed. Answers the word, or the greatest u64.
+    /// Loads the lane's word if the lane is given out, and takes out the keys that it has passed. Answers the
+    /// word, or the greatest u64.
     pub(crate) fn harvest_lane(&mut self, cast: &Cast<T, P, A, N>, lane: usize) -> u64
-        requires { (lane < 8) × Calm self.old.known }
+        requires { (lane < LANES) × Calm self.old.known }
         ensures only { OnlyAccount self.old self.new lane (account_of self.new.known lane) }
         ensures calm { IsCalm (length self.old.known.tail.log) self.old.known.tail.places (account_of self.new.known lane) }
         ensures account { let b = account_of self.old.known lane in
@@ -64,7 +66,7 @@ impl<T: Drop, P, A, N: Feed> WriterState<T, P, A, N> {
 
     /// Loads the word of a live lane, and takes out the keys that it has passed. Answers the word.
     pub(crate) fn harvest_live(&mut self, cast: &Cast<T, P, A, N>, lane: usize) -> u64
-        requires { (lane < 8) × Calm self.old.known
+        requires { (lane < LANES) × Calm self.old.known
             × ((account_of self.old.known lane).stand ≡ live) }
         ensures only { OnlyAccount self.old self.new lane (account_of self.new.known lane) }
         ensures calm { IsCalm (length self.old.known.tail.log) self.old.known.tail.places (account_of self.new.known lane) }
@@ -88,7 +90,7 @@ impl<T: Drop, P, A, N: Feed> WriterState<T, P, A, N> {
 
     /// Loads the lane's word, and answers it.
     pub(crate) fn load(&mut self, cast: &Cast<T, P, A, N>, lane: usize) -> u64
-        requires { (lane < 8) × ((account_of self.old.known lane).stand ≡ live)
+        requires { (lane < LANES) × ((account_of self.old.known lane).stand ≡ live)
             × ((account_of self.old.known lane).laid ≡ None)
             × ((account_of self.old.known lane).away ≡ false) }
         ensures gone { result ≡ gone
@@ -110,7 +112,7 @@ impl<T: Drop, P, A, N: Feed> WriterState<T, P, A, N> {
 
     /// Looks whether the key of a cut lane is back, and then takes it out.
     pub(crate) fn harvest_cut(&mut self, cast: &Cast<T, P, A, N>, lane: usize)
-        requires { (lane < 8) × Calm self.old.known × ((account_of self.old.known lane).away ≡ true) }
+        requires { (lane < LANES) × Calm self.old.known × ((account_of self.old.known lane).away ≡ true) }
         ensures only { OnlyAccount self.old self.new lane (account_of self.new.known lane) }
         ensures calm { IsCalm (length self.old.known.tail.log) self.old.known.tail.places (account_of self.new.known lane) }
         ensures account { let b = account_of self.old.known lane in
@@ -124,7 +126,7 @@ impl<T: Drop, P, A, N: Feed> WriterState<T, P, A, N> {
 
     /// A look at a cut lane whose key is away. Answers whether it is back.
     pub(crate) fn recover(&mut self, cast: &Cast<T, P, A, N>, lane: usize) -> bool
-        requires { let b = account_of self.old.known lane in (lane < 8) × (b.stand ≡ cut)
+        requires { let b = account_of self.old.known lane in (lane < LANES) × (b.stand ≡ cut)
             × (b.away ≡ true) × (b.cleared ≡ b.stop) × (b.out ≡ 0) }
         ensures back { let b = account_of self.old.known lane in
             let c = account_of self.new.known lane in result ≡ true
@@ -144,11 +146,11 @@ impl<T: Drop, P, A, N: Feed> WriterState<T, P, A, N> {
     /// The lowest lane that is as far behind as may be.
     pub(crate) fn full_lane(&self) -> Option<usize>
         requires { Calm self.now.known }
-        ensures none { IfNone result (HasRoom self.now.known 8) }
-        ensures some { IfSome result (λ l. (l < 8) × IsBehind self.now.known l
+        ensures none { IfNone result (HasRoom self.now.known LANES) }
+        ensures some { IfSome result (λ l. (l < LANES) × IsBehind self.now.known l
             × HasRoom self.now.known l) }
     {
-        for lane in 0..8 {
+        for lane in 0..LANES {
             if self.is_live(lane) && self.is_behind(lane) {
                 return Some(lane);
             }

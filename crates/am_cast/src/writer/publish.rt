@@ -3,7 +3,7 @@
 ghost use mathlib.Core.List.{IsPrefix};
 ghost use Rattle.std.specs.Prelude.{◌≡◌, ◌≢◌, ◌+◌, ◌<◌, ◌≤◌, false, length, None, Some, [], ℕ, IfOk, ◌++◌, ◌∷◌, IfErr, OnOk, OnErr};
 ghost use Rattle.am_cast.specs.declared.batch_view.BatchView.{BatchView};
-ghost use Rattle.am_cast.specs.Rule.{live, longest_log};
+ghost use Rattle.am_cast.specs.Rule.{live};
 ghost use Rattle.am_cast.specs.Changes.{longer_tail, back, laying, longer, both_of, AreInLog, own_at};
 ghost use Rattle.am_cast.specs.Seats.{account_of};
 ghost use Rattle.am_cast.specs.Keys.{batch_items, key_of};
@@ -21,10 +21,11 @@ use crate::cursor::Cast;
 use crate::faults::{PublishFault, Refused};
 use crate::feed::Feed;
 use crate::key_rows::Row;
+use crate::limits::{LANES, LONGEST_LOG};
 use crate::pass::Pass;
 use crate::tag::{Tag, tag_batch};
+use crate::writer::Writer;
 use crate::writer::state::WriterState;
-use crate::writer::{LONGEST_LOG, Writer};
 use am_segment::{KeyRun, SegKey, SegmentBuilder};
 use std::alloc::AllocError;
 use std::marker::Brand;
@@ -47,8 +48,8 @@ impl<T: Drop, P, A, N: Feed> Writer<T, P, A, N> {
             × (pass.new.own ≡ pass.old.own ++ own_at place x ∷ []))) }
         ensures known { OnOk result (AreInLog pass.new.own pass.new.noted
             × IsPrefix pass.old.noted pass.new.noted) }
-        ensures lanes { (l : ℕ) → l < 8 → StaysAs (account_of self.old l) (account_of self.new l) }
-        ensures loads { (l : ℕ) → l < 8 → (account_of self.old l).stand ≡ live
+        ensures lanes { (l : ℕ) → l < LANES → StaysAs (account_of self.old l) (account_of self.new l) }
+        ensures loads { (l : ℕ) → l < LANES → (account_of self.old l).stand ≡ live
             → (account_of self.old l).loads < (account_of self.new l).loads }
 
         ensures err { OnErr result ((self.new.tail ≡ self.old.tail) × (pass.new ≡ pass.old)) }
@@ -83,8 +84,8 @@ impl<T: Drop, P, A, N: Feed> Writer<T, P, A, N> {
         }
     }
 
-    /// As `publish` where `harvest` has just answered that no lane is full: the lanes aren't looked at
-    /// again, and want of memory alone refuses the batch.
+    /// As `publish`, after a `harvest` that answered that no lane is full: the lanes aren't looked at
+    /// again, and only a lack of memory refuses the batch.
     pub fn publish_harvested(
         &mut self,
         cast: &Cast<T, P, A, N>,
@@ -93,14 +94,14 @@ impl<T: Drop, P, A, N: Feed> Writer<T, P, A, N> {
         pass: &mut Pass<T, P, A, N>,
     ) -> Result<u64, SegmentBuilder<T>>
         requires some { 0 < length batch.items }
-        requires room { IsOpen self.old × HasRoom self.old 8 }
+        requires room { IsOpen self.old × HasRoom self.old LANES }
         ensures ok { IfOk result (λ place. (place ≡ length self.old.tail.log)
             × ((x : BatchView T P) × (x.post ≡ post.value) × (batch_items x ≡ batch.items)
             × (self.new.tail ≡ longer_tail x self.old.tail)
             × (pass.new.own ≡ pass.old.own ++ own_at place x ∷ []))) }
         ensures known { OnOk result (AreInLog pass.new.own pass.new.noted
             × IsPrefix pass.old.noted pass.new.noted) }
-        ensures lanes { (l : ℕ) → l < 8 → StaysAs (account_of self.old l) (account_of self.new l) }
+        ensures lanes { (l : ℕ) → l < LANES → StaysAs (account_of self.old l) (account_of self.new l) }
 
         ensures err { OnErr result ((self.new ≡ self.old) × (pass.new ≡ pass.old)) }
         ensures refused { IfErr result (λ back. back ≡ batch) }
@@ -135,13 +136,13 @@ impl<T: Drop, P, A, N: Feed> WriterState<T, P, A, N> {
         to: &mut LogSeat<T, P, A>,
     )
         requires writer { (self.old.known.tail.closed ≡ false)
-            × (length self.old.known.tail.log < longest_log) × Calm self.old.known × HasRoom self.old.known 8 }
+            × (length self.old.known.tail.log < LONGEST_LOG) × Calm self.old.known × HasRoom self.old.known LANES }
         requires batch { 0 < length batch.items }
         requires row { (row ≡ record { place = length self.old.known.tail.log; keys = [] })
             × (1 ≤ (bucket_of self.old.rows row.place).room) }
         requires to { to.old.table_id ≡ N.table }
         ensures calm { Calm self.new.known }
-        ensures same { (l : ℕ) → l < 8
+        ensures same { (l : ℕ) → l < LANES
             → SameAdmission (account_of self.old.known l) (account_of self.new.known l)
             × ((account_of self.new.known l).stand ≡ (account_of self.old.known l).stand)
             × ((account_of self.new.known l).known ≡ (account_of self.old.known l).known) }
@@ -150,7 +151,7 @@ impl<T: Drop, P, A, N: Feed> WriterState<T, P, A, N> {
             × (to.new.table_id ≡ to.old.table_id) × (to.new.me.1 ≡ to.old.me.1)
             × (to.new.me.0 ≡ both_of to.old.me.0 (owner_of (length self.old.known.tail.log) x)) }
     {
-        let (first, rest) = batch.hand_out(8).next();
+        let (first, rest) = batch.hand_out(LANES).next();
         let Some(rest) = rest else { unreachable!() };
         let tag = tag_batch(&first, post);
         let row = self.fill(cast, &tag, first, rest, row);
@@ -166,18 +167,18 @@ impl<T: Drop, P, A, N: Feed> WriterState<T, P, A, N> {
         rest: KeyRun<T>,
         row: Row<T>,
     ) -> Row<T>
-        requires writer { Calm self.old.known × HasRoom self.old.known 8 }
+        requires writer { Calm self.old.known × HasRoom self.old.known LANES }
         requires keys { (first ≡ key_of (batch_of_tag tag.now) 0)
             × (rest ≡ key_of (batch_of_tag tag.now) 1) × (row.keys ≡ []) }
-        ensures writer { FilledTo key_of self.old.known (batch_of_tag tag.now) 8 self.new.known }
+        ensures writer { FilledTo key_of self.old.known (batch_of_tag tag.now) LANES self.new.known }
         ensures rows { self.new.rows ≡ self.old.rows }
         ensures row { (result.place ≡ row.place) × Gathered (batch_of_tag tag.now) (λ l.
-            is_live (account_of self.old.known l)) 8 result.keys }
+            is_live (account_of self.old.known l)) LANES result.keys }
     {
         let mut row = row;
         self.put_key(cast, 0, first, &mut row);
         let mut rest = Some(rest);
-        for lane in 1..8 {
+        for lane in 1..LANES {
             let Some(run) = rest else { unreachable!() };
             let (key, others) = run.next();
             rest = others;
@@ -187,12 +188,12 @@ impl<T: Drop, P, A, N: Feed> WriterState<T, P, A, N> {
         row
     }
 
-    // The lane's key of the next place goes into its slot, where the lane is live, or else into the place's row.
+    // The lane's key of the next place goes into its slot if the lane is live, or else into the place's row.
     fn put_key(&mut self, cast: &Cast<T, P, A, N>, lane: usize, key: SegKey<T>, row: &mut Row<T>)
-        requires account { let b = account_of self.old.known lane in (lane < 8) × (b.stand ≡ live
+        requires account { let b = account_of self.old.known lane in (lane < LANES) × (b.stand ≡ live
             → (b.out ≡ 0) × (b.laid ≡ None) × (b.stop ≡ length self.old.known.tail.log)
             × (b.stop < b.cleared + self.old.known.tail.places)) }
-        requires row { length row.old.keys < 8 }
+        requires row { length row.old.keys < LANES }
         ensures same { (self.new.rows ≡ self.old.rows) × (row.new.place ≡ row.old.place) }
         ensures live { (account_of self.old.known lane).stand ≡ live
             → OneAccount self.old self.new lane (laying key (account_of self.old.known lane))
@@ -209,7 +210,7 @@ impl<T: Drop, P, A, N: Feed> WriterState<T, P, A, N> {
 
     /// The key goes into the lane's slot of the next place.
     pub(crate) fn fill_one(&mut self, cast: &Cast<T, P, A, N>, lane: usize, key: SegKey<T>)
-        requires account { (lane < 8) × ((account_of self.old.known lane).stand ≡ live)
+        requires account { (lane < LANES) × ((account_of self.old.known lane).stand ≡ live)
             × ((account_of self.old.known lane).out ≡ 0)
             × ((account_of self.old.known lane).laid ≡ None) }
         requires space { let b = account_of self.old.known lane in
@@ -230,10 +231,10 @@ impl<T: Drop, P, A, N: Feed> WriterState<T, P, A, N> {
         to: &mut LogSeat<T, P, A>,
     )
         requires writer { (self.old.known.tail.closed ≡ false)
-            × (length self.old.known.tail.log < longest_log)
+            × (length self.old.known.tail.log < LONGEST_LOG)
             × AllLaid key_of self.old.known (batch_of_tag tag.now) × AreReady self.old.known }
         requires row { (row.place ≡ length self.old.known.tail.log)
-            × Gathered (batch_of_tag tag.now) (λ l. is_live (account_of self.old.known l)) 8 row.keys
+            × Gathered (batch_of_tag tag.now) (λ l. is_live (account_of self.old.known l)) LANES row.keys
             × (1 ≤ (bucket_of self.old.rows row.place).room) }
         requires to { to.old.table_id ≡ N.table }
         ensures writer { self.new.known ≡ longer (batch_of_tag tag.now) self.old.known }

@@ -1,6 +1,7 @@
 //! Retiring, from the call down to the steps: a lane's seat comes home, and its keys with it.
 ghost use mathlib.Core.List.{IsPrefix};
 ghost use Rattle.std.specs.Prelude.{◌≡◌, ◌≢◌, ◌+◌, ◌<◌, false, length, None, Some, [], ℕ, drop};
+ghost use Rattle.am_cast.specs.declared.limits.TheConstants.{LANES};
 ghost use Rattle.am_cast.specs.Rule.{idle, live, Sound};
 ghost use Rattle.am_cast.specs.Changes.{retired, left};
 ghost use Rattle.am_cast.specs.Seats.{account_of, lane_of};
@@ -21,7 +22,7 @@ impl<T: Drop, P, A, N: Feed> Writer<T, P, A, N> {
     /// The cursor leaves, whatever it hasn't passed, and its lane is idle.
     pub fn retire(&mut self, cast: &Cast<T, P, A, N>, cursor: Cursor<'_, T, P, A, N>)
         ensures tail { self.new.tail ≡ self.old.tail }
-        ensures lane { (cursor.entry.lane.number < 8)
+        ensures lane { (cursor.entry.lane.number < LANES)
             × ((account_of self.new cursor.entry.lane.number).stand ≡ idle) }
         ensures others { (m : ℕ) → m ≢ cursor.entry.lane.number
             → account_of self.new m ≡ account_of self.old m }
@@ -48,7 +49,7 @@ impl<T: Drop, P, A, N: Feed> WriterState<T, P, A, N> {
         lane: usize,
         other: LogSeat<T, P, A>,
     )
-        requires calm { (lane < 8) × Calm self.old.known
+        requires calm { (lane < LANES) × Calm self.old.known
             × ((account_of self.old.known lane).stand ≡ live) }
         requires other { (other.table_id ≡ N.table) × (other.me.1 ≡ [])
             × (other.me.0.writer ≡ None) × (other.me.0.own ≡ []) }
@@ -70,7 +71,7 @@ impl<T: Drop, P, A, N: Feed> WriterState<T, P, A, N> {
         lane: usize,
         other: LogSeat<T, P, A>,
     )
-        requires calm { (lane < 8) × Calm self.old.known
+        requires calm { (lane < LANES) × Calm self.old.known
             × ((account_of self.old.known lane).stand ≢ live) }
         requires other { (other.table_id ≡ N.table) × (other.me.1 ≡ [])
             × (other.me.0.writer ≡ None) × (other.me.0.own ≡ []) }
@@ -91,7 +92,7 @@ impl<T: Drop, P, A, N: Feed> WriterState<T, P, A, N> {
 
     // The lane's seat comes home.
     fn take_home(&mut self, cast: &Cast<T, P, A, N>, lane: usize, other: LogSeat<T, P, A>)
-        requires calm { (lane < 8) × Calm self.old.known }
+        requires calm { (lane < LANES) × Calm self.old.known }
         requires other { (other.table_id ≡ N.table) × (other.me.1 ≡ [])
             × (other.me.0.writer ≡ None) × (other.me.0.own ≡ []) }
         requires lane { let v = lane_of other.me.0 in (other.me.0.lane ≡ Some v)

@@ -1,8 +1,9 @@
 //! What a writer keeps: its seat at the table, the keys that came home, and one account for each lane.
-//! What several calls need of it stands here; the files beside it have a call each.
+//! Here is what several calls need; each of the other files has one call.
 ghost use mathlib.Core.List.{IsPrefix};
 ghost use Rattle.std.specs.Prelude.{◌≡◌, ◌≢◌, ◌+◌, ◌<◌, ◌≤◌, true, false, length, None};
-ghost use Rattle.am_cast.specs.Rule.{live, longest_log};
+ghost use Rattle.am_cast.specs.declared.limits.TheConstants.{LONGEST_LOG};
+ghost use Rattle.am_cast.specs.Rule.{live};
 ghost use Rattle.am_cast.specs.Changes.{clearing, shut};
 ghost use Rattle.am_cast.specs.Seats.{account_of, IsPast};
 ghost use Rattle.am_cast.specs.Writers.{Calm, IsBehind};
@@ -15,6 +16,7 @@ use crate::board;
 use crate::cursor::Cast;
 use crate::feed::Feed;
 use crate::key_rows::KeyRows;
+use crate::limits::LANES;
 use crate::writer::lane_account::{LaneAccount, Stand};
 use std::alloc::Global;
 use std::marker::{Model, PhantomData};
@@ -27,7 +29,7 @@ pub(crate) struct WriterState<T, P, A, N: Feed> {
     pub(crate) places: u64,
     pub(crate) count: u64,
     pub(crate) closed: bool,
-    pub(crate) lanes: [LaneAccount; 8],
+    pub(crate) lanes: [LaneAccount; LANES],
     pub(crate) of: PhantomData<N>,
 }
 
@@ -48,14 +50,14 @@ impl<T, P, A, N: Feed> Model for WriterState<T, P, A, N> {
 impl<T: Drop, P, A, N: Feed> WriterState<T, P, A, N> {
     /// How the writer has the lane stand.
     pub(crate) fn stand(&self, lane: usize) -> Stand
-        requires { lane < 8 }
+        requires { lane < LANES }
         ensures { stand_number result ≡ (account_of self.now.known lane).stand }
     {
         self.lanes[lane].stand
     }
 
     pub(crate) fn is_live(&self, lane: usize) -> bool
-        requires { lane < 8 }
+        requires { lane < LANES }
         ensures yes { result ≡ true → (account_of self.now.known lane).stand ≡ live }
         ensures no { result ≡ false → (account_of self.now.known lane).stand ≢ live }
     {
@@ -63,7 +65,7 @@ impl<T: Drop, P, A, N: Feed> WriterState<T, P, A, N> {
     }
 
     pub(crate) fn is_away(&self, lane: usize) -> bool
-        requires { lane < 8 }
+        requires { lane < LANES }
         ensures yes { result ≡ true → (account_of self.now.known lane).away ≡ true }
         ensures no { result ≡ false → (account_of self.now.known lane).away ≡ false }
     {
@@ -71,7 +73,7 @@ impl<T: Drop, P, A, N: Feed> WriterState<T, P, A, N> {
     }
 
     pub(crate) fn is_behind(&self, lane: usize) -> bool
-        requires { (lane < 8) × Calm self.now.known
+        requires { (lane < LANES) × Calm self.now.known
             × ((account_of self.now.known lane).stand ≡ live) }
         ensures yes { result ≡ true → IsBehind self.now.known lane }
         ensures no { result ≡ false
@@ -81,18 +83,18 @@ impl<T: Drop, P, A, N: Feed> WriterState<T, P, A, N> {
     }
 
     pub(crate) fn known_of(&self, lane: usize) -> u64
-        requires { lane < 8 }
-        ensures { (result ≡ (account_of self.now.known lane).known) × (result ≤ longest_log)
+        requires { lane < LANES }
+        ensures { (result ≡ (account_of self.now.known lane).known) × (result ≤ LONGEST_LOG)
             × (0 < self.now.known.tail.places) }
     {
         self.lanes[lane].known()
     }
 
-    /// The lane's key of the place `place`, which it has passed, goes to the others of its place.
+    /// The lane's key of the place, which it has passed, joins the others of its place.
     fn bring_one(&mut self, cast: &Cast<T, P, A, N>, lane: usize, place: u64)
-        requires { let b = account_of self.old.known lane in (lane < 8) × (place ≡ b.cleared)
+        requires { let b = account_of self.old.known lane in (lane < LANES) × (place ≡ b.cleared)
             × (place < length self.old.known.tail.log) × IsPast b × (b.out ≡ 0) × (place < b.stop)
-            × (b.away ≡ true → b.known < b.cleared) × (length self.old.known.accounts ≡ 8) }
+            × (b.away ≡ true → b.known < b.cleared) × (length self.old.known.accounts ≡ LANES) }
         ensures only { OnlyAccount self.old self.new lane (clearing (account_of self.old.known lane)) }
         ensures room { KeepsRoom self.old.rows self.new.rows }
     {
@@ -103,8 +105,8 @@ impl<T: Drop, P, A, N: Feed> WriterState<T, P, A, N> {
 
     /// The lane's keys of the places from `from` to `to` are taken out.
     pub(crate) fn clear_to(&mut self, cast: &Cast<T, P, A, N>, lane: usize, from: u64, to: u64)
-        requires bounds { (lane < 8) × (from ≤ to) × (to ≤ length self.old.known.tail.log)
-            × (length self.old.known.accounts ≡ 8) }
+        requires bounds { (lane < LANES) × (from ≤ to) × (to ≤ length self.old.known.tail.log)
+            × (length self.old.known.accounts ≡ LANES) }
         requires account { let b = account_of self.old.known lane in (from ≡ b.cleared)
             × (b.out ≡ 0) × (to ≤ b.stop) × (b.stand ≡ live → to ≤ b.known) × (b.away ≡ true
             → b.known < b.cleared) }

@@ -1,8 +1,8 @@
 use Rattle.std.proofs.Common.{arith, ◌≡◌, ◌<◌, length, sym, ap, ◌∙◌, subst}
+use Rattle.am_cast.specs.declared.limits.TheConstants.{LONGEST_LOG}
 use Rattle.am_cast.specs.declared.batch_view.BatchView.{BatchView}
 use Rattle.am_cast.specs.declared.views.Tail.{Tail}
 use Rattle.am_cast.specs.Changes.{longer_tail}
-use Rattle.am_cast.specs.Rule.{longest_log}
 use Rattle.am_cast.proofs.writer.Writer.publish.Goals as goal
 
 pub returns-in-Ok-clause-ok : goal.returns-in-Ok-clause-ok
@@ -14,7 +14,7 @@ returns-in-Ok-clause-ok g c =
       sent.0 ∙ ap (λ (t : Tail (BatchView g.row.T.Denot g.row.P.Denot)). length t.log) tail,
       (
         sym (ap (λ (t : Tail (BatchView g.row.T.Denot g.row.P.Denot)). t.closed) tail) ∙ (sym c.is_closed.ensures ∙ c.if-is_closed.false),
-        subst (λ (t : Tail (BatchView g.row.T.Denot g.row.P.Denot)). length t.log < longest_log) tail (omega arith),
+        subst (λ (t : Tail (BatchView g.row.T.Denot g.row.P.Denot)). length t.log < LONGEST_LOG) tail (omega arith),
       ),
       (x.0, x.1, x.2, x.3 ∙ ap (λ (t : Tail (BatchView g.row.T.Denot g.row.P.Denot)). longer_tail x.0 t) tail, x.4),
     )

@@ -1,5 +1,6 @@
 use Rattle.std.proofs.Common.{arith, ◌≡◌, ◌≢◌, ◌+◌, ◌<◌, ◌++◌, ◌∷◌, [], ℕ, List, length, sym, ap, ◌∙◌, subst, false, true, Bool}
 use Rattle.am_segment.specs.Segments.{KeyView}
+use Rattle.am_cast.specs.declared.limits.TheConstants.{LONGEST_LOG}
 use Rattle.am_cast.specs.declared.batch_view.BatchView.{BatchView}
 use Rattle.am_cast.specs.declared.views.Own.{Own}
 use Rattle.am_cast.specs.declared.views.Tail.{Tail}
@@ -7,7 +8,7 @@ use Rattle.am_cast.specs.declared.views.View.{View}
 use Rattle.am_cast.specs.declared.views.WriterView.{WriterView}
 use Rattle.am_cast.specs.Changes.{longer_tail, own_at}
 use Rattle.am_cast.specs.Posters.{PassView}
-use Rattle.am_cast.specs.Rule.{live, longest_log}
+use Rattle.am_cast.specs.Rule.{live}
 use Rattle.am_cast.specs.declared.views.Account.{Account}
 use mathlib.Core.Logic.{dite}
 use native.Mathlib.Decide.{ℕ_discrete}
@@ -22,7 +23,7 @@ returns-clause-ok g c = let p = c.post.ensures.place in let tail : c.make_all_ro
       c.len-place.ensures.0 ∙ ap (λ (t : Tail (BatchView g.row.T.Denot g.row.P.Denot)). length t.log) tail,
       (
         sym (ap (λ (t : Tail (BatchView g.row.T.Denot g.row.P.Denot)). t.closed) found) ∙ (sym c.is_closed.ensures ∙ c.if-is_closed.false),
-        subst (λ (t : Tail (BatchView g.row.T.Denot g.row.P.Denot)). length t.log < longest_log) found (omega arith),
+        subst (λ (t : Tail (BatchView g.row.T.Denot g.row.P.Denot)). length t.log < LONGEST_LOG) found (omega arith),
       ),
       (
         p.0,
