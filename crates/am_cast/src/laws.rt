@@ -1,7 +1,7 @@
-//! What each kind of step is to the core of am_steps, so that its words (a sound state, a place that is needed, a place
-//! that is freed) are those of the table. Each law is a function that does nothing.
-//! `B` is what is known of a batch, `K` a key of one, `A` what a subscription notes down, and `R` says which key of a
-//! batch is each lane's.
+//! What each kind of step is to the core of am_steps, so that its words (a sound state, a place
+//! that is needed, a place that is freed) are those of the table. Each law is a function that does
+//! nothing. `B` is what is known of a batch, `K` a key of one, `A` what a subscription notes down,
+//! and `R` says which key of a batch is each lane's.
 ghost use Rattle.std.specs.Prelude.{◌^◌, ◌≡◌};
 ghost use Rattle.am_cast.specs.Laws.{BeginsAtTheFirstState};
 ghost use Rattle.am_cast.specs.Laws.{ShowsASoundState, KnowsWhatIsFreed, FreedIsHome, HomeIsFreed};

@@ -1,5 +1,5 @@
-//! How a cursor moves on, and `next`, which lends the item. Their file isn't the cursor's, since the clause of `next`
-//! names the type of `Cursor`.
+//! How a cursor moves on, and `next`, which lends the item. Their file isn't the cursor's, since
+//! the clause of `next` names the type of `Cursor`.
 ghost use Rattle.std.specs.Prelude.{◌≡◌, ◌<◌, ◌≤◌, true, false, length, IfSome, IfNone};
 ghost use Rattle.std.specs.Borrow.{sem};
 ghost use Rattle.am_cast.specs.Lending.{AfterTheLoan};

@@ -3,18 +3,19 @@
 //!
 //! # Lagging
 //!
-//! Each subscriber reads at its own pace, and none waits for another. A log has a number of places; a
-//! subscriber that is as many batches behind holds the next batch up. What then happens is the
+//! Each subscriber reads at its own pace, and none waits for another. A log has a number of places;
+//! a subscriber that is as many batches behind holds the next batch up. What then happens is the
 //! writer's choice, call by call. `publish` refuses the batch, gives it back, and names the lowest
 //! such lane. `publish_cutting` cuts each such lane: its subscriber still shows the items of the
-//! place that it has in hand, and from then on `next` answers `Cut`. All others go on as before. A slow subscriber never makes another one miss, repeat or wait for an item,
-//! and its memory is kept until it has passed the place in its hand.
+//! place that it has in hand, and from then on `next` answers `Cut`. All others go on as before. A
+//! slow subscriber never makes another one miss, repeat or wait for an item, and its memory is kept
+//! until it has passed the place in its hand.
 //!
 //! # Closing
 //!
-//! A closed log takes no batch and no subscriber. Those that it has read on to its end, and from then
-//! on `next` answers `Closed`. `Pending` means that the log was open at this
-//! very call and that all that was there was shown.
+//! A closed log takes no batch and no subscriber. Those that it has read on to its end, and from
+//! then on `next` answers `Closed`. `Pending` means that the log was open at this very call and
+//! that all that was there was shown.
 //!
 //! # Inside
 //!
@@ -36,9 +37,9 @@
 //! `publish` lays a key in the slot of each live lane and keeps the others in the place's row. A
 //! cursor takes its key out of its slot by an exchange on its lane's word, shows the items one by
 //! one, and puts the key back as it passes the place. The writer loads the lanes' words (`harvest`,
-//! and every publish), takes the keys of passed places out, and gathers them in the rows; the eighth
-//! frees the segment. `rule.rt` has what always holds of words, slots and what each side knows, and
-//! `board.rt` the single steps, each of them an event of `am_steps`.
+//! and every publish), takes the keys of passed places out, and gathers them in the rows; the
+//! eighth frees the segment. `rule.rt` has what always holds of words, slots and what each side
+//! knows, and `board.rt` the single steps, each of them an event of `am_steps`.
 //!
 //! A caller:
 //!

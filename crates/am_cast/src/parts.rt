@@ -102,7 +102,11 @@ pub fn begin<T: Drop, P, A, N: Feed>(
     posters: usize,
 ) -> Result<Begun<T, P, A, N>, AllocError>
     requires { parts.board.shared.table_id ≡ N.table }
-    ensures empty { IfOk result (λ begun. begun.writer.tail ≡ record { places = parts.places; log = []; closed = false }) }
+    ensures empty { IfOk result (λ begun. begun.writer.tail ≡ record {
+      places = parts.places;
+      log = [];
+      closed = false;
+    }) }
     ensures idle { IfOk result (λ begun. (l : ℕ) → l < LANES
         → (account_of begun.writer l).stand ≡ idle) }
     ensures passes { IfOk result (λ begun. (length begun.passes.items ≡ posters)

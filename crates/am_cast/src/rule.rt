@@ -1,6 +1,6 @@
-//! What holds of the table between two steps, whichever seat stepped last. `specs/Rule.antt` says it: the words, the slots
-//! and what each seat knows agree with one log, one account of each lane and one cursor's view of each lane. `board` has
-//! the steps, and what each word and slot is for.
+//! What holds of the table between two steps, whichever seat stepped last. `specs/Rule.antt` says
+//! it: the words, the slots and what each seat knows agree with one log, one account of each lane
+//! and one cursor's view of each lane. `board` has the steps, and what each word and slot is for.
 ghost use Rattle.std.specs.Prelude.{ℕ, Option};
 
 use crate::views::View;
@@ -26,7 +26,8 @@ impl<B, K, A, R: Keyed<B, K>> TableRule<Option<K>, View<B, K, A>, u64> for LogRu
     ghost first = { λ places. first_view places };
 }
 
-/// The table of a log of any batches. `B` is what is known of one, `K` a key of it, `A` what a subscription notes down.
+/// The table of a log of any batches. `B` is what is known of one, `K` a key of it, `A` what a
+/// subscription notes down.
 pub type AnyBoard<B, K, A, R> = Table<Option<K>, View<B, K, A>, u64, LogRule<R>, Global>;
 
 /// What the seats share of it.

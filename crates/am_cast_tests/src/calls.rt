@@ -1,5 +1,5 @@
-//! Calls of the log beside the atomic steps that each of them makes of the pure state: after each
-//! call the same was answered and taken, and the same places are freed.
+//! Calls of the log, compared with the atomic steps of the pure state that each of them makes: after
+//! each call the same was answered and shown, and the same places are freed.
 //!
 //! Two lanes and one place, in one thread. A batch's name is its place, and its items follow from it.
 
@@ -20,7 +20,7 @@ use std::test::Fail;
 // How many kinds of call there are.
 const KINDS: u64 = 14;
 
-/// A reader's lane, its cursor where it has one, and what that cursor was shown.
+/// A reader's lane, its cursor if it has one, and what that cursor was shown.
 struct Reader<'a, N: Feed> {
     lane: usize,
     cursor: Option<Cursor<'a, u64, u64, u64, N>>,
@@ -29,7 +29,7 @@ struct Reader<'a, N: Feed> {
     of_hand: u64,
 }
 
-/// The log with the pure state beside it.
+/// The log, and the pure state that it is compared with.
 #[derive(Drop)]
 struct Both<'a, N: Feed> {
     alloc: Global,
@@ -79,7 +79,7 @@ impl<'a, N: Feed> Both<'a, N> {
         Ok(())
     }
 
-    // A post: refused by both, or taken by both.
+    // A post: refused by both, or published by both.
     fn publish(
         &mut self,
         writer: &mut Writer<u64, u64, u64, N>,
@@ -187,7 +187,7 @@ impl<'a, N: Feed> Both<'a, N> {
         }
     }
 
-    // The lowest idle lane, where it is the reader's and the log is open.
+    // The lowest idle lane, if it is the reader's and the log is open.
     fn admit(
         &mut self,
         writer: &mut Writer<u64, u64, u64, N>,
@@ -227,7 +227,7 @@ impl<'a, N: Feed> Both<'a, N> {
         Ok(left && self.state.apply(Event::Retire(reader.lane))?)
     }
 
-    // Makes the steps of a `next` in the state, and tells what it has to answer.
+    // Makes the steps of a `next` in the state, and gives the answer that it is owed.
     fn advance(&mut self, lane: usize, of_hand: &mut u64) -> Result<Result<u64, u8>, AllocError> {
         if let Some(Lane::Open(_, cursor)) = self.state.lane(lane) {
             if cursor.held {
@@ -357,7 +357,7 @@ impl<'a, N: Feed> Both<'a, N> {
         self.state.apply(Event::Note(0, None))
     }
 
-    // A call of that kind. Answers whether both came to the same.
+    // A call of that kind. Answers whether both did the same.
     fn call(
         &mut self,
         kind: u64,
@@ -390,7 +390,7 @@ impl<'a, N: Feed> Both<'a, N> {
     }
 }
 
-/// What to call: each kind in turn after two subscriptions and a post, or so many kinds from a seed.
+/// What to call: each kind in turn after two subscriptions and a post, or a number of kinds from a seed.
 #[derive(Clone, Copy, Drop)]
 enum Script {
     Two(u64, u64),
@@ -461,7 +461,7 @@ fn give_back<N: Feed>(
     }
 }
 
-// A whole run on a log of its own. Answers whether both came to the same throughout.
+// A whole run on a new log. Answers whether both did the same throughout.
 fn run<N: Feed, R: Wait>(
     rt: &R,
     parts: Parts<u64, u64, u64>,

@@ -51,7 +51,7 @@ fn post<N: Feed>(
     }
 }
 
-// The number of the next item, or 100 where there is none.
+// The number of the next item, or 100 if there is none.
 fn shown<N: Feed>(cursor: &mut Cursor<'_, Vec<u64>, u64, u64, N>) -> u64 {
     match cursor.next() {
         Step::Item(item) => *item.get(0).unwrap_or(&101),
@@ -59,7 +59,7 @@ fn shown<N: Feed>(cursor: &mut Cursor<'_, Vec<u64>, u64, u64, N>) -> u64 {
     }
 }
 
-// Posts beside a reader of two places, which reads three items of four.
+// Posts to a log of two places with a reader, which reads three items of four.
 fn read_some<N: Feed>(
     alloc: Global,
     cast: &Cast<Vec<u64>, u64, u64, N>,

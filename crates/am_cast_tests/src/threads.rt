@@ -26,8 +26,8 @@ fn batch_of(alloc: Global, first: u64) -> Result<SegmentBuilder<u64>, AllocError
     Ok(batch)
 }
 
-/// What a reader was shown: how many items, how many of them weren't the next number, and what it was
-/// told at the end.
+/// What a reader was shown: how many items, how many of them weren't the next number, and what it
+/// answered at the end.
 #[derive(Clone, Copy, Drop)]
 struct Shown {
     items: u64,
@@ -43,8 +43,8 @@ const NOTHING: Shown = Shown {
     cut: false,
 };
 
-// Reads for so many turns the numbers from a first one on, and rests at each eighth turn where it is
-// lazy.
+// Reads the numbers from a first one on, for a number of turns. A lazy reader rests at each eighth
+// turn.
 fn read_all<R: Threads, N: Feed>(
     rt: &R,
     cursor: &mut Cursor<'_, u64, u64, u64, N>,
@@ -73,7 +73,7 @@ fn read_all<R: Threads, N: Feed>(
     shown
 }
 
-// Posts so many batches within so many turns, and closes. Answers how many were posted.
+// Posts a number of batches within a number of turns, and closes. Answers how many were posted.
 fn post_all<N: Feed>(
     alloc: Global,
     cast: &Cast<u64, u64, u64, N>,
@@ -100,7 +100,7 @@ fn post_all<N: Feed>(
     Ok(posted)
 }
 
-// Posts so many batches of the numbers from a first one on, and cuts whoever is slow. Answers how
+// Posts a number of batches, of the numbers from a first one on, and cuts slow readers. Answers how
 // often a lane was cut.
 fn post_over<N: Feed>(
     alloc: Global,
@@ -251,7 +251,7 @@ fn a_slow_reader_is_cut_once(rt: HostRuntime) -> Result<(), Fail> {
         assert!(rt; !shown.closed);
         assert!(rt; shown.items <= 30_000);
     }
-    // A lane is cut at most once, and a reader that was told so was cut.
+    // A lane is cut at most once, and a reader that answered so was cut.
     assert!(rt; run.count <= 2);
     let told = run.quick.cut as u64 + run.slow.cut as u64;
     assert!(rt; told <= run.count);

@@ -47,10 +47,19 @@ pub(crate) fn admit_lane<B, K, A, R: Keyed<B, K>, X: Noted<A>>(
         (b.stand ≡ idle) × (b.cleared ≡ b.stop) × (b.out ≡ 0) × (b.laid ≡ None) }
     ensures same { (seat.new.table_id ≡ seat.old.table_id) × (seat.new.me.1 ≡ []) }
     ensures writer { let q = writer_of seat.old.me.0 in
-        seat.new.me.0 ≡ with_writer (with_account lane (given_out X.note (length q.tail.log) (account_of q lane)) q) seat.old.me.0 }
+        seat.new.me.0 ≡ with_writer (with_account lane (given_out X.note (length q.tail.log)
+        (account_of q lane)) q) seat.old.me.0 }
     ensures lane { let q = writer_of seat.old.me.0 in (result.table_id ≡ seat.old.table_id)
         × (result.me.1 ≡ [])
-        × (result.me.0 ≡ record { writer = None; lane = Some (new_lane X.note lane q.tail (account_of q lane)); noted = []; heard = []; whole = false; own = []; counted = 0 }) }
+        × (result.me.0 ≡ record {
+          writer = None;
+          lane = Some (new_lane X.note lane q.tail (account_of q lane));
+          noted = [];
+          heard = [];
+          whole = false;
+          own = [];
+          counted = 0;
+        }) }
 {
     let _ = tag;
     top.store::<Admit<X>>(seat, 16 * lane + 16, 4 * count);

@@ -33,7 +33,8 @@ pub(crate) fn cut_lane<B, K, A, R: Keyed<B, K>>(
         × (b.laid ≡ None) × (old / 4 ≡ b.known) × (old / 2 ≡ b.half) }
     ensures same { (seat.new.table_id ≡ seat.old.table_id) × (seat.new.me.1 ≡ []) }
     ensures cut { let q = writer_of seat.old.me.0 in result ≡ old
-        → seat.new.me.0 ≡ with_writer (with_account lane (severed (result / 2 % 2) (account_of q lane)) q) seat.old.me.0 }
+        → seat.new.me.0 ≡ with_writer (with_account lane (severed (result / 2 % 2) (account_of q lane)) q)
+        seat.old.me.0 }
     ensures moved { let q = writer_of seat.old.me.0 in
         result ≢ old → Finds lane q (account_of q lane) result seat.old.me.0 seat.new.me.0 }
 {

@@ -23,7 +23,10 @@ pub(crate) fn note_log<B, K, A, R: Keyed<B, K>>(
 ) -> u64
     requires table { (seat.old.table_id ≡ top.now.table_id) × IsSized top.now.table_id }
     ensures same { (seat.new.table_id ≡ seat.old.table_id) × (seat.new.me.1 ≡ seat.old.me.1)
-        × (seat.new.me.0 ≡ record seat.old.me.0 { noted = seat.new.me.0.noted; counted = length seat.old.me.0.own }) }
+        × (seat.new.me.0 ≡ record seat.old.me.0 {
+          noted = seat.new.me.0.noted;
+          counted = length seat.old.me.0.own;
+        }) }
     ensures noted { let front = seat.new.me.0.noted in
         IsPrefix seat.old.me.0.noted front × IsPrefix seat.old.me.0.heard front
         × AreInLog seat.old.me.0.own front × (result ≡ length front) × (result ≤ LONGEST_LOG) }

@@ -11,9 +11,9 @@ use crate::rule::{AnySeat, AnyTop, Keyed};
 use crate::views::View;
 use atomic_table::Play;
 
-pub(crate) struct Pass;
+pub(crate) struct PassPlace;
 
-impl<B, K, A> Play<Option<K>, View<B, K, A>> for Pass {
+impl<B, K, A> Play<Option<K>, View<B, K, A>> for PassPlace {
     ghost then = { Passes };
 }
 
@@ -34,8 +34,9 @@ pub(crate) fn pass_place<B, K, A, R: Keyed<B, K>>(
         × IsKeyAt R.key v.front v.passed v.number key }
     ensures same { (seat.new.table_id ≡ seat.old.table_id) × (seat.new.me.1 ≡ []) }
     ensures lane { let v = lane_of seat.old.me.0 in
-        seat.new.me.0 ≡ with_lane (record v { passed = v.passed + 1; held = false; cut = result }) seat.old.me.0 }
+        seat.new.me.0 ≡ with_lane (record v { passed = v.passed + 1; held = false; cut = result })
+        seat.old.me.0 }
 {
     lay_in(top, seat, at, key);
-    top.fetch_add::<Pass>(seat, 16 * lane + 16, 2) % 2 == 1
+    top.fetch_add::<PassPlace>(seat, 16 * lane + 16, 2) % 2 == 1
 }

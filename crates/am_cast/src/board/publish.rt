@@ -35,7 +35,10 @@ pub(crate) fn publish_batch<B, K, A, R: Keyed<B, K>, X: NewBatch<B>, E>(
         → (account_of q l).laid ≡ Some (R.key x l))) }
     ensures same { (seat.new.table_id ≡ seat.old.table_id) × (seat.new.me.1 ≡ []) }
     ensures writer { let q = writer_of seat.old.me.0 in (x : B) → X.batch ≡ Some x
-        → seat.new.me.0 ≡ record seat.old.me.0 { writer = Some (longer x q); own = seat.old.me.0.own ++ own_at (length q.tail.log) x ∷ [] } }
+        → seat.new.me.0 ≡ record seat.old.me.0 {
+          writer = Some (longer x q);
+          own = seat.old.me.0.own ++ own_at (length q.tail.log) x ∷ [];
+        } }
 {
     let _ = tag;
     top.store::<Publish<X>>(seat, 0, 2 * (count + 1));

@@ -33,7 +33,8 @@ impl<T: Drop, P, A, N: Feed> Writer<T, P, A, N> {
         ensures ok { IfOk result (λ c. (c.lane.number < LANES)
             × ((account_of self.old c.lane.number).stand ≡ idle) × ((m : ℕ) → m < c.lane.number
             → (account_of self.old m).stand ≢ idle)
-            × (c ≡ as_cursor (opened (new_lane (Some note.value) c.lane.number self.old.tail (account_of self.old c.lane.number))))) }
+            × (c ≡ as_cursor (opened (new_lane (Some note.value) c.lane.number self.old.tail
+            (account_of self.old c.lane.number))))) }
         ensures lane { IfOk result (λ c. let b = account_of self.new c.lane.number in
             (b.stand ≡ live) × (b.turn ≡ c.lane.turn) × (b.note ≡ Some note.value)
             × (b.start ≡ length self.old.tail.log)) }
@@ -78,8 +79,10 @@ impl<T: Drop, P, A, N: Feed> WriterState<T, P, A, N> {
     ) -> Cursor<'a, T, P, A, N>
         requires { (lane < LANES) × Calm self.old.known
             × ((account_of self.old.known lane).stand ≡ idle) × (self.old.known.tail.closed ≡ false) }
-        ensures writer { OneAccount self.old self.new lane (given_out (Some note.now.value) (length self.old.known.tail.log) (account_of self.old.known lane)) }
-        ensures cursor { result ≡ as_cursor (opened (new_lane (Some note.now.value) lane self.old.known.tail (account_of self.old.known lane))) }
+        ensures writer { OneAccount self.old self.new lane (given_out (Some note.now.value)
+            (length self.old.known.tail.log) (account_of self.old.known lane)) }
+        ensures cursor { result ≡ as_cursor (opened
+            (new_lane (Some note.now.value) lane self.old.known.tail (account_of self.old.known lane))) }
     {
         let top = &cast.board.shared;
         let mut seat = board::admit_lane::<BatchView<T, P>, SegKey<T>, A, SegmentKeys<T, P>, Brand>(

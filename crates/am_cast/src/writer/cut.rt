@@ -38,7 +38,8 @@ impl<T: Drop, P, A, N: Feed> Writer<T, P, A, N> {
             × (self.new.tail ≡ longer_tail x self.old.tail)
             × (pass.new.own ≡ pass.old.own ++ own_at r.place x ∷ []))) }
         ensures cut { IfOk result (λ r. (l : ℕ) → l < LANES
-            → IsCutAs (length self.old.tail.log) self.old.tail.places (account_of self.old l) (account_of self.new l) (slice_index_or r.cut l false)) }
+            → IsCutAs (length self.old.tail.log) self.old.tail.places (account_of self.old l)
+            (account_of self.new l) (slice_index_or r.cut l false)) }
         ensures known { OnOk result (AreInLog pass.new.own pass.new.noted
             × IsPrefix pass.old.noted pass.new.noted) }
         ensures lanes { (l : ℕ) → l < LANES
@@ -88,7 +89,8 @@ impl<T: Drop, P, A, N: Feed> WriterState<T, P, A, N> {
         ensures same { (l : ℕ) → l < LANES
             → SameAdmission (account_of self.old.known l) (account_of self.new.known l) }
         ensures cut { (l : ℕ) → l < LANES
-            → IsCutAs (length self.old.known.tail.log) self.old.known.tail.places (account_of self.old.known l) (account_of self.new.known l) (slice_index_or result l false) }
+            → IsCutAs (length self.old.known.tail.log) self.old.known.tail.places
+            (account_of self.old.known l) (account_of self.new.known l) (slice_index_or result l false) }
     {
         let mut lanes = [false; LANES];
         for lane in 0..LANES {
@@ -102,11 +104,14 @@ impl<T: Drop, P, A, N: Feed> WriterState<T, P, A, N> {
         requires { (lane < LANES) × Calm self.old.known }
         ensures only { OnlyAccount self.old self.new lane (account_of self.new.known lane) }
         ensures rows { KeepsRoom self.old.rows self.new.rows }
-        ensures calm { IsCalm (length self.old.known.tail.log) self.old.known.tail.places (account_of self.new.known lane) }
+        ensures calm { IsCalm (length self.old.known.tail.log) self.old.known.tail.places
+            (account_of self.new.known lane) }
         ensures room { (account_of self.new.known lane).stand ≡ live
-            → length self.old.known.tail.log < (account_of self.new.known lane).known + self.old.known.tail.places }
+            → length self.old.known.tail.log < (account_of self.new.known lane).known
+            + self.old.known.tail.places }
         ensures same { SameAdmission (account_of self.old.known lane) (account_of self.new.known lane) }
-        ensures cut { IsCutAs (length self.old.known.tail.log) self.old.known.tail.places (account_of self.old.known lane) (account_of self.new.known lane) result }
+        ensures cut { IsCutAs (length self.old.known.tail.log) self.old.known.tail.places
+            (account_of self.old.known lane) (account_of self.new.known lane) result }
     {
         if !self.is_live(lane) || !self.is_behind(lane) {
             return false;
@@ -122,12 +127,15 @@ impl<T: Drop, P, A, N: Feed> WriterState<T, P, A, N> {
             × (word / 4 ≡ (account_of self.old.known lane).known)
             × (word / 2 ≡ (account_of self.old.known lane).half) × (word % 2 ≡ 0) }
         ensures only { OnlyAccount self.old self.new lane (account_of self.new.known lane) }
-        ensures calm { IsCalm (length self.old.known.tail.log) self.old.known.tail.places (account_of self.new.known lane) }
+        ensures calm { IsCalm (length self.old.known.tail.log) self.old.known.tail.places
+            (account_of self.new.known lane) }
         ensures same { SameAdmission (account_of self.old.known lane) (account_of self.new.known lane) }
         ensures room { (account_of self.new.known lane).stand ≡ live
-            → length self.old.known.tail.log < (account_of self.new.known lane).known + self.old.known.tail.places }
+            → length self.old.known.tail.log < (account_of self.new.known lane).known
+            + self.old.known.tail.places }
         ensures rows { KeepsRoom self.old.rows self.new.rows }
-        ensures cut { IsCutAs (length self.old.known.tail.log) self.old.known.tail.places (account_of self.old.known lane) (account_of self.new.known lane) result }
+        ensures cut { IsCutAs (length self.old.known.tail.log) self.old.known.tail.places
+            (account_of self.old.known lane) (account_of self.new.known lane) result }
     {
         let next = self.cut_once(cast, lane, word);
         if next == word {
@@ -151,7 +159,8 @@ impl<T: Drop, P, A, N: Feed> WriterState<T, P, A, N> {
             × (word / 4 ≡ (account_of self.old.known lane).known)
             × (word / 2 ≡ (account_of self.old.known lane).half) }
         ensures only { OnlyAccount self.old self.new lane (account_of self.new.known lane) }
-        ensures calm { IsCalm (length self.old.known.tail.log) self.old.known.tail.places (account_of self.new.known lane) }
+        ensures calm { IsCalm (length self.old.known.tail.log) self.old.known.tail.places
+            (account_of self.new.known lane) }
         ensures rows { KeepsRoom self.old.rows self.new.rows }
         ensures same { SameAdmission (account_of self.old.known lane) (account_of self.new.known lane) }
         ensures cut { result ≡ word → ((account_of self.new.known lane).stand ≡ cut)

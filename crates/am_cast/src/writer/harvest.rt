@@ -50,7 +50,8 @@ impl<T: Drop, P, A, N: Feed> WriterState<T, P, A, N> {
     pub(crate) fn harvest_lane(&mut self, cast: &Cast<T, P, A, N>, lane: usize) -> u64
         requires { (lane < LANES) × Calm self.old.known }
         ensures only { OnlyAccount self.old self.new lane (account_of self.new.known lane) }
-        ensures calm { IsCalm (length self.old.known.tail.log) self.old.known.tail.places (account_of self.new.known lane) }
+        ensures calm { IsCalm (length self.old.known.tail.log) self.old.known.tail.places
+            (account_of self.new.known lane) }
         ensures account { let b = account_of self.old.known lane in
             let c = account_of self.new.known lane in StaysAs b c × (b.stand ≡ live
             → b.loads < c.loads) }
@@ -69,7 +70,8 @@ impl<T: Drop, P, A, N: Feed> WriterState<T, P, A, N> {
         requires { (lane < LANES) × Calm self.old.known
             × ((account_of self.old.known lane).stand ≡ live) }
         ensures only { OnlyAccount self.old self.new lane (account_of self.new.known lane) }
-        ensures calm { IsCalm (length self.old.known.tail.log) self.old.known.tail.places (account_of self.new.known lane) }
+        ensures calm { IsCalm (length self.old.known.tail.log) self.old.known.tail.places
+            (account_of self.new.known lane) }
         ensures account { let b = account_of self.old.known lane in
             let c = account_of self.new.known lane in SameAdmission b c × (c.loads ≡ b.loads + 1)
             × (b.known ≤ c.known) × (result ≡ gone → c.stand ≡ vacated) × (result ≢ gone
@@ -114,7 +116,8 @@ impl<T: Drop, P, A, N: Feed> WriterState<T, P, A, N> {
     pub(crate) fn harvest_cut(&mut self, cast: &Cast<T, P, A, N>, lane: usize)
         requires { (lane < LANES) × Calm self.old.known × ((account_of self.old.known lane).away ≡ true) }
         ensures only { OnlyAccount self.old self.new lane (account_of self.new.known lane) }
-        ensures calm { IsCalm (length self.old.known.tail.log) self.old.known.tail.places (account_of self.new.known lane) }
+        ensures calm { IsCalm (length self.old.known.tail.log) self.old.known.tail.places
+            (account_of self.new.known lane) }
         ensures account { let b = account_of self.old.known lane in
             let c = account_of self.new.known lane in SameAdmission b c × (c.stand ≡ b.stand) }
     {

@@ -136,7 +136,8 @@ impl<T: Drop, P, A, N: Feed> WriterState<T, P, A, N> {
         to: &mut LogSeat<T, P, A>,
     )
         requires writer { (self.old.known.tail.closed ≡ false)
-            × (length self.old.known.tail.log < LONGEST_LOG) × Calm self.old.known × HasRoom self.old.known LANES }
+            × (length self.old.known.tail.log < LONGEST_LOG) × Calm self.old.known
+            × HasRoom self.old.known LANES }
         requires batch { 0 < length batch.items }
         requires row { (row ≡ record { place = length self.old.known.tail.log; keys = [] })
             × (1 ≤ (bucket_of self.old.rows row.place).room) }
@@ -239,7 +240,8 @@ impl<T: Drop, P, A, N: Feed> WriterState<T, P, A, N> {
         requires to { to.old.table_id ≡ N.table }
         ensures writer { self.new.known ≡ longer (batch_of_tag tag.now) self.old.known }
         ensures to { (to.new.table_id ≡ to.old.table_id) × (to.new.me.1 ≡ to.old.me.1)
-            × (to.new.me.0 ≡ both_of to.old.me.0 (owner_of (length self.old.known.tail.log) (batch_of_tag tag.now))) }
+            × (to.new.me.0 ≡ both_of to.old.me.0 (owner_of (length self.old.known.tail.log)
+            (batch_of_tag tag.now))) }
     {
         let top = &cast.board.shared;
         board::publish_batch::<BatchView<T, P>, SegKey<T>, A, SegmentKeys<T, P>, Brand, Tag<T, P>>(

@@ -27,8 +27,10 @@ impl<T: Drop, P, A, N: Feed> Writer<T, P, A, N> {
         ensures others { (m : ℕ) → m ≢ cursor.entry.lane.number
             → account_of self.new m ≡ account_of self.old m }
         ensures given { (account_of self.old cursor.entry.lane.number).stand ≢ idle }
-        ensures sound { Sound self.old.tail (account_of self.old cursor.entry.lane.number) (left cursor.entry.lane) cursor.entry.lane.number }
-        ensures taken { IsPrefix (shown_items cursor.entry) (all_items (drop cursor.entry.lane.start self.old.tail.log)) }
+        ensures sound { Sound self.old.tail (account_of self.old cursor.entry.lane.number)
+            (left cursor.entry.lane) cursor.entry.lane.number }
+        ensures taken { IsPrefix (shown_items cursor.entry) (all_items
+            (drop cursor.entry.lane.start self.old.tail.log)) }
         ensures ended { HasEnded cursor.entry
             → shown_items cursor.entry ≡ all_items (drop cursor.entry.lane.start self.old.tail.log) }
     {
@@ -55,7 +57,8 @@ impl<T: Drop, P, A, N: Feed> WriterState<T, P, A, N> {
             × (other.me.0.writer ≡ None) × (other.me.0.own ≡ []) }
         requires lane { let v = lane_of other.me.0 in (other.me.0.lane ≡ Some v)
             × (v.number ≡ lane) × (v.here ≡ false) }
-        ensures writer { OnlyAccount self.old self.new lane (record (retired (account_of self.old.known lane)) { cleared = length self.old.known.tail.log }) }
+        ensures writer { OnlyAccount self.old self.new lane (record
+            (retired (account_of self.old.known lane)) { cleared = length self.old.known.tail.log }) }
         ensures sound { Sound self.old.known.tail (account_of self.old.known lane) (lane_of other.me.0) lane }
     {
         let from = self.known_of(lane);
@@ -77,7 +80,9 @@ impl<T: Drop, P, A, N: Feed> WriterState<T, P, A, N> {
             × (other.me.0.writer ≡ None) × (other.me.0.own ≡ []) }
         requires lane { let v = lane_of other.me.0 in (other.me.0.lane ≡ Some v)
             × (v.number ≡ lane) × (v.here ≡ false) }
-        ensures writer { OnlyAccount self.old self.new lane (record (retired (account_of self.old.known lane)) { cleared = (retired (account_of self.old.known lane)).stop }) }
+        ensures writer { OnlyAccount self.old self.new lane (record
+            (retired (account_of self.old.known lane))
+            { cleared = (retired (account_of self.old.known lane)).stop }) }
         ensures sound { Sound self.old.known.tail (account_of self.old.known lane) (lane_of other.me.0) lane }
         ensures given { (account_of self.old.known lane).stand ≢ idle }
     {

@@ -77,7 +77,8 @@ impl<T: Drop, P, A, N: Feed> WriterState<T, P, A, N> {
             × ((account_of self.now.known lane).stand ≡ live) }
         ensures yes { result ≡ true → IsBehind self.now.known lane }
         ensures no { result ≡ false
-            → length self.now.known.tail.log < (account_of self.now.known lane).known + self.now.known.tail.places }
+            → length self.now.known.tail.log < (account_of self.now.known lane).known
+            + self.now.known.tail.places }
     {
         self.count - self.known_of(lane) >= self.places
     }
@@ -111,7 +112,8 @@ impl<T: Drop, P, A, N: Feed> WriterState<T, P, A, N> {
             × (b.out ≡ 0) × (to ≤ b.stop) × (b.stand ≡ live → to ≤ b.known) × (b.away ≡ true
             → b.known < b.cleared) }
         ensures room { KeepsRoom self.old.rows self.new.rows }
-        ensures only { OnlyAccount self.old self.new lane (record (account_of self.old.known lane) { cleared = to }) }
+        ensures only { OnlyAccount self.old self.new lane (record (account_of self.old.known lane)
+            { cleared = to }) }
     {
         for place in from..to {
             self.bring_one(cast, lane, place);
