@@ -99,7 +99,7 @@ given_out note n b = record {
   loads = b.loads;
 }
 
--- the lane as its seat has it then
+-- the lane as its seat has it then. It begins at the log's end, as a receiver of tokio's `Sender::subscribe`
 abbrev pub new_lane : {B K A : Type 0} → Option A → ℕ → Tail B → Account K A → LaneView B A
 new_lane note l t b = record {
   number = l;

@@ -132,13 +132,13 @@ module _ {B K A : Type 0} where
       × ((l : ℕ) (q : WriterView B K A) (b : Account K A) → st.word ≡ writer_word l → KnowsOf m.0 l q b
       → SetsAccount l q (clearing b) m.0 m'.0)
 
-  -- the log has one batch more, the one named, and it is the seat's own
+  -- the log has one batch more, this one, and it is the seat's own: tokio's `broadcast::Sender::send`
   abbrev pub Publishes : Option B → StepAt K → SeatState B K A → ℕ → SeatState B K A → Type 0
   Publishes batch st m n m' = (m'.1 ≡ m.1)
       × ((x : B) → batch ≡ Some x → (q : WriterView B K A) → m.0.writer ≡ Some q
       → m'.0 ≡ record m.0 { writer = Some (longer x q); own = m.0.own ++ own_at (length q.tail.log) x ∷ [] })
 
-  -- the log is closed
+  -- the log is closed: crossbeam's `Channel::disconnect`, which sets the tail's mark bit
   abbrev pub Closes : StepAt K → SeatState B K A → ℕ → SeatState B K A → Type 0
   Closes st m n m' = (m'.1 ≡ m.1) × ((q : WriterView B K A) → m.0.writer ≡ Some q
       → m'.0 ≡ with_writer (shut q) m.0)

@@ -57,7 +57,7 @@ impl<T: Drop, P, A, N: Feed> Writer<T, P, A, N> {
 
 impl<T: Drop, P, A, N: Feed> WriterState<T, P, A, N> {
     /// The lowest lane that is idle.
-    pub(crate) fn idle_lane(&self) -> Option<usize>
+    fn idle_lane(&self) -> Option<usize>
         ensures some { IfSome result (λ l. (l < LANES) × ((account_of self.now.known l).stand ≡ idle)
             × ((m : ℕ) → m < l → (account_of self.now.known m).stand ≢ idle)) }
         ensures none { IfNone result ((m : ℕ) → m < LANES → (account_of self.now.known m).stand ≢ idle) }
@@ -71,7 +71,7 @@ impl<T: Drop, P, A, N: Feed> WriterState<T, P, A, N> {
     }
 
     /// The lane begins at the next place.
-    pub(crate) fn admit<'a>(
+    fn admit<'a>(
         &mut self,
         cast: &'a Cast<T, P, A, N>,
         lane: usize,

@@ -80,7 +80,7 @@ impl<T: Drop, P, A, N: Feed> Writer<T, P, A, N> {
 
 impl<T: Drop, P, A, N: Feed> WriterState<T, P, A, N> {
     /// Each lane has room for one place more, or gets no key. Answers which lanes were cut.
-    pub(crate) fn make_all_room(&mut self, cast: &Cast<T, P, A, N>) -> [bool; LANES]
+    fn make_all_room(&mut self, cast: &Cast<T, P, A, N>) -> [bool; LANES]
         requires { Calm self.old.known }
         ensures calm { Calm self.new.known }
         ensures tail { self.new.known.tail ≡ self.old.known.tail }

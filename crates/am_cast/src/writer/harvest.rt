@@ -47,7 +47,7 @@ impl<T: Drop, P, A, N: Feed> WriterState<T, P, A, N> {
 
     /// Loads the lane's word if the lane is given out, and takes out the keys that it has passed. Answers the
     /// word, or the greatest u64.
-    pub(crate) fn harvest_lane(&mut self, cast: &Cast<T, P, A, N>, lane: usize) -> u64
+    fn harvest_lane(&mut self, cast: &Cast<T, P, A, N>, lane: usize) -> u64
         requires { (lane < LANES) × Calm self.old.known }
         ensures only { OnlyAccount self.old self.new lane (account_of self.new.known lane) }
         ensures calm { IsCalm (length self.old.known.tail.log) self.old.known.tail.places
@@ -66,7 +66,7 @@ impl<T: Drop, P, A, N: Feed> WriterState<T, P, A, N> {
     }
 
     /// Loads the word of a live lane, and takes out the keys that it has passed. Answers the word.
-    pub(crate) fn harvest_live(&mut self, cast: &Cast<T, P, A, N>, lane: usize) -> u64
+    fn harvest_live(&mut self, cast: &Cast<T, P, A, N>, lane: usize) -> u64
         requires { (lane < LANES) × Calm self.old.known
             × ((account_of self.old.known lane).stand ≡ live) }
         ensures only { OnlyAccount self.old self.new lane (account_of self.new.known lane) }
@@ -91,7 +91,7 @@ impl<T: Drop, P, A, N: Feed> WriterState<T, P, A, N> {
     }
 
     /// Loads the lane's word, and answers it.
-    pub(crate) fn load(&mut self, cast: &Cast<T, P, A, N>, lane: usize) -> u64
+    fn load(&mut self, cast: &Cast<T, P, A, N>, lane: usize) -> u64
         requires { (lane < LANES) × ((account_of self.old.known lane).stand ≡ live)
             × ((account_of self.old.known lane).laid ≡ None)
             × ((account_of self.old.known lane).away ≡ false) }
@@ -113,7 +113,7 @@ impl<T: Drop, P, A, N: Feed> WriterState<T, P, A, N> {
     }
 
     /// Looks whether the key of a cut lane is back, and then takes it out.
-    pub(crate) fn harvest_cut(&mut self, cast: &Cast<T, P, A, N>, lane: usize)
+    fn harvest_cut(&mut self, cast: &Cast<T, P, A, N>, lane: usize)
         requires { (lane < LANES) × Calm self.old.known × ((account_of self.old.known lane).away ≡ true) }
         ensures only { OnlyAccount self.old self.new lane (account_of self.new.known lane) }
         ensures calm { IsCalm (length self.old.known.tail.log) self.old.known.tail.places
@@ -128,7 +128,7 @@ impl<T: Drop, P, A, N: Feed> WriterState<T, P, A, N> {
     }
 
     /// A look at a cut lane whose key is away. Answers whether it is back.
-    pub(crate) fn recover(&mut self, cast: &Cast<T, P, A, N>, lane: usize) -> bool
+    fn recover(&mut self, cast: &Cast<T, P, A, N>, lane: usize) -> bool
         requires { let b = account_of self.old.known lane in (lane < LANES) × (b.stand ≡ cut)
             × (b.away ≡ true) × (b.cleared ≡ b.stop) × (b.out ≡ 0) }
         ensures back { let b = account_of self.old.known lane in
@@ -147,7 +147,7 @@ impl<T: Drop, P, A, N: Feed> WriterState<T, P, A, N> {
     }
 
     /// The lowest lane that is as far behind as may be.
-    pub(crate) fn full_lane(&self) -> Option<usize>
+    fn full_lane(&self) -> Option<usize>
         requires { Calm self.now.known }
         ensures none { IfNone result (HasRoom self.now.known LANES) }
         ensures some { IfSome result (λ l. (l < LANES) × IsBehind self.now.known l

@@ -1,4 +1,4 @@
-//! What the running writer keeps of one lane. The rest of a lane's account contracts alone see.
+//! What the running writer keeps of one lane. The rest of its account is seen by contracts alone.
 ghost use Rattle.std.specs.Prelude.{◌↔◌, ◌≡◌, ◌/◌, ◌%◌, IsTrue};
 ghost use Rattle.am_cast.specs.Rule.{cut, live};
 ghost use Rattle.am_cast.specs.inside.LaneAccounts.{stand_number};
@@ -16,10 +16,11 @@ pub(crate) enum Stand {
     Vacated,
 }
 
-/// How a lane stands, and its word as found last.
+/// What the writer keeps of a lane, from which the numbers of its account follow.
 #[derive(Clone, Copy, Drop)]
 pub(crate) struct LaneAccount {
     pub(crate) stand: Stand,
+    /// Its word as found last, or as written when it was given out.
     pub(crate) word: u64,
 }
 

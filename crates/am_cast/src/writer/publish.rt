@@ -210,7 +210,7 @@ impl<T: Drop, P, A, N: Feed> WriterState<T, P, A, N> {
     }
 
     /// The key goes into the lane's slot of the next place.
-    pub(crate) fn fill_one(&mut self, cast: &Cast<T, P, A, N>, lane: usize, key: SegKey<T>)
+    fn fill_one(&mut self, cast: &Cast<T, P, A, N>, lane: usize, key: SegKey<T>)
         requires account { (lane < LANES) × ((account_of self.old.known lane).stand ≡ live)
             × ((account_of self.old.known lane).out ≡ 0)
             × ((account_of self.old.known lane).laid ≡ None) }

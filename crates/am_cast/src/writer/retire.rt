@@ -45,12 +45,7 @@ impl<T: Drop, P, A, N: Feed> Writer<T, P, A, N> {
 
 impl<T: Drop, P, A, N: Feed> WriterState<T, P, A, N> {
     // A live lane's seat comes home, and its keys are taken out.
-    pub(crate) fn bring_live(
-        &mut self,
-        cast: &Cast<T, P, A, N>,
-        lane: usize,
-        other: LogSeat<T, P, A>,
-    )
+    fn bring_live(&mut self, cast: &Cast<T, P, A, N>, lane: usize, other: LogSeat<T, P, A>)
         requires calm { (lane < LANES) × Calm self.old.known
             × ((account_of self.old.known lane).stand ≡ live) }
         requires other { (other.table_id ≡ N.table) × (other.me.1 ≡ [])
@@ -68,12 +63,7 @@ impl<T: Drop, P, A, N: Feed> WriterState<T, P, A, N> {
     }
 
     // A cut lane's seat comes home, and so does a key that was away.
-    pub(crate) fn bring_cut(
-        &mut self,
-        cast: &Cast<T, P, A, N>,
-        lane: usize,
-        other: LogSeat<T, P, A>,
-    )
+    fn bring_cut(&mut self, cast: &Cast<T, P, A, N>, lane: usize, other: LogSeat<T, P, A>)
         requires calm { (lane < LANES) × Calm self.old.known
             × ((account_of self.old.known lane).stand ≢ live) }
         requires other { (other.table_id ≡ N.table) × (other.me.1 ≡ [])

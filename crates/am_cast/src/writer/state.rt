@@ -26,7 +26,9 @@ pub(crate) struct WriterState<T, P, A, N: Feed> {
     pub(crate) seat: LogSeat<T, P, A>,
     pub(crate) rows: KeyRows<T>,
     pub(crate) alloc: Global,
+    /// How many places a live lane may be behind.
     pub(crate) places: u64,
+    /// The log's length.
     pub(crate) count: u64,
     pub(crate) closed: bool,
     pub(crate) lanes: [LaneAccount; LANES],
