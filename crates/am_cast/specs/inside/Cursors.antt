@@ -5,7 +5,6 @@ use Rattle.am_segment.specs.Segments.{KeyView}
 use Rattle.am_cast.specs.declared.limits.TheConstants.{LANES, LONGEST_LOG, MAX_PLACES}
 use Rattle.am_cast.specs.declared.batch_view.BatchView.{BatchView}
 use Rattle.am_cast.specs.declared.views.LaneView.{LaneView}
-use Rattle.am_cast.specs.Rule.{cut}
 use Rattle.am_cast.specs.Steps.{SeatState}
 use Rattle.am_cast.specs.Keys.{key_of}
 use Rattle.am_cast.specs.Seats.{lane_of, IsLane, IsKeyAt, HasOut}

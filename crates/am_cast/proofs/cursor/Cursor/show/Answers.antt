@@ -1,5 +1,4 @@
 use Rattle.std.proofs.Common.{arith, ◌≡◌, ◌<◌, ◌+◌, length, refl, ap, subst, true, List}
-use Rattle.am_cast.specs.declared.limits.TheConstants.{LONGEST_LOG}
 use Rattle.am_cast.specs.Seats.{lane_of}
 use Rattle.am_cast.specs.Cursors.{CursorView, items_at}
 use Rattle.am_cast.proofs.Cursors.{hand_of, key_items}
