@@ -6,7 +6,7 @@ use mathlib.Core.List.{IsPrefix}
 use lib.ListN.{get_elem?}
 use lib.Seq.{take-append-le}
 use Rattle.am_segment.specs.Segments.{KeyView}
-use Rattle.am_cast.specs.declared.name.Name.{Name}
+use Rattle.am_cast.specs.declared.batch_view.BatchView.{BatchView}
 use Rattle.am_cast.specs.declared.lends.Moved.{Moved}
 use Rattle.am_cast.specs.declared.lends.Moved.TheVariants.{One, Pending, Closed, Cut}
 use Rattle.am_cast.specs.declared.views.LaneView.{LaneView}
@@ -14,13 +14,15 @@ use Rattle.am_cast.specs.declared.views.Account.{Account}
 use Rattle.am_cast.specs.declared.views.Tail.{Tail}
 use Rattle.am_cast.specs.Rule.{Sound}
 use Rattle.am_cast.specs.Changes.{seeing, holding, cut_off, left}
-use Rattle.am_cast.specs.Seats.{IsKey, Took, lane_of}
-use Rattle.am_cast.specs.Keys.{items_of, all_items, key_of}
+use Rattle.am_cast.specs.Seats.{IsKeyAt, Took, lane_of}
+use Rattle.am_cast.specs.Keys.{batch_items, all_items, key_of}
 use Rattle.am_cast.specs.Steps.{SeatState}
 use Rattle.atomic_table.specs.Seated.{TableId}
 use Rattle.am_cast.specs.declared.views.View.{View}
-use Rattle.am_cast.specs.Cursors.{CursorView, CursorOk, HasHand, items_at, taken, HasCut, HasEnded}
-use Rattle.am_cast.specs.Lent.{AreAllSeen, NeedsLook, Found, IsItem, IsInHand, Moves, MovesPast, Takes}
+use Rattle.am_cast.specs.Cursors.{CursorView, items_at, shown_items, HasCut, HasEnded}
+use Rattle.am_cast.specs.inside.Cursors.{CursorOk, HasHand}
+use Rattle.am_cast.specs.Lent.{IsItem, IsInHand, Moves, MovesPast}
+use Rattle.am_cast.specs.inside.Moving.{AreAllSeen, NeedsLook, AfterLook, TriesTake}
 use Rattle.am_cast.proofs.Slots.{at_length}
 
 module _ {X : Type 0} where
@@ -66,54 +68,54 @@ module _ {X : Type 0} where
       go (x ∷ xs) = ap (λ (l : List X). x ∷ l) (go xs)
 
 module _ {T P : Type 0} where
-  items_end : (xs : List (Name T P)) (x : Name T P) → all_items (xs ++ x ∷ []) ≡ all_items xs ++ items_of x
-  items_end [] x = append_none (items_of x)
-  items_end (y ∷ ys) x = ap (λ (l : List T). items_of y ++ l) (items_end ys x) ∙ sym (append_assoc (items_of y) (all_items ys) (items_of x))
+  items_end : (xs : List (BatchView T P)) (x : BatchView T P) → all_items (xs ++ x ∷ []) ≡ all_items xs ++ batch_items x
+  items_end [] x = append_none (batch_items x)
+  items_end (y ∷ ys) x = ap (λ (l : List T). batch_items y ++ l) (items_end ys x) ∙ sym (append_assoc (batch_items y) (all_items ys) (batch_items x))
 
-  pub items_here : (front : List (Name T P)) (i : ℕ) (x : Name T P) → get_elem? front i ≡ some x → items_at front i ≡ items_of x
+  pub items_here : (front : List (BatchView T P)) (i : ℕ) (x : BatchView T P) → get_elem? front i ≡ some x → items_at front i ≡ batch_items x
   items_here [] i x e = absurd (some-ne-none x (sym e))
-  items_here (y ∷ ys) zero x e = append_none (items_of y) ∙ ap (λ (y : Name T P). items_of y) (some-injective y x e)
+  items_here (y ∷ ys) zero x e = append_none (batch_items y) ∙ ap (λ (y : BatchView T P). batch_items y) (some-injective y x e)
   items_here (y ∷ ys) (suc i) x e = items_here ys i x e
 
-  pub key_items : (front : List (Name T P)) (i l : ℕ) (k : KeyView T) → IsKey key_of front i l k → items_at front i ≡ k.items
+  pub key_items : (front : List (BatchView T P)) (i l : ℕ) (k : KeyView T) → IsKeyAt key_of front i l k → items_at front i ≡ k.items
   key_items front i l k h = items_here front i h.0 h.1 ∙ ap (λ (k : KeyView T). k.items) (sym h.2)
 
-  pub some_items : (front : List (Name T P)) (i l : ℕ) (k : KeyView T) → IsKey key_of front i l k → 1 ≤ length k.items
+  pub some_items : (front : List (BatchView T P)) (i l : ℕ) (k : KeyView T) → IsKeyAt key_of front i l k → 1 ≤ length k.items
   some_items front i l k h = let long : length k.items ≡ suc (length (h.0).others) = ap (λ (k : KeyView T). length k.items) h.2 in omega arith
 
-  items_before : (front : List (Name T P)) (s i : ℕ) (x : Name T P) → get_elem? front i ≡ some x → s ≤ i → all_items (drop s (take (suc i) front)) ≡ all_items (drop s (take i front)) ++ items_of x
+  items_before : (front : List (BatchView T P)) (s i : ℕ) (x : BatchView T P) → get_elem? front i ≡ some x → s ≤ i → all_items (drop s (take (suc i) front)) ≡ all_items (drop s (take i front)) ++ batch_items x
   items_before front s i x e low = let inside = at_length front i x e in let long = take_length front i (omega arith) in
-      ap (λ (l : List (Name T P)). all_items (drop s l)) (take_more front i x e) ∙ ap (λ (l : List (Name T P)). all_items l) (drop_end (take i front) s x (omega arith)) ∙ items_end (drop s (take i front)) x
+      ap (λ (l : List (BatchView T P)). all_items (drop s l)) (take_more front i x e) ∙ ap (λ (l : List (BatchView T P)). all_items l) (drop_end (take i front) s x (omega arith)) ∙ items_end (drop s (take i front)) x
 
 module _ {T P A : Type 0} where
   -- a place is passed, all of whose items were shown
-  pub taken_pass : (c d : CursorView T P A) (k : KeyView T) (l : ℕ) → IsKey key_of c.lane.front c.lane.passed l k → c.lane.start ≤ c.lane.passed → c.shown ≡ length (items_at c.lane.front c.lane.passed)
-      → d.lane.front ≡ c.lane.front → d.lane.start ≡ c.lane.start → d.lane.passed ≡ c.lane.passed + 1 → d.shown ≡ 0 → taken d ≡ taken c
-  taken_pass c d k l key low all front start passed shown = let x : Name T P = key.0 in
+  pub taken_pass : (c d : CursorView T P A) (k : KeyView T) (l : ℕ) → IsKeyAt key_of c.lane.front c.lane.passed l k → c.lane.start ≤ c.lane.passed → c.shown ≡ length (items_at c.lane.front c.lane.passed)
+      → d.lane.front ≡ c.lane.front → d.lane.start ≡ c.lane.start → d.lane.passed ≡ c.lane.passed + 1 → d.shown ≡ 0 → shown_items d ≡ shown_items c
+  taken_pass c d k l key low all front start passed shown = let x : BatchView T P = key.0 in
       (λ i. all_items (drop (start i) (take (passed i) (front i))) ++ take (shown i) (items_at (front i) (passed i)))
       ∙ append_none (all_items (drop c.lane.start (take (c.lane.passed + 1) c.lane.front))) ∙ ap (λ (n : ℕ). all_items (drop c.lane.start (take n c.lane.front))) (add-one c.lane.passed)
       ∙ items_before c.lane.front c.lane.start c.lane.passed x key.1 low
       ∙ ap (λ (l : List T). all_items (drop c.lane.start (take c.lane.passed c.lane.front)) ++ l) (sym (take_all (items_at c.lane.front c.lane.passed) c.shown all ∙ items_here c.lane.front c.lane.passed x key.1))
 
   -- the log is longer than it was seen
-  pub taken_look : (c m : CursorView T P A) → m.lane ≡ seeing m.lane.front m.lane.told c.lane → m.shown ≡ 0 → c.shown ≡ 0 → IsPrefix c.lane.front m.lane.front → c.lane.passed ≤ length c.lane.front → taken m ≡ taken c
-  taken_look c m lane none₁ none₂ p h = let passed = ap (λ (v : LaneView (Name T P) A). v.passed) lane in let start = ap (λ (v : LaneView (Name T P) A). v.start) lane in
+  pub taken_look : (c m : CursorView T P A) → m.lane ≡ seeing m.lane.front m.lane.told c.lane → m.shown ≡ 0 → c.shown ≡ 0 → IsPrefix c.lane.front m.lane.front → c.lane.passed ≤ length c.lane.front → shown_items m ≡ shown_items c
+  taken_look c m lane none₁ none₂ p h = let passed = ap (λ (v : LaneView (BatchView T P) A). v.passed) lane in let start = ap (λ (v : LaneView (BatchView T P) A). v.start) lane in
       ap (λ (n : ℕ). all_items (drop m.lane.start (take m.lane.passed m.lane.front)) ++ take n (items_at m.lane.front m.lane.passed)) none₁
-      ∙ (λ i. all_items (drop (start i) (take (passed i) m.lane.front)) ++ []) ∙ ap (λ (l : List (Name T P)). all_items (drop c.lane.start l) ++ []) (take_front c.lane.front m.lane.front c.lane.passed p h)
+      ∙ (λ i. all_items (drop (start i) (take (passed i) m.lane.front)) ++ []) ∙ ap (λ (l : List (BatchView T P)). all_items (drop c.lane.start l) ++ []) (take_front c.lane.front m.lane.front c.lane.passed p h)
       ∙ ap (λ (n : ℕ). all_items (drop c.lane.start (take c.lane.passed c.lane.front)) ++ take n (items_at c.lane.front c.lane.passed)) (sym none₂)
 
   -- the first item of a place
-  pub taken_first : (c d : CursorView T P A) (x : T) → d ≡ record { lane = holding c.lane; shown = 1 } → c.shown ≡ 0 → IsInHand d x → taken d ≡ taken c ++ x ∷ []
+  pub taken_first : (c d : CursorView T P A) (x : T) → d ≡ record { lane = holding c.lane; shown = 1 } → c.shown ≡ 0 → IsInHand d x → shown_items d ≡ shown_items c ++ x ∷ []
   taken_first c d x e none_shown at = let items : List T = items_at c.lane.front c.lane.passed in let before : List T = all_items (drop c.lane.start (take c.lane.passed c.lane.front)) in
       let first : slice_get items 0 ≡ Some x = subst (λ (d : CursorView T P A). IsInHand d x) e at in
-      ap (λ (d : CursorView T P A). taken d) e ∙ ap (λ (l : List T). before ++ l) (take_get items 0 x first) ∙ ap (λ (l : List T). l ++ x ∷ []) (sym (append_none before)) ∙ ap (λ (n : ℕ). (before ++ take n items) ++ x ∷ []) (sym none_shown)
+      ap (λ (d : CursorView T P A). shown_items d) e ∙ ap (λ (l : List T). before ++ l) (take_get items 0 x first) ∙ ap (λ (l : List T). l ++ x ∷ []) (sym (append_none before)) ∙ ap (λ (n : ℕ). (before ++ take n items) ++ x ∷ []) (sym none_shown)
 
   -- the next item of a place
-  pub taken_next : (c d : CursorView T P A) (x : T) → d ≡ record c { shown = c.shown + 1 } → IsInHand d x → taken d ≡ taken c ++ x ∷ []
+  pub taken_next : (c d : CursorView T P A) (x : T) → d ≡ record c { shown = c.shown + 1 } → IsInHand d x → shown_items d ≡ shown_items c ++ x ∷ []
   taken_next c d x e at = let items : List T = items_at c.lane.front c.lane.passed in let before : List T = all_items (drop c.lane.start (take c.lane.passed c.lane.front)) in
       let back : c.shown + 1 - 1 ≡ c.shown = omega arith in
       let next : slice_get items c.shown ≡ Some x = ap (λ (n : ℕ). slice_get items n) (sym back) ∙ subst (λ (d : CursorView T P A). IsInHand d x) e at in
-      ap (λ (d : CursorView T P A). taken d) e ∙ ap (λ (n : ℕ). before ++ take n items) (add-one c.shown) ∙ ap (λ (l : List T). before ++ l) (take_get items c.shown x next) ∙ sym (append_assoc before (take c.shown items) (x ∷ []))
+      ap (λ (d : CursorView T P A). shown_items d) e ∙ ap (λ (n : ℕ). before ++ take n items) (add-one c.shown) ∙ ap (λ (l : List T). before ++ l) (take_get items c.shown x next) ∙ sym (append_assoc before (take c.shown items) (x ∷ []))
 
   pub shows_next : (c d : CursorView T P A) → c.lane.held ≡ true → d ≡ record c { shown = c.shown + 1 } → IsItem c d
   shows_next c d held e = record {
@@ -124,10 +126,10 @@ module _ {T P A : Type 0} where
   }
 
   -- what a look answers, after the places that were passed
-  pub found_moves : (c m d : CursorView T P A) (r : Moved) → NeedsLook c → c.lane.held ≡ false → c.shown ≡ 0 → m.lane ≡ seeing m.lane.front m.lane.told c.lane → m.shown ≡ c.shown → IsPrefix c.lane.front m.lane.front → Found m d r → Moves c d r
+  pub found_moves : (c m d : CursorView T P A) (r : Moved) → NeedsLook c → c.lane.held ≡ false → c.shown ≡ 0 → m.lane ≡ seeing m.lane.front m.lane.told c.lane → m.shown ≡ c.shown → IsPrefix c.lane.front m.lane.front → AfterLook m d r → Moves c d r
   found_moves c m d r needs idle none_shown lane shown p f = go r f
     where
-      same : taken m ≡ taken c
+      same : shown_items m ≡ shown_items c
       same = let at = needs.0 in taken_look c m lane (shown ∙ none_shown) none_shown p (omega arith)
 
       unended : HasEnded c → ⊥
@@ -136,82 +138,82 @@ module _ {T P A : Type 0} where
       uncut : HasCut c → ⊥
       uncut h = false≢true (sym needs.2 ∙ h.0)
 
-      go : (r : Moved) → Found m d r → Moves c d r
+      go : (r : Moved) → AfterLook m d r → Moves c d r
       go One t = record { held = t.held; taken = λ x at. t.taken x at ∙ ap (λ (l : List T). l ++ x ∷ []) same; was_open = unended; was_uncut = uncut }
       go Pending t = record {
-        taken = ap (λ (c : CursorView T P A). taken c) t.0 ∙ same;
-        looks = ap (λ (c : CursorView T P A). c.lane.looks) t.0 ∙ ap (λ (v : LaneView (Name T P) A). v.looks) lane;
+        taken = ap (λ (c : CursorView T P A). shown_items c) t.0 ∙ same;
+        looks = ap (λ (c : CursorView T P A). c.lane.looks) t.0 ∙ ap (λ (v : LaneView (BatchView T P) A). v.looks) lane;
         told = ap (λ (c : CursorView T P A). c.lane.told) t.0 ∙ t.1;
         all = ap (λ (c : CursorView T P A). c.lane.passed) t.0 ∙ t.2 ∙ ap (λ (c : CursorView T P A). length c.lane.front) (sym t.0);
-        held = ap (λ (c : CursorView T P A). c.lane.held) t.0 ∙ ap (λ (v : LaneView (Name T P) A). v.held) lane ∙ idle;
-        cut = ap (λ (c : CursorView T P A). c.lane.cut) t.0 ∙ ap (λ (v : LaneView (Name T P) A). v.cut) lane ∙ needs.2;
+        held = ap (λ (c : CursorView T P A). c.lane.held) t.0 ∙ ap (λ (v : LaneView (BatchView T P) A). v.held) lane ∙ idle;
+        cut = ap (λ (c : CursorView T P A). c.lane.cut) t.0 ∙ ap (λ (v : LaneView (BatchView T P) A). v.cut) lane ∙ needs.2;
         was_open = unended;
         was_uncut = uncut;
       }
-      go Closed t = record { taken = ap (λ (c : CursorView T P A). taken c) t.0 ∙ same; ended = subst (λ (c : CursorView T P A). HasEnded c) (sym t.0) t.1; was_uncut = uncut }
+      go Closed t = record { taken = ap (λ (c : CursorView T P A). shown_items c) t.0 ∙ same; ended = subst (λ (c : CursorView T P A). HasEnded c) (sym t.0) t.1; was_uncut = uncut }
       go Cut t = record { taken = t.taken ∙ same; cut = t.cut; was_open = unended }
 
   -- the same, of a pass that the cursor was told of
-  pub found_past : (noted : List (Name T P)) (m d : CursorView T P A) (r : Moved) → IsPrefix noted m.lane.front → Found m d r → MovesPast noted d r
+  pub found_past : (noted : List (BatchView T P)) (m d : CursorView T P A) (r : Moved) → IsPrefix noted m.lane.front → AfterLook m d r → MovesPast noted d r
   found_past noted m d One p t = tt
   found_past noted m d Pending p t = subst (λ (c : CursorView T P A). IsPrefix noted c.lane.front) (sym t.0) p
   found_past noted m d Closed p t = tt
   found_past noted m d Cut p t = tt
 
-  pub seen_past : (noted : List (Name T P)) (d : CursorView T P A) (r : Moved) → AreAllSeen r → MovesPast noted d r
+  pub seen_past : (noted : List (BatchView T P)) (d : CursorView T P A) (r : Moved) → AreAllSeen r → MovesPast noted d r
   seen_past noted d One s = tt
   seen_past noted d Pending s = absurd s
   seen_past noted d Closed s = tt
   seen_past noted d Cut s = tt
 
-  pub takes_found : (c d : CursorView T P A) (r : Moved) → Takes c d r → Found c d r
+  pub takes_found : (c d : CursorView T P A) (r : Moved) → TriesTake c d r → AfterLook c d r
   takes_found c d One t = t
   takes_found c d Pending t = absurd t
   takes_found c d Closed t = absurd t
   takes_found c d Cut t = t
 
-  pub takes_seen : (c d : CursorView T P A) (r : Moved) → Takes c d r → Moves c d r × AreAllSeen r
+  pub takes_seen : (c d : CursorView T P A) (r : Moved) → TriesTake c d r → Moves c d r × AreAllSeen r
   takes_seen c d One t = (t, tt)
   takes_seen c d Pending t = absurd t
   takes_seen c d Closed t = absurd t
   takes_seen c d Cut t = (t, tt)
 
   -- the same, after a place was passed
-  pub moves_back : (c m d : CursorView T P A) (r : Moved) → taken m ≡ taken c → m.lane.looks ≡ c.lane.looks → (HasEnded c → HasEnded m) → (HasCut c → HasCut m) → Moves m d r → Moves c d r
+  pub moves_back : (c m d : CursorView T P A) (r : Moved) → shown_items m ≡ shown_items c → m.lane.looks ≡ c.lane.looks → (HasEnded c → HasEnded m) → (HasCut c → HasCut m) → Moves m d r → Moves c d r
   moves_back c m d One same looks ended cut t = record { held = t.held; taken = λ x at. t.taken x at ∙ ap (λ (l : List T). l ++ x ∷ []) same; was_open = λ h. t.was_open (ended h); was_uncut = λ h. t.was_uncut (cut h) }
   moves_back c m d Pending same looks ended cut t = record { taken = t.taken ∙ same; looks = t.looks ∙ ap (λ (n : ℕ). n + 1) looks; told = t.told; all = t.all; held = t.held; cut = t.cut; was_open = λ h. t.was_open (ended h); was_uncut = λ h. t.was_uncut (cut h) }
   moves_back c m d Closed same looks ended cut t = record { taken = t.taken ∙ same; ended = t.ended; was_uncut = λ h. t.was_uncut (cut h) }
   moves_back c m d Cut same looks ended cut₁ t = record { taken = t.taken ∙ same; cut = t.cut; was_open = λ h. t.was_open (ended h) }
 
   -- the key in hand
-  pub hand_of : (m : SeatState (Name T P) (KeyView T) A) (v : LaneView (Name T P) A) (shown : ℕ) (o : Option (KeyView T)) (k : KeyView T) → o ≡ Some k → HasHand m v shown o → HasHand m v shown (Some k)
+  pub hand_of : (m : SeatState (BatchView T P) (KeyView T) A) (v : LaneView (BatchView T P) A) (shown : ℕ) (o : Option (KeyView T)) (k : KeyView T) → o ≡ Some k → HasHand m v shown o → HasHand m v shown (Some k)
   hand_of m v shown o k e h = subst (λ (o : Option (KeyView T)). HasHand m v shown o) e h
 
   -- a key came into the hand, and its first item is shown
-  pub cursor_took : (table t t' : TableId) (m m' : SeatState (Name T P) (KeyView T) A) (number places passed seen shown : ℕ) (closed cut : Bool) (hand hand' : Option (KeyView T)) (k : KeyView T)
+  pub cursor_took : (table t t' : TableId) (m m' : SeatState (BatchView T P) (KeyView T) A) (number places passed seen shown : ℕ) (closed cut : Bool) (hand hand' : Option (KeyView T)) (k : KeyView T)
       → CursorOk table t m number places passed seen shown closed cut hand → t' ≡ t → (lane_of m.0).cut ≡ false → (lane_of m.0).passed < length (lane_of m.0).front
       → Took key_of m (lane_of m.0) (holding (lane_of m.0)) (cut_off (lane_of m.0)) m' (Some k) → hand' ≡ Some k → CursorOk table t' m' number places passed seen 1 closed cut hand'
-  cursor_took table t t' m m' number places passed seen shown closed cut hand hand' k ok same uncut some_more took hand_is = let v : LaneView (Name T P) A = lane_of m.0 in
-      let is : lane_of m'.0 ≡ holding v = ap (λ (w : View (Name T P) (KeyView T) A). lane_of w) took.0 in let f = ok.seen_is in let p = ok.passed_is in record {
+  cursor_took table t t' m m' number places passed seen shown closed cut hand hand' k ok same uncut some_more took hand_is = let v : LaneView (BatchView T P) A = lane_of m.0 in
+      let is : lane_of m'.0 ≡ holding v = ap (λ (w : View (BatchView T P) (KeyView T) A). lane_of w) took.0 in let f = ok.seen_is in let p = ok.passed_is in record {
         same = same ∙ ok.same;
-        lane = ap (λ (w : View (Name T P) (KeyView T) A). w.lane) took.0 ∙ ap (λ (v : LaneView (Name T P) A). let o : Option (LaneView (Name T P) A) = Some v in o) (sym is);
-        alone = (ap (λ (w : View (Name T P) (KeyView T) A). w.writer) took.0 ∙ ok.alone.0, ap (λ (w : View (Name T P) (KeyView T) A). w.own) took.0 ∙ ok.alone.1);
-        here = ap (λ (v : LaneView (Name T P) A). v.here) is ∙ ok.here;
-        begun = ap (λ (v : LaneView (Name T P) A). v.begun) is ∙ ok.begun;
-        number_is = ap (λ (v : LaneView (Name T P) A). v.number) is ∙ ok.number_is;
+        lane = ap (λ (w : View (BatchView T P) (KeyView T) A). w.lane) took.0 ∙ ap (λ (v : LaneView (BatchView T P) A). let o : Option (LaneView (BatchView T P) A) = Some v in o) (sym is);
+        alone = (ap (λ (w : View (BatchView T P) (KeyView T) A). w.writer) took.0 ∙ ok.alone.0, ap (λ (w : View (BatchView T P) (KeyView T) A). w.own) took.0 ∙ ok.alone.1);
+        here = ap (λ (v : LaneView (BatchView T P) A). v.here) is ∙ ok.here;
+        begun = ap (λ (v : LaneView (BatchView T P) A). v.begun) is ∙ ok.begun;
+        number_is = ap (λ (v : LaneView (BatchView T P) A). v.number) is ∙ ok.number_is;
         small = ok.small;
-        places_is = ap (λ (v : LaneView (Name T P) A). v.places) is ∙ ok.places_is;
+        places_is = ap (λ (v : LaneView (BatchView T P) A). v.places) is ∙ ok.places_is;
         some_places = ok.some_places;
-        passed_is = ap (λ (v : LaneView (Name T P) A). v.passed) is ∙ ok.passed_is;
-        low = subst (λ (v : LaneView (Name T P) A). v.start ≤ passed) (sym is) ok.low;
+        passed_is = ap (λ (v : LaneView (BatchView T P) A). v.passed) is ∙ ok.passed_is;
+        low = subst (λ (v : LaneView (BatchView T P) A). v.start ≤ passed) (sym is) ok.low;
         mid = ok.mid;
-        seen_is = ap (λ (v : LaneView (Name T P) A). length v.front) is ∙ ok.seen_is;
+        seen_is = ap (λ (v : LaneView (BatchView T P) A). length v.front) is ∙ ok.seen_is;
         bound = ok.bound;
-        told_is = ap (λ (v : LaneView (Name T P) A). v.told) is ∙ ok.told_is;
-        cut_is = ap (λ (v : LaneView (Name T P) A). v.cut) is ∙ ok.cut_is;
-        hand_is = subst (λ (o : Option (KeyView T)). HasHand m' (lane_of m'.0) 1 o) (sym hand_is) (subst (λ (v : LaneView (Name T P) A). HasHand m' v 1 (Some k)) (sym is) (refl, took.1, took.2, omega arith, some_items v.front v.passed v.number k took.2));
+        told_is = ap (λ (v : LaneView (BatchView T P) A). v.told) is ∙ ok.told_is;
+        cut_is = ap (λ (v : LaneView (BatchView T P) A). v.cut) is ∙ ok.cut_is;
+        hand_is = subst (λ (o : Option (KeyView T)). HasHand m' (lane_of m'.0) 1 o) (sym hand_is) (subst (λ (v : LaneView (BatchView T P) A). HasHand m' v 1 (Some k)) (sym is) (refl, took.1, took.2, omega arith, some_items v.front v.passed v.number k took.2));
         below = λ _. omega arith;
-        uncut = λ _. ap (λ (v : LaneView (Name T P) A). v.cut) is ∙ uncut;
+        uncut = λ _. ap (λ (v : LaneView (BatchView T P) A). v.cut) is ∙ uncut;
       }
 
 module _ {X : Type 0} where
@@ -234,27 +236,27 @@ module _ {X : Type 0} where
   drop_front (x ∷ xs) ys (suc s) h = drop_front xs ys s (omega arith)
 
 module _ {T P : Type 0} where
-  items_append : (xs ys : List (Name T P)) → all_items (xs ++ ys) ≡ all_items xs ++ all_items ys
+  items_append : (xs ys : List (BatchView T P)) → all_items (xs ++ ys) ≡ all_items xs ++ all_items ys
   items_append [] ys = refl
-  items_append (x ∷ xs) ys = ap (λ (l : List T). items_of x ++ l) (items_append xs ys) ∙ sym (append_assoc (items_of x) (all_items xs) (all_items ys))
+  items_append (x ∷ xs) ys = ap (λ (l : List T). batch_items x ++ l) (items_append xs ys) ∙ sym (append_assoc (batch_items x) (all_items xs) (all_items ys))
 
-  first_place : (xs : List (Name T P)) → IsPrefix (all_items (take 1 xs)) (all_items xs)
+  first_place : (xs : List (BatchView T P)) → IsPrefix (all_items (take 1 xs)) (all_items xs)
   first_place [] = ([], refl)
-  first_place (x ∷ xs) = (all_items xs, ap (λ (l : List T). l ++ all_items xs) (append_none (items_of x)))
+  first_place (x ∷ xs) = (all_items xs, ap (λ (l : List T). l ++ all_items xs) (append_none (batch_items x)))
 
 module _ {T P A : Type 0} where
   -- what was taken begins the log from the start on
-  pub taken_front : (log : List (Name T P)) (c : CursorView T P A) → IsPrefix c.lane.front log → c.lane.start ≤ c.lane.passed → c.lane.passed ≤ length c.lane.front → IsPrefix (taken c) (all_items (drop c.lane.start log))
-  taken_front log c p low high = let front : List (Name T P) = c.lane.front in let start : ℕ = c.lane.start in let at : ℕ = c.lane.passed in
+  pub taken_front : (log : List (BatchView T P)) (c : CursorView T P A) → IsPrefix c.lane.front log → c.lane.start ≤ c.lane.passed → c.lane.passed ≤ length c.lane.front → IsPrefix (shown_items c) (all_items (drop c.lane.start log))
+  taken_front log c p low high = let front : List (BatchView T P) = c.lane.front in let start : ℕ = c.lane.start in let at : ℕ = c.lane.passed in
       let before : List T = all_items (drop start (take at front)) in let here : List T = items_at front at in
       let a = take_prefix here c.shown in let b = first_place (drop at front) in (
         a.0 ++ (b.0 ++ all_items p.0),
         append_assoc before (take c.shown here) (a.0 ++ (b.0 ++ all_items p.0))
             ∙ ap (λ (l : List T). before ++ l) (sym (append_assoc (take c.shown here) a.0 (b.0 ++ all_items p.0)) ∙ ap (λ (l : List T). l ++ (b.0 ++ all_items p.0)) a.1 ∙ sym (append_assoc here b.0 (all_items p.0)) ∙ ap (λ (l : List T). l ++ all_items p.0) b.1)
-            ∙ sym (append_assoc before (all_items (drop at front)) (all_items p.0)) ∙ ap (λ (l : List T). l ++ all_items p.0) (sym (items_append (drop start (take at front)) (drop at front)) ∙ ap (λ (l : List (Name T P)). all_items l) (sym (drop_parts front start at low high)))
-            ∙ sym (items_append (drop start front) p.0) ∙ ap (λ (l : List (Name T P)). all_items l) (sym (drop_front front p.0 start (omega arith)) ∙ ap (λ (l : List (Name T P)). drop start l) p.1),
+            ∙ sym (append_assoc before (all_items (drop at front)) (all_items p.0)) ∙ ap (λ (l : List T). l ++ all_items p.0) (sym (items_append (drop start (take at front)) (drop at front)) ∙ ap (λ (l : List (BatchView T P)). all_items l) (sym (drop_parts front start at low high)))
+            ∙ sym (items_append (drop start front) p.0) ∙ ap (λ (l : List (BatchView T P)). all_items l) (sym (drop_front front p.0 start (omega arith)) ∙ ap (λ (l : List (BatchView T P)). drop start l) p.1),
       )
 
   -- the same, of a cursor whose lane has come home
-  pub taken_home : (t : Tail (Name T P)) (b : Account (KeyView T) A) (c : CursorView T P A) (l : ℕ) → Sound t b (left c.lane) l → IsPrefix (taken c) (all_items (drop c.lane.start t.log))
+  pub taken_home : (t : Tail (BatchView T P)) (b : Account (KeyView T) A) (c : CursorView T P A) (l : ℕ) → Sound t b (left c.lane) l → IsPrefix (shown_items c) (all_items (drop c.lane.start t.log))
   taken_home t b c l sd = let low = sd.counts.low in let mid = sd.mid in let start = sd.start in let high = sd.seen.high in taken_front t.log c sd.seen.begins (omega arith) (omega arith)

@@ -5,7 +5,7 @@ use mathlib.Core.Logic.{dite}
 use native.Mathlib.Decide.{ℕ_discrete}
 use Rattle.atomic_table.proofs.Lists.{at_last}
 use Rattle.am_segment.specs.Segments.{KeyView}
-use Rattle.am_cast.specs.declared.name.Name.{Name}
+use Rattle.am_cast.specs.declared.batch_view.BatchView.{BatchView}
 use Rattle.am_cast.specs.declared.views.Account.{Account}
 use Rattle.am_cast.specs.declared.views.Tail.{Tail}
 use Rattle.am_cast.specs.declared.views.WriterView.{WriterView}
@@ -13,7 +13,8 @@ use Rattle.am_cast.specs.Rule.{live}
 use Rattle.am_cast.specs.Changes.{with_account, laying, grown, longer}
 use Rattle.am_cast.specs.Seats.{account_of}
 use Rattle.am_cast.specs.Keys.{key_of}
-use Rattle.am_cast.specs.Writers.{Calm, HasRoom, FilledTo, AreReady, filled_as}
+use Rattle.am_cast.specs.Writers.{Calm, HasRoom}
+use Rattle.am_cast.specs.inside.Filling.{FilledTo, AreReady, filled_as}
 use Rattle.am_cast.specs.inside.KeyRows.{BucketView, row_at}
 use Rattle.am_cast.specs.inside.Waiting.{is_out, is_live, Gathered, FitsAt, RowsFit}
 use Rattle.am_cast.proofs.Slots.{at_length, prefix_at}
@@ -27,9 +28,9 @@ live_is b e = eq-eqb b.stand live e
 else_is : {K A : Type 0} (b : Account K A) → b.stand ≢ live → is_live b ≡ false
 else_is b ne = not_true (is_live b) (λ e. ne (eqb-true b.stand live e))
 
-module _ {T P A : Type 0} (x : Name T P) where
+module _ {T P A : Type 0} (x : BatchView T P) where
   -- one lane's key more
-  pub fill_step : (q₀ q q' : WriterView (Name T P) (KeyView T) A) (k : ℕ) (keys keys' : List (KeyView T)) → k < 8 → FilledTo key_of q₀ x k q → Gathered x (λ l. is_live (account_of q₀ l)) k keys
+  pub fill_step : (q₀ q q' : WriterView (BatchView T P) (KeyView T) A) (k : ℕ) (keys keys' : List (KeyView T)) → k < 8 → FilledTo key_of q₀ x k q → Gathered x (λ l. is_live (account_of q₀ l)) k keys
       → ((account_of q k).stand ≡ live → (q' ≡ with_account k (laying (key_of x k) (account_of q k)) q) × (keys' ≡ keys))
       → ((account_of q k).stand ≢ live → (q' ≡ q) × (keys' ≡ keys ++ key_of x k ∷ []))
       → FilledTo key_of q₀ x (k + 1) q' × Gathered x (λ l. is_live (account_of q₀ l)) (k + 1) keys'
@@ -37,40 +38,40 @@ module _ {T P A : Type 0} (x : Name T P) where
       dite (ℕ_discrete b.stand live)
       (λ (e : b.stand ≡ live). let r = lives (ap (λ (b : Account (KeyView T) A). b.stand) was ∙ e) in let is = r.0 in (
         (
-          ap (λ (q : WriterView (Name T P) (KeyView T) A). q.tail) is ∙ f.0,
-          ap (λ (q : WriterView (Name T P) (KeyView T) A). length q.accounts) is ∙ Rattle.std.proofs.Common.length-set q.accounts k (laying (key_of x k) (account_of q k)) ∙ f.1,
+          ap (λ (q : WriterView (BatchView T P) (KeyView T) A). q.tail) is ∙ f.0,
+          ap (λ (q : WriterView (BatchView T P) (KeyView T) A). length q.accounts) is ∙ Rattle.std.proofs.Common.length-set q.accounts k (laying (key_of x k) (account_of q k)) ∙ f.1,
           λ l h. (
             λ below. dite (ℕ_discrete l k)
-                (λ z. ap (λ (q : WriterView (Name T P) (KeyView T) A). account_of q l) is ∙ ap (λ (l : ℕ). account_of (with_account k (laying (key_of x k) (account_of q k)) q) l) z ∙ account_same q k (laying (key_of x k) (account_of q k)) (omega arith) ∙ ap (λ (b : Account (KeyView T) A). laying (key_of x k) b) was
+                (λ z. ap (λ (q : WriterView (BatchView T P) (KeyView T) A). account_of q l) is ∙ ap (λ (l : ℕ). account_of (with_account k (laying (key_of x k) (account_of q k)) q) l) z ∙ account_same q k (laying (key_of x k) (account_of q k)) (omega arith) ∙ ap (λ (b : Account (KeyView T) A). laying (key_of x k) b) was
                 ∙ (λ i. filled_as key_of (sym e i) x k b) ∙ ap (λ (l : ℕ). filled_as key_of (account_of q₀ l).stand x l (account_of q₀ l)) (sym z))
-                (λ ne. ap (λ (q : WriterView (Name T P) (KeyView T) A). account_of q l) is ∙ account_else q k l (laying (key_of x k) (account_of q k)) ne ∙ (f.2 l h).0 (omega arith)),
-            λ above. ap (λ (q : WriterView (Name T P) (KeyView T) A). account_of q l) is ∙ account_else q k l (laying (key_of x k) (account_of q k)) (λ z. omega arith) ∙ (f.2 l h).1 (omega arith),
+                (λ ne. ap (λ (q : WriterView (BatchView T P) (KeyView T) A). account_of q l) is ∙ account_else q k l (laying (key_of x k) (account_of q k)) ne ∙ (f.2 l h).0 (omega arith)),
+            λ above. ap (λ (q : WriterView (BatchView T P) (KeyView T) A). account_of q l) is ∙ account_else q k l (laying (key_of x k) (account_of q k)) (λ z. omega arith) ∙ (f.2 l h).1 (omega arith),
           ),
         ),
         subst (λ (z : ℕ × List (KeyView T)). Gathered x (λ l. is_live (account_of q₀ l)) z.0 z.1) (λ i. (sym (add-one k) i, sym r.1 i)) (gathered_skip x (λ l. is_live (account_of q₀ l)) k keys g (live_is b e)),
       ))
       (λ (ne₀ : b.stand ≢ live). let r = rests (λ e. ne₀ (ap (λ (b : Account (KeyView T) A). b.stand) (sym was) ∙ e)) in let is = r.0 in (
         (
-          ap (λ (q : WriterView (Name T P) (KeyView T) A). q.tail) is ∙ f.0,
-          ap (λ (q : WriterView (Name T P) (KeyView T) A). length q.accounts) is ∙ f.1,
+          ap (λ (q : WriterView (BatchView T P) (KeyView T) A). q.tail) is ∙ f.0,
+          ap (λ (q : WriterView (BatchView T P) (KeyView T) A). length q.accounts) is ∙ f.1,
           λ l h. (
-            λ below. ap (λ (q : WriterView (Name T P) (KeyView T) A). account_of q l) is ∙ dite (ℕ_discrete l k)
+            λ below. ap (λ (q : WriterView (BatchView T P) (KeyView T) A). account_of q l) is ∙ dite (ℕ_discrete l k)
                 (λ z. ap (λ (l : ℕ). account_of q l) z ∙ was ∙ sym (filled_else key_of b.stand x k b ne₀) ∙ ap (λ (l : ℕ). filled_as key_of (account_of q₀ l).stand x l (account_of q₀ l)) (sym z))
                 (λ ne. (f.2 l h).0 (omega arith)),
-            λ above. ap (λ (q : WriterView (Name T P) (KeyView T) A). account_of q l) is ∙ (f.2 l h).1 (omega arith),
+            λ above. ap (λ (q : WriterView (BatchView T P) (KeyView T) A). account_of q l) is ∙ (f.2 l h).1 (omega arith),
           ),
         ),
         subst (λ (z : ℕ × List (KeyView T)). Gathered x (λ l. is_live (account_of q₀ l)) z.0 z.1) (λ i. (sym (add-one k) i, sym r.1 i)) (gathered_more x (λ l. is_live (account_of q₀ l)) k keys g (else_is b ne₀)),
       ))
 
-  pub fill_none : (q : WriterView (Name T P) (KeyView T) A) → length q.accounts ≡ 8 → FilledTo key_of q x 0 q
+  pub fill_none : (q : WriterView (BatchView T P) (KeyView T) A) → length q.accounts ≡ 8 → FilledTo key_of q x 0 q
   fill_none q all = (refl, all, λ l h. ((λ below. absurd (omega arith)), λ above. refl))
 
   -- a live lane may be given its key
-  pub may_put : (q₀ q : WriterView (Name T P) (KeyView T) A) (k : ℕ) → k < 8 → Calm q₀ → HasRoom q₀ 8 → FilledTo key_of q₀ x k q → (account_of q k).stand ≡ live
+  pub may_put : (q₀ q : WriterView (BatchView T P) (KeyView T) A) (k : ℕ) → k < 8 → Calm q₀ → HasRoom q₀ 8 → FilledTo key_of q₀ x k q → (account_of q k).stand ≡ live
       → ((account_of q k).out ≡ 0) × ((account_of q k).laid ≡ None) × ((account_of q k).stop ≡ length q.tail.log) × ((account_of q k).stop < (account_of q k).cleared + q.tail.places)
   may_put q₀ q k small c room f e = let b : Account (KeyView T) A = account_of q₀ k in let calm = c.1 k small in let was : account_of q k ≡ b = (f.2 k small).1 (omega arith) in
-      subst (λ (z : Account (KeyView T) A × Tail (Name T P)). (z.0.out ≡ 0) × (z.0.laid ≡ None) × (z.0.stop ≡ length z.1.log) × (z.0.stop < z.0.cleared + z.1.places)) (λ i. (sym was i, sym f.0 i))
+      subst (λ (z : Account (KeyView T) A × Tail (BatchView T P)). (z.0.out ≡ 0) × (z.0.laid ≡ None) × (z.0.stop ≡ length z.1.log) × (z.0.stop < z.0.cleared + z.1.places)) (λ i. (sym was i, sym f.0 i))
       (let alive = ap (λ (b : Account (KeyView T) A). b.stand) (sym was) ∙ e in let li = calm.live_is alive in let l₀ = li.0 in let l₁ = li.1 in let space = room k small alive in (calm.out, calm.laid, li.1, omega arith))
 
   -- which keys are out when the log has grown
@@ -97,27 +98,27 @@ module _ {T P A : Type 0} (x : Name T P) where
       from e (handed h k) = handed h k
 
   -- no row is there yet
-  pub no_row_yet : (q : WriterView (Name T P) (KeyView T) A) (rows : List (BucketView T)) (n : ℕ) → n ≡ length q.tail.log → RowsFit q rows → row_at rows n ≡ None
+  pub no_row_yet : (q : WriterView (BatchView T P) (KeyView T) A) (rows : List (BucketView T)) (n : ℕ) → n ≡ length q.tail.log → RowsFit q rows → row_at rows n ≡ None
   no_row_yet q rows n e fits = go (row_at rows n) (fits n)
     where
       go : (o : Option (List (KeyView T))) → FitsAt q n o → o ≡ None
       go None f = refl
       go (Some keys) f = absurd (let h = at_length q.tail.log n f.0 f.1 in omega arith)
 
-  fits_longer : (q : WriterView (Name T P) (KeyView T) A) (rows rows' : List (BucketView T)) (n : ℕ) → n ≡ length q.tail.log → AreReady q → RowsFit q rows → ((p : ℕ) → p ≢ n → row_at rows' p ≡ row_at rows p)
+  fits_longer : (q : WriterView (BatchView T P) (KeyView T) A) (rows rows' : List (BucketView T)) (n : ℕ) → n ≡ length q.tail.log → AreReady q → RowsFit q rows → ((p : ℕ) → p ≢ n → row_at rows' p ≡ row_at rows p)
       → FitsAt (longer x q) n (row_at rows' n) → RowsFit (longer x q) rows'
   fits_longer q rows rows' n long ready fits others at_n i = let all = ready.0 in dite (ℕ_discrete i n)
       (λ e. subst (λ (j : ℕ). FitsAt (longer x q) j (row_at rows' j)) (sym e) at_n)
       (λ ne. subst (λ (o : Option (List (KeyView T))). FitsAt (longer x q) i o) (sym (others i ne)) (fits_ext q (longer x q) i (row_at rows i) (λ y e. prefix_at q.tail.log (q.tail.log ++ x ∷ []) i y (x ∷ [], refl) e)
       (λ l h. ap (λ (b : Account (KeyView T) A). is_out b i) (account_longer q x l (omega arith)) ∙ grown_off (account_of q l) (length q.tail.log) i (ready.1 l h).0 (λ z. ne (z ∙ sym long))) (fits i)))
 
-  now_out : (q : WriterView (Name T P) (KeyView T) A) (n : ℕ) → n ≡ length q.tail.log → AreReady q → (l : ℕ) → l < 8 → is_out (account_of (longer x q) l) n ≡ is_live (account_of q l)
+  now_out : (q : WriterView (BatchView T P) (KeyView T) A) (n : ℕ) → n ≡ length q.tail.log → AreReady q → (l : ℕ) → l < 8 → is_out (account_of (longer x q) l) n ≡ is_live (account_of q l)
   now_out q n long ready l h = let all = ready.0 in let r = ready.1 l h in ap (λ (i : ℕ). is_out (account_of (longer x q) l) i) long ∙ ap (λ (b : Account (KeyView T) A). is_out b (length q.tail.log)) (account_longer q x l (omega arith)) ∙ grown_at (account_of q l) (length q.tail.log) r.0 r.1 (λ a. (r.2 a).1)
 
   -- the place's row waits
-  pub fits_row : (q q' : WriterView (Name T P) (KeyView T) A) (rows rows' : List (BucketView T)) (n : ℕ) (keys : List (KeyView T)) → q' ≡ longer x q → n ≡ length q.tail.log → AreReady q → RowsFit q rows
+  pub fits_row : (q q' : WriterView (BatchView T P) (KeyView T) A) (rows rows' : List (BucketView T)) (n : ℕ) (keys : List (KeyView T)) → q' ≡ longer x q → n ≡ length q.tail.log → AreReady q → RowsFit q rows
       → Gathered x (λ l. is_live (account_of q l)) 8 keys → nat_eq (length keys) 8 ≡ false → row_at rows' n ≡ Some keys → ((p : ℕ) → p ≢ n → row_at rows' p ≡ row_at rows p) → RowsFit q' rows'
-  fits_row q q' rows rows' n keys is long ready fits g few here others = subst (λ (q : WriterView (Name T P) (KeyView T) A). RowsFit q rows') (sym is) (fits_longer q rows rows' n long ready fits others
+  fits_row q q' rows rows' n keys is long ready fits g few here others = subst (λ (q : WriterView (BatchView T P) (KeyView T) A). RowsFit q rows') (sym is) (fits_longer q rows rows' n long ready fits others
       (subst (λ (o : Option (List (KeyView T))). FitsAt (longer x q) n o) (sym here) (
         x,
         at_last q.tail.log x n (sym long),
@@ -126,13 +127,13 @@ module _ {T P A : Type 0} (x : Name T P) where
       )))
 
   -- no lane is live, and the segment has ended
-  pub fits_ended : (q q' : WriterView (Name T P) (KeyView T) A) (rows : List (BucketView T)) (n : ℕ) (keys : List (KeyView T)) → q' ≡ longer x q → n ≡ length q.tail.log → AreReady q → RowsFit q rows
+  pub fits_ended : (q q' : WriterView (BatchView T P) (KeyView T) A) (rows : List (BucketView T)) (n : ℕ) (keys : List (KeyView T)) → q' ≡ longer x q → n ≡ length q.tail.log → AreReady q → RowsFit q rows
       → Gathered x (λ l. is_live (account_of q l)) 8 keys → nat_eq (length keys) 8 ≡ true → RowsFit q' rows
-  fits_ended q q' rows n keys is long ready fits g full = subst (λ (q : WriterView (Name T P) (KeyView T) A). RowsFit q rows) (sym is) (fits_longer q rows rows n long ready fits (λ p ne. refl)
+  fits_ended q q' rows n keys is long ready fits g full = subst (λ (q : WriterView (BatchView T P) (KeyView T) A). RowsFit q rows) (sym is) (fits_longer q rows rows n long ready fits (λ p ne. refl)
       (subst (λ (o : Option (List (KeyView T))). FitsAt (longer x q) n o) (sym (no_row_yet q rows n long fits))
       (λ l h. now_out q n long ready l h ∙ gathered_clear x (λ l. is_live (account_of q l)) keys g (eqb-true (length keys) 8 full) l h)))
 
-module _ {T P : Type 0} (x : Name T P) where
+module _ {T P : Type 0} (x : BatchView T P) where
   -- the key of a lane was handed out, and the others are left
   pub next_run : (lane : ℕ) (run : KeyView T) (o : Option (KeyView T)) → run ≡ key_of x lane → MatchOption o (run.number + 1 ≡ run.keys) (λ rest. (run.number + 1 < run.keys) × (rest ≡ record run { number = run.number + 1 }))
       → MatchOption o (lane + 1 ≡ 8) (λ r. (lane + 1 < 8) × (r ≡ key_of x (lane + 1)))
@@ -155,7 +156,7 @@ first_rest (x ∷ xs) y e = ap (λ z. z ∷ xs) (sym (some_is x y e))
 
 module _ {T P A : Type 0} where
   -- a filled lane is live where it was
-  pub filled_live : (q q' : WriterView (Name T P) (KeyView T) A) (x : Name T P) (l : ℕ) → l < 8 → FilledTo key_of q x 8 q' → is_live (account_of q' l) ≡ is_live (account_of q l)
+  pub filled_live : (q q' : WriterView (BatchView T P) (KeyView T) A) (x : BatchView T P) (l : ℕ) → l < 8 → FilledTo key_of q x 8 q' → is_live (account_of q' l) ≡ is_live (account_of q l)
   filled_live q q' x l small f = ap (λ (b : Account (KeyView T) A). is_live b) ((f.2 l small).0 small) ∙ go (account_of q l).stand (account_of q l)
     where
       go : (n : ℕ) (b : Account (KeyView T) A) → is_live (filled_as key_of n x l b) ≡ is_live b

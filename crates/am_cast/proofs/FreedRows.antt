@@ -2,7 +2,7 @@
 use Rattle.std.proofs.Common.{◌≡◌, ◌≢◌, ℕ, zero, suc, ◌<◌, inl, inr, length, sym, ap, ◌∙◌, subst, arith, Option, Some, None, Bool, true, false, refl, List, not}
 use Rattle.std.proofs.lemmas.Bool.{false≢true}
 use Rattle.am_segment.specs.Segments.{KeyView}
-use Rattle.am_cast.specs.declared.name.Name.{Name}
+use Rattle.am_cast.specs.declared.batch_view.BatchView.{BatchView}
 use Rattle.am_cast.specs.declared.views.Account.{Account}
 use Rattle.am_cast.specs.declared.views.WriterView.{WriterView}
 use Rattle.am_cast.specs.Rule.{bit}
@@ -42,12 +42,12 @@ module _ {K A : Type 0} where
 
 module _ {T P A : Type 0} where
   -- a place of the log with no row is freed
-  pub no_row_is_freed : (q : WriterView (Name T P) (KeyView T) A) (rows : List (BucketView T)) (i : ℕ) → Calm q → RowsFit q rows → i < length q.tail.log → row_at rows i ≡ None → IsFreedFor q i
+  pub no_row_is_freed : (q : WriterView (BatchView T P) (KeyView T) A) (rows : List (BucketView T)) (i : ℕ) → Calm q → RowsFit q rows → i < length q.tail.log → row_at rows i ≡ None → IsFreedFor q i
   no_row_is_freed q rows i calm fit inside none_there = let home = subst (FitsAt q i) none_there (fit i) in
       home_is_freed key_of q i inside (λ l small. let c = calm.1 l small in (gathered (length q.tail.log) q.tail.places (account_of q l) c, (λ e. (c.live_is e).1), λ out. false≢true (sym (home l small) ∙ out_is (account_of q l) i out)))
 
   -- and one with a row is not
-  pub row_is_kept : (q : WriterView (Name T P) (KeyView T) A) (rows : List (BucketView T)) (i : ℕ) → Calm q → RowsFit q rows → row_at rows i ≢ None → IsFreedFor q i → ⊥
+  pub row_is_kept : (q : WriterView (BatchView T P) (KeyView T) A) (rows : List (BucketView T)) (i : ℕ) → Calm q → RowsFit q rows → row_at rows i ≢ None → IsFreedFor q i → ⊥
   row_is_kept q rows i calm fit there freed = go (row_at rows i) (fit i) there
     where
       go : (o : Option (List (KeyView T))) → FitsAt q i o → o ≢ None → ⊥
@@ -56,9 +56,9 @@ module _ {T P A : Type 0} where
           let many = f.2.many in let few = f.3 in let t = one_out (λ l. is_out (account_of q l) i) 8 (omega arith) in
           freed_is_home key_of q i t.0 t.1 (gathered (length q.tail.log) q.tail.places (account_of q t.0) (calm.1 t.0 t.1)) freed (is_out_of (account_of q t.0) i t.2)
 
-  pub freed_tells : (q q' : WriterView (Name T P) (KeyView T) A) (rows : List (BucketView T)) (i : ℕ) (found : Bool) → q ≡ q' → Calm q' → RowsFit q rows → i < length q.tail.log → (found ≡ false → row_at rows i ≡ None) → (found ≡ true → row_at rows i ≢ None)
+  pub freed_tells : (q q' : WriterView (BatchView T P) (KeyView T) A) (rows : List (BucketView T)) (i : ℕ) (found : Bool) → q ≡ q' → Calm q' → RowsFit q rows → i < length q.tail.log → (found ≡ false → row_at rows i ≡ None) → (found ≡ true → row_at rows i ≢ None)
       → (not found ≡ true → IsFreedFor q' i) × (IsFreedFor q' i → not found ≡ true)
-  freed_tells q q' rows i found same calm fit inside none_there some_there = subst (λ (z : WriterView (Name T P) (KeyView T) A). Calm z → (not found ≡ true → IsFreedFor z i) × (IsFreedFor z i → not found ≡ true)) same (λ calm. by found none_there some_there calm) calm
+  freed_tells q q' rows i found same calm fit inside none_there some_there = subst (λ (z : WriterView (BatchView T P) (KeyView T) A). Calm z → (not found ≡ true → IsFreedFor z i) × (IsFreedFor z i → not found ≡ true)) same (λ calm. by found none_there some_there calm) calm
     where
       by : (found : Bool) → (found ≡ false → row_at rows i ≡ None) → (found ≡ true → row_at rows i ≢ None) → Calm q → (not found ≡ true → IsFreedFor q i) × (IsFreedFor q i → not found ≡ true)
       by true f g calm = (λ e. absurd (false≢true e), λ freed. absurd (row_is_kept q rows i calm fit (g refl) freed))

@@ -69,7 +69,7 @@ module _ {B K A : Type 0} (posters : ℕ) (t : Tail B) (account : ℕ → Accoun
   only_poster : (P Q : ℕ → Poster B) (p : ℕ) (v : Poster B) → Q p ≡ v → ((k : ℕ) → k ≢ p → Q k ≡ P k) → OnlyPoster (core_with P) p v (core_with Q)
   only_poster P Q p v here other = record { same = record { places = refl; log = refl; closed = refl; lanes = refl; posters = refl }; lane = λ l. refl; here = here; other = other }
 
-  posts_lead : (P Q : ℕ → Poster B) (p known : ℕ) (own os : List (Own B)) → p < posters → ((k : ℕ) (o : Own B) → get_elem? (own ++ os) k ≡ some o → get_elem? t.log o.place ≡ some o.name) → Once (own ++ os)
+  posts_lead : (P Q : ℕ → Poster B) (p known : ℕ) (own os : List (Own B)) → p < posters → ((k : ℕ) (o : Own B) → get_elem? (own ++ os) k ≡ some o → get_elem? t.log o.place ≡ some o.batch) → Once (own ++ os)
       → P p ≡ poster_of known own → Q p ≡ poster_of (length t.log) (own ++ os) → ((k : ℕ) → k ≢ p → Q k ≡ P k) → (os ≡ [] → known ≡ length t.log) → LeadsTo (core_with P) (note_posts p os) (core_with Q)
   posts_lead P Q p known own [] inside stand once was now other full = same_posters P Q (λ k. dite (ℕ_discrete k p)
       (λ (e : k ≡ p). ap Q e ∙ now ∙ (λ i. poster_of (sym (full refl) i) (nothing_more own i)) ∙ sym was ∙ ap P (sym e))
@@ -77,14 +77,14 @@ module _ {B K A : Type 0} (posters : ℕ) (t : Tail B) (account : ℕ → Accoun
   posts_lead P Q p known own (o ∷ os) inside stand once was now other full =
       let next : Poster B = poster_of (length t.log) (own ++ o ∷ []) in let P' : ℕ → Poster B = put P p next in
       let own_is : (P p).own ≡ map post_of own = ap (λ (v : Poster B). v.own) was in
-      let may : MayOwn t.log (P p) (Some (post_of o)) = (get_at t.log o.place o.name (stand (length own) o (middle own o os)), subst (λ (posts : List (ℕ × B)). Contains posts (post_of o) → ⊥) (sym own_is) (λ c. not_before own o os once c.0 c.1 c.2)) in
+      let may : MayOwn t.log (P p) (Some (post_of o)) = (get_at t.log o.place o.batch (stand (length own) o (middle own o os)), subst (λ (posts : List (ℕ × B)). Contains posts (post_of o) → ⊥) (sym own_is) (λ c. not_before own o os once c.0 c.1 c.2)) in
       let first : Step (core_with P) (does.Note p (Some (post_of o))) (core_with P') = steps.note (core_with P) (core_with P') p (Some (post_of o)) inside may
       (only_poster P P' p (record { places_known = length t.log; own = (P p).own ++ post_of o ∷ [] }) (put_here P p next ∙ (λ i. record { places_known = length t.log; own = (posts_end own o ∙ ap (λ (posts : List (ℕ × B)). posts ++ post_of o ∷ []) (sym own_is)) i })) (λ k ne. put_else P p next k ne)) in
       let moved : (own ++ o ∷ []) ++ os ≡ own ++ o ∷ os = append_assoc own (o ∷ []) os in
       leads (core_with P) (core_with P') (core_with Q) (does.Note p (Some (post_of o))) (note_posts p os) first
       (posts_lead P' Q p (length t.log) (own ++ o ∷ []) os inside (λ k y e. stand k y (ap (λ (ys : List (Own B)). get_elem? ys k) (sym moved) ∙ e)) (subst (λ (ys : List (Own B)). Once ys) (sym moved) once) (put_here P p next) (now ∙ ap (poster_of (length t.log)) (sym moved)) (λ k ne. other k ne ∙ sym (put_else P p next k ne)) (λ _. refl))
 
-  notes_lead : (P Q : ℕ → Poster B) (p known : ℕ) (own os : List (Own B)) → p < posters → ((k : ℕ) (o : Own B) → get_elem? (own ++ os) k ≡ some o → get_elem? t.log o.place ≡ some o.name) → Once (own ++ os)
+  notes_lead : (P Q : ℕ → Poster B) (p known : ℕ) (own os : List (Own B)) → p < posters → ((k : ℕ) (o : Own B) → get_elem? (own ++ os) k ≡ some o → get_elem? t.log o.place ≡ some o.batch) → Once (own ++ os)
       → P p ≡ poster_of known own → Q p ≡ poster_of (length t.log) (own ++ os) → ((k : ℕ) → k ≢ p → Q k ≡ P k) → LeadsTo (core_with P) (note_events p os) (core_with Q)
   notes_lead P Q p known own [] inside stand once was now other =
       leads (core_with P) (core_with Q) (core_with Q) (does.Note p None) [] (steps.note (core_with P) (core_with Q) p None inside tt (only_poster P Q p (record { places_known = length t.log; own = (P p).own }) (now ∙ ap (poster_of (length t.log)) (nothing_more own) ∙ (λ i. record { places_known = length t.log; own = (sym was i).own })) other)) (runs.none (core_with Q))

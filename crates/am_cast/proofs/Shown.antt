@@ -80,10 +80,10 @@ module _ {B K A : Type 0} where
 
 module _ {B : Type 0} where
   -- own posts by their places
-  posts_sound : (log : List B) (known : ℕ) (own : List (Own B)) → ((k : ℕ) (o : Own B) → get_elem? own k ≡ some o → (get_elem? log o.place ≡ some o.name) × (o.place < known))
+  posts_sound : (log : List B) (known : ℕ) (own : List (Own B)) → ((k : ℕ) (o : Own B) → get_elem? own k ≡ some o → (get_elem? log o.place ≡ some o.batch) × (o.place < known))
       → All (λ (post : ℕ × B). (slice_get log post.0 ≡ Some post.1) × (post.0 < known)) (map post_of own)
   posts_sound log known [] h k d small = absurd (omega arith)
-  posts_sound log known (o ∷ os) h zero d small = let e = h zero o refl in (get_at log o.place o.name e.0, e.1)
+  posts_sound log known (o ∷ os) h zero d small = let e = h zero o refl in (get_at log o.place o.batch e.0, e.1)
   posts_sound log known (o ∷ os) h (suc k) d small = posts_sound log known os (λ j p e. h (suc j) p e) k d (omega arith)
 
   taken_at : (own : List (Own B)) (n k : ℕ) (o : Own B) → get_elem? (take n own) k ≡ some o → (get_elem? own k ≡ some o) × (k < n)

@@ -178,7 +178,7 @@ module _ {B : Type 0} where
   -- what stays, where the log may have grown and the owners of these places stay
   pub owns_still : (log log' : List B) (owner owner' : ℕ → ℕ) (j : ℕ) (own : List (Own B)) → IsPrefix log log' → ((p : ℕ) → p < length log → owner' p ≡ owner p) → Owns log owner j own → Owns log' owner' j own
   owns_still log log' owner owner' j own p same o = record {
-    each = λ k x e. let t = o.each k x e in (prefix_at log log' x.place x.name p t.0, same x.place (at_length log x.place x.name t.0) ∙ t.1);
+    each = λ k x e. let t = o.each k x e in (prefix_at log log' x.place x.batch p t.0, same x.place (at_length log x.place x.batch t.0) ∙ t.1);
     once = o.once;
   }
 
@@ -203,11 +203,11 @@ module _ {B : Type 0} where
   }
 
   -- a new place beside those that were there
-  pub owns_one_more : (log log' : List B) (owner owner' : ℕ → ℕ) (j : ℕ) (own : List (Own B)) (o : Own B) → IsPrefix log log' → ((p : ℕ) → p < length log → owner' p ≡ owner p) → length log ≤ o.place → get_elem? log' o.place ≡ some o.name → owner' o.place ≡ j
+  pub owns_one_more : (log log' : List B) (owner owner' : ℕ → ℕ) (j : ℕ) (own : List (Own B)) (o : Own B) → IsPrefix log log' → ((p : ℕ) → p < length log → owner' p ≡ owner p) → length log ≤ o.place → get_elem? log' o.place ≡ some o.batch → owner' o.place ≡ j
       → Owns log owner j own → Owns log' owner' j (own ++ o ∷ [])
   owns_one_more log log' owner owner' j own o p same new there mine a = record {
-    each = λ k x e. ⊎_elim (λ h. (owns_still log log' owner owner' j own p same a).each k x h) (λ (h : (k ≡ length own) × (o ≡ x)). subst (λ (z : Own B). (get_elem? log' z.place ≡ some z.name) × (owner' z.place ≡ j)) h.1 (there, mine)) (at_end own o x k e);
-    once = once_append own (o ∷ []) a.once (tt, tt) (λ k m x y e f h. let inside = at_length log x.place x.name (a.each k x e).0 in let far : length log ≤ y.place = ⊎_elim (λ (z : get_elem? [] m ≡ some y). absurd (some-ne-none y (sym z))) (λ (z : (m ≡ 0) × (o ≡ y)). subst (λ (u : Own B). length log ≤ u.place) z.1 new) (at_end [] o y m f) in omega arith);
+    each = λ k x e. ⊎_elim (λ h. (owns_still log log' owner owner' j own p same a).each k x h) (λ (h : (k ≡ length own) × (o ≡ x)). subst (λ (z : Own B). (get_elem? log' z.place ≡ some z.batch) × (owner' z.place ≡ j)) h.1 (there, mine)) (at_end own o x k e);
+    once = once_append own (o ∷ []) a.once (tt, tt) (λ k m x y e f h. let inside = at_length log x.place x.batch (a.each k x e).0 in let far : length log ≤ y.place = ⊎_elim (λ (z : get_elem? [] m ≡ some y). absurd (some-ne-none y (sym z))) (λ (z : (m ≡ 0) × (o ≡ y)). subst (λ (u : Own B). length log ≤ u.place) z.1 new) (at_end [] o y m f) in omega arith);
   }
 
 -- the value of the slot that was taken last

@@ -19,7 +19,7 @@ use Rattle.am_steps.specs.declared.event.Event as event
 use Rattle.am_steps.specs.declared.event.Event.TheVariants as does
 use Rattle.am_steps.specs.States.{Core, record_of, with_record, word_of, new_record}
 use Rattle.am_steps.specs.Steps as steps
-use Rattle.am_steps.specs.Steps.{Step, SameLog, OnlyLane, OnlyLog, HasRoom, one_further}
+use Rattle.am_steps.specs.Steps.{Step, SameLog, OnlyLane, OnlyLog, MayGrow, one_further}
 use Rattle.am_steps.specs.Runs.{LeadsTo, none, then as leads}
 use Rattle.am_cast.specs.declared.views.Tail.{Tail}
 use Rattle.am_cast.specs.declared.views.Account.{Account}
@@ -294,7 +294,7 @@ module _ {B K A : Type 0} where
         steps.leave (before c) (after d) l (record_behind b) (cursor_behind v) (lane_was c l _ small (open_is b v used here begun))
         (lane_only c d l (left v) _ small to (left_is b (left v) used refl))
 
-    has_room : (c : Behind B K A) → IsSoundBehind c → ((l : ℕ) → l < 8 → (c.account l).stand ≡ live → (c.account l).stop < (c.account l).cleared + c.tail.places) → HasRoom (before c)
+    has_room : (c : Behind B K A) → IsSoundBehind c → ((l : ℕ) → l < 8 → (c.account l).stand ≡ live → (c.account l).stop < (c.account l).cleared + c.tail.places) → MayGrow (before c)
     has_room c sound room l m is uncut = elim (cases_lt l 8) [
       | inl small ↦ (
           let b : Account K A = c.account l in let v : LaneView B A = c.lane l in let sd = sound l small in

@@ -9,13 +9,13 @@ use mathlib.Core.Option.{some, some-injective}
 use lib.ListN.{get_elem?}
 use native.Mathlib.Decide.{ℕ_discrete}
 use Rattle.am_segment.specs.Segments.{KeyView, AreAllKeys}
-use Rattle.am_cast.specs.declared.name.Name.{Name}
+use Rattle.am_cast.specs.declared.batch_view.BatchView.{BatchView}
 use Rattle.am_cast.specs.declared.views.Account.{Account}
 use Rattle.am_cast.specs.declared.views.WriterView.{WriterView}
 use Rattle.am_cast.specs.Rule.{bit, idle, first_account}
 use Rattle.am_cast.specs.declared.views.View.{View}
 use Rattle.am_cast.specs.Changes.{with_writer, with_account, loaded, known_to, back, returned, back_if, retired, severed, clearing}
-use Rattle.am_cast.specs.Seats.{account_of, writer_of, IsKey}
+use Rattle.am_cast.specs.Seats.{account_of, writer_of, IsKeyAt}
 use Rattle.am_cast.specs.Writers.{Calm}
 use Rattle.am_cast.specs.Keys.{key_of}
 use Rattle.am_cast.specs.inside.KeyRows.{BucketView, row_at, MayTake, row_with}
@@ -180,7 +180,7 @@ none_outs : (out : ℕ → Bool) (n : ℕ) → ((l : ℕ) → l < n → out l �
 none_outs out zero h = refl
 none_outs out (suc n) h = (λ i. none_outs out n (λ l k. h l (omega arith)) i + bit (h n (omega arith) i))
 
-module _ {T P : Type 0} (x : Name T P) where
+module _ {T P : Type 0} (x : BatchView T P) where
   counted : (l m : ℕ) (keys : List (KeyView T)) → count_by (λ k. nat_eq k.number m) (keys ++ key_of x l ∷ []) ≡ count_by (λ k. nat_eq k.number m) keys + cond (nat_eq l m) 1 0
   counted l m keys = sum_by-append (λ (k : KeyView T). cond (nat_eq k.number m) 1 0) keys (key_of x l ∷ []) ∙ (let one = sum_by-cons (λ (k : KeyView T). cond (nat_eq k.number m) 1 0) (key_of x l) [] in omega arith)
 
@@ -250,104 +250,104 @@ module _ {T P : Type 0} (x : Name T P) where
     each_once = λ l h. let once = g.below l (omega arith) in let b : bit (out l) ≡ 0 = ap bit (outs_none out 8 none_out l (omega arith)) in omega arith;
   }
 
-same_name : {T P : Type 0} → (log : List (Name T P)) (i : ℕ) (x y : Name T P) → get_elem? log i ≡ some x → get_elem? log i ≡ some y → x ≡ y
+same_name : {T P : Type 0} → (log : List (BatchView T P)) (i : ℕ) (x y : BatchView T P) → get_elem? log i ≡ some x → get_elem? log i ≡ some y → x ≡ y
 same_name log i x y e f = some-injective x y (sym e ∙ f)
 
 module _ {T P A : Type 0} where
-  pub fits_ext : (q q' : WriterView (Name T P) (KeyView T) A) (i : ℕ) (o : Option (List (KeyView T))) → ((x : Name T P) → get_elem? q.tail.log i ≡ some x → get_elem? q'.tail.log i ≡ some x)
+  pub fits_ext : (q q' : WriterView (BatchView T P) (KeyView T) A) (i : ℕ) (o : Option (List (KeyView T))) → ((x : BatchView T P) → get_elem? q.tail.log i ≡ some x → get_elem? q'.tail.log i ≡ some x)
       → ((l : ℕ) → l < 8 → is_out (account_of q' l) i ≡ is_out (account_of q l) i) → FitsAt q i o → FitsAt q' i o
   fits_ext q q' i None log same f = λ l h. same l h ∙ f l h
   fits_ext q q' i (Some keys) log same f = (f.0, log f.0 f.1, gathered_same f.0 (λ l. is_out (account_of q l) i) (λ l. is_out (account_of q' l) i) 8 keys same f.2, f.3)
 
-  account_here : (q : WriterView (Name T P) (KeyView T) A) (l : ℕ) (b : Account (KeyView T) A) → l < length q.accounts → account_of (with_account l b q) l ≡ b
+  account_here : (q : WriterView (BatchView T P) (KeyView T) A) (l : ℕ) (b : Account (KeyView T) A) → l < length q.accounts → account_of (with_account l b q) l ≡ b
   account_here q l b h = get_or-set_same q.accounts l b first_account h
 
-  account_else : (q : WriterView (Name T P) (KeyView T) A) (l m : ℕ) (b : Account (KeyView T) A) → m ≢ l → account_of (with_account l b q) m ≡ account_of q m
+  account_else : (q : WriterView (BatchView T P) (KeyView T) A) (l m : ℕ) (b : Account (KeyView T) A) → m ≢ l → account_of (with_account l b q) m ≡ account_of q m
   account_else q l m b ne = get_or-set_other q.accounts l m b first_account ne
 
   -- one account has changed, and no key went out or came home
-  pub fits_one : (q q' : WriterView (Name T P) (KeyView T) A) (rows : List (BucketView T)) (l : ℕ) (b : Account (KeyView T) A) → q' ≡ with_account l b q → l < length q.accounts
+  pub fits_one : (q q' : WriterView (BatchView T P) (KeyView T) A) (rows : List (BucketView T)) (l : ℕ) (b : Account (KeyView T) A) → q' ≡ with_account l b q → l < length q.accounts
       → ((i : ℕ) → is_out b i ≡ is_out (account_of q l) i) → RowsFit q rows → RowsFit q' rows
-  fits_one q q' rows l b is small same fits = subst (λ (q : WriterView (Name T P) (KeyView T) A). RowsFit q rows) (sym is) (λ i. fits_ext q (with_account l b q) i (row_at rows i) (λ x e. e)
+  fits_one q q' rows l b is small same fits = subst (λ (q : WriterView (BatchView T P) (KeyView T) A). RowsFit q rows) (sym is) (λ i. fits_ext q (with_account l b q) i (row_at rows i) (λ x e. e)
       (λ m h. dite (ℕ_discrete m l)
       (λ e. ap (λ (m : ℕ). is_out (account_of (with_account l b q) m) i) e ∙ ap (λ (b : Account (KeyView T) A). is_out b i) (account_here q l b small) ∙ same i ∙ ap (λ (m : ℕ). is_out (account_of q m) i) (sym e))
       (λ ne. ap (λ (b : Account (KeyView T) A). is_out b i) (account_else q l m b ne))) (fits i))
 
   -- no account has changed
-  pub fits_tail : (q q' : WriterView (Name T P) (KeyView T) A) (rows : List (BucketView T)) → q'.tail.log ≡ q.tail.log → q'.accounts ≡ q.accounts → RowsFit q rows → RowsFit q' rows
-  fits_tail q q' rows log same fits i = fits_ext q q' i (row_at rows i) (λ x e. ap (λ (l : List (Name T P)). get_elem? l i) log ∙ e) (λ l h. ap (λ (a : List (Account (KeyView T) A)). is_out (get_or a l first_account) i) same) (fits i)
+  pub fits_tail : (q q' : WriterView (BatchView T P) (KeyView T) A) (rows : List (BucketView T)) → q'.tail.log ≡ q.tail.log → q'.accounts ≡ q.accounts → RowsFit q rows → RowsFit q' rows
+  fits_tail q q' rows log same fits i = fits_ext q q' i (row_at rows i) (λ x e. ap (λ (l : List (BatchView T P)). get_elem? l i) log ∙ e) (λ l h. ap (λ (a : List (Account (KeyView T) A)). is_out (get_or a l first_account) i) same) (fits i)
 
   -- the row of a place whose key is out
-  row_there : (q : WriterView (Name T P) (KeyView T) A) (i l : ℕ) (o : Option (List (KeyView T))) → FitsAt q i o → l < 8 → is_out (account_of q l) i ≡ true → (keys : List (KeyView T)) × (o ≡ Some keys) × FitsAt q i (Some keys)
+  row_there : (q : WriterView (BatchView T P) (KeyView T) A) (i l : ℕ) (o : Option (List (KeyView T))) → FitsAt q i o → l < 8 → is_out (account_of q l) i ≡ true → (keys : List (KeyView T)) × (o ≡ Some keys) × FitsAt q i (Some keys)
   row_there q i l None f h out = absurd (false≢true (sym (f l h) ∙ out))
   row_there q i l (Some keys) f h out = (keys, refl, f)
 
   -- what a key that comes home finds
-  record Coming (q : WriterView (Name T P) (KeyView T) A) (rows : List (BucketView T)) (l place : ℕ) (key : KeyView T) : Type 0 where
+  record Coming (q : WriterView (BatchView T P) (KeyView T) A) (rows : List (BucketView T)) (l place : ℕ) (key : KeyView T) : Type 0 where
     pub keys : List (KeyView T)
     pub row : row_at rows place ≡ Some keys
-    pub x : Name T P
-    pub name : get_elem? q.tail.log place ≡ some x
+    pub x : BatchView T P
+    pub batch : get_elem? q.tail.log place ≡ some x
     pub gathered : Gathered x (λ l. is_out (account_of q l) place) 8 keys
     pub few : length keys < 8
     pub key_is : key ≡ key_of x l
     pub out : is_out (account_of q l) place ≡ true
 
-  coming : (q : WriterView (Name T P) (KeyView T) A) (rows : List (BucketView T)) (l place : ℕ) (key : KeyView T) → l < 8 → place ≡ (account_of q l).cleared → place < (account_of q l).stop
-      → IsKey key_of q.tail.log place l key → RowsFit q rows → Coming q rows l place key
+  coming : (q : WriterView (BatchView T P) (KeyView T) A) (rows : List (BucketView T)) (l place : ℕ) (key : KeyView T) → l < 8 → place ≡ (account_of q l).cleared → place < (account_of q l).stop
+      → IsKeyAt key_of q.tail.log place l key → RowsFit q rows → Coming q rows l place key
   coming q rows l place key small at inside k fits = let b : Account (KeyView T) A = account_of q l in let out : is_out b place ≡ true = is_out_when b place (slotted (omega arith) inside) in
       let r = row_there q place l (row_at rows place) (fits place) small out in let same : k.0 ≡ r.2.0 = same_name q.tail.log place k.0 r.2.0 k.1 r.2.1 in record {
         keys = r.0;
         row = r.1;
         x = r.2.0;
-        name = r.2.1;
+        batch = r.2.1;
         gathered = r.2.2;
         few = r.2.3;
-        key_is = k.2 ∙ ap (λ (x : Name T P). key_of x l) same;
+        key_is = k.2 ∙ ap (λ (x : BatchView T P). key_of x l) same;
         out = out;
       }
 
-  came : (q : WriterView (Name T P) (KeyView T) A) (rows : List (BucketView T)) (l place : ℕ) (key : KeyView T) (q' : WriterView (Name T P) (KeyView T) A) → Coming q rows l place key → l < length q.accounts → l < 8 → place ≡ (account_of q l).cleared
+  came : (q : WriterView (BatchView T P) (KeyView T) A) (rows : List (BucketView T)) (l place : ℕ) (key : KeyView T) (q' : WriterView (BatchView T P) (KeyView T) A) → Coming q rows l place key → l < length q.accounts → l < 8 → place ≡ (account_of q l).cleared
       → ((account_of q l).away ≡ true → (account_of q l).known < (account_of q l).cleared) → q' ≡ with_account l (clearing (account_of q l)) q → (c : Coming q rows l place key) → Gathered c.x (λ l. is_out (account_of q' l) place) 8 (c.keys ++ key ∷ [])
   came q rows l place key q' _ inside small at low is c = subst (λ (k : KeyView T). Gathered c.x (λ l. is_out (account_of q' l) place) 8 (c.keys ++ k ∷ [])) (sym c.key_is)
       (gathered_one c.x (λ l. is_out (account_of q l) place) (λ l. is_out (account_of q' l) place) l 8 c.keys c.gathered small c.out
-      (ap (λ (q : WriterView (Name T P) (KeyView T) A). is_out (account_of q l) place) is ∙ ap (λ (b : Account (KeyView T) A). is_out b place) (account_here q l (clearing (account_of q l)) inside) ∙ ap (λ (i : ℕ). is_out (clearing (account_of q l)) i) at ∙ out_cleared (account_of q l) low)
-      (λ m ne. ap (λ (q : WriterView (Name T P) (KeyView T) A). is_out (account_of q m) place) is ∙ ap (λ (b : Account (KeyView T) A). is_out b place) (account_else q l m (clearing (account_of q l)) ne)))
+      (ap (λ (q : WriterView (BatchView T P) (KeyView T) A). is_out (account_of q l) place) is ∙ ap (λ (b : Account (KeyView T) A). is_out b place) (account_here q l (clearing (account_of q l)) inside) ∙ ap (λ (i : ℕ). is_out (clearing (account_of q l)) i) at ∙ out_cleared (account_of q l) low)
+      (λ m ne. ap (λ (q : WriterView (BatchView T P) (KeyView T) A). is_out (account_of q m) place) is ∙ ap (λ (b : Account (KeyView T) A). is_out b place) (account_else q l m (clearing (account_of q l)) ne)))
 
-  pub may_bring : (q q' : WriterView (Name T P) (KeyView T) A) (rows : List (BucketView T)) (l place : ℕ) (key : KeyView T) → l < length q.accounts → l < 8 → place ≡ (account_of q l).cleared → place < (account_of q l).stop
+  pub may_bring : (q q' : WriterView (BatchView T P) (KeyView T) A) (rows : List (BucketView T)) (l place : ℕ) (key : KeyView T) → l < length q.accounts → l < 8 → place ≡ (account_of q l).cleared → place < (account_of q l).stop
       → ((account_of q l).away ≡ true → (account_of q l).known < (account_of q l).cleared) → q' ≡ with_account l (clearing (account_of q l)) q
-      → IsKey key_of q.tail.log place l key → RowsFit q rows → (keys : List (KeyView T)) × (row_at rows place ≡ Some keys) × MayTake keys key
+      → IsKeyAt key_of q.tail.log place l key → RowsFit q rows → (keys : List (KeyView T)) × (row_at rows place ≡ Some keys) × MayTake keys key
   may_bring q q' rows l place key inside small at in_slot low is k fits = let c = coming q rows l place key small at in_slot k fits in
       (c.keys, c.row, (c.few, λ e. gathered_all c.x (λ l. is_out (account_of q' l) place) (c.keys ++ key ∷ []) (came q rows l place key q' c inside small at low is c) (length-append c.keys (key ∷ []) ∙ ap (λ (n : ℕ). n + 1) e)))
 
-  pub brought : (q q' : WriterView (Name T P) (KeyView T) A) (rows rows' : List (BucketView T)) (l place : ℕ) (key : KeyView T) → l < length q.accounts → l < 8 → place ≡ (account_of q l).cleared → place < (account_of q l).stop
+  pub brought : (q q' : WriterView (BatchView T P) (KeyView T) A) (rows rows' : List (BucketView T)) (l place : ℕ) (key : KeyView T) → l < length q.accounts → l < 8 → place ≡ (account_of q l).cleared → place < (account_of q l).stop
       → ((account_of q l).away ≡ true → (account_of q l).known < (account_of q l).cleared) → q' ≡ with_account l (clearing (account_of q l)) q
-      → IsKey key_of q.tail.log place l key → RowsFit q rows
+      → IsKeyAt key_of q.tail.log place l key → RowsFit q rows
       → ((keys : List (KeyView T)) → row_at rows place ≡ Some keys → row_at rows' place ≡ row_with keys key) → ((p : ℕ) → p ≢ place → row_at rows' p ≡ row_at rows p) → RowsFit q' rows'
   brought q q' rows rows' l place key inside small at in_slot low is k fits here others i = dite (ℕ_discrete i place)
       (λ e. let c = coming q rows l place key small at in_slot k fits in let g = came q rows l place key q' c inside small at low is c in
-      subst (λ (j : ℕ). FitsAt q' j (row_at rows' j)) (sym e) (subst (λ (o : Option (List (KeyView T))). FitsAt q' place o) (sym (here c.keys c.row)) (now c.keys c.x (nat_eq (length c.keys) 7) refl (ap (λ (q : WriterView (Name T P) (KeyView T) A). get_elem? q.tail.log place) is ∙ c.name) g c.few)))
-      (λ ne. subst (λ (o : Option (List (KeyView T))). FitsAt q' i o) (sym (others i ne)) (fits_ext q q' i (row_at rows i) (λ x e. ap (λ (q : WriterView (Name T P) (KeyView T) A). get_elem? q.tail.log i) is ∙ e)
-      (λ m h. ap (λ (q : WriterView (Name T P) (KeyView T) A). is_out (account_of q m) i) is ∙ dite (ℕ_discrete m l)
+      subst (λ (j : ℕ). FitsAt q' j (row_at rows' j)) (sym e) (subst (λ (o : Option (List (KeyView T))). FitsAt q' place o) (sym (here c.keys c.row)) (now c.keys c.x (nat_eq (length c.keys) 7) refl (ap (λ (q : WriterView (BatchView T P) (KeyView T) A). get_elem? q.tail.log place) is ∙ c.batch) g c.few)))
+      (λ ne. subst (λ (o : Option (List (KeyView T))). FitsAt q' i o) (sym (others i ne)) (fits_ext q q' i (row_at rows i) (λ x e. ap (λ (q : WriterView (BatchView T P) (KeyView T) A). get_elem? q.tail.log i) is ∙ e)
+      (λ m h. ap (λ (q : WriterView (BatchView T P) (KeyView T) A). is_out (account_of q m) i) is ∙ dite (ℕ_discrete m l)
       (λ e. ap (λ (m : ℕ). is_out (account_of (with_account l (clearing (account_of q l)) q) m) i) e ∙ ap (λ (b : Account (KeyView T) A). is_out b i) (account_here q l (clearing (account_of q l)) inside) ∙ out_clearing (account_of q l) i (λ z. ne (z ∙ sym at)) ∙ ap (λ (m : ℕ). is_out (account_of q m) i) (sym e))
       (λ off. ap (λ (b : Account (KeyView T) A). is_out b i) (account_else q l m (clearing (account_of q l)) off))) (fits i)))
     where
-      now : (keys : List (KeyView T)) (x : Name T P) (b : Bool) → nat_eq (length keys) 7 ≡ b → get_elem? q'.tail.log place ≡ some x → Gathered x (λ l. is_out (account_of q' l) place) 8 (keys ++ key ∷ []) → length keys < 8 → FitsAt q' place (cond b None (Some (keys ++ key ∷ [])))
+      now : (keys : List (KeyView T)) (x : BatchView T P) (b : Bool) → nat_eq (length keys) 7 ≡ b → get_elem? q'.tail.log place ≡ some x → Gathered x (λ l. is_out (account_of q' l) place) 8 (keys ++ key ∷ []) → length keys < 8 → FitsAt q' place (cond b None (Some (keys ++ key ∷ [])))
       now keys x true e there g few = let seven = eqb-true (length keys) 7 e in let long = length-append keys (key ∷ []) in let many = g.many in outs_none (λ l. is_out (account_of q' l) place) 8 (omega arith)
       now keys x false e there g few = let long = length-append keys (key ∷ []) in (x, there, g, (let ne : length keys ≢ 7 = (λ z. false≢true (sym e ∙ eq-eqb (length keys) 7 z)) in omega arith))
 
   -- the same, of the writer's view
-  pub fits_set : (w w' : View (Name T P) (KeyView T) A) (rows : List (BucketView T)) (l : ℕ) (b : Account (KeyView T) A) → w' ≡ with_writer (with_account l b (writer_of w)) w → l < length (writer_of w).accounts
+  pub fits_set : (w w' : View (BatchView T P) (KeyView T) A) (rows : List (BucketView T)) (l : ℕ) (b : Account (KeyView T) A) → w' ≡ with_writer (with_account l b (writer_of w)) w → l < length (writer_of w).accounts
       → ((i : ℕ) → is_out b i ≡ is_out (account_of (writer_of w) l) i) → RowsFit (writer_of w) rows → RowsFit (writer_of w') rows
-  fits_set w w' rows l b e small same fits = fits_one (writer_of w) (writer_of w') rows l b (ap (λ (w : View (Name T P) (KeyView T) A). writer_of w) e) small same fits
+  fits_set w w' rows l b e small same fits = fits_one (writer_of w) (writer_of w') rows l b (ap (λ (w : View (BatchView T P) (KeyView T) A). writer_of w) e) small same fits
 
 -- where all keys are home, none is out
-pub gathered_clear : {T P : Type 0} (x : Name T P) (out : ℕ → Bool) (keys : List (KeyView T)) → Gathered x out 8 keys → length keys ≡ 8 → (l : ℕ) → l < 8 → out l ≡ false
+pub gathered_clear : {T P : Type 0} (x : BatchView T P) (out : ℕ → Bool) (keys : List (KeyView T)) → Gathered x out 8 keys → length keys ≡ 8 → (l : ℕ) → l < 8 → out l ≡ false
 gathered_clear x out keys g long = let many = g.many in outs_none out 8 (omega arith)
 
 module _ {T P A : Type 0} where
   -- where all lanes are idle no key waits for another
-  pub rows_gone : (q : WriterView (Name T P) (KeyView T) A) (rows : List (BucketView T)) → Calm q → ((l : ℕ) → l < 8 → (account_of q l).stand ≡ idle) → RowsFit q rows → (p : ℕ) → row_at rows p ≡ None
+  pub rows_gone : (q : WriterView (BatchView T P) (KeyView T) A) (rows : List (BucketView T)) → Calm q → ((l : ℕ) → l < 8 → (account_of q l).stand ≡ idle) → RowsFit q rows → (p : ℕ) → row_at rows p ≡ None
   rows_gone q rows calm idles fits p = go (row_at rows p) (fits p)
     where
       home : (l : ℕ) → l < 8 → is_out (account_of q l) p ≡ false

@@ -3,17 +3,23 @@ use Rattle.std.proofs.Common.{◌≡◌, ◌≢◌, ℕ, zero, suc, ◌+◌, ◌
 use mathlib.Core.Logic.{dite}
 use native.Mathlib.Decide.{ℕ_discrete}
 use Rattle.atomic_table.specs.Seated.{TableId}
+use Rattle.am_cast.specs.declared.limits.TheConstants.{LONGEST_LOG}
 use Rattle.am_cast.specs.declared.views.Tail.{Tail}
 use Rattle.am_cast.specs.declared.views.Account.{Account}
 use Rattle.am_cast.specs.declared.views.WriterView.{WriterView}
-use Rattle.am_cast.specs.Rule.{first_account, first_writer, live, bit, most}
+use Rattle.am_cast.specs.Rule.{first_account, first_writer, live, bit}
 use Rattle.am_cast.specs.declared.views.View.{View}
 use Rattle.am_cast.specs.Changes.{with_account, without_own, longer, grown, grown_as, laying, retired, back_if}
 use Rattle.am_cast.proofs.steps.Retire.{either_bool}
 use Rattle.am_cast.proofs.Tails.{grown_live, grown_else}
 use Rattle.am_cast.specs.Steps.{SeatState}
 use Rattle.am_cast.specs.Seats.{some_or, writer_of, account_of}
-use Rattle.am_cast.specs.Writers.{Moored, IsCalm, Calm, BenchOk, HasRoom, FilledTo, AllLaid, AreReady, SameAdmission, filled_as}
+use Rattle.am_cast.specs.Writers.{IsCalm, Calm, HasRoom, SameAdmission}
+use Rattle.am_cast.specs.inside.Filling.{FilledTo, AllLaid, AreReady, filled_as}
+use Rattle.am_cast.specs.declared.writer.lane_account.LaneAccount.{LaneAccount}
+use Rattle.am_cast.specs.declared.writer.lane_account.Stand.TheVariants.{Idle}
+use Rattle.am_cast.specs.inside.LaneAccounts.{IsKeptAs, no_lane}
+use Rattle.am_cast.specs.inside.WriterStates.{WriterStateOk}
 
 module _ {B K A : Type 0} where
   pub account_same : (q : WriterView B K A) (l : ℕ) (b : Account K A) → l < length q.accounts → account_of (with_account l b q) l ≡ b
@@ -23,11 +29,11 @@ module _ {B K A : Type 0} where
   account_else q l m b ne = get_or-set_other q.accounts l m b first_account ne
 
   -- one account has changed, and the numbers of its lane
-  pub bench_parts : (T t t' : TableId) (m m' : SeatState B K A) (places count : ℕ) (closed : Bool) (stand known half away stand' known' half' away' : List ℕ) (l : ℕ) (b' : Account K A)
-      → BenchOk T t m places count closed stand known half away → t' ≡ t → m'.1 ≡ [] → m'.0.writer ≡ Some (with_account l b' (writer_of m.0)) → m'.0.lane ≡ None → m'.0.own ≡ [] → l < 8 → Moored b' (get_or stand' l 0) (get_or known' l 0) (get_or half' l 0) (get_or away' l 0)
-      → ((k : ℕ) → k ≢ l → get_or stand' k 0 ≡ get_or stand k 0) → ((k : ℕ) → k ≢ l → get_or known' k 0 ≡ get_or known k 0) → ((k : ℕ) → k ≢ l → get_or half' k 0 ≡ get_or half k 0) → ((k : ℕ) → k ≢ l → get_or away' k 0 ≡ get_or away k 0)
-      → BenchOk T t' m' places count closed stand' known' half' away'
-  bench_parts T t t' m m' places count closed stand known half away stand' known' half' away' l b' ok same bare writer_is lane_is own_is small sets_account s k h a =
+  pub state_parts : (T t t' : TableId) (m m' : SeatState B K A) (places count : ℕ) (closed : Bool) (lanes lanes' : List LaneAccount) (l : ℕ) (b' : Account K A)
+      → WriterStateOk T t m places count closed lanes → t' ≡ t → m'.1 ≡ [] → m'.0.writer ≡ Some (with_account l b' (writer_of m.0)) → m'.0.lane ≡ None → m'.0.own ≡ [] → l < 8 → length lanes' ≡ 8 → IsKeptAs b' (get_or lanes' l no_lane)
+      → ((k : ℕ) → k ≢ l → get_or lanes' k no_lane ≡ get_or lanes k no_lane)
+      → WriterStateOk T t' m' places count closed lanes'
+  state_parts T t t' m m' places count closed lanes lanes' l b' ok same bare writer_is lane_is own_is small long sets_account others =
       let q : WriterView B K A = writer_of m.0 in let q' : WriterView B K A = with_account l b' q in let all = ok.all in
       let now : writer_of m'.0 ≡ q' = ap (λ (o : Option (WriterView B K A)). some_or (first_writer 0) o) writer_is in record {
         same = same ∙ ok.same;
@@ -40,17 +46,12 @@ module _ {B K A : Type 0} where
         count_is = ap (λ (q : WriterView B K A). length q.tail.log) now ∙ ok.count_is;
         bound = ok.bound;
         closed_is = ap (λ (q : WriterView B K A). q.tail.closed) now ∙ ok.closed_is;
+        wide = long;
         each = λ n small_n. dite (ℕ_discrete n l)
             (λ e. let is : account_of (writer_of m'.0) n ≡ b' = (λ i. account_of (now i) (e i)) ∙ account_same q l b' (omega arith) in
-            subst (λ (z : ℕ × Account K A). Moored z.1 (get_or stand' z.0 0) (get_or known' z.0 0) (get_or half' z.0 0) (get_or away' z.0 0)) (λ i. (sym e i, sym is i)) sets_account)
-            (λ ne. let is : account_of (writer_of m'.0) n ≡ account_of q n = ap (λ (q : WriterView B K A). account_of q n) now ∙ account_else q l n b' ne in let o = ok.each n small_n in record {
-              stand_is = ap (λ (b : Account K A). b.stand) is ∙ o.stand_is ∙ sym (s n ne);
-              known_is = ap (λ (b : Account K A). b.known) is ∙ o.known_is ∙ sym (k n ne);
-              half_is = ap (λ (b : Account K A). b.half) is ∙ o.half_is ∙ sym (h n ne);
-              away_is = ap (λ (b : Account K A). bit b.away) is ∙ o.away_is ∙ sym (a n ne);
-              bound = subst (λ (x : ℕ). x ≤ most) (sym (k n ne)) o.bound;
-              half_bound = subst (λ (x : ℕ). x ≤ 2 * most + 1) (sym (h n ne)) o.half_bound;
-            });
+            subst (λ (z : ℕ × Account K A). IsKeptAs z.1 (get_or lanes' z.0 no_lane)) (λ i. (sym e i, sym is i)) sets_account)
+            (λ ne. let is : account_of (writer_of m'.0) n ≡ account_of q n = ap (λ (q : WriterView B K A). account_of q n) now ∙ account_else q l n b' ne in
+            subst (λ (z : Account K A × LaneAccount). IsKeptAs z.0 z.1) (λ i. (sym is i, sym (others n ne) i)) (ok.each n small_n));
       }
 
   pub account_longer : (q : WriterView B K A) (x : B) (l : ℕ) → l < length q.accounts → account_of (longer x q) l ≡ grown (account_of q l)
@@ -133,20 +134,19 @@ module _ {K A : Type 0} where
   pub retired_known : (b : Account K A) → (retired b).known ≡ b.known
   retired_known b = either_bool b.away (λ e. ap (λ (h : Bool). (back_if h b).known) e) (λ e. ap (λ (h : Bool). (back_if h b).known) e)
 
-  pub retired_half : (b : Account K A) → (retired b).half ≡ b.half
-  retired_half b = either_bool b.away (λ e. ap (λ (h : Bool). (back_if h b).half) e) (λ e. ap (λ (h : Bool). (back_if h b).half) e)
+  pub retired_away : (b : Account K A) → (retired b).away ≡ false
+  retired_away b = either_bool b.away (λ e. ap (λ (h : Bool). (back_if h b).away) e) (λ e. ap (λ (h : Bool). (back_if h b).away) e ∙ e)
 
-  pub retired_away : (b : Account K A) → bit (retired b).away ≡ 0
-  retired_away b = either_bool b.away (λ e. ap (λ (h : Bool). bit (back_if h b).away) e) (λ e. ap (λ (h : Bool). bit (back_if h b).away) e ∙ ap bit e)
-
-  pub home_moored : (b : Account K A) (stand known half away : List ℕ) (l : ℕ) → l < 8 → length stand ≡ 8 → length away ≡ 8 → Moored b (get_or stand l 0) (get_or known l 0) (get_or half l 0) (get_or away l 0) → Moored (retired b) (get_or (set stand l 0) l 0) (get_or known l 0) (get_or half l 0) (get_or (set away l 0) l 0)
-  home_moored b stand known half away l small s a m = record {
-    stand_is = sym (get_or-set_same stand l 0 0 (omega arith));
+  -- a lane whose seat came home is idle, and its word is what it was
+  pub home_kept : (b : Account K A) (lanes : List LaneAccount) (l : ℕ) → l < 8 → length lanes ≡ 8 → IsKeptAs b (get_or lanes l no_lane)
+      → IsKeptAs (retired b) (get_or (set lanes l record { stand = Idle; word = (get_or lanes l no_lane).word }) l no_lane)
+  home_kept b lanes l small long m = subst (λ (a : LaneAccount). IsKeptAs (retired b) a) (sym (get_or-set_same lanes l record { stand = Idle; word = (get_or lanes l no_lane).word } no_lane (omega arith))) record {
+    stand_is = refl;
     known_is = retired_known b ∙ m.known_is;
-    half_is = retired_half b ∙ m.half_is;
-    away_is = retired_away b ∙ sym (get_or-set_same away l 0 0 (omega arith));
+    live_is = λ e. absurd (omega arith);
+    cut_is = λ e. absurd (omega arith);
+    rest_is = λ _. retired_away b;
     bound = m.bound;
-    half_bound = m.half_bound;
   }
 
   pub retired_live : (b : Account K A) → b.away ≡ false → retired b ≡ record b { stand = 0; loads = b.loads + 1 }
@@ -162,10 +162,10 @@ grown_numbers (suc (suc n)) b = (refl, refl, refl, refl)
 
 module _ {B K A : Type 0} where
   -- the log has grown, and its place went to another seat
-  pub bench_longer : (T t t' : TableId) (m m' : SeatState B K A) (places count : ℕ) (closed : Bool) (stand known half away : List ℕ) (x : B) (w : View B K A)
-      → BenchOk T t m places count closed stand known half away → t' ≡ t → m'.1 ≡ [] → w ≡ record m.0 { writer = Some (longer x (writer_of m.0)); own = w.own } → m'.0 ≡ without_own w → count < most
-      → BenchOk T t' m' places (count + 1) closed stand known half away
-  bench_longer T t t' m m' places count closed stand known half away x w ok same bare grew handed few =
+  pub state_longer : (T t t' : TableId) (m m' : SeatState B K A) (places count : ℕ) (closed : Bool) (lanes : List LaneAccount) (x : B) (w : View B K A)
+      → WriterStateOk T t m places count closed lanes → t' ≡ t → m'.1 ≡ [] → w ≡ record m.0 { writer = Some (longer x (writer_of m.0)); own = w.own } → m'.0 ≡ without_own w → count < LONGEST_LOG
+      → WriterStateOk T t' m' places (count + 1) closed lanes
+  state_longer T t t' m m' places count closed lanes x w ok same bare grew handed few =
       let q : WriterView B K A = writer_of m.0 in let all = ok.all in
       let is : m'.0.writer ≡ Some (longer x q) = ap (λ (w : View B K A). w.writer) handed ∙ ap (λ (w : View B K A). w.writer) grew in
       let now : writer_of m'.0 ≡ longer x q = ap (λ (o : Option (WriterView B K A)). some_or (first_writer 0) o) is in record {
@@ -179,13 +179,14 @@ module _ {B K A : Type 0} where
         count_is = ap (λ (q : WriterView B K A). length q.tail.log) now ∙ length-append q.tail.log (x ∷ []) ∙ ap (λ (n : ℕ). n + 1) ok.count_is;
         bound = omega arith;
         closed_is = ap (λ (q : WriterView B K A). q.tail.closed) now ∙ ok.closed_is;
+        wide = ok.wide;
         each = λ l small. let b : Account K A = account_of q l in let at : account_of (writer_of m'.0) l ≡ grown b = ap (λ (q : WriterView B K A). account_of q l) now ∙ account_longer q x l (omega arith) in
             let f = grown_numbers b.stand b in let o = ok.each l small in record {
               stand_is = ap (λ (b : Account K A). b.stand) at ∙ f.0 ∙ o.stand_is;
               known_is = ap (λ (b : Account K A). b.known) at ∙ f.1 ∙ o.known_is;
-              half_is = ap (λ (b : Account K A). b.half) at ∙ f.2 ∙ o.half_is;
-              away_is = ap (λ (b : Account K A). bit b.away) at ∙ ap bit f.3 ∙ o.away_is;
+              live_is = λ e. o.live_is (sym (ap (λ (b : Account K A). b.stand) at ∙ f.0) ∙ e) ∙ ap (λ (h : ℕ). 2 * h) (sym (ap (λ (b : Account K A). b.half) at ∙ f.2));
+              cut_is = λ e. ap bit (ap (λ (b : Account K A). b.away) at ∙ f.3) ∙ o.cut_is (sym (ap (λ (b : Account K A). b.stand) at ∙ f.0) ∙ e);
+              rest_is = λ ne. ap (λ (b : Account K A). b.away) at ∙ f.3 ∙ o.rest_is (λ e. ne (ap (λ (b : Account K A). b.stand) at ∙ f.0 ∙ e));
               bound = o.bound;
-              half_bound = o.half_bound;
             };
       }

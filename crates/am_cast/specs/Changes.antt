@@ -1,5 +1,6 @@
 -- What steps do to lanes, accounts and views.
-use Rattle.std.specs.Prelude.{◌≡◌, ℕ, zero, suc, ◌+◌, ◌*◌, ◌/◌, ◌%◌, List, [], ◌∷◌, ◌++◌, map, length, slice_set, Option, Some, None, Bool, true, false, ◌==◌}
+use Rattle.std.specs.Prelude.{◌≡◌, ℕ, zero, suc, ◌+◌, ◌*◌, ◌/◌, ◌%◌, List, [], ◌∷◌, ◌++◌, map, length}
+use Rattle.std.specs.Prelude.{slice_set, Option, Some, None, Bool, true, false, ◌==◌}
 use mathlib.Core.Option.{some}
 use lib.ListN.{get_elem?}
 use Rattle.atomic_table.specs.Table.{rest}
@@ -31,7 +32,7 @@ seeing front told v = record v { front = front; told = told; looks = v.looks + 1
 abbrev pub holding : {B A : Type 0} → LaneView B A → LaneView B A
 holding v = record v { held = true }
 
--- it was told that it was cut
+-- it has answered that it was cut
 abbrev pub cut_off : {B A : Type 0} → LaneView B A → LaneView B A
 cut_off v = record v { cut = true }
 
@@ -43,7 +44,7 @@ further n v = record v { passed = v.passed + 1; held = false; cut = n % 2 == 1 }
 abbrev pub left : {B A : Type 0} → LaneView B A → LaneView B A
 left v = record v { here = false; begun = false; held = false }
 
--- the slot in hand goes home, where there was one
+-- the slot in hand goes home, if there was one
 abbrev pub laid_down : {K : Type 0} → Bool → List (ℕ × Option K) → List (ℕ × Option K)
 laid_down true c = rest c
 laid_down false c = c
@@ -68,11 +69,11 @@ known_to n b = record b { known = n / 4; half = n / 2; loads = b.loads + 1 }
 abbrev pub returned : {K A : Type 0} → Account K A → Account K A
 returned b = record b { away = false; cleared = b.known; stop = suc b.known }
 
--- the lane is found to have passed so many places, and the key that was away is the one key left
+-- the lane is found to have passed that many places, and the key that was away is the one key left
 abbrev pub back : {K A : Type 0} → ℕ → Account K A → Account K A
 back passed b = record (returned b) { known = passed }
 
--- the same, where that key was away
+-- the same, if that key was away
 abbrev pub back_if : {K A : Type 0} → Bool → Account K A → Account K A
 back_if true b = returned b
 back_if false b = b
@@ -83,13 +84,40 @@ retired b = record (back_if b.away b) { stand = idle; loads = b.loads + 1 }
 
 -- the lane is given out, from the place n on
 abbrev pub given_out : {K A : Type 0} → Option A → ℕ → Account K A → Account K A
-given_out note n b = record { stand = live; turn = suc b.turn; note = note; start = n; known = n; half = 2 * n; cleared = n; stop = n; away = false; out = 0; laid = None; loads = b.loads }
+given_out note n b = record {
+  stand = live;
+  turn = suc b.turn;
+  note = note;
+  start = n;
+  known = n;
+  half = 2 * n;
+  cleared = n;
+  stop = n;
+  away = false;
+  out = 0;
+  laid = None;
+  loads = b.loads;
+}
 
--- the lane as its seat has it then
+-- the lane as its seat has it then. It begins at the log's end, as a receiver of tokio's `Sender::subscribe`
 abbrev pub new_lane : {B K A : Type 0} → Option A → ℕ → Tail B → Account K A → LaneView B A
-new_lane note l t b = record { number = l; places = t.places; turn = suc b.turn; note = note; start = length t.log; here = true; begun = false; front = t.log; passed = length t.log; held = false; told = false; cut = false; looks = 0 }
+new_lane note l t b = record {
+  number = l;
+  places = t.places;
+  turn = suc b.turn;
+  note = note;
+  start = length t.log;
+  here = true;
+  begun = false;
+  front = t.log;
+  passed = length t.log;
+  held = false;
+  told = false;
+  cut = false;
+  looks = 0;
+}
 
--- the lane is cut, and h is 1 where a key is in its hand
+-- the lane is cut, and h is 1 if a key is in its hand
 abbrev pub severed : {K A : Type 0} → ℕ → Account K A → Account K A
 severed h b = record b { stand = cut; away = h == 1; cleared = b.cleared + h }
 
@@ -132,11 +160,12 @@ shut q = record q { tail = shut_tail q.tail }
 
 -- a place that is a seat's own
 abbrev pub own_at : {B : Type 0} → ℕ → B → Own B
-own_at place x = record { place = place; name = x }
+own_at place x = record { place = place; batch = x }
 
--- the seat's own places stand in the log, each once
-abbrev pub Stand : {B : Type 0} → List (Own B) → List B → Type 0
-Stand {B = B} own log = (k : ℕ) (o : Own B) → get_elem? own k ≡ some o → get_elem? log o.place ≡ some o.name
+-- the seat's own places are in the log, each with its batch
+abbrev pub AreInLog : {B : Type 0} → List (Own B) → List B → Type 0
+AreInLog {B = B} own log = (k : ℕ) (o : Own B) → get_elem? own k ≡ some o
+    → get_elem? log o.place ≡ some o.batch
 
 -- the log that the writer's part knows, or else h
 abbrev pub log_of : {B K A : Type 0} → Option (WriterView B K A) → List B → List B
@@ -160,15 +189,31 @@ told_of None h = h
 
 -- a view that knows of the log what this one knows
 abbrev pub copied : {B K A : Type 0} → View B K A → View B K A
-copied w = record { writer = None; lane = None; noted = []; heard = log_of w.writer (front_of w.lane w.noted); whole = closed_of w.writer (told_of w.lane false); own = []; counted = 0 }
+copied w = record {
+  writer = None;
+  lane = None;
+  noted = [];
+  heard = log_of w.writer (front_of w.lane w.noted);
+  whole = closed_of w.writer (told_of w.lane false);
+  own = [];
+  counted = 0;
+}
 
--- the lane gets a seat of its own
+-- the lane gets its own seat
 abbrev pub without_lane : {B K A : Type 0} → View B K A → View B K A
 without_lane w = record w { lane = None }
 
 -- the other half: the lane alone
 abbrev pub only_lane : {B K A : Type 0} → View B K A → View B K A
-only_lane w = record { writer = None; lane = w.lane; noted = []; heard = []; whole = false; own = []; counted = 0 }
+only_lane w = record {
+  writer = None;
+  lane = w.lane;
+  noted = [];
+  heard = [];
+  whole = false;
+  own = [];
+  counted = 0;
+}
 
 -- the own places go to another seat
 abbrev pub without_own : {B K A : Type 0} → View B K A → View B K A
@@ -176,13 +221,29 @@ without_own w = record w { own = []; counted = 0 }
 
 -- the other half: the own places alone
 abbrev pub only_own : {B K A : Type 0} → View B K A → View B K A
-only_own w = record { writer = None; lane = None; noted = []; heard = []; whole = false; own = w.own; counted = 0 }
+only_own w = record {
+  writer = None;
+  lane = None;
+  noted = [];
+  heard = [];
+  whole = false;
+  own = w.own;
+  counted = 0;
+}
 
--- the first, where there is one, or else the second
+-- the first, if there is one, or else the second
 abbrev pub either_one : {X : Type 0} → Option X → Option X → Option X
 either_one (Some x) o = Some x
 either_one None o = o
 
 -- all that two seats know and own, and of the log what the second has heard
 abbrev pub both_of : {B K A : Type 0} → View B K A → View B K A → View B K A
-both_of v w = record { writer = either_one v.writer w.writer; lane = either_one v.lane w.lane; noted = v.noted; heard = w.heard; whole = w.whole; own = v.own ++ w.own; counted = v.counted }
+both_of v w = record {
+  writer = either_one v.writer w.writer;
+  lane = either_one v.lane w.lane;
+  noted = v.noted;
+  heard = w.heard;
+  whole = w.whole;
+  own = v.own ++ w.own;
+  counted = v.counted;
+}

@@ -2,12 +2,14 @@
 use Rattle.std.specs.Prelude.{◌≡◌, ◌≢◌, ℕ, zero, suc, ◌<◌, ◌≤◌, ◌⊎◌, true, length, Option, Some, None}
 use Rattle.am_steps.specs.declared.lane_record.LaneRecord.{LaneRecord}
 use Rattle.am_steps.specs.Needed.{KeepsKey}
+use Rattle.am_cast.specs.declared.limits.TheConstants.{LANES}
 use Rattle.am_cast.specs.declared.views.Account.{Account}
 use Rattle.am_cast.specs.declared.views.WriterView.{WriterView}
 use Rattle.am_cast.specs.Rule.{live, cut}
 use Rattle.am_cast.specs.Core.{record_behind}
 use Rattle.am_cast.specs.Seats.{account_of}
 
+-- the record, if the stand of that number has one: live or cut
 abbrev pub only_used : ℕ → LaneRecord → Option LaneRecord
 only_used (suc zero) m = Some m
 only_used (suc (suc zero)) m = Some m
@@ -32,4 +34,4 @@ module _ {K A : Type 0} where
 -- the place is in the log, and the writer keeps no lane's key of it
 abbrev pub IsFreedFor : {B K A : Type 0} → WriterView B K A → ℕ → Type 0
 IsFreedFor q i = (i < length q.tail.log)
-    × ((l : ℕ) (m : LaneRecord) → l < 8 → record_kept (account_of q l) ≡ Some m → KeepsKey m i → ⊥)
+    × ((l : ℕ) (m : LaneRecord) → l < LANES → record_kept (account_of q l) ≡ Some m → KeepsKey m i → ⊥)

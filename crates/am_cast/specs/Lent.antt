@@ -1,22 +1,18 @@
--- The answers of a `next` that lends.
+-- What an answer of `next` says of the cursor. `Pending`, `Closed` and `Cut` are `Empty`, `Closed` and
+-- `Lagged` of tokio's `broadcast::Receiver::try_recv`, but a cut lane stays cut.
 use Rattle.std.specs.Prelude.{◌≡◌, ◌+◌, ◌-◌, List, [], ◌∷◌, ◌++◌, Some, true, false, length, slice_get}
 use mathlib.Core.List.{IsPrefix}
-use Rattle.am_cast.specs.declared.name.Name.{Name}
+use Rattle.am_cast.specs.declared.batch_view.BatchView.{BatchView}
 use Rattle.am_cast.specs.declared.lends.Step.{Step}
 use Rattle.am_cast.specs.declared.lends.Step.TheVariants as step
 use Rattle.am_cast.specs.declared.lends.Moved.{Moved}
 use Rattle.am_cast.specs.declared.lends.Moved.TheVariants as moved
-use Rattle.am_cast.specs.Cursors.{CursorView, taken, items_at, HasCut, HasEnded}
-
--- no answer that waits for a look
-abbrev pub AreAllSeen : Moved → Type 0
-AreAllSeen moved.Pending = ⊥
-AreAllSeen other = Unit {0}
+use Rattle.am_cast.specs.Cursors.{CursorView, shown_items, items_at, HasCut, HasEnded}
 
 module _ {T P A : Type 0} where
   -- nothing is left of what was seen, after one look more, which showed the log open
   pub record IsPending (c d : CursorView T P A) : Type 0 where
-    pub taken : taken d ≡ taken c
+    pub taken : shown_items d ≡ shown_items c
     pub looks : d.lane.looks ≡ c.lane.looks + 1
     pub told : d.lane.told ≡ false
     pub all : d.lane.passed ≡ length d.lane.front
@@ -27,13 +23,13 @@ module _ {T P A : Type 0} where
 
   -- the log is closed, and all of it was shown
   pub record IsClosed (c d : CursorView T P A) : Type 0 where
-    pub taken : taken d ≡ taken c
+    pub taken : shown_items d ≡ shown_items c
     pub ended : HasEnded d
     pub was_uncut : HasCut c → ⊥
 
   -- the lane was cut, and what was in hand was shown
   pub record IsCut (c d : CursorView T P A) : Type 0 where
-    pub taken : taken d ≡ taken c
+    pub taken : shown_items d ≡ shown_items c
     pub cut : HasCut d
     pub was_open : HasEnded c → ⊥
 
@@ -44,7 +40,7 @@ module _ {T P A : Type 0} where
   -- one item more was shown
   pub record IsItem (c d : CursorView T P A) : Type 0 where
     pub held : d.lane.held ≡ true
-    pub taken : (x : T) → IsInHand d x → taken d ≡ taken c ++ x ∷ []
+    pub taken : (x : T) → IsInHand d x → shown_items d ≡ shown_items c ++ x ∷ []
     pub was_open : HasEnded c → ⊥
     pub was_uncut : HasCut c → ⊥
 
@@ -55,34 +51,19 @@ module _ {T P A : Type 0} where
   Moves c d moved.Closed = IsClosed c d
   Moves c d moved.Cut = IsCut c d
 
-  -- the same, of a call that tries to take a key
-  abbrev pub Takes : CursorView T P A → CursorView T P A → Moved → Type 0
-  Takes c d moved.One = IsItem c d
-  Takes c d moved.Cut = IsCut c d
-  Takes c d other = ⊥
-
-  -- nothing is left of what was seen, and the answer waits for a look
-  abbrev pub NeedsLook : CursorView T P A → Type 0
-  NeedsLook c = (c.lane.passed ≡ length c.lane.front) × (c.lane.told ≡ false) × (c.lane.cut ≡ false)
-
-  -- what an answer says after a look
-  abbrev pub Found : CursorView T P A → CursorView T P A → Moved → Type 0
-  Found c d moved.One = IsItem c d
-  Found c d moved.Pending = (d ≡ c) × (c.lane.told ≡ false) × (c.lane.passed ≡ length c.lane.front)
-  Found c d moved.Closed = (d ≡ c) × HasEnded c
-  Found c d moved.Cut = IsCut c d
-
+  -- what an answer that lends its item says of the cursor
   abbrev pub Lends : CursorView T P A → CursorView T P A → Step T → Type 0
-  Lends c d (step.Item x) = (taken d ≡ taken c ++ x.now ∷ []) × (HasEnded c → ⊥) × (HasCut c → ⊥)
+  Lends c d (step.Item x) = (shown_items d ≡ shown_items c ++ x.now ∷ []) × (HasEnded c → ⊥) × (HasCut c → ⊥)
   Lends c d step.Pending = IsPending c d
   Lends c d step.Closed = IsClosed c d
   Lends c d step.Cut = IsCut c d
 
-  -- where nothing is left, all that the pass knew was seen
-  abbrev pub LendsPast : List (Name T P) → CursorView T P A → Step T → Type 0
+  -- if nothing is left, all that the pass knew was seen
+  abbrev pub LendsPast : List (BatchView T P) → CursorView T P A → Step T → Type 0
   LendsPast noted d step.Pending = IsPrefix noted d.lane.front
   LendsPast noted d other = Unit {0}
 
-  abbrev pub MovesPast : List (Name T P) → CursorView T P A → Moved → Type 0
+  -- the same of an answer without its item
+  abbrev pub MovesPast : List (BatchView T P) → CursorView T P A → Moved → Type 0
   MovesPast noted d moved.Pending = IsPrefix noted d.lane.front
   MovesPast noted d other = Unit {0}

@@ -1,10 +1,14 @@
--- The rule of the table: what stands behind its words, its slots and its seats' views. All of it is this project's own.
-use Rattle.std.specs.Prelude.{◌≡◌, ◌≢◌, ℕ, suc, ◌+◌, ◌*◌, ◌/◌, ◌%◌, ◌<◌, ◌≤◌, List, [], ◌∷◌, length, replicate, slice_index, Option, Some, None, Bool, true, false}
+-- The rule of the table: its words, its slots and its seats' views show one log. It is this project's own.
+-- Crossbeam's channel (`flavors/array.rs`) and tokio's `sync::broadcast` have such a ring of slots and a
+-- tail.
+use Rattle.std.specs.Prelude.{◌≡◌, ◌≢◌, ℕ, suc, ◌+◌, ◌*◌, ◌/◌, ◌%◌, ◌<◌, ◌≤◌, List, [], ◌∷◌, length}
+use Rattle.std.specs.Prelude.{replicate, slice_index, Option, Some, None, Bool, true, false}
 use mathlib.Core.Option.{some}
 use mathlib.Core.Option as maybe
 use mathlib.Core.List.{IsPrefix}
 use lib.ListN.{get_elem?}
 use Rattle.atomic_table.specs.Table.{State}
+use Rattle.am_cast.specs.declared.limits.TheConstants.{LANES, LONGEST_LOG, WORDS}
 use Rattle.am_cast.specs.declared.views.Tail.{Tail}
 use Rattle.am_cast.specs.declared.views.Account.{Account}
 use Rattle.am_cast.specs.declared.views.WriterView.{WriterView}
@@ -18,7 +22,7 @@ bit true = 1
 bit false = 0
 
 -- How the writer has a lane stand, by number. Half of it, rounded down, is the cut bit of the lane's word.
--- nobody's
+-- Idle is nobody's
 abbrev pub idle : ℕ
 idle = 0
 
@@ -34,32 +38,33 @@ cut = 2
 abbrev pub vacated : ℕ
 vacated = 3
 
--- the longest log, 2 ^ 51 places, so that no word overflows
-abbrev pub most : ℕ
-most = 2251799813685248
-
 -- the word of a lane that is idle or has left, the greatest u64
 abbrev pub gone : ℕ
 gone = 18446744073709551615
 
--- word 0 shows how long the log is, and whether it is closed
+-- one more than the greatest u64
+abbrev pub word_end : ℕ
+word_end = 18446744073709551616
+
+-- word 0 shows how long the log is, and whether it is closed: its lowest bit is the mark bit of crossbeam's
+-- tail
 abbrev pub tail_word : ℕ → Bool → ℕ
 tail_word n closed = 2 * n + bit closed
 
--- where the word stands that the writer loads at its silent steps on the slots of the lane l
+-- the index of the word that the writer loads at its silent steps on the slots of the lane l
 abbrev pub writer_word : ℕ → ℕ
 writer_word l = l + 8
 
--- where a lane's word stands
+-- the index of a lane's word
 abbrev pub lane_word : ℕ → ℕ
 lane_word l = 16 * l + 16
 
--- what a lane's word shows: a number where the lane is here
+-- what a lane's word shows: a number if the lane is here
 abbrev pub shown : Bool → ℕ → ℕ
 shown true n = n
 shown false n = gone
 
--- where the key of the place i for the lane l stands
+-- the slot of the lane l's key of the place i: each lane has a ring of as many slots as there are places
 abbrev pub slot : ℕ → ℕ → ℕ → ℕ
 slot places l i = l * places + i % places
 
@@ -92,8 +97,8 @@ pub record Seen {B A : Type 0} (t : Tail B) (v : LaneView B A) (l : ℕ) : Type 
   -- a lane that was told the end has seen all of a closed log
   pub told : v.told ≡ true → (t.closed ≡ true) × (v.front ≡ t.log)
 
--- the numbers of the writer's account of a lane. Its keys stand in slots from `cleared` to `stop`, a window of at most
--- `places`
+-- the numbers of the writer's account of a lane. Its keys are in the slots from `cleared` to `stop`, at most
+-- `places` of them
 pub record Numbers {B K A : Type 0} (t : Tail B) (b : Account K A) : Type 0 where
   pub stands : b.stand < 4
   pub low : b.start ≤ b.known
@@ -103,7 +108,7 @@ pub record Numbers {B K A : Type 0} (t : Tail B) (b : Account K A) : Type 0 wher
   -- a live lane has a key of each place from `known` on, and the writer holds none of their slots
   pub lives : b.stand ≡ live → (b.stop ≡ length t.log) × (b.cleared ≤ b.known)
       × ((i : ℕ) → b.known ≤ i → i < b.stop → b.out ≢ suc i)
-  -- a key is laid for the next place, where there is room
+  -- a key is laid for the next place only if there is room
   pub lays : (k : K) → b.laid ≡ Some k → (b.stand ≡ live) × (b.stop < b.cleared + t.places)
   -- the key that a cut lane holds is of the place `known`, and all before that place are cleared
   pub aways : b.away ≡ true → (b.stand ≡ cut) × (b.stop ≡ b.known + t.places) × (b.known < b.cleared)
@@ -130,11 +135,11 @@ pub record LaneOk {B K A : Type 0} (key : B → ℕ → K) (t : Tail B) (b : Acc
     (words : List ℕ) (homes : Homes K) (l : ℕ) : Type 0 where
   pub sound : Sound t b v l
   pub word : slice_index words (lane_word l) ≡ shown v.here (4 * v.passed + 2 * bit v.held + b.stand / 2)
-  -- the keys of the window are at home, but for a slot in the writer's hand and for the one in the cursor's
+  -- the keys of the window are at home, except a slot in the writer's hand and the one in the cursor's
   pub keys : (i : ℕ) (x : B) → b.cleared ≤ i → i < b.stop → get_elem? t.log i ≡ some x → b.out ≢ suc i
       → (v.held ≡ true → i ≢ v.passed) → Has homes t.places l i (Some (key x l))
-  -- the slots of the rest of a turn are empty, but for one in the writer's hand, the one of the key that is away, and a
-  -- key laid for the next place
+  -- the other slots of a turn are empty, except one in the writer's hand, that of the key that is away, and
+  -- that of the key laid for the next place
   pub empty : (i : ℕ) → b.stop ≤ i → i < b.cleared + t.places → b.out ≢ suc i
       → (b.away ≡ true → i ≢ b.known + t.places) → (i ≡ b.stop → b.laid ≡ None) → Has homes t.places l i None
   -- the key that is laid is the writer's
@@ -143,38 +148,39 @@ pub record LaneOk {B K A : Type 0} (key : B → ℕ → K) (t : Tail B) (b : Acc
   pub away : b.away ≡ true → (x : B) → get_elem? t.log b.known ≡ some x → v.held ≡ false
       → Has homes t.places l b.known (Some (key x l))
 
--- no place stands there twice
+-- the place isn't among these
 abbrev pub IsApart : {B : Type 0} → ℕ → List (Own B) → Type 0
 IsApart p [] = Unit {0}
 IsApart p (o ∷ os) = (o.place ≢ p) × IsApart p os
 
--- each place stands there once
+-- no place is there twice
 abbrev pub Once : {B : Type 0} → List (Own B) → Type 0
 Once [] = Unit {0}
 Once (o ∷ os) = IsApart o.place os × Once os
 
--- these places stand in the log, and are the seat's own
+-- these places are in the log, and are the seat's own
 pub record Owns {B : Type 0} (log : List B) (owner : ℕ → ℕ) (j : ℕ) (own : List (Own B)) : Type 0 where
-  pub each : (k : ℕ) (o : Own B) → get_elem? own k ≡ some o → (get_elem? log o.place ≡ some o.name)
+  pub each : (k : ℕ) (o : Own B) → get_elem? own k ≡ some o → (get_elem? log o.place ≡ some o.batch)
       × (owner o.place ≡ j)
   pub once : Once own
 
 module _ {B K A : Type 0} (tail : Tail B) (seat : ℕ) (account : ℕ → Account K A) (lane : ℕ → LaneView B A)
     (lane_seat : ℕ → ℕ) (j : ℕ) where
-  -- the writer's part of a view, where it has one: the log and each lane's account, and it is the writer's seat
+  -- the writer's part of a view, if it has one: the log and each lane's account, and the seat is the writer's
   abbrev pub HasWriter : Option (WriterView B K A) → Type 0
   HasWriter None = Unit {0}
-  HasWriter (Some q) = (q.tail ≡ tail) × (length q.accounts ≡ 8)
-      × ((l : ℕ) → l < 8 → get_elem? q.accounts l ≡ some (account l)) × (j ≡ seat)
+  HasWriter (Some q) = (q.tail ≡ tail) × (length q.accounts ≡ LANES)
+      × ((l : ℕ) → l < LANES → get_elem? q.accounts l ≡ some (account l)) × (j ≡ seat)
 
-  -- the lane's part of a view, where it has one: that lane as it is, not idle, and it is that lane's seat
+  -- the lane's part of a view, if it has one: that lane as it is, not idle, and the seat is that lane's
   abbrev pub HasLane : Option (LaneView B A) → Type 0
   HasLane None = Unit {0}
-  HasLane (Some v) = (v.number < 8) × (lane v.number ≡ v) × (lane_seat v.number ≡ j)
+  HasLane (Some v) = (v.number < LANES) × (lane v.number ≡ v) × (lane_seat v.number ≡ j)
       × ((account v.number).stand ≢ idle)
 
 -- a seat's view agrees with the log, the accounts and the lanes; what it has noted and heard begins the log
-pub record SeatOk {B K A : Type 0} (tail : Tail B) (seat : ℕ) (account : ℕ → Account K A) (lane : ℕ → LaneView B A)
+pub record SeatOk {B K A : Type 0} (tail : Tail B) (seat : ℕ) (account : ℕ → Account K A)
+    (lane : ℕ → LaneView B A)
     (lane_seat owner : ℕ → ℕ) (j : ℕ) (w : View B K A) : Type 0 where
   pub writer : HasWriter tail seat account lane lane_seat j w.writer
   pub lane_is : HasLane tail seat account lane lane_seat j w.lane
@@ -197,23 +203,50 @@ pub record Ruled {B K A : Type 0} (key : B → ℕ → K) (s : State (Option K) 
   pub lane_seat : ℕ → ℕ
   -- whose own a place is
   pub owner : ℕ → ℕ
-  pub wide : length s.words ≡ 144
-  pub deep : length s.homes ≡ 8 * tail.places
+  pub wide : length s.words ≡ WORDS
+  pub deep : length s.homes ≡ LANES * tail.places
   pub some_places : 0 < tail.places
-  pub few : length tail.log ≤ most
+  pub few : length tail.log ≤ LONGEST_LOG
   pub word : slice_index s.words 0 ≡ tail_word (length tail.log) tail.closed
-  pub spare : (l : ℕ) → l < 8 → (account l).stand ≡ idle → lane_seat l ≡ seat
-  pub each_lane : (l : ℕ) → l < 8 → LaneOk key tail (account l) (lane l) s.words s.homes l
+  pub spare : (l : ℕ) → l < LANES → (account l).stand ≡ idle → lane_seat l ≡ seat
+  pub each_lane : (l : ℕ) → l < LANES → LaneOk key tail (account l) (lane l) s.words s.homes l
   pub each_seat : (j : ℕ) (w : View B K A) → get_elem? s.views j ≡ some w
       → SeatOk tail seat account lane lane_seat owner j w
 
 -- what the writer knows of a lane that was never given out
 abbrev pub first_account : {K A : Type 0} → Account K A
-first_account = record { stand = idle; turn = 0; note = None; start = 0; known = 0; half = 0; cleared = 0; stop = 0; away = false; out = 0; laid = None; loads = 0 }
+first_account = record {
+  stand = idle;
+  turn = 0;
+  note = None;
+  start = 0;
+  known = 0;
+  half = 0;
+  cleared = 0;
+  stop = 0;
+  away = false;
+  out = 0;
+  laid = None;
+  loads = 0;
+}
 
 -- a lane that was never given out
 abbrev pub first_lane : {B A : Type 0} → ℕ → ℕ → LaneView B A
-first_lane places l = record { number = l; places = places; turn = 0; note = None; start = 0; here = false; begun = false; front = []; passed = 0; held = false; told = false; cut = false; looks = 0 }
+first_lane places l = record {
+  number = l;
+  places = places;
+  turn = 0;
+  note = None;
+  start = 0;
+  here = false;
+  begun = false;
+  front = [];
+  passed = 0;
+  held = false;
+  told = false;
+  cut = false;
+  looks = 0;
+}
 
 -- an empty log
 abbrev pub first_tail : {B : Type 0} → ℕ → Tail B
@@ -221,7 +254,7 @@ first_tail places = record { places = places; log = []; closed = false }
 
 -- what the writer knows at first
 abbrev pub first_writer : {B K A : Type 0} → ℕ → WriterView B K A
-first_writer places = record { tail = first_tail places; accounts = replicate 8 first_account }
+first_writer places = record { tail = first_tail places; accounts = replicate LANES first_account }
 
 -- a seat that knows nothing
 abbrev pub blank : {B K A : Type 0} → View B K A
@@ -229,4 +262,4 @@ blank = record { writer = None; lane = None; noted = []; heard = []; whole = fal
 
 -- what the first seat knows
 abbrev pub first_view : {B K A : Type 0} → ℕ → View B K A
-first_view places = record { writer = Some (first_writer places); lane = None; noted = []; heard = []; whole = false; own = []; counted = 0 }
+first_view places = record blank { writer = Some (first_writer places) }

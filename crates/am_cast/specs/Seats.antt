@@ -3,6 +3,7 @@ use Rattle.std.specs.Prelude.{◌≡◌, ◌≢◌, ℕ, ◌<◌, List, [], ◌�
 use mathlib.Core.Option.{some}
 use lib.ListN.{get_elem?}
 use Rattle.atomic_table.specs.Seated.{TableId}
+use Rattle.am_cast.specs.declared.limits.TheConstants.{WORDS}
 use Rattle.am_cast.specs.declared.views.Account.{Account}
 use Rattle.am_cast.specs.declared.views.WriterView.{WriterView}
 use Rattle.am_cast.specs.declared.views.LaneView.{LaneView}
@@ -25,25 +26,26 @@ writer_of w = some_or (first_writer 0) w.writer
 
 -- the table has all its words
 abbrev pub IsSized : TableId → Type 0
-IsSized z = z.words ≡ 144
+IsSized z = z.words ≡ WORDS
 
 -- the seat is the lane v's
 abbrev pub IsLane : {B K A : Type 0} → SeatState B K A → LaneView B A → Type 0
 IsLane m v = m.0.lane ≡ Some v
 
 -- the key of the batch at this place
-abbrev pub IsKey : {B K : Type 0} → (B → ℕ → K) → List B → ℕ → ℕ → K → Type 0
-IsKey {B = B} key front i l k = (x : B) × (get_elem? front i ≡ some x) × (k ≡ key x l)
+abbrev pub IsKeyAt : {B K : Type 0} → (B → ℕ → K) → List B → ℕ → ℕ → K → Type 0
+IsKeyAt {B = B} key front i l k = (x : B) × (get_elem? front i ≡ some x) × (k ≡ key x l)
 
 -- the slot of the place v.passed is in hand, and empty
 abbrev pub HasOut : {B K A : Type 0} → SeatState B K A → LaneView B A → Type 0
 HasOut m v = m.1 ≡ (slot v.places v.number v.passed, None) ∷ []
 
 -- an answer of Take
-abbrev pub Took : {B K A : Type 0} → (B → ℕ → K) → SeatState B K A → LaneView B A → LaneView B A → LaneView B A
+abbrev pub Took : {B K A : Type 0} → (B → ℕ → K) → SeatState B K A → LaneView B A → LaneView B A
+    → LaneView B A
     → SeatState B K A → Option K → Type 0
 Took key m v held cut m' (Some k) = (m'.0 ≡ record m.0 { lane = Some held }) × HasOut m' v
-    × IsKey key v.front v.passed v.number k
+    × IsKeyAt key v.front v.passed v.number k
 Took key m v held cut m' None = (m'.0 ≡ record m.0 { lane = Some cut }) × (m'.1 ≡ m.1)
 
 -- what the writer knows of the lane l

@@ -1,17 +1,22 @@
 -- What each step does to a seat's view and its slots.
-use Rattle.std.specs.Prelude.{◌≡◌, ◌≢◌, ℕ, ◌/◌, ◌%◌, ◌<◌, ◌≤◌, List, [], ◌∷◌, ◌++◌, length, Option, Some, None, Bool, true}
+use Rattle.std.specs.Prelude.{◌≡◌, ◌≢◌, ℕ, ◌/◌, ◌%◌, ◌<◌, ◌≤◌, List, [], ◌∷◌, ◌++◌, length, Option, Some}
+use Rattle.std.specs.Prelude.{None, Bool, true}
 use mathlib.Core.Option.{some}
 use mathlib.Core.List.{IsPrefix}
 use lib.ListN.{get_elem?}
 use Rattle.atomic_table.specs.Table.{Me, rest}
 use Rattle.atomic_table.specs.Table as table
+use Rattle.am_cast.specs.declared.limits.TheConstants.{LONGEST_LOG}
 use Rattle.am_cast.specs.declared.views.Account.{Account}
 use Rattle.am_cast.specs.declared.views.WriterView.{WriterView}
 use Rattle.am_cast.specs.declared.views.LaneView.{LaneView}
 use Rattle.am_cast.specs.declared.views.Own.{Own}
 use Rattle.am_cast.specs.declared.views.View.{View}
-use Rattle.am_cast.specs.Rule.{idle, most, gone, tail_word, writer_word, lane_word, slot, Sound, Once}
-use Rattle.am_cast.specs.Changes.{with_writer, with_lane, opened, seeing, holding, cut_off, further, left, laid_down, with_account, loaded, marked, known_to, back, retired, given_out, new_lane, severed, reaching, laying, clearing, longer, shut, own_at, Stand}
+use Rattle.am_cast.specs.Rule.{idle, gone, tail_word, writer_word, lane_word, slot, Sound, Once}
+use Rattle.am_cast.specs.Changes.{with_writer, with_lane, opened, seeing, holding, cut_off, further, left}
+use Rattle.am_cast.specs.Changes.{laid_down, with_account, loaded, marked, known_to, back, retired, given_out}
+use Rattle.am_cast.specs.Changes.{new_lane, severed, reaching, laying, clearing, longer, shut, own_at}
+use Rattle.am_cast.specs.Changes.{AreInLog}
 
 -- a seat: its view, and the slots in its hand, each with its value
 abbrev pub SeatState : Type 0 → Type 0 → Type 0 → Type 0
@@ -30,12 +35,14 @@ module _ {B K A : Type 0} where
   abbrev pub Looks : StepAt K → SeatState B K A → ℕ → SeatState B K A → Type 0
   Looks st m n m' = (m'.1 ≡ m.1) × ((v : LaneView B A) → m.0.lane ≡ Some v → (front : List B) × (told : Bool)
       × IsPrefix v.front front × IsPrefix m.0.heard front × (n ≡ tail_word (length front) told)
-      × (length front ≤ most) × (m'.0 ≡ with_lane (seeing front told v) m.0))
+      × (length front ≤ LONGEST_LOG) × (m'.0 ≡ with_lane (seeing front told v) m.0))
 
-  -- a lane exchanges its word: where it was the one looked for the slot of the next place comes into its hand, and else it was cut
+  -- a lane exchanges its word: if it was the one looked for, the slot of the next place comes into its hand;
+  -- else the lane was cut
   abbrev pub Takes : (B → ℕ → K) → StepAt K → SeatState B K A → ℕ → SeatState B K A → Type 0
   Takes key st m n m' = (v : LaneView B A) (x : B) → m.0.lane ≡ Some v → get_elem? v.front v.passed ≡ some x
-      → (n ≡ st.first → (m'.0 ≡ with_lane (holding v) m.0) × (m'.1 ≡ (slot v.places v.number v.passed, Some (key x v.number)) ∷ m.1))
+      → (n ≡ st.first → (m'.0 ≡ with_lane (holding v) m.0)
+      × (m'.1 ≡ (slot v.places v.number v.passed, Some (key x v.number)) ∷ m.1))
       × (n ≢ st.first → (m'.0 ≡ with_lane (cut_off v) m.0) × (m'.1 ≡ m.1))
 
   -- the slot in hand goes home, and the lane is one place further
@@ -43,7 +50,7 @@ module _ {B K A : Type 0} where
   Passes st m n m' = (m'.1 ≡ rest m.1)
       × ((v : LaneView B A) → m.0.lane ≡ Some v → m'.0 ≡ with_lane (further n v) m.0)
 
-  -- the slot in hand goes home, where there is one, and the lane is left
+  -- the slot in hand goes home, if there is one, and the lane is left
   abbrev pub Leaves : StepAt K → SeatState B K A → ℕ → SeatState B K A → Type 0
   Leaves st m n m' = (v : LaneView B A) → m.0.lane ≡ Some v → (m'.0 ≡ with_lane (left v) m.0)
       × (m'.1 ≡ laid_down v.held m.1)
@@ -59,47 +66,57 @@ module _ {B K A : Type 0} where
   -- what a found word tells of a lane that isn't cut
   abbrev pub Finds : ℕ → WriterView B K A → Account K A → ℕ → View B K A → View B K A → Type 0
   Finds l q b n w w' = (n ≡ gone → SetsAccount l q (marked b) w w')
-      × (n ≢ gone → SetsAccount l q (known_to n b) w w' × (b.known ≤ n / 4) × (n / 4 ≤ length q.tail.log) × (b.half ≤ n / 2) × (n % 2 ≡ 0))
+      × (n ≢ gone → SetsAccount l q (known_to n b) w w' × (b.known ≤ n / 4) × (n / 4 ≤ length q.tail.log)
+      × (b.half ≤ n / 2) × (n % 2 ≡ 0))
 
   -- the writer finds a lane's word
   abbrev pub Harvests : StepAt K → SeatState B K A → ℕ → SeatState B K A → Type 0
   Harvests st m n m' = (m'.1 ≡ m.1)
-      × ((l : ℕ) (q : WriterView B K A) (b : Account K A) → st.word ≡ lane_word l → KnowsOf m.0 l q b → Finds l q b n m.0 m'.0)
+      × ((l : ℕ) (q : WriterView B K A) (b : Account K A) → st.word ≡ lane_word l → KnowsOf m.0 l q b
+      → Finds l q b n m.0 m'.0)
 
   -- a look at a cut lane, whose key is away
   abbrev pub Recovers : StepAt K → SeatState B K A → ℕ → SeatState B K A → Type 0
   Recovers st m n m' = (m'.1 ≡ m.1)
       × ((l : ℕ) (q : WriterView B K A) (b : Account K A) → st.word ≡ lane_word l → KnowsOf m.0 l q b
-      → (n / 2 % 2 ≡ 0 → SetsAccount l q (back (n / 4) (loaded b)) m.0 m'.0 × (b.known ≤ n / 4) × (n / 4 ≤ length q.tail.log)) × (n / 2 % 2 ≢ 0 → SetsAccount l q (loaded b) m.0 m'.0))
+      → (n / 2 % 2 ≡ 0 → SetsAccount l q (back (n / 4) (loaded b)) m.0 m'.0 × (b.known ≤ n / 4)
+      × (n / 4 ≤ length q.tail.log)) × (n / 2 % 2 ≢ 0 → SetsAccount l q (loaded b) m.0 m'.0))
 
-  -- a lane is cut, where its word was the one looked for; else its word is found
+  -- a lane is cut, if its word was the one looked for; else its word is found
   abbrev pub Cuts : StepAt K → SeatState B K A → ℕ → SeatState B K A → Type 0
   Cuts st m n m' = (m'.1 ≡ m.1)
       × ((l : ℕ) (q : WriterView B K A) (b : Account K A) → st.word ≡ lane_word l → KnowsOf m.0 l q b
-      → (n ≡ st.first → SetsAccount l q (severed (n / 2 % 2) b) m.0 m'.0) × (n ≢ st.first → Finds l q b n m.0 m'.0))
+      → (n ≡ st.first → SetsAccount l q (severed (n / 2 % 2) b) m.0 m'.0)
+      × (n ≢ st.first → Finds l q b n m.0 m'.0))
 
   -- a lane is given out: its seat is the writer's at first
   abbrev pub Admits : Option A → StepAt K → SeatState B K A → ℕ → SeatState B K A → Type 0
   Admits note st m n m' = (m'.1 ≡ m.1)
       × ((l : ℕ) (q : WriterView B K A) (b : Account K A) → st.word ≡ lane_word l → KnowsOf m.0 l q b
-      → m'.0 ≡ record m.0 { writer = Some (with_account l (given_out note (length q.tail.log) b) q); lane = Some (new_lane note l q.tail b) })
+      → m'.0 ≡ record m.0 {
+        writer = Some (with_account l (given_out note (length q.tail.log) b) q);
+        lane = Some (new_lane note l q.tail b);
+      })
 
   -- the seat of the lane has come home to the writer's
   abbrev pub Retires : StepAt K → SeatState B K A → ℕ → SeatState B K A → Type 0
   Retires st m n m' = (m'.1 ≡ m.1)
-      × ((v : LaneView B A) (q : WriterView B K A) (b : Account K A) → m.0.lane ≡ Some v → KnowsOf m.0 v.number q b
+      × ((v : LaneView B A) (q : WriterView B K A) (b : Account K A) → m.0.lane ≡ Some v
+      → KnowsOf m.0 v.number q b
       → (n ≡ gone) × Sound q.tail b v v.number × (b.stand ≢ idle)
       × (m'.0 ≡ record m.0 { writer = Some (with_account v.number (retired b) q); lane = None }))
 
   -- the writer takes the slot of the next place
   abbrev pub Reaches : StepAt K → SeatState B K A → ℕ → SeatState B K A → Type 0
-  Reaches st m n m' = (l : ℕ) (q : WriterView B K A) (b : Account K A) → st.word ≡ writer_word l → KnowsOf m.0 l q b
+  Reaches st m n m' = (l : ℕ) (q : WriterView B K A) (b : Account K A) → st.word ≡ writer_word l
+      → KnowsOf m.0 l q b
       → SetsAccount l q (reaching b.stop b) m.0 m'.0 × (m'.1 ≡ (slot q.tail.places l b.stop, None) ∷ m.1)
 
   -- the slot in hand goes home with a key in it
   abbrev pub Lays : StepAt K → SeatState B K A → ℕ → SeatState B K A → Type 0
   Lays st m n m' = (m'.1 ≡ rest m.1)
-      × ((l : ℕ) (q : WriterView B K A) (b : Account K A) (i : ℕ) (k : K) → st.word ≡ writer_word l → KnowsOf m.0 l q b → m.1 ≡ (i, Some k) ∷ rest m.1
+      × ((l : ℕ) (q : WriterView B K A) (b : Account K A) (i : ℕ) (k : K) → st.word ≡ writer_word l
+      → KnowsOf m.0 l q b → m.1 ≡ (i, Some k) ∷ rest m.1
       → SetsAccount l q (laying k b) m.0 m'.0)
 
   -- the writer takes the slot of a place that the lane has passed
@@ -112,25 +129,27 @@ module _ {B K A : Type 0} where
   -- the slot in hand goes home empty
   abbrev pub Clears : StepAt K → SeatState B K A → ℕ → SeatState B K A → Type 0
   Clears st m n m' = (m'.1 ≡ rest m.1)
-      × ((l : ℕ) (q : WriterView B K A) (b : Account K A) → st.word ≡ writer_word l → KnowsOf m.0 l q b → SetsAccount l q (clearing b) m.0 m'.0)
+      × ((l : ℕ) (q : WriterView B K A) (b : Account K A) → st.word ≡ writer_word l → KnowsOf m.0 l q b
+      → SetsAccount l q (clearing b) m.0 m'.0)
 
-  -- the log has one batch more, the one named, and it is the seat's own
+  -- the log has one batch more, this one, and it is the seat's own: tokio's `broadcast::Sender::send`
   abbrev pub Publishes : Option B → StepAt K → SeatState B K A → ℕ → SeatState B K A → Type 0
-  Publishes name st m n m' = (m'.1 ≡ m.1)
-      × ((x : B) → name ≡ Some x → (q : WriterView B K A) → m.0.writer ≡ Some q
+  Publishes batch st m n m' = (m'.1 ≡ m.1)
+      × ((x : B) → batch ≡ Some x → (q : WriterView B K A) → m.0.writer ≡ Some q
       → m'.0 ≡ record m.0 { writer = Some (longer x q); own = m.0.own ++ own_at (length q.tail.log) x ∷ [] })
 
-  -- the log is closed
+  -- the log is closed: crossbeam's `Channel::disconnect`, which sets the tail's mark bit
   abbrev pub Closes : StepAt K → SeatState B K A → ℕ → SeatState B K A → Type 0
-  Closes st m n m' = (m'.1 ≡ m.1) × ((q : WriterView B K A) → m.0.writer ≡ Some q → m'.0 ≡ with_writer (shut q) m.0)
+  Closes st m n m' = (m'.1 ≡ m.1) × ((q : WriterView B K A) → m.0.writer ≡ Some q
+      → m'.0 ≡ with_writer (shut q) m.0)
 
   -- all that the parts of a view say of each other
   pub record Weighed (w : View B K A) : Type 0 where
     pub once : Once w.own
     pub heard : (k : ℕ) (o : Own B) → get_elem? w.own k ≡ some o → o.place < length w.heard
-        → get_elem? w.heard o.place ≡ some o.name
+        → get_elem? w.heard o.place ≡ some o.batch
     pub writer : (q : WriterView B K A) → w.writer ≡ Some q → IsPrefix w.heard q.tail.log
-        × (w.whole ≡ true → (q.tail.closed ≡ true) × (w.heard ≡ q.tail.log)) × Stand w.own q.tail.log
+        × (w.whole ≡ true → (q.tail.closed ≡ true) × (w.heard ≡ q.tail.log)) × AreInLog w.own q.tail.log
     pub lane : (v : LaneView B A) (q : WriterView B K A) (b : Account K A) → w.lane ≡ Some v
         → KnowsOf w v.number q b → Sound q.tail b v v.number × (b.stand ≢ idle)
 
@@ -138,9 +157,10 @@ module _ {B K A : Type 0} where
   abbrev pub Weighs : StepAt K → SeatState B K A → ℕ → SeatState B K A → Type 0
   Weighs st m n m' = (m'.0 ≡ m.0) × (m'.1 ≡ m.1) × Weighed m.0
 
-  -- a seat notes the log, and its own places stand there
+  -- a seat notes the log, and its own places are there
   abbrev pub Notes : StepAt K → SeatState B K A → ℕ → SeatState B K A → Type 0
   Notes st m n m' = (m'.1 ≡ m.1)
-      × ((front : List B) × (told : Bool) × IsPrefix m.0.noted front × IsPrefix m.0.heard front × Stand m.0.own front
-      × (n ≡ tail_word (length front) told) × (length front ≤ most)
+      × ((front : List B) × (told : Bool) × IsPrefix m.0.noted front × IsPrefix m.0.heard front
+      × AreInLog m.0.own front
+      × (n ≡ tail_word (length front) told) × (length front ≤ LONGEST_LOG)
       × (m'.0 ≡ record m.0 { noted = front; counted = length m.0.own }))

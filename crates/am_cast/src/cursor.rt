@@ -1,13 +1,14 @@
 //! A lane's reader. It takes no lock and no memory.
 ghost use Rattle.std.specs.Prelude.{◌≡◌, ◌+◌, ◌<◌, ◌≤◌, true, false, length, None, Some, []};
 ghost use mathlib.Core.List.{IsPrefix};
+ghost use Rattle.am_cast.specs.declared.limits.TheConstants.{LANES, WORDS};
 ghost use Rattle.am_cast.specs.Rule.{bit};
 ghost use Rattle.am_cast.specs.Changes.{holding, cut_off, seeing, left};
-ghost use Rattle.am_cast.specs.Cursors.{taken, items_at};
+ghost use Rattle.am_cast.specs.Cursors.{shown_items, items_at};
 
+use crate::batch_view::{Board, LogSeat};
 use crate::board;
 use crate::feed::Feed;
-use crate::name::{Board, LogSeat};
 use crate::pass::Pass;
 use am_segment::SegKey;
 use std::marker::{Model, PhantomData};
@@ -17,10 +18,10 @@ pub struct Cast<T, P, A, N: Feed> {
     pub(crate) board: Board<T, P, A>,
     pub(crate) of: PhantomData<N>,
     ghost is: { board.shared.table_id ≡ N.table },
-    ghost sized: { board.shared.table_id.words ≡ 144 },
+    ghost sized: { board.shared.table_id.words ≡ WORDS },
 }
 
-/// A subscription's place in the log. It must be spent by `Writer::retire`. Contracts see it as
+/// How far a subscription has read the log. It must be spent by `Writer::retire`. Contracts see it as
 /// what its lane knows, and how many items of the place in its hand it has shown.
 pub struct Cursor<'a, T, P, A, N: Feed> {
     pub(crate) cast: &'a Cast<T, P, A, N>,
@@ -37,7 +38,8 @@ pub struct Cursor<'a, T, P, A, N: Feed> {
 
 impl<'a, T, P, A, N: Feed> Model for Cursor<'a, T, P, A, N> {
     ghost use Rattle.am_cast.specs.Seats.{lane_of};
-    ghost use Rattle.am_cast.specs.Cursors.{CursorView, CursorOk};
+    ghost use Rattle.am_cast.specs.Cursors.{CursorView};
+    ghost use Rattle.am_cast.specs.inside.Cursors.{CursorOk};
 
     ghost Value = { CursorView T P A };
 
@@ -49,12 +51,12 @@ impl<'a, T, P, A, N: Feed> Model for Cursor<'a, T, P, A, N> {
 impl<'a, T, P, A, N: Feed> Cursor<'a, T, P, A, N> {
     /// The lane that it reads on.
     pub fn lane(&self) -> usize
-        ensures { (result ≡ self.now.lane.number) × (result < 8) }
+        ensures { (result ≡ self.now.lane.number) × (result < LANES) }
     {
         self.number
     }
 
-    // One item more is shown, where the place in hand has one. Answers whether it has.
+    // One item more is shown, if the place in hand has one. Answers whether it has.
     pub(crate) fn show(&mut self) -> bool
         ensures yes { result ≡ true → (self.old.lane.held ≡ true)
             × (self.old.shown < length (items_at self.old.lane.front self.old.lane.passed))
@@ -83,7 +85,7 @@ impl<'a, T, P, A, N: Feed> Cursor<'a, T, P, A, N> {
         ensures same { self.old.lane.held ≡ false → self.new.lane.cut ≡ self.old.lane.cut }
         ensures bounds { (self.new.lane.start ≤ self.new.lane.passed)
             × (self.new.lane.passed ≤ length self.new.lane.front) }
-        ensures taken { taken self.new ≡ taken self.old }
+        ensures taken { shown_items self.new ≡ shown_items self.old }
     {
         if let Some(key) = self.hand.take() {
             let at = board::slot_at(self.places, self.number, self.passed);
@@ -155,7 +157,7 @@ impl<'a, T, P, A, N: Feed> Cursor<'a, T, P, A, N> {
     /// The lane is left. The key in hand goes home.
     pub(crate) fn depart(self) -> (usize, LogSeat<T, P, A>)
         ensures same { (result.1.table_id ≡ N.table) × (result.1.me.1 ≡ [])
-            × (self.entry.lane.number ≡ result.0) × (result.0 < 8) }
+            × (self.entry.lane.number ≡ result.0) × (result.0 < LANES) }
         ensures seat { (result.1.me.0.writer ≡ None) × (result.1.me.0.own ≡ [])
             × (result.1.me.0.lane ≡ Some (left self.entry.lane)) }
     {

@@ -1,6 +1,6 @@
 //! Which log a value belongs to.
 ghost use Rattle.atomic_table.specs.Seated.{TableId};
-ghost use Rattle.am_cast.specs.Names.{no_table};
+ghost use Rattle.am_cast.specs.Tables.{no_table};
 
 use std::marker::Brand;
 

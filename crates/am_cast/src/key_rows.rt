@@ -13,12 +13,12 @@ pub(crate) use row::{EmptyRow, Row};
 use std::alloc::{AllocError, Global};
 use std::marker::Model;
 
-/// A bucket for each remainder of the number of places. A cut lane's old row stays beside the
+/// A bucket for each remainder of the number of places. A cut lane's old row stays with the
 /// newer ones until its last key is home.
 pub(crate) struct KeyRows<T> {
     buckets: Vec<Bucket<T>>,
-    // Those that ended serve again, so that a place takes no memory of its own for its row. It has
-    // room for as many as there are buckets, and what comes beyond that is freed.
+    // The memory of rows that ended, which later rows use, so that a row takes no new memory. It has
+    // room for as many as there are buckets; further ones are freed.
     spare: Vec<EmptyRow<T>>,
 }
 
@@ -37,7 +37,7 @@ impl<T> Model for KeyRows<T> {
 }
 
 impl<T> KeyRows<T> {
-    /// No rows, in so many buckets.
+    /// That many buckets without rows.
     pub(crate) fn new(alloc: Global, places: usize) -> Result<KeyRows<T>, AllocError>
         requires { 0 < places }
         ensures count { IfOk result (λ rows. length rows ≡ places) }

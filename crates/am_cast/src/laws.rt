@@ -1,7 +1,8 @@
-//! What each kind of step is to the core of am_steps, so that its words (a sound state, a place that is needed, a place
-//! that is freed) are those of the table. Each law is a function that does nothing.
-//! `B` is what is known of a batch, `K` a key of one, `A` what a subscription notes down, and `R` says which key of a
-//! batch is each lane's.
+//! What each kind of step is to the core of am_steps, so that its words (a sound state, a place
+//! that is needed, a place that is freed) are those of the table. Each law is a function that does
+//! nothing. `B` is what is known of a batch, `K` a key of one, `A` what a subscription notes down,
+//! and `R` says which key of a batch is each lane's.
+ghost use Rattle.std.specs.Prelude.{◌^◌, ◌≡◌};
 ghost use Rattle.am_cast.specs.Laws.{BeginsAtTheFirstState};
 ghost use Rattle.am_cast.specs.Laws.{ShowsASoundState, KnowsWhatIsFreed, FreedIsHome, HomeIsFreed};
 ghost use Rattle.am_cast.specs.Laws.{NeededIsNotFreedFor, NotesTheLog, WeighsTheView, TellsASeat};
@@ -11,6 +12,7 @@ ghost use Rattle.am_cast.specs.Laws.{LeavesWithKey, FindsTheWord, RecoversTheKey
 ghost use Rattle.am_cast.specs.Laws.{AdmitsTheLane, RetiresTheLane, PublishesTheBatch, ClosesTheLog};
 ghost use Rattle.am_cast.specs.Laws.{ReachesASlot, LaysAKey, GathersAKey, ClearsASlot};
 
+use crate::limits::{LANES, LONGEST_LOG, MAX_PLACES, WORDS};
 use crate::rule::Keyed;
 use am_steps::a_needed_place_is_not_freed;
 
@@ -44,12 +46,12 @@ pub fn a_leave_with_a_key_is_an_event<B, K, A, R: Keyed<B, K>>()
     ensures { LeavesWithKey B K A R.key }
 {}
 
-/// The writer finds a live lane's word: Harvest, or Retire where the lane has left.
+/// The writer finds a live lane's word: Harvest, or Retire if the lane has left.
 pub fn a_harvest_is_an_event<B, K, A, R: Keyed<B, K>>()
     ensures { FindsTheWord B K A R.key }
 {}
 
-/// The writer looks at a cut lane whose key is away: Harvest, where the key is back, else nothing.
+/// The writer looks at a cut lane whose key is away: Harvest if the key is back, else nothing.
 pub fn a_recovery_is_an_event<B, K, A, R: Keyed<B, K>>()
     ensures { RecoversTheKey B K A R.key }
 {}
@@ -64,12 +66,12 @@ pub fn an_admit_is_an_event<B, K, A, R: Keyed<B, K>>()
     ensures { AdmitsTheLane B K A R.key }
 {}
 
-/// A lane's seat came home: Retire, or nothing where the writer had found that it has left.
+/// A lane's seat came home: Retire, or nothing if the writer had found that it has left.
 pub fn a_retire_is_an_event<B, K, A, R: Keyed<B, K>>()
     ensures { RetiresTheLane B K A R.key }
 {}
 
-/// The writer makes a place, where each live lane has its key of it: Publish.
+/// The writer makes a place of which each live lane has its key: Publish.
 pub fn a_publish_is_an_event<B, K, A, R: Keyed<B, K>>()
     ensures { PublishesTheBatch B K A R.key }
 {}
@@ -99,7 +101,8 @@ pub fn a_clear_is_silent<B, K, A, R: Keyed<B, K>>()
     ensures { ClearsASlot B K A R.key }
 {}
 
-/// A seat notes how long the log is: a Note of its poster for each place that became its own since, or one for none.
+/// A seat notes how long the log is: a Note of its poster for each place that became its own since, or one
+/// for none.
 pub fn a_note_is_an_event<B, K, A, R: Keyed<B, K>>()
     ensures { NotesTheLog B K A R.key }
 {}
@@ -109,12 +112,12 @@ pub fn a_weigh_is_silent<B, K, A, R: Keyed<B, K>>()
     ensures { WeighsTheView B K A R.key }
 {}
 
-/// A new seat has heard what another has seen: the state stays.
+/// A new seat learns what another has seen: the state stays.
 pub fn a_tell_is_silent<B, K, A, R: Keyed<B, K>>()
     ensures { TellsASeat B K A R.key }
 {}
 
-/// The lane in a view gets a seat of its own: the state stays.
+/// The lane in a view gets its own seat: the state stays.
 pub fn a_deal_is_silent<B, K, A, R: Keyed<B, K>>()
     ensures { DealsALane B K A R.key }
 {}
@@ -144,12 +147,12 @@ pub fn the_writer_knows_what_is_freed<B, K, A, R: Keyed<B, K>>()
     ensures { KnowsWhatIsFreed B K A R.key }
 {}
 
-/// Of a place that is freed no lane's key is out, where the writer has taken out all that it may.
+/// If the writer has taken out all keys that it may, no lane's key of a freed place is out.
 pub fn a_freed_place_has_no_key_out<B, K, A, R: Keyed<B, K>>()
     ensures { FreedIsHome B K A R.key }
 {}
 
-/// A place of which no lane's key is out is freed, where the writer has taken out all that it may.
+/// If the writer has taken out all keys that it may, a place of which no lane's key is out is freed.
 pub fn a_place_with_no_key_out_is_freed<B, K, A, R: Keyed<B, K>>()
     ensures { HomeIsFreed B K A R.key }
 {}
@@ -160,3 +163,10 @@ pub fn a_needed_place_is_not_freed_by_the_writer<B, K, A, R: Keyed<B, K>>()
 {
     a_needed_place_is_not_freed::<B>();
 }
+
+/// The numbers of the log's limits.
+pub fn the_limits()
+    ensures subscribers { LANES ≡ 8 }
+    ensures places { (MAX_PLACES ≡ 256) × (LONGEST_LOG ≡ 2 ^ 51) }
+    ensures words { WORDS ≡ 144 }
+{}

@@ -1,12 +1,11 @@
-//! `next`, which lends the item that it shows. It stands in a file of its own, since its clause names the row of `Cursor`.
-ghost use Rattle.std.specs.Prelude.{◌≡◌, ◌+◌, ◌<◌, ◌≤◌, ℕ, ⊤, [], true, false, length, IfSome, IfNone};
-ghost use Rattle.std.specs.Borrow.{sem, follows_so};
-ghost use mathlib.Core.Option.{none, some};
-ghost use mathlib.Core.List.{IsPrefix};
-ghost use mir.Syntax.{named};
-ghost use Rattle.am_cast.specs.contracts.cursor.Cursor.{the_row};
-ghost use Rattle.am_cast.specs.Cursors.{taken, GoesOn};
-ghost use Rattle.am_cast.specs.Lent.{Moves, Takes, Found, NeedsLook, AreAllSeen, MovesPast, Lends, LendsPast, IsInHand};
+//! How a cursor moves on, and `next`, which lends the item. Their file isn't the cursor's, since
+//! the clause of `next` names the type of `Cursor`.
+ghost use Rattle.std.specs.Prelude.{◌≡◌, ◌<◌, ◌≤◌, true, false, length, IfSome, IfNone};
+ghost use Rattle.std.specs.Borrow.{sem};
+ghost use Rattle.am_cast.specs.Lending.{AfterTheLoan};
+ghost use Rattle.am_cast.specs.Cursors.{GoesOn};
+ghost use Rattle.am_cast.specs.Lent.{Moves, MovesPast, Lends, LendsPast, IsInHand};
+ghost use Rattle.am_cast.specs.inside.Moving.{TriesTake, AfterLook, NeedsLook, AreAllSeen};
 
 use crate::cursor::Cursor;
 use crate::feed::Feed;
@@ -55,7 +54,7 @@ impl<'a, T, P, A, N: Feed> Cursor<'a, T, P, A, N> {
         requires { (self.old.lane.held ≡ false) × (self.old.shown ≡ 0)
             × (self.old.lane.cut ≡ false) × (self.old.lane.passed < length self.old.lane.front) }
         ensures on { GoesOn self.old self.new }
-        ensures takes { Takes self.old self.new result }
+        ensures takes { TriesTake self.old self.new result }
     {
         if self.take() { Moved::One } else { Moved::Cut }
     }
@@ -85,7 +84,7 @@ impl<'a, T, P, A, N: Feed> Cursor<'a, T, P, A, N> {
         requires { (self.old.lane.held ≡ false) × (self.old.shown ≡ 0)
             × (self.old.lane.cut ≡ false) }
         ensures on { GoesOn self.old self.new }
-        ensures found { Found self.old self.new result }
+        ensures found { AfterLook self.old self.new result }
     {
         if self.has_more() {
             return self.take_one();
@@ -126,7 +125,8 @@ impl<'a, T, P, A, N: Feed> Cursor<'a, T, P, A, N> {
 
     /// The next item, lent until the next call.
     pub fn next(&mut self) -> Step<'_, T>
-        ensures* lender { sem 𝓛 (follows_so (the_row (record { mir = named 1; lft = [] }) T.row P.row A.row N.row N.Feed) (the_row (record { mir = named 1; lft = [] }) T.row P.row A.row N.row N.Feed) self.entry.ghost_name none (λ _ _. ⊤) (λ v. GoesOn self.old v × Lends self.old v result)) }
+        ensures* lender { sem 𝓛 (AfterTheLoan T.row P.row A.row N.row N.Feed self.entry
+            (λ cursor. GoesOn self.old cursor × Lends self.old cursor result)) }
     {
         match self.advance() {
             Moved::One => Step::Item(self.in_hand()),
@@ -170,7 +170,9 @@ impl<'a, T, P, A, N: Feed> Cursor<'a, T, P, A, N> {
 
     /// The next item. It isn't `Pending` while a place that the pass knows isn't passed.
     pub fn next_past(&mut self, pass: &mut Pass<T, P, A, N>) -> Step<'_, T>
-        ensures* lender { sem 𝓛 (follows_so (the_row (record { mir = named 1; lft = [] }) T.row P.row A.row N.row N.Feed) (the_row (record { mir = named 1; lft = [] }) T.row P.row A.row N.row N.Feed) self.entry.ghost_name none (λ _ _. ⊤) (λ v. GoesOn self.old v × Lends self.old v result × LendsPast pass.old.noted v result)) }
+        ensures* lender { sem 𝓛 (AfterTheLoan T.row P.row A.row N.row N.Feed self.entry
+            (λ cursor. GoesOn self.old cursor × Lends self.old cursor result
+            × LendsPast pass.old.noted cursor result)) }
         ensures pass { pass.new ≡ pass.old }
     {
         match self.advance_past(pass) {

@@ -1,21 +1,21 @@
-//! A bounded broadcast log: one writer sends batches to up to eight readers, and no lock stands
-//! between them.
+//! A bounded broadcast log without a lock: one writer publishes batches to up to eight subscribers.
+//! It is as tokio's `sync::broadcast`, but a slow subscriber is the writer's choice at each call.
 //!
 //! # Lagging
 //!
-//! Each subscriber reads at its own pace, and none sees another. The log has so many places; a
-//! subscriber that is as many places behind holds the next batch up. What then happens is the
+//! Each subscriber reads at its own pace, and none waits for another. A log has a number of places;
+//! a subscriber that is as many batches behind holds the next batch up. What then happens is the
 //! writer's choice, call by call. `publish` refuses the batch, gives it back, and names the lowest
 //! such lane. `publish_cutting` cuts each such lane: its subscriber still shows the items of the
-//! place that it has in hand, is then told `Cut`, and from then on nothing else. Every other one
-//! goes on as before. A slow subscriber never makes another one miss, repeat or wait for an item,
-//! and its memory is kept until it has passed the place in its hand.
+//! place that it has in hand, and from then on `next` answers `Cut`. All others go on as before. A
+//! slow subscriber never makes another one miss, repeat or wait for an item, and its memory is kept
+//! until it has passed the place in its hand.
 //!
 //! # Closing
 //!
-//! A closed log takes no batch and no subscriber. Those that are there read on to its end, and only
-//! then are told `Closed`, and from then on always. `Pending` means that the log was open at this
-//! very call and that all that was there was shown.
+//! A closed log takes no batch and no subscriber. Those that it has read on to its end, and from
+//! then on `next` answers `Closed`. `Pending` means that the log was open at this very call and
+//! that all that was there was shown.
 //!
 //! # Inside
 //!
@@ -37,9 +37,9 @@
 //! `publish` lays a key in the slot of each live lane and keeps the others in the place's row. A
 //! cursor takes its key out of its slot by an exchange on its lane's word, shows the items one by
 //! one, and puts the key back as it passes the place. The writer loads the lanes' words (`harvest`,
-//! and every publish), takes the keys of passed places out, and gathers them in the rows; the eighth
-//! frees the segment. `rule.rt` has what always holds of words, slots and what each side knows, and
-//! `board.rt` the single steps, each of them an event of `am_steps`.
+//! and every publish), takes the keys of passed places out, and gathers them in the rows; the
+//! eighth frees the segment. `rule.rt` has what always holds of words, slots and what each side
+//! knows, and `board.rt` the single steps, each of them an event of `am_steps`.
 //!
 //! A caller:
 //!
@@ -57,7 +57,7 @@
 //! ```
 #![tactic(auto)]
 
-mod bench;
+mod batch_view;
 mod board;
 mod cursor;
 mod faults;
@@ -65,7 +65,7 @@ mod feed;
 mod key_rows;
 pub mod laws;
 mod lends;
-mod name;
+mod limits;
 mod parts;
 mod pass;
 pub mod rule;
@@ -73,11 +73,12 @@ mod tag;
 pub mod views;
 mod writer;
 
+pub use batch_view::{BatchView, SegmentKeys};
 pub use cursor::{Cast, Cursor};
 pub use faults::{AdmitFault, AlreadyClosed, PublishFault, Refused};
 pub use feed::Feed;
 pub use lends::{Moved, Step};
-pub use name::{Name, SegmentKeys};
+pub use limits::{LANES, LONGEST_LOG, MAX_PLACES};
 pub use parts::{Begun, Parts, begin, end};
 pub use pass::Pass;
-pub use writer::{MOST_PLACES, Published, Writer};
+pub use writer::{Published, Writer};

@@ -1,23 +1,26 @@
-//! The parts of a new log, which no type stands for yet, and the log's beginning and end.
+//! The parts of a new log, before a type names it, and how a log begins and ends.
 ghost use Rattle.std.specs.Prelude.{false, ◌≡◌, ◌*◌, ◌<◌, ◌≤◌, IfOk, [], ℕ, slice_index, length};
 ghost use Rattle.std.specs.List.{All};
+ghost use Rattle.am_cast.specs.declared.limits.TheConstants.{MAX_PLACES};
 ghost use Rattle.am_cast.specs.Rule.{gone, lane_word, idle, blank};
 ghost use Rattle.am_cast.specs.Changes.{copied};
-ghost use Rattle.am_cast.specs.Starts.{PartsOk};
+ghost use Rattle.am_cast.specs.inside.Starts.{PartsOk};
 ghost use Rattle.am_cast.specs.Seats.{account_of};
 
-use crate::bench::Bench;
+use crate::batch_view::{Board, LogSeat};
 use crate::board;
 use crate::cursor::Cast;
 use crate::feed::Feed;
 use crate::key_rows::KeyRows;
-use crate::name::{Board, LogSeat};
+use crate::limits::{LANES, WORDS};
 use crate::pass::Pass;
 use crate::writer::Writer;
+use crate::writer::lane_account::{LaneAccount, Stand};
+use crate::writer::state::WriterState;
 use std::alloc::{AllocError, Global};
 use std::marker::PhantomData;
 
-/// A table of its own, and the memory of a writer. It must be spent by `begin`.
+/// A new table, and the memory of a writer. It must be spent by `begin`.
 pub struct Parts<T, P, A> {
     pub board: Board<T, P, A>,
     seat: LogSeat<T, P, A>,
@@ -28,26 +31,27 @@ pub struct Parts<T, P, A> {
 }
 
 // The words of a log whose lanes are all idle.
-fn first_words() -> [u64; 144]
-    ensures tail { (length result ≡ 144) × (slice_index result 0 ≡ 0) }
-    ensures lanes { (l : ℕ) → l < 8 → slice_index result (lane_word l) ≡ gone }
+fn first_words() -> [u64; WORDS]
+    ensures tail { (length result ≡ WORDS) × (slice_index result 0 ≡ 0) }
+    ensures lanes { (l : ℕ) → l < LANES → slice_index result (lane_word l) ≡ gone }
 {
-    let mut words = [0; 144];
-    for lane in 0..8usize {
+    let mut words = [0; WORDS];
+    for lane in 0..LANES {
         words[16 * lane + 16] = u64::MAX;
     }
     words
 }
 
 impl<T, P, A> Parts<T, P, A> {
-    /// The parts of a log with so many places.
+    /// The parts of a log whose live lanes may be this many places behind.
     pub fn make(alloc: Global, places: u64) -> Result<Parts<T, P, A>, AllocError>
-        requires { (0 < places) × (places ≤ 256) }
+        requires { (0 < places) × (places ≤ MAX_PLACES) }
         ensures { IfOk result (λ p. p.places ≡ places) }
     {
         let words = first_words();
         let rows = KeyRows::new(alloc, places as usize)?;
-        let Ok((board, seat)) = Board::vacant(alloc, &words, 8 * places as usize, &places) else {
+        let Ok((board, seat)) = Board::vacant(alloc, &words, LANES * places as usize, &places)
+        else {
             rows.end();
             return Err(AllocError);
         };
@@ -68,7 +72,7 @@ pub struct Begun<T, P, A, N: Feed> {
     pub passes: Vec<Pass<T, P, A, N>>,
 }
 
-// So many passes, which know nothing yet.
+// A pass for each poster. They know nothing yet.
 fn deal_passes<T, P, A, N: Feed>(
     alloc: Global,
     board: &Board<T, P, A>,
@@ -76,7 +80,7 @@ fn deal_passes<T, P, A, N: Feed>(
     posters: usize,
 ) -> Result<Vec<Pass<T, P, A, N>>, AllocError>
     requires table { (board.now.shared.table_id ≡ N.table) × (seat.old.table_id ≡ N.table)
-        × (N.table.words ≡ 144) }
+        × (N.table.words ≡ WORDS) }
     requires fresh { (seat.old.me.1 ≡ []) × (copied seat.old.me.0 ≡ blank) }
     ensures seat { (seat.new.table_id ≡ seat.old.table_id) × (seat.new.me ≡ seat.old.me) }
     ensures passes { IfOk result (λ made. (length made.items ≡ posters)
@@ -92,14 +96,18 @@ fn deal_passes<T, P, A, N: Feed>(
     Ok(passes)
 }
 
-/// A log over these parts, with so many passes.
+/// A log over these parts, with one pass for each poster.
 pub fn begin<T: Drop, P, A, N: Feed>(
     parts: Parts<T, P, A>,
     posters: usize,
 ) -> Result<Begun<T, P, A, N>, AllocError>
     requires { parts.board.shared.table_id ≡ N.table }
-    ensures empty { IfOk result (λ begun. begun.writer.tail ≡ record { places = parts.places; log = []; closed = false }) }
-    ensures idle { IfOk result (λ begun. (l : ℕ) → l < 8
+    ensures empty { IfOk result (λ begun. begun.writer.tail ≡ record {
+      places = parts.places;
+      log = [];
+      closed = false;
+    }) }
+    ensures idle { IfOk result (λ begun. (l : ℕ) → l < LANES
         → (account_of begun.writer l).stand ≡ idle) }
     ensures passes { IfOk result (λ begun. (length begun.passes.items ≡ posters)
         × All (λ pass. pass ≡ record { noted = []; own = [] }) begun.passes.items) }
@@ -116,20 +124,20 @@ pub fn begin<T: Drop, P, A, N: Feed>(
         board,
         of: PhantomData,
     };
-    let bench = Bench {
+    let state = WriterState {
         seat,
         rows,
         alloc,
         places,
         count: 0,
         closed: false,
-        stand: [0; 8],
-        known: [0; 8],
-        half: [0; 8],
-        away: [0; 8],
+        lanes: [LaneAccount {
+            stand: Stand::Idle,
+            word: 0,
+        }; LANES],
         of: PhantomData,
     };
-    let writer = Writer { bench };
+    let writer = Writer { state };
     match passes {
         Ok(passes) => Ok(Begun {
             cast,
@@ -145,23 +153,20 @@ pub fn begin<T: Drop, P, A, N: Feed>(
 
 /// The end of a log whose lanes are all idle: its memory is freed.
 pub fn end<T: Drop, P, A, N: Feed>(cast: Cast<T, P, A, N>, writer: Writer<T, P, A, N>)
-    requires { (l : ℕ) → l < 8 → (account_of writer l).stand ≡ idle }
+    requires { (l : ℕ) → l < LANES → (account_of writer l).stand ≡ idle }
 {
     let Cast { board, of: _ } = cast;
-    let Writer { bench } = writer;
-    let Bench {
+    let Writer { state } = writer;
+    let WriterState {
         seat,
         rows,
         alloc: _,
         places: _,
         count: _,
         closed: _,
-        stand: _,
-        known: _,
-        half: _,
-        away: _,
+        lanes: _,
         of: _,
-    } = bench;
+    } = state;
     rows.end();
     let mut closed = board.close_with(seat);
     for index in 0..closed.slot_count() {

@@ -1,17 +1,17 @@
-//! A token of what a poster has posted, and of how far it knows the log.
+//! A publisher's token: what it has posted, and how far it knows the log.
 ghost use Rattle.std.specs.Prelude.{◌≡◌, ◌<◌, ◌≤◌, ◌++◌, ◌∷◌, [], ℕ, length};
 ghost use mathlib.Core.Option.{some};
 ghost use mathlib.Core.List.{IsPrefix};
 ghost use lib.ListN.{get_elem?};
 ghost use Rattle.am_cast.specs.declared.views.Own.{Own};
-ghost use Rattle.am_cast.specs.declared.name.Name.{Name};
-ghost use Rattle.am_cast.specs.Changes.{Stand};
+ghost use Rattle.am_cast.specs.declared.batch_view.BatchView.{BatchView};
+ghost use Rattle.am_cast.specs.Changes.{AreInLog};
 ghost use Rattle.am_cast.specs.Rule.{Once};
 
+use crate::batch_view::LogSeat;
 use crate::board;
 use crate::cursor::{Cast, Cursor};
 use crate::feed::Feed;
-use crate::name::LogSeat;
 use std::marker::{Model, PhantomData};
 
 /// Contracts see it as what it owns and has noted of the log.
@@ -22,7 +22,8 @@ pub struct Pass<T, P, A, N: Feed> {
 }
 
 impl<T, P, A, N: Feed> Model for Pass<T, P, A, N> {
-    ghost use Rattle.am_cast.specs.Posters.{PassView, pass_view, PassOk};
+    ghost use Rattle.am_cast.specs.Posters.{PassView, pass_view};
+    ghost use Rattle.am_cast.specs.inside.Posters.{PassOk};
 
     ghost Value = { PassView T P };
 
@@ -35,19 +36,20 @@ impl<T, P, A, N: Feed> Pass<T, P, A, N> {
     // It notes how long the log is.
     pub(crate) fn note(&mut self, cast: &Cast<T, P, A, N>)
         ensures own { self.new.own ≡ self.old.own }
-        ensures noted { IsPrefix self.old.noted self.new.noted × Stand self.new.own self.new.noted }
+        ensures noted { IsPrefix self.old.noted self.new.noted × AreInLog self.new.own self.new.noted }
     {
         board::note_log(&cast.board.shared, &mut self.seat);
     }
 
-    /// Each own post that the cursor has seen stands at its place there, and the pass knows at least as much as the cursor.
+    /// Each own post that the cursor has seen is at its place there. From then on the pass knows at
+    /// least as much of the log as the cursor.
     pub fn meet(&mut self, cast: &Cast<T, P, A, N>, cursor: &mut Cursor<'_, T, P, A, N>)
         ensures same { (self.new.own ≡ self.old.own) × (cursor.new ≡ cursor.old) }
-        ensures own { (k : ℕ) (o : Own (Name T P)) → get_elem? self.old.own k ≡ some o
+        ensures own { (k : ℕ) (o : Own (BatchView T P)) → get_elem? self.old.own k ≡ some o
             → o.place < length cursor.old.lane.front
-            → get_elem? cursor.old.lane.front o.place ≡ some o.name }
+            → get_elem? cursor.old.lane.front o.place ≡ some o.batch }
         ensures noted { IsPrefix self.old.noted self.new.noted
-            × IsPrefix cursor.old.lane.front self.new.noted × Stand self.old.own self.new.noted }
+            × IsPrefix cursor.old.lane.front self.new.noted × AreInLog self.old.own self.new.noted }
     {
         let top = &cast.board.shared;
         board::tell_seat(top, &mut cursor.seat, &mut self.seat);

@@ -1,6 +1,6 @@
-//! What holds of the table between two steps, whichever seat stepped last. `specs/Rule.antt` says it: the words, the slots
-//! and what each seat knows agree with one log, one account of each lane and one cursor's view of each lane. `board` has
-//! the steps, and what each word and slot is for.
+//! What holds of the table between two steps, whichever seat stepped last. `specs/Rule.antt` says
+//! it: the words, the slots and what each seat knows agree with one log, one account of each lane
+//! and one cursor's view of each lane. `board` has the steps, and what each word and slot is for.
 ghost use Rattle.std.specs.Prelude.{ℕ, Option};
 
 use crate::views::View;
@@ -26,14 +26,15 @@ impl<B, K, A, R: Keyed<B, K>> TableRule<Option<K>, View<B, K, A>, u64> for LogRu
     ghost first = { λ places. first_view places };
 }
 
-/// The table of a log. `B` is what is known of a batch, `K` a key of one, `A` what a subscription notes down.
-pub type Board<B, K, A, R> = Table<Option<K>, View<B, K, A>, u64, LogRule<R>, Global>;
+/// The table of a log of any batches. `B` is what is known of one, `K` a key of it, `A` what a
+/// subscription notes down.
+pub type AnyBoard<B, K, A, R> = Table<Option<K>, View<B, K, A>, u64, LogRule<R>, Global>;
 
 /// What the seats share of it.
-pub type Top<B, K, A, R> = Shared<Option<K>, View<B, K, A>, u64, LogRule<R>>;
+pub type AnyTop<B, K, A, R> = Shared<Option<K>, View<B, K, A>, u64, LogRule<R>>;
 
 /// One seat: what it knows, and the slots in its hand.
-pub type LogSeat<B, K, A> = Seat<Option<K>, View<B, K, A>>;
+pub type AnySeat<B, K, A> = Seat<Option<K>, View<B, K, A>>;
 
 /// What a subscription notes down. A caller picks it.
 pub trait Noted<A> {
@@ -46,13 +47,13 @@ impl<A> Noted<A> for Brand {
     ghost note = { None };
 }
 
-/// The name of a new batch. A caller picks it.
-pub trait Named<B> {
-    ghost name: { Option B };
+/// A new batch, as contracts see it. A caller picks it.
+pub trait NewBatch<B> {
+    ghost batch: { Option B };
 }
 
-impl<B> Named<B> for Brand {
+impl<B> NewBatch<B> for Brand {
     ghost use Rattle.std.specs.Prelude.{None};
 
-    ghost name = { None };
+    ghost batch = { None };
 }

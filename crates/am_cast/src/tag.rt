@@ -1,4 +1,4 @@
-//! What the name of a new batch is made of. It has no bytes.
+//! What a new batch is made of, as contracts see it. It has no bytes.
 ghost use Rattle.std.specs.Prelude.{◌≡◌, ◌<◌, Some, length, slice_get};
 
 use am_segment::SegKey;

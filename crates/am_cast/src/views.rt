@@ -23,7 +23,7 @@ pub struct Account<K, A> {
     pub start: u64,
     /// The number of places passed, as found last.
     pub known: u64,
-    /// Half of the word, as found last: twice the number passed, and one more where a key was in hand.
+    /// Half of the word, as found last: twice the number passed, and one more if a key was in hand.
     pub half: u64,
     /// The slots of the places below are empty.
     pub cleared: u64,
@@ -66,16 +66,16 @@ pub struct LaneView<B, A> {
     pub held: bool,
     /// Its last look showed the log closed.
     pub told: bool,
-    /// It was told that it was cut.
+    /// Its cursor has answered that it was cut.
     pub cut: bool,
     /// How often it looked.
     pub looks: u64,
 }
 
-/// A place of the log, and what stands there.
+/// A place of the log, and the batch there.
 pub struct Own<B> {
     pub place: u64,
-    pub name: B,
+    pub batch: B,
 }
 
 /// What a seat knows. Each part goes its own way at a split.
@@ -90,6 +90,6 @@ pub struct View<B, K, A> {
     pub whole: bool,
     /// The places that are this seat's own.
     pub own: LinkedList<Own<B>>,
-    /// So many of them it has noted, the first ones.
+    /// How many of them it has noted: the first ones.
     pub counted: u64,
 }

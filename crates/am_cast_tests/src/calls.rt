@@ -1,13 +1,13 @@
-//! Calls of the log beside the atomic steps that each of them makes of the pure state: after each
-//! call the same was answered and taken, and the same places are freed.
+//! Calls of the log, compared with the atomic steps of the pure state that each of them makes: after
+//! each call the same was answered and shown, and the same places are freed.
 //!
 //! Two lanes and one place, in one thread. A batch's name is its place, and its items follow from it.
 
 ghost use Rattle.std.specs.Prelude.{◌≡◌, ◌<◌, length, IfOk};
 
+use crate::log::{Log, begin_log, end_log};
 use am_cast::{
-    Begun, Cast, Cursor, Feed, MOST_PLACES, Parts, Pass, PublishFault, Refused, Step, Writer,
-    begin, end,
+    Cast, Cursor, Feed, LANES, LONGEST_LOG, Parts, Pass, PublishFault, Refused, Step, Writer,
 };
 use am_segment::SegmentBuilder;
 use am_steps::{Event, Lane, State};
@@ -20,7 +20,7 @@ use std::test::Fail;
 // How many kinds of call there are.
 const KINDS: u64 = 14;
 
-/// A reader's lane, its cursor where it has one, and what that cursor was shown.
+/// A reader's lane, its cursor if it has one, and what that cursor was shown.
 struct Reader<'a, N: Feed> {
     lane: usize,
     cursor: Option<Cursor<'a, u64, u64, u64, N>>,
@@ -29,7 +29,7 @@ struct Reader<'a, N: Feed> {
     of_hand: u64,
 }
 
-/// The log with the pure state beside it.
+/// The log, and the pure state that it is compared with.
 #[derive(Drop)]
 struct Both<'a, N: Feed> {
     alloc: Global,
@@ -73,13 +73,13 @@ fn answer_of(step: Step<'_, u64>) -> Result<u64, u8> {
 impl<'a, N: Feed> Both<'a, N> {
     // The writer loads the word of each lane that is given out.
     fn harvest(&mut self) -> Result<(), AllocError> {
-        for lane in 0..8 {
+        for lane in 0..LANES {
             let _made = self.state.apply(Event::Harvest(lane))?;
         }
         Ok(())
     }
 
-    // A post: refused by both, or taken by both.
+    // A post: refused by both, or published by both.
     fn publish(
         &mut self,
         writer: &mut Writer<u64, u64, u64, N>,
@@ -114,7 +114,7 @@ impl<'a, N: Feed> Both<'a, N> {
         self.harvest()?;
         let full = writer.harvest(self.cast);
         let may = self.state.apply(Event::Publish(name))?;
-        if writer.is_closed() || writer.len() >= MOST_PLACES {
+        if writer.is_closed() || writer.len() >= LONGEST_LOG {
             return Ok(!may);
         }
         if let Some(lane) = full {
@@ -147,7 +147,7 @@ impl<'a, N: Feed> Both<'a, N> {
 
     // The lowest lane that is a place behind, as the writer knows it, and how many it has passed.
     fn full_lane(&self) -> Option<(usize, u64)> {
-        for lane in 0..8 {
+        for lane in 0..LANES {
             if let Some(Lane::Open(record, _)) = self.state.lane(lane) {
                 if !record.cut && record.known.wrapping_add(1) == self.length {
                     return Some((lane, record.known));
@@ -170,7 +170,7 @@ impl<'a, N: Feed> Both<'a, N> {
         match writer.publish_cutting(self.cast, batch, Snapshot::of(&said), pass) {
             Ok(made) => {
                 let mut same = made.place == name;
-                for lane in 0..8 {
+                for lane in 0..LANES {
                     same &= self.state.apply(Event::Cut(lane))? == made.cut[lane];
                 }
                 same &= self.state.apply(Event::Publish(name))?;
@@ -187,7 +187,7 @@ impl<'a, N: Feed> Both<'a, N> {
         }
     }
 
-    // The lowest idle lane, where it is the reader's and the log is open.
+    // The lowest idle lane, if it is the reader's and the log is open.
     fn admit(
         &mut self,
         writer: &mut Writer<u64, u64, u64, N>,
@@ -227,7 +227,7 @@ impl<'a, N: Feed> Both<'a, N> {
         Ok(left && self.state.apply(Event::Retire(reader.lane))?)
     }
 
-    // Makes the steps of a `next` in the state, and tells what it has to answer.
+    // Makes the steps of a `next` in the state, and gives the answer that it is owed.
     fn advance(&mut self, lane: usize, of_hand: &mut u64) -> Result<Result<u64, u8>, AllocError> {
         if let Some(Lane::Open(_, cursor)) = self.state.lane(lane) {
             if cursor.held {
@@ -357,7 +357,7 @@ impl<'a, N: Feed> Both<'a, N> {
         self.state.apply(Event::Note(0, None))
     }
 
-    // A call of that kind. Answers whether both came to the same.
+    // A call of that kind. Answers whether both did the same.
     fn call(
         &mut self,
         kind: u64,
@@ -390,7 +390,7 @@ impl<'a, N: Feed> Both<'a, N> {
     }
 }
 
-/// What to call: each kind in turn after two subscriptions and a post, or so many kinds from a seed.
+/// What to call: each kind in turn after two subscriptions and a post, or a number of kinds from a seed.
 #[derive(Clone, Copy, Drop)]
 enum Script {
     Two(u64, u64),
@@ -461,7 +461,7 @@ fn give_back<N: Feed>(
     }
 }
 
-// A whole run on a log of its own. Answers whether both came to the same throughout.
+// A whole run on a new log. Answers whether both did the same throughout.
 fn run<N: Feed, R: Wait>(
     rt: &R,
     parts: Parts<u64, u64, u64>,
@@ -470,16 +470,16 @@ fn run<N: Feed, R: Wait>(
 ) -> Result<bool, AllocError>
     requires { parts.board.shared.table_id ≡ N.table }
 {
-    let Begun {
+    let Log {
         cast,
         mut writer,
-        mut passes,
-    } = begin::<u64, u64, u64, N>(parts, 1)?;
+        mut pass,
+    } = begin_log::<u64, N>(parts)?;
     let log = &cast;
     let mut first = new_reader(alloc);
     let mut second = new_reader(alloc);
-    let same = match (State::new(alloc, 1, 8, 1), passes.pop()) {
-        (Ok(state), Some(mut pass)) => {
+    let same = match State::new(alloc, 1, LANES, 1) {
+        Ok(state) => {
             let mut both = Both {
                 alloc,
                 cast: log,
@@ -495,14 +495,11 @@ fn run<N: Feed, R: Wait>(
                 &mut second,
             )
         }
-        _ => Err(AllocError),
+        Err(error) => Err(error),
     };
     give_back(log, &mut writer, first);
     give_back(log, &mut writer, second);
-    if !writer.is_idle() {
-        for _ in rt.forever() {}
-    }
-    end(cast, writer);
+    end_log(rt, cast, writer);
     same
 }
 

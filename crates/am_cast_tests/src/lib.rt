@@ -5,6 +5,8 @@
 #[cfg(test)]
 mod calls;
 #[cfg(test)]
+mod log;
+#[cfg(test)]
 mod owned;
 #[cfg(test)]
 mod threads;

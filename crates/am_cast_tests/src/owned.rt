@@ -2,9 +2,8 @@
 
 ghost use Rattle.std.specs.Prelude.{◌≡◌, ◌<◌, length, IfOk};
 
-use am_cast::{
-    Begun, Cast, Cursor, Feed, Parts, Pass, PublishFault, Refused, Step, Writer, begin, end,
-};
+use crate::log::{Log, begin_log, end_log};
+use am_cast::{Cast, Cursor, Feed, Parts, Pass, PublishFault, Refused, Step, Writer};
 use am_segment::SegmentBuilder;
 use std::alloc::{AllocError, Global};
 use std::marker::Brand;
@@ -52,7 +51,7 @@ fn post<N: Feed>(
     }
 }
 
-// The number of the next item, or 100 where there is none.
+// The number of the next item, or 100 if there is none.
 fn shown<N: Feed>(cursor: &mut Cursor<'_, Vec<u64>, u64, u64, N>) -> u64 {
     match cursor.next() {
         Step::Item(item) => *item.get(0).unwrap_or(&101),
@@ -60,7 +59,7 @@ fn shown<N: Feed>(cursor: &mut Cursor<'_, Vec<u64>, u64, u64, N>) -> u64 {
     }
 }
 
-// Posts beside a reader of two places, which reads three items of four.
+// Posts to a log of two places with a reader, which reads three items of four.
 fn read_some<N: Feed>(
     alloc: Global,
     cast: &Cast<Vec<u64>, u64, u64, N>,
@@ -106,19 +105,13 @@ fn run<N: Feed, R: Wait>(
 ) -> Result<[u64; 6], AllocError>
     requires { parts.board.shared.table_id ≡ N.table }
 {
-    let Begun {
+    let Log {
         cast,
         mut writer,
-        mut passes,
-    } = begin::<Vec<u64>, u64, u64, N>(parts, 1)?;
-    let saw = match passes.pop() {
-        Some(mut pass) => come_and_post(alloc, &cast, &mut writer, &mut pass),
-        None => Err(AllocError),
-    };
-    if !writer.is_idle() {
-        for _ in rt.forever() {}
-    }
-    end(cast, writer);
+        mut pass,
+    } = begin_log::<Vec<u64>, N>(parts)?;
+    let saw = come_and_post(alloc, &cast, &mut writer, &mut pass);
+    end_log(rt, cast, writer);
     saw
 }
 

@@ -3,7 +3,8 @@
 
 ghost use Rattle.std.specs.Prelude.{◌≡◌, ◌<◌, ◌≤◌, length, IfOk};
 
-use am_cast::{Begun, Cast, Cursor, Feed, Parts, Pass, Refused, Step, Writer, begin, end};
+use crate::log::{Log, begin_log, end_log};
+use am_cast::{Cast, Cursor, Feed, Parts, Pass, Refused, Step, Writer};
 use am_segment::SegmentBuilder;
 use std::alloc::{AllocError, Global};
 use std::marker::Brand;
@@ -25,8 +26,8 @@ fn batch_of(alloc: Global, first: u64) -> Result<SegmentBuilder<u64>, AllocError
     Ok(batch)
 }
 
-/// What a reader was shown: how many items, how many of them weren't the next number, and what it was
-/// told at the end.
+/// What a reader was shown: how many items, how many of them weren't the next number, and what it
+/// answered at the end.
 #[derive(Clone, Copy, Drop)]
 struct Shown {
     items: u64,
@@ -42,8 +43,8 @@ const NOTHING: Shown = Shown {
     cut: false,
 };
 
-// Reads for so many turns the numbers from a first one on, and rests at each eighth turn where it is
-// lazy.
+// Reads the numbers from a first one on, for a number of turns. A lazy reader rests at each eighth
+// turn.
 fn read_all<R: Threads, N: Feed>(
     rt: &R,
     cursor: &mut Cursor<'_, u64, u64, u64, N>,
@@ -72,7 +73,7 @@ fn read_all<R: Threads, N: Feed>(
     shown
 }
 
-// Posts so many batches within so many turns, and closes. Answers how many were posted.
+// Posts a number of batches within a number of turns, and closes. Answers how many were posted.
 fn post_all<N: Feed>(
     alloc: Global,
     cast: &Cast<u64, u64, u64, N>,
@@ -99,7 +100,7 @@ fn post_all<N: Feed>(
     Ok(posted)
 }
 
-// Posts so many batches of the numbers from a first one on, and cuts whoever is slow. Answers how
+// Posts a number of batches, of the numbers from a first one on, and cuts slow readers. Answers how
 // often a lane was cut.
 fn post_over<N: Feed>(
     alloc: Global,
@@ -196,20 +197,13 @@ fn beside<N: Feed + Send + Sync, R: Threads + Wait + Sync>(
 ) -> Result<Run, AllocError>
     requires { parts.board.shared.table_id ≡ N.table }
 {
-    let Begun {
+    let Log {
         cast,
         mut writer,
-        mut passes,
-    } = begin::<u64, u64, u64, N>(parts, 1)?;
-    let run = match passes.pop() {
-        Some(mut pass) => drive(rt, alloc, &cast, &mut writer, &mut pass, load),
-        None => Err(AllocError),
-    };
-    if !writer.is_idle() {
-        // No proof follows the lanes through the threads.
-        for _ in rt.forever() {}
-    }
-    end(cast, writer);
+        mut pass,
+    } = begin_log::<u64, N>(parts)?;
+    let run = drive(rt, alloc, &cast, &mut writer, &mut pass, load);
+    end_log(rt, cast, writer);
     run
 }
 
@@ -257,7 +251,7 @@ fn a_slow_reader_is_cut_once(rt: HostRuntime) -> Result<(), Fail> {
         assert!(rt; !shown.closed);
         assert!(rt; shown.items <= 30_000);
     }
-    // A lane is cut at most once, and a reader that was told so was cut.
+    // A lane is cut at most once, and a reader that answered so was cut.
     assert!(rt; run.count <= 2);
     let told = run.quick.cut as u64 + run.slow.cut as u64;
     assert!(rt; told <= run.count);
@@ -309,21 +303,16 @@ fn come_and_go<N: Feed, R: Wait>(
 ) -> Result<bool, AllocError>
     requires { parts.board.shared.table_id ≡ N.table }
 {
-    let Begun {
+    let Log {
         cast,
         mut writer,
-        mut passes,
-    } = begin::<u64, u64, u64, N>(parts, 1)?;
+        mut pass,
+    } = begin_log::<u64, N>(parts)?;
     let mut right = true;
-    if let Some(mut pass) = passes.pop() {
-        for round in 0..rounds {
-            right &= come_once(alloc, &cast, &mut writer, &mut pass, round);
-        }
+    for round in 0..rounds {
+        right &= come_once(alloc, &cast, &mut writer, &mut pass, round);
     }
-    if !writer.is_idle() {
-        for _ in rt.forever() {}
-    }
-    end(cast, writer);
+    end_log(rt, cast, writer);
     Ok(right)
 }
 
@@ -375,23 +364,18 @@ fn race<N: Feed + Send + Sync, R: Threads + Wait + Sync>(
 ) -> Result<bool, AllocError>
     requires { parts.board.shared.table_id ≡ N.table }
 {
-    let Begun {
+    let Log {
         cast,
         mut writer,
-        mut passes,
-    } = begin::<u64, u64, u64, N>(parts, 1)?;
+        mut pass,
+    } = begin_log::<u64, N>(parts)?;
     let mut right = Ok(true);
-    if let Some(mut pass) = passes.pop() {
-        for round in 0..rounds {
-            if right == Ok(true) {
-                right = race_once(rt, alloc, &cast, &mut writer, &mut pass, round);
-            }
+    for round in 0..rounds {
+        if right == Ok(true) {
+            right = race_once(rt, alloc, &cast, &mut writer, &mut pass, round);
         }
     }
-    if !writer.is_idle() {
-        for _ in rt.forever() {}
-    }
-    end(cast, writer);
+    end_log(rt, cast, writer);
     right
 }
 

@@ -11,7 +11,7 @@ use Rattle.am_steps.specs.declared.poster.Poster.{Poster}
 use Rattle.am_steps.specs.declared.event.Event as event
 use Rattle.am_steps.specs.declared.event.Event.TheVariants as does
 use Rattle.am_steps.specs.States.{Core, StateView, core_of, record_of, unaware_poster}
-use Rattle.am_steps.specs.Steps.{OnlyLane, OnlyPoster, HasRoom, MayOwn, with_own, Step, publish, note}
+use Rattle.am_steps.specs.Steps.{OnlyLane, OnlyPoster, MayGrow, MayOwn, with_own, Step, publish, note}
 use Rattle.am_steps.specs.Soundness.{IsSound}
 use Rattle.am_steps.specs.Needed.{KeepsKey, IsFreed}
 use Rattle.am_steps.specs.Answers.{Applies, IsPossible}
@@ -84,10 +84,10 @@ module _ {X : Type 0} where
     | inr h ↦ absurd (none-some m (sym (ap record_of (get_or_past lanes l Idle h)) ∙ is))
   ]
 
-  pub room : (s : StateView X) → AllPass (leaves_room s.places (length s.log)) s.lanes → HasRoom (core_of s)
+  pub room : (s : StateView X) → AllPass (leaves_room s.places (length s.log)) s.lanes → MayGrow (core_of s)
   room s all = every (λ m. m.cut ≡ false → length s.log - m.known < s.places) s.lanes (λ k d h m is. lane_room_tells s.places (length s.log) (get_or s.lanes k d) (all k d h) m is)
 
-  pub from_room : (s : StateView X) → HasRoom (core_of s) → AllPass (leaves_room s.places (length s.log)) s.lanes
+  pub from_room : (s : StateView X) → MayGrow (core_of s) → AllPass (leaves_room s.places (length s.log)) s.lanes
   from_room s has k d h = lane_room_from s.places (length s.log) (get_or s.lanes k d) (λ m is. has k m (ap record_of (get_or_default s.lanes k Idle d h) ∙ is))
 
   pub all_gone_freed : (s : StateView X) (i : ℕ) → i < length s.log → AllPass (keeps_none i) s.lanes → IsFreed (core_of s) i
@@ -128,14 +128,14 @@ module _ {X : Type 0} where
   noted_maybe s o same p post old new (Err f) sound inside is h stays =
       let unchanged : with_poster s p new ≡ s = ap (λ posters. record s { posters = posters }) (ap (λ v. slice_set s.posters p v) (stays ∙ is) ∙ set-get_or s.posters p old) in (tt, subst (λ t. IsSound (core_of t)) (sym unchanged) sound)
 
-  pub no_room : (s o : StateView X) → s ≡ o → (x : X) → (HasRoom (core_of s) → ⊥) → (d : Core X) → Step (core_of o) (does.Publish x) d → ⊥
+  pub no_room : (s o : StateView X) → s ≡ o → (x : X) → (MayGrow (core_of s) → ⊥) → (d : Core X) → Step (core_of o) (does.Publish x) d → ⊥
   no_room s o same x nothing d step = nothing (of_publish (core_of s) x d (subst (λ u. Step (core_of u) (does.Publish x) d) (sym same) step)).1
 
   -- the log with one name more
   abbrev pub longer_by : StateView X → X → StateView X
   longer_by s x = record s { log = s.log ++ x ∷ [] }
 
-  pub publishes : (s o : StateView X) → s ≡ o → (x : X) (log : List X) → IsSound (core_of s) → s.closed ≡ false → HasRoom (core_of s) → log ≡ s.log ++ x ∷ []
+  pub publishes : (s o : StateView X) → s ≡ o → (x : X) (log : List X) → IsSound (core_of s) → s.closed ≡ false → MayGrow (core_of s) → log ≡ s.log ++ x ∷ []
       → Step (core_of o) (does.Publish x) (core_of (record s { log = log })) × IsSound (core_of (record s { log = log }))
   publishes s o same x log sound fine room is =
       let t : StateView X = record s { log = log } in
@@ -143,7 +143,7 @@ module _ {X : Type 0} where
       (record { places = refl; log = is; closed = fine; lanes = refl; posters = refl; lane = λ l. refl; poster = λ p. refl }) in
       (subst (λ u. Step (core_of u) (does.Publish x) (core_of t)) same step, keeps_sound (core_of s) (core_of t) (does.Publish x) sound step)
 
-  pub publish_possible : {A E : Type 0} (s o : StateView X) → s ≡ o → (x : X) (made : Result A E) → IsSound (core_of s) → s.closed ≡ false → HasRoom (core_of s)
+  pub publish_possible : {A E : Type 0} (s o : StateView X) → s ≡ o → (x : X) (made : Result A E) → IsSound (core_of s) → s.closed ≡ false → MayGrow (core_of s)
       → OnErr made (IsPossible (core_of o) (does.Publish x))
   publish_possible s o same x (Ok made) sound fine has = tt
   publish_possible s o same x (Err f) sound fine has = (core_of (longer_by s x), (publishes s o same x (s.log ++ x ∷ []) sound fine has refl).0)

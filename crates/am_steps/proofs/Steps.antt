@@ -10,14 +10,14 @@ use Rattle.am_steps.specs.declared.poster.Poster.{Poster}
 use Rattle.am_steps.specs.declared.event.Event as event
 use Rattle.am_steps.specs.declared.event.Event.TheVariants as does
 use Rattle.am_steps.specs.States.{Core, LaneWord, record_of, with_record, word_of, new_record, new_cursor}
-use Rattle.am_steps.specs.Steps.{SameLog, OnlyLane, OnlyLog, OnlyPoster, HasRoom, MayOwn, with_own, Step, publish, close, harvest, admit, opens, look, take as takes, pass, cut, leave, retire, note}
+use Rattle.am_steps.specs.Steps.{SameLog, OnlyLane, OnlyLog, OnlyPoster, MayGrow, MayOwn, with_own, Step, publish, close, harvest, admit, opens, look, take as takes, pass, cut, leave, retire, note}
 use Rattle.am_steps.specs.Laws.{SameState}
 use Rattle.am_steps.proofs.Common.{of_some}
 use Rattle.am_steps.proofs.States.{admitted_record, same_parts}
 
 -- what a step of each kind tells: that it was possible, and what changed
 module _ {X : Type 0} (c : Core X) where
-  pub of_publish : (x : X) (d : Core X) → Step c (does.Publish x) d → (c.closed ≡ false) × HasRoom c × OnlyLog c (c.log ++ x ∷ []) false d
+  pub of_publish : (x : X) (d : Core X) → Step c (does.Publish x) d → (c.closed ≡ false) × MayGrow c × OnlyLog c (c.log ++ x ∷ []) false d
   of_publish x _ (publish _ d _ fine room g) = (fine, room, g)
 
   pub of_close : (d : Core X) → Step c does.Close d → (c.closed ≡ false) × OnlyLog c c.log true d

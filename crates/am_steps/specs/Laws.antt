@@ -46,13 +46,13 @@ module _ (X : Type 0) where
   ClosedStays = (c d : Core X) (es : List (event.Event X)) → c.closed ≡ true → LeadsTo c es d
       → (d.closed ≡ true) × (d.log ≡ c.log)
 
-  -- where no event is a Cut, each lane that isn't idle is at most so many places behind
+  -- if no event is a Cut, each lane that isn't idle is at most as many places behind as there are
   abbrev pub IsWithinPlaces : Type 0
   IsWithinPlaces = (places lanes posters : ℕ) (es : List (event.Event X)) (c : Core X)
       → HasNoCut es → LeadsTo (first_state places lanes posters) es c → (l : ℕ) (m : LaneRecord)
       → record_of (c.lane l) ≡ Some m → length c.log - m.known ≤ places
 
-  -- an Admit and an Open of each lane lead to the state where each is open
+  -- an Admit and an Open of each lane lead to the state in which each is open
   abbrev pub OpensEachLane : Type 0
   OpensEachLane = (places lanes posters : ℕ) → LeadsTo {X = X} (first_state places lanes posters)
       (open_each lanes) (first_state_open places lanes posters)

@@ -32,14 +32,14 @@ module _ {X : Type 0} (log : List X) where
     IsLaneSound (Open m r) = IsCursorSound m r
     IsLaneSound (Left m) = (m.start ≤ m.known) × (m.known ≤ length log)
 
-  -- each own post stands in the log at its place, and the poster knows of its place
+  -- each own post is in the log at its place, and the poster knows of its place
   pub record IsPosterSound (v : Poster X) : Type 0 where
     pub places_known : v.places_known ≤ length log
     pub own : All (λ post. (slice_get log post.0 ≡ Some post.1) × (post.0 < v.places_known)) v.own
 
 module _ {X : Type 0} where
-  -- each lane and poster is sound, and a lane that isn't idle and wasn't cut is at most so many
-  -- places behind
+  -- each lane and poster is sound, and a lane that isn't idle and wasn't cut is at most as many
+  -- places behind as there are
   pub record IsSound (c : Core X) : Type 0 where
     pub lane : (l : ℕ) → IsLaneSound c.log c.closed (c.lane l)
     pub behind : (l : ℕ) (m : LaneRecord) → record_of (c.lane l) ≡ Some m → m.cut ≡ false

@@ -8,7 +8,7 @@ use Rattle.am_steps.specs.declared.lane.Lane.TheVariants.{Idle, Admitted, Open, 
 use Rattle.am_steps.specs.declared.poster.Poster.{Poster}
 
 -- the state: how many places a lane may be behind, the names of the batches in order, whether no
--- more will come, and so many lanes and posters, by their numbers
+-- more will come, and the lanes and posters, by their numbers
 pub record Core (X : Type 0) : Type 0 where
   pub places : ℕ
   pub log : List X
@@ -87,7 +87,7 @@ module _ {X : Type 0} where
     poster = λ _. unaware_poster;
   }
 
--- what a lane's word shows beside whether it was cut: how many places the cursor has passed, and
+-- what a lane's word shows, apart from whether it was cut: how many places the cursor has passed, and
 -- whether the key of the next one is in its hand
 pub record LaneWord : Type 0 where
   pub passed : ℕ
@@ -108,7 +108,7 @@ module _ {X : Type 0} where
   with_record n (Open m r) = Open n r
   with_record n (Left m) = Left n
 
-  -- the lane's word, where it is admitted or open
+  -- the lane's word, if it is admitted or open
   abbrev pub word_of : Lane X → Option LaneWord
   word_of Idle = None
   word_of (Admitted m) = Some (record { passed = m.start; held = false })

@@ -82,8 +82,8 @@ module _ {X : Type 0} where
     pub other : (q : ℕ) → q ≢ p → d.poster q ≡ c.poster q
 
   -- no lane is so far behind that the log may not grow. A lane that was cut isn't asked
-  abbrev pub HasRoom : Core X → Type 0
-  HasRoom c = (l : ℕ) (m : LaneRecord) → record_of (c.lane l) ≡ Some m → m.cut ≡ false
+  abbrev pub MayGrow : Core X → Type 0
+  MayGrow c = (l : ℕ) (m : LaneRecord) → record_of (c.lane l) ≡ Some m → m.cut ≡ false
       → length c.log - m.known < c.places
 
   -- the post may become the poster's own
@@ -91,7 +91,7 @@ module _ {X : Type 0} where
   MayOwn log v None = Unit {0}
   MayOwn log v (Some post) = (slice_get log post.0 ≡ Some post.1) × (Contains v.own post → ⊥)
 
-  -- the own posts with one more, where there is one
+  -- the own posts with one more, if there is one
   abbrev pub with_own : List (ℕ × X) → Option (ℕ × X) → List (ℕ × X)
   with_own own None = own
   with_own own (Some post) = own ++ post ∷ []
@@ -107,7 +107,7 @@ module _ {X : Type 0} where
 
 -- a step of the state, one constructor for each row of the table
 pub data Step {X : Type 0} : Core X → event.Event X → Core X → Type 0 where
-  publish : (c d : Core X) (x : X) → c.closed ≡ false → HasRoom c
+  publish : (c d : Core X) (x : X) → c.closed ≡ false → MayGrow c
       → OnlyLog c (c.log ++ x ∷ []) false d → Step c (does.Publish x) d
   close : (c d : Core X) → c.closed ≡ false → OnlyLog c c.log true d → Step c does.Close d
   harvest : (c d : Core X) (l : ℕ) (m : LaneRecord) (w : LaneWord)

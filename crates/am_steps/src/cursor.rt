@@ -1,7 +1,7 @@
 //! What one reader knows: how far it is and what it has got. Its lane decides what it may do.
-use crate::names::Names;
+use crate::batch_names::BatchNames;
 
-/// What the reader of an open lane has passed, seen and been told.
+/// What the reader of an open lane has passed and seen, and what it has answered.
 #[derive(Drop)]
 pub struct Cursor<N> {
     /// The number of places before it: the place at which it is.
@@ -15,5 +15,5 @@ pub struct Cursor<N> {
     /// Whether it knows that its lane was cut.
     pub told_cut: bool,
     /// The names of the places that it has passed, from its start on.
-    pub got: Names<N>,
+    pub got: BatchNames<N>,
 }

@@ -1,5 +1,5 @@
-//! The atomic steps by name. What each does stands in `state/apply.rt` and `lane.rt`; the table of
-//! all of them in `specs/Steps.antt`.
+//! The atomic steps by name. What each does is in `state/apply.rt` and `lane.rt`; the table of all of
+//! them is in `specs/Steps.antt`.
 
 /// One atomic step. `N` is what names a batch. Lanes and posters go by their numbers, from 0.
 #[derive(Drop)]
@@ -20,7 +20,7 @@ pub enum Event<N> {
     Take(usize),
     /// A lane gives the key in its hand back, and has passed its place.
     Pass(usize),
-    /// The writer cuts a lane that is so many places behind, by an exchange on the lane's word.
+    /// The writer cuts a lane that is as far behind as may be, by an exchange on the lane's word.
     Cut(usize),
     /// A lane stores the greatest `u64` in its own word.
     Leave(usize),

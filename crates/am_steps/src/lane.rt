@@ -6,9 +6,9 @@ ghost use Rattle.am_steps.specs.inside.LaneRows.{after_leave, after_look, after_
 ghost use Rattle.am_steps.specs.inside.LaneRows.{after_retire, after_take, keeps_none};
 ghost use Rattle.am_steps.specs.inside.LaneRows.{leaves_room, place_in_hand};
 
+use crate::batch_names::BatchNames;
 use crate::cursor::Cursor;
 use crate::lane_record::LaneRecord;
-use crate::names::Names;
 use std::alloc::{AllocError, Global};
 
 /// A subscriber's slot, which at most one cursor uses at a time.
@@ -108,7 +108,7 @@ impl<N: Drop> Lane<N> {
             seen: record.start,
             told: false,
             told_cut: false,
-            got: Names {
+            got: BatchNames {
                 names: Vec::new(alloc),
             },
         };

@@ -1,4 +1,4 @@
-//! What the writer records of one lane. How a lane itself stands is in `lane.rt`.
+//! What the writer records of one lane. The lane's own state is in `lane.rt`.
 ghost use Rattle.std.specs.Prelude.{◌≡◌, ◌-◌, ◌||◌, nat_lt};
 ghost use Rattle.am_steps.specs.inside.LaneRows.{keeps_key, may_cut};
 
@@ -17,7 +17,7 @@ pub struct LaneRecord {
 }
 
 impl LaneRecord {
-    // Whether the lane may be cut where its word shows this.
+    // Whether the lane may be cut if its word shows this.
     pub(crate) fn may_cut(&self, places: u64, length: u64, passed: u64, held: bool) -> bool
         ensures { result ≡ may_cut places length self.now passed held }
     {
@@ -37,7 +37,7 @@ impl LaneRecord {
         self.start <= place && self.known <= place
     }
 
-    // Whether the lane was cut or is fewer than so many places behind.
+    // Whether the lane was cut, or is fewer places behind than there are.
     pub(crate) fn leaves_room(&self, places: u64, length: u64) -> bool
         ensures { result ≡ (self.now.cut || nat_lt (length - self.now.known) places) }
     {

@@ -28,7 +28,7 @@ pub fn a_closed_log_stays<N>()
     ensures { ClosedStays N }
 {}
 
-/// Where no lane was cut, each lane that isn't idle is at most so many places behind.
+/// If no lane was cut, each lane that isn't idle is at most as many places behind as there are.
 pub fn uncut_lanes_are_within_the_places<N>()
     ensures { IsWithinPlaces N }
 {}

@@ -30,17 +30,18 @@
 //! ```
 #![tactic(auto)]
 
+mod batch_names;
 mod cursor;
 mod event;
 mod lane;
 mod lane_record;
 mod laws;
-mod names;
 #[cfg(test)]
 mod plain;
 mod poster;
 mod state;
 
+pub use batch_names::{BatchNames, OwnPosts};
 pub use cursor::Cursor;
 pub use event::Event;
 pub use lane::Lane;
@@ -50,7 +51,6 @@ pub use laws::{
     a_step_keeps_it_sound, an_event_has_one_next_state, each_lane_opens, every_run_is_sound,
     uncut_lanes_are_within_the_places,
 };
-pub use names::{Names, OwnPosts};
 pub use poster::Poster;
 pub use state::State;
 

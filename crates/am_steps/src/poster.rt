@@ -4,7 +4,7 @@ ghost use Rattle.std.specs.List.{Contains};
 ghost use Rattle.am_steps.specs.inside.LaneRows.{DoesNote};
 ghost use Rattle.am_steps.specs.Steps.{MayOwn};
 
-use crate::names::OwnPosts;
+use crate::batch_names::OwnPosts;
 use std::alloc::AllocError;
 
 /// What a poster knows of the log.
@@ -33,7 +33,7 @@ impl Poster<u64> {
     }
 }
 
-// Whether the post's name stands in the log at its place.
+// Whether the post's name is in the log at its place.
 fn stands(log: &[u64], post: (u64, u64)) -> bool
     ensures { IsTrue result ↔ (slice_get log.now post.0 ≡ Some post.1) }
 {

@@ -12,8 +12,8 @@ mod freed;
 #[cfg(test)]
 mod shows;
 
+use crate::batch_names::OwnPosts;
 use crate::lane::Lane;
-use crate::names::OwnPosts;
 use crate::poster::Poster;
 use std::alloc::{AllocError, Global};
 use std::marker::Model;
@@ -35,9 +35,9 @@ impl Model for State {
 
     ghost Value = { StateView ℕ };
 
-    ghost use Rattle.am_steps.specs.inside.Fields.{view_of, IsSoundState};
+    ghost use Rattle.am_steps.specs.inside.Fields.{fields_view, IsSoundState};
 
-    ghost view = { view_of };
+    ghost view = { fields_view };
 
     ghost invariant = { IsSoundState };
 }

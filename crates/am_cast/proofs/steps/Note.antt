@@ -36,7 +36,7 @@ module _ {B K A : Type 0} (key : B → ℕ → K) where
           spare = r.spare;
           each_lane = λ m a. stays key r.tail (r.account m) (r.lane m) s.words words s.homes s.homes m (ap (λ (ws : List ℕ). get_or ws (lane_word m) 0) same) (λ i. refl) (r.each_lane m a);
           each_seat = λ j u e. ⊎_elim
-              (λ (z : (j ≡ id) × (w' ≡ u)). subst (λ (z : ℕ × View B K A). SeatOk r.tail r.seat r.account r.lane r.lane_seat r.owner z.0 z.1) (λ i. (sym z.0 i, z.1 i)) record { writer = mine.writer; lane_is = mine.lane_is; noted = prefix_self t.log; counts = omega arith; counted = λ k o e _. at_length t.log o.place o.name (mine.owns.each k o e).0; heard = mine.heard; whole = mine.whole; owns = mine.owns })
+              (λ (z : (j ≡ id) × (w' ≡ u)). subst (λ (z : ℕ × View B K A). SeatOk r.tail r.seat r.account r.lane r.lane_seat r.owner z.0 z.1) (λ i. (sym z.0 i, z.1 i)) record { writer = mine.writer; lane_is = mine.lane_is; noted = prefix_self t.log; counts = omega arith; counted = λ k o e _. at_length t.log o.place o.batch (mine.owns.each k o e).0; heard = mine.heard; whole = mine.whole; owns = mine.owns })
               (λ (z : (j ≢ id) × (get_elem? s.views j ≡ some u)). r.each_seat j u z.1)
               (at_set s.views id j w' u e);
         },

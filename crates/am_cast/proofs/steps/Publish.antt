@@ -7,6 +7,7 @@ use native.Mathlib.Decide.{ℕ_discrete}
 use lib.ListN.{get_elem?, length-map}
 use Rattle.atomic_table.specs.Table.{step, keeps, Allows}
 use Rattle.atomic_table.proofs.Lists.{at_set, at_map, at_last}
+use Rattle.am_cast.specs.declared.limits.TheConstants.{LONGEST_LOG}
 use Rattle.am_cast.specs.declared.views.Tail.{Tail}
 use Rattle.am_cast.specs.declared.views.Account.{Account}
 use Rattle.am_cast.specs.declared.views.WriterView.{WriterView}
@@ -14,7 +15,7 @@ use Rattle.am_cast.specs.declared.views.LaneView.{LaneView}
 use Rattle.am_cast.specs.declared.views.View.{View}
 use Rattle.am_cast.specs.declared.views.Own.{Own}
 use Rattle.am_cast.specs.Core.{poster_of}
-use Rattle.am_cast.specs.Rule.{live, most, Homes, slot, lane_word, tail_word, Seen, LaneOk, HasWriter, SeatOk, Ruled}
+use Rattle.am_cast.specs.Rule.{live, Homes, slot, lane_word, tail_word, Seen, LaneOk, HasWriter, SeatOk, Ruled}
 use Rattle.am_cast.specs.Changes.{grown, longer_tail, longer, own_at}
 use Rattle.am_steps.specs.declared.event.Event.TheVariants as does
 use Rattle.am_cast.proofs.Events.{behind, publish, AllowsEvent}
@@ -90,13 +91,13 @@ module _ {B K A : Type 0} (key : B → ℕ → K) where
         away = λ e y g h. ⊎_elim (λ (old : get_elem? t.log b.known ≡ some y). ok.away e y old h) (λ (z : (b.known ≡ n) × (x ≡ y)). let z₀ = z.0 in let a = (c.aways e).2 in let clear = c.clear in absurd (omega arith)) (at_end t.log x y b.known g);
       })
 
-  pub publishes_as : (x : B) (slots id : ℕ) (me : SeatState B K A) (q : WriterView B K A) (new : ℕ) → me.0.writer ≡ Some q → q.tail.closed ≡ false → length q.tail.log < most
+  pub publishes_as : (x : B) (slots id : ℕ) (me : SeatState B K A) (q : WriterView B K A) (new : ℕ) → me.0.writer ≡ Some q → q.tail.closed ≡ false → length q.tail.log < LONGEST_LOG
       → ((l : ℕ) (b : Account K A) → get_elem? q.accounts l ≡ some b → (b.out ≡ 0) × (b.stand ≡ live → b.laid ≡ Some (key x l))) → new ≡ tail_word (length q.tail.log + 1) false
       → AllowsEvent key slots id me 0 (λ _. new) (λ _. does.Publish x ∷ []) (λ _. Publishes (Some x) (step slots 0 new 0 none) me new)
   publishes_as x slots id me q new is is_open₀ few₀ ready new_is₀ s r deep at fits =
       let mine = r.each_seat id me.0 at in let k = subst (HasWriter r.tail r.seat r.account r.lane r.lane_seat id) is mine.writer in let t : Tail B = r.tail in let n : ℕ = length t.log in
       let is_open : t.closed ≡ false = ap (λ (t : Tail B). t.closed) (sym k.0) ∙ is_open₀ in
-      let few : n < most = subst (λ (t : Tail B). length t.log < most) k.0 few₀ in
+      let few : n < LONGEST_LOG = subst (λ (t : Tail B). length t.log < LONGEST_LOG) k.0 few₀ in
       let new_is : new ≡ tail_word (n + 1) false = new_is₀ ∙ ap (λ (t : Tail B). tail_word (length t.log + 1) false) k.0 in
       let t' : Tail B = longer_tail x t in let more : length t'.log ≡ n + 1 = length-append t.log (x ∷ []) in let wide = r.wide in
       let words : List ℕ = set s.words 0 new in let account' : ℕ → Account K A = λ m. grown (r.account m) in let owner' : ℕ → ℕ = put r.owner n id in
@@ -151,13 +152,13 @@ module _ {B K A : Type 0} (key : B → ℕ → K) where
         ),
       )
 
-  pub publishes : (x : B) (slots id : ℕ) (me : SeatState B K A) (q : WriterView B K A) (new : ℕ) → me.0.writer ≡ Some q → q.tail.closed ≡ false → length q.tail.log < most
+  pub publishes : (x : B) (slots id : ℕ) (me : SeatState B K A) (q : WriterView B K A) (new : ℕ) → me.0.writer ≡ Some q → q.tail.closed ≡ false → length q.tail.log < LONGEST_LOG
       → ((l : ℕ) (b : Account K A) → get_elem? q.accounts l ≡ some b → (b.out ≡ 0) × (b.stand ≡ live → b.laid ≡ Some (key x l))) → new ≡ tail_word (length q.tail.log + 1) false
       → Allows (Ruled key) slots id me 0 (λ _. new) (λ _. Publishes (Some x) (step slots 0 new 0 none) me new)
   publishes x slots id me q new is is_open₀ few₀ ready new_is₀ s r deep at fits = let y = publishes_as x slots id me q new is is_open₀ few₀ ready new_is₀ s r deep at fits in (y.0, y.1, y.2, y.3.0, y.4)
 
-  -- the same of a name that a caller picked
-  pub publishes_named : (name : Option B) (x : B) (slots id : ℕ) (me : SeatState B K A) (q : WriterView B K A) (new : ℕ) → name ≡ Some x → me.0.writer ≡ Some q → q.tail.closed ≡ false → length q.tail.log < most
+  -- the same of a batch that a caller picked
+  pub publishes_chosen : (batch : Option B) (x : B) (slots id : ℕ) (me : SeatState B K A) (q : WriterView B K A) (new : ℕ) → batch ≡ Some x → me.0.writer ≡ Some q → q.tail.closed ≡ false → length q.tail.log < LONGEST_LOG
       → ((l : ℕ) (b : Account K A) → get_elem? q.accounts l ≡ some b → (b.out ≡ 0) × (b.stand ≡ live → b.laid ≡ Some (key x l))) → new ≡ tail_word (length q.tail.log + 1) false
-      → Allows (Ruled key) slots id me 0 (λ _. new) (λ _. Publishes name (step slots 0 new 0 none) me new)
-  publishes_named name x slots id me q new e is is_open few ready new_is = subst (λ (n : Option B). Allows (Ruled key) slots id me 0 (λ _. new) (λ _. Publishes n (step slots 0 new 0 none) me new)) (sym e) (publishes x slots id me q new is is_open few ready new_is)
+      → Allows (Ruled key) slots id me 0 (λ _. new) (λ _. Publishes batch (step slots 0 new 0 none) me new)
+  publishes_chosen batch x slots id me q new e is is_open few ready new_is = subst (λ (n : Option B). Allows (Ruled key) slots id me 0 (λ _. new) (λ _. Publishes n (step slots 0 new 0 none) me new)) (sym e) (publishes x slots id me q new is is_open few ready new_is)

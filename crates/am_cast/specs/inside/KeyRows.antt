@@ -1,7 +1,9 @@
 -- Keys that came home, and wait in rows for the others of their segment. This project's own.
-use Rattle.std.specs.Prelude.{◌≡◌, ◌≢◌, ℕ, ◌%◌, ◌<◌, nat_eq, List, [], ◌∷◌, ◌++◌, length, Option, Some, None, cond, refl, slice_index_or}
+use Rattle.std.specs.Prelude.{◌≡◌, ◌≢◌, ℕ, ◌%◌, ◌<◌, nat_eq, List, [], ◌∷◌, ◌++◌, length, Option, Some, None}
+use Rattle.std.specs.Prelude.{cond, refl, slice_index_or}
 use Rattle.std.specs.Coded.{Coded, code_by, coded×, coded_list, coded_ℕ}
 use Rattle.am_segment.specs.Segments.{KeyView, coded_key, AreAllKeys}
+use Rattle.am_cast.specs.declared.limits.TheConstants.{LANES}
 
 -- the keys of one place that are home
 pub record RowView (X : Type 0) : Type 0 where
@@ -47,7 +49,7 @@ module _ {X : Type 0} where
 
   -- a place's row may take the key, as one of several or as the last of all
   abbrev pub MayTake : List (KeyView X) → KeyView X → Type 0
-  MayTake keys key = (length keys < 8) × (length keys ≡ 7 → AreAllKeys (keys ++ key ∷ []))
+  MayTake keys key = (length keys < LANES) × (length keys ≡ 7 → AreAllKeys (keys ++ key ∷ []))
 
   -- a place's row with a key more: it ends with the eighth
   abbrev pub row_with : List (KeyView X) → KeyView X → Option (List (KeyView X))
@@ -55,13 +57,15 @@ module _ {X : Type 0} where
 
   -- the row at the index is the place's
   abbrev pub IsRowOf : ℕ → List (RowView X) → ℕ → Type 0
-  IsRowOf place rows k = (k < length rows) × ((r : RowView X) × (r ≡ slice_index_or rows k r) × (r.place ≡ place))
+  IsRowOf place rows k = (k < length rows) × ((r : RowView X) × (r ≡ slice_index_or rows k r)
+      × (r.place ≡ place))
 
   -- each row's place has the remainder
   abbrev pub HaveRemainder : ℕ → ℕ → List (RowView X) → Type 0
   HaveRemainder places n [] = Unit {0}
   HaveRemainder places n (r ∷ rs) = (r.place % places ≡ n) × HaveRemainder places n rs
 
+  -- a bucket without rows or memory
   abbrev pub no_bucket : BucketView X
   no_bucket = record { rows = []; room = 0 }
 
@@ -69,11 +73,11 @@ module _ {X : Type 0} where
   abbrev pub bucket_of : List (BucketView X) → ℕ → BucketView X
   bucket_of buckets place = slice_index_or buckets (place % length buckets) no_bucket
 
-  -- the keys of a place that are home and wait for others, where there is such a row
+  -- the keys of a place that are home and wait for others, if there is such a row
   abbrev pub row_at : List (BucketView X) → ℕ → Option (List (KeyView X))
   row_at buckets place = find_row place (bucket_of buckets place).rows
 
-  -- each row stands in the bucket of its place, and each place has one at most
+  -- each row is in the bucket of its place, and each place has one at most
   pub record AreSorted (buckets : List (BucketView X)) : Type 0 where
     pub some : 0 < length buckets
     pub each : (n : ℕ) → n < length buckets

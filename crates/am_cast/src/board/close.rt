@@ -1,11 +1,11 @@
 //! The writer closes the log.
 ghost use Rattle.std.specs.Prelude.{false, [], length, ◌≡◌, ◌≤◌};
-ghost use Rattle.am_cast.specs.Rule.{most};
+ghost use Rattle.am_cast.specs.declared.limits.TheConstants.{LONGEST_LOG};
 ghost use Rattle.am_cast.specs.Changes.{shut, with_writer};
 ghost use Rattle.am_cast.specs.Steps.{Closes};
 ghost use Rattle.am_cast.specs.Seats.{IsSized, IsWriter, writer_of};
 
-use crate::rule::{Keyed, LogSeat, Top};
+use crate::rule::{AnySeat, AnyTop, Keyed};
 use crate::views::View;
 use atomic_table::Play;
 
@@ -16,12 +16,12 @@ impl<B, K, A> Play<Option<K>, View<B, K, A>> for Close {
 }
 
 pub(crate) fn close_log<B, K, A, R: Keyed<B, K>>(
-    top: &Top<B, K, A, R>,
-    seat: &mut LogSeat<B, K, A>,
+    top: &AnyTop<B, K, A, R>,
+    seat: &mut AnySeat<B, K, A>,
     count: u64,
 )
     requires table { (seat.old.table_id ≡ top.now.table_id) × IsSized top.now.table_id
-        × (count ≤ most) }
+        × (count ≤ LONGEST_LOG) }
     requires writer { let q = writer_of seat.old.me.0 in
         IsWriter seat.old.me q × (q.tail.closed ≡ false) × (count ≡ length q.tail.log) }
     ensures same { (seat.new.table_id ≡ seat.old.table_id) × (seat.new.me.1 ≡ []) }

@@ -1,12 +1,13 @@
 //! The writer lays a key in the slot of the next place.
 ghost use Rattle.std.specs.Prelude.{None, [], length, ◌+◌, ◌<◌, ◌≡◌};
+ghost use Rattle.am_cast.specs.declared.limits.TheConstants.{LANES};
 ghost use Rattle.am_cast.specs.Rule.{live, slot};
 ghost use Rattle.am_cast.specs.Changes.{laying, with_account, with_writer};
 ghost use Rattle.am_cast.specs.Steps.{Lays, Reaches};
 ghost use Rattle.am_cast.specs.Seats.{IsSized, IsWriter, account_of, writer_of};
 
 use crate::board::slot::lay_in;
-use crate::rule::{Keyed, LogSeat, Top};
+use crate::rule::{AnySeat, AnyTop, Keyed};
 use crate::views::View;
 use atomic_table::Play;
 
@@ -24,16 +25,16 @@ impl<B, K, A> Play<Option<K>, View<B, K, A>> for Lay {
 
 /// The key goes into the lane's slot of the next place.
 pub(crate) fn fill_slot<B, K, A, R: Keyed<B, K>>(
-    top: &Top<B, K, A, R>,
-    seat: &mut LogSeat<B, K, A>,
+    top: &AnyTop<B, K, A, R>,
+    seat: &mut AnySeat<B, K, A>,
     at: usize,
     lane: usize,
     key: K,
 )
     requires table { (seat.old.table_id ≡ top.now.table_id) × IsSized top.now.table_id
-        × (lane < 8) }
+        × (lane < LANES) }
     requires writer { let q = writer_of seat.old.me.0 in IsWriter seat.old.me q
-        × (length q.accounts ≡ 8) }
+        × (length q.accounts ≡ LANES) }
     requires account { let q = writer_of seat.old.me.0 in
         let b = account_of q lane in
         (b.stand ≡ live) × (b.out ≡ 0) × (b.laid ≡ None) × (b.stop < b.cleared + q.tail.places)

@@ -4,7 +4,7 @@ ghost use Rattle.am_cast.specs.Changes.{both_of, left, only_own, without_own};
 ghost use Rattle.am_cast.specs.Seats.{IsSized};
 
 use crate::board::take_in::Hear;
-use crate::rule::{Keyed, LogSeat, Top};
+use crate::rule::{AnySeat, AnyTop, Keyed};
 use crate::views::View;
 use atomic_table::Split;
 
@@ -18,9 +18,9 @@ impl<B, K, A> Split<View<B, K, A>> for Hand {
 
 /// The own places of the first seat go to the second.
 pub(crate) fn hand_own<B, K, A, R: Keyed<B, K>>(
-    top: &Top<B, K, A, R>,
-    from: &mut LogSeat<B, K, A>,
-    to: &mut LogSeat<B, K, A>,
+    top: &AnyTop<B, K, A, R>,
+    from: &mut AnySeat<B, K, A>,
+    to: &mut AnySeat<B, K, A>,
 )
     requires table { (from.old.table_id ≡ top.now.table_id) × (to.old.table_id ≡ top.now.table_id)
         × IsSized top.now.table_id }

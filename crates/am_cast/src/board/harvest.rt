@@ -1,10 +1,11 @@
 //! The writer finds how far a lane is.
 ghost use Rattle.std.specs.Prelude.{None, [], length, ◌<◌, ◌≡◌};
+ghost use Rattle.am_cast.specs.declared.limits.TheConstants.{LANES};
 ghost use Rattle.am_cast.specs.Rule.{live};
 ghost use Rattle.am_cast.specs.Steps.{Finds, Harvests};
 ghost use Rattle.am_cast.specs.Seats.{IsSized, IsWriter, account_of, writer_of};
 
-use crate::rule::{Keyed, LogSeat, Top};
+use crate::rule::{AnySeat, AnyTop, Keyed};
 use crate::views::View;
 use atomic_table::Play;
 
@@ -16,14 +17,14 @@ impl<B, K, A> Play<Option<K>, View<B, K, A>> for Harvest {
 
 /// The word of a lane that isn't cut.
 pub(crate) fn find_word<B, K, A, R: Keyed<B, K>>(
-    top: &Top<B, K, A, R>,
-    seat: &mut LogSeat<B, K, A>,
+    top: &AnyTop<B, K, A, R>,
+    seat: &mut AnySeat<B, K, A>,
     lane: usize,
 ) -> u64
     requires table { (seat.old.table_id ≡ top.now.table_id) × IsSized top.now.table_id
-        × (lane < 8) }
+        × (lane < LANES) }
     requires writer { let q = writer_of seat.old.me.0 in
-        IsWriter seat.old.me q × (length q.accounts ≡ 8) × ((account_of q lane).stand ≡ live)
+        IsWriter seat.old.me q × (length q.accounts ≡ LANES) × ((account_of q lane).stand ≡ live)
         × ((account_of q lane).laid ≡ None) }
     ensures same { (seat.new.table_id ≡ seat.old.table_id) × (seat.new.me.1 ≡ []) }
     ensures found { let q = writer_of seat.old.me.0 in

@@ -1,10 +1,11 @@
 //! A lane begins.
 ghost use Rattle.std.specs.Prelude.{true, false, ◌<◌, ◌≡◌};
+ghost use Rattle.am_cast.specs.declared.limits.TheConstants.{LANES};
 ghost use Rattle.am_cast.specs.Changes.{opened, with_lane};
 ghost use Rattle.am_cast.specs.Steps.{Opens};
 ghost use Rattle.am_cast.specs.Seats.{IsLane, IsSized, lane_of};
 
-use crate::rule::{Keyed, LogSeat, Top};
+use crate::rule::{AnySeat, AnyTop, Keyed};
 use crate::views::View;
 use atomic_table::Play;
 
@@ -16,12 +17,12 @@ impl<B, K, A> Play<Option<K>, View<B, K, A>> for Open {
 
 /// The lane begins.
 pub(crate) fn open_lane<B, K, A, R: Keyed<B, K>>(
-    top: &Top<B, K, A, R>,
-    seat: &mut LogSeat<B, K, A>,
+    top: &AnyTop<B, K, A, R>,
+    seat: &mut AnySeat<B, K, A>,
     lane: usize,
 )
     requires table { (seat.old.table_id ≡ top.now.table_id) × IsSized top.now.table_id
-        × (lane < 8) }
+        × (lane < LANES) }
     requires lane { let v = lane_of seat.old.me.0 in
         IsLane seat.old.me v × (lane ≡ v.number) × (v.here ≡ true) × (v.begun ≡ false) }
     ensures same { (seat.new.table_id ≡ seat.old.table_id) × (seat.new.me.1 ≡ seat.old.me.1) }

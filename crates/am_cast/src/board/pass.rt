@@ -1,40 +1,42 @@
 //! A lane gives the key in its hand back, and has passed its place.
 ghost use Rattle.std.specs.Prelude.{[], false, true, ◌+◌, ◌<◌, ◌≡◌};
+ghost use Rattle.am_cast.specs.declared.limits.TheConstants.{LANES};
 ghost use Rattle.am_cast.specs.Rule.{cut, slot};
 ghost use Rattle.am_cast.specs.Changes.{with_lane};
 ghost use Rattle.am_cast.specs.Steps.{Passes};
-ghost use Rattle.am_cast.specs.Seats.{HasOut, IsKey, IsLane, IsSized, lane_of};
+ghost use Rattle.am_cast.specs.Seats.{HasOut, IsKeyAt, IsLane, IsSized, lane_of};
 
 use crate::board::slot::lay_in;
-use crate::rule::{Keyed, LogSeat, Top};
+use crate::rule::{AnySeat, AnyTop, Keyed};
 use crate::views::View;
 use atomic_table::Play;
 
-pub(crate) struct Pass;
+pub(crate) struct PassPlace;
 
-impl<B, K, A> Play<Option<K>, View<B, K, A>> for Pass {
+impl<B, K, A> Play<Option<K>, View<B, K, A>> for PassPlace {
     ghost then = { Passes };
 }
 
 /// The key goes home, and its place is passed. Answers whether the lane was cut.
 pub(crate) fn pass_place<B, K, A, R: Keyed<B, K>>(
-    top: &Top<B, K, A, R>,
-    seat: &mut LogSeat<B, K, A>,
+    top: &AnyTop<B, K, A, R>,
+    seat: &mut AnySeat<B, K, A>,
     at: usize,
     key: K,
     lane: usize,
 ) -> bool
     requires table { (seat.old.table_id ≡ top.now.table_id) × IsSized top.now.table_id
-        × (lane < 8) }
+        × (lane < LANES) }
     requires lane { let v = lane_of seat.old.me.0 in
         IsLane seat.old.me v × (lane ≡ v.number) × (at ≡ slot v.places v.number v.passed) }
     requires held { let v = lane_of seat.old.me.0 in
         (v.begun ≡ true) × (v.held ≡ true) × HasOut seat.old.me v
-        × IsKey R.key v.front v.passed v.number key }
+        × IsKeyAt R.key v.front v.passed v.number key }
     ensures same { (seat.new.table_id ≡ seat.old.table_id) × (seat.new.me.1 ≡ []) }
     ensures lane { let v = lane_of seat.old.me.0 in
-        seat.new.me.0 ≡ with_lane (record v { passed = v.passed + 1; held = false; cut = result }) seat.old.me.0 }
+        seat.new.me.0 ≡ with_lane (record v { passed = v.passed + 1; held = false; cut = result })
+        seat.old.me.0 }
 {
     lay_in(top, seat, at, key);
-    top.fetch_add::<Pass>(seat, 16 * lane + 16, 2) % 2 == 1
+    top.fetch_add::<PassPlace>(seat, 16 * lane + 16, 2) % 2 == 1
 }

@@ -1,13 +1,14 @@
 //! A lane's seat comes home.
 ghost use Rattle.std.specs.Prelude.{None, Some, [], false, length, ◌++◌, ◌+◌, ◌<◌};
 ghost use Rattle.std.specs.Prelude.{◌≡◌, ◌≢◌};
+ghost use Rattle.am_cast.specs.declared.limits.TheConstants.{LANES};
 ghost use Rattle.am_cast.specs.Rule.{Sound, cut, idle};
 ghost use Rattle.am_cast.specs.Changes.{retired, with_account};
 ghost use Rattle.am_cast.specs.Steps.{Retires};
 ghost use Rattle.am_cast.specs.Seats.{IsSized, IsWriter, account_of, lane_of, writer_of};
 
 use crate::board::take_in::Hear;
-use crate::rule::{Keyed, LogSeat, Top};
+use crate::rule::{AnySeat, AnyTop, Keyed};
 use crate::views::View;
 use atomic_table::Play;
 
@@ -19,17 +20,17 @@ impl<B, K, A> Play<Option<K>, View<B, K, A>> for Retire {
 
 /// The lane's seat comes home, and the lane is idle.
 pub(crate) fn retire_lane<B, K, A, R: Keyed<B, K>>(
-    top: &Top<B, K, A, R>,
-    seat: &mut LogSeat<B, K, A>,
-    other: LogSeat<B, K, A>,
+    top: &AnyTop<B, K, A, R>,
+    seat: &mut AnySeat<B, K, A>,
+    other: AnySeat<B, K, A>,
     lane: usize,
 )
     requires table { (seat.old.table_id ≡ top.now.table_id) × IsSized top.now.table_id
-        × (lane < 8) }
+        × (lane < LANES) }
     requires other { (other.table_id ≡ top.now.table_id) × (other.me.1 ≡ [])
         × (other.me.0.writer ≡ None) × (other.me.0.own ≡ []) }
     requires writer { let q = writer_of seat.old.me.0 in
-        IsWriter seat.old.me q × (length q.accounts ≡ 8) × (seat.old.me.0.lane ≡ None) }
+        IsWriter seat.old.me q × (length q.accounts ≡ LANES) × (seat.old.me.0.lane ≡ None) }
     requires lane { let v = lane_of other.me.0 in
         (other.me.0.lane ≡ Some v) × (v.number ≡ lane) × (v.here ≡ false) }
     requires account { let b = account_of (writer_of seat.old.me.0) lane in

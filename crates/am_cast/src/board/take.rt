@@ -1,11 +1,12 @@
 //! A lane takes the key of its next place.
 ghost use Rattle.std.specs.Prelude.{[], false, length, true, ◌<◌, ◌≡◌, ◌≤◌};
-ghost use Rattle.am_cast.specs.Rule.{most, slot};
+ghost use Rattle.am_cast.specs.declared.limits.TheConstants.{LANES, LONGEST_LOG};
+ghost use Rattle.am_cast.specs.Rule.{slot};
 ghost use Rattle.am_cast.specs.Changes.{cut_off, holding};
 ghost use Rattle.am_cast.specs.Steps.{Takes};
 ghost use Rattle.am_cast.specs.Seats.{IsLane, IsSized, Took, lane_of};
 
-use crate::rule::{Keyed, LogSeat, Top};
+use crate::rule::{AnySeat, AnyTop, Keyed};
 use crate::views::View;
 use atomic_table::Play;
 use std::marker::PhantomData;
@@ -20,14 +21,14 @@ impl<B, K, A, R: Keyed<B, K>> Play<Option<K>, View<B, K, A>> for Take<R> {
 
 /// The key of the next place comes into the hand. `None` says that the lane was cut.
 pub(crate) fn take_key<B, K, A, R: Keyed<B, K>>(
-    top: &Top<B, K, A, R>,
-    seat: &mut LogSeat<B, K, A>,
+    top: &AnyTop<B, K, A, R>,
+    seat: &mut AnySeat<B, K, A>,
     at: usize,
     lane: usize,
     passed: u64,
 ) -> Option<K>
     requires table { (seat.old.table_id ≡ top.now.table_id) × IsSized top.now.table_id
-        × (lane < 8) × (passed ≤ most) }
+        × (lane < LANES) × (passed ≤ LONGEST_LOG) }
     requires lane { let v = lane_of seat.old.me.0 in
         IsLane seat.old.me v × (lane ≡ v.number) × (passed ≡ v.passed)
         × (at ≡ slot v.places v.number v.passed) }

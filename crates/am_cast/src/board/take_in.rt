@@ -4,7 +4,7 @@ ghost use Rattle.am_cast.specs.Rule.{blank};
 ghost use Rattle.am_cast.specs.Changes.{both_of};
 ghost use Rattle.am_cast.specs.Seats.{IsSized};
 
-use crate::rule::{Keyed, LogSeat, Top};
+use crate::rule::{AnySeat, AnyTop, Keyed};
 use crate::views::View;
 use atomic_table::Join;
 
@@ -18,9 +18,9 @@ impl<B, K, A> Join<View<B, K, A>> for Hear {
 
 /// The second seat's places, and what it knows, become the first's.
 pub(crate) fn take_in<B, K, A, R: Keyed<B, K>>(
-    top: &Top<B, K, A, R>,
-    seat: &mut LogSeat<B, K, A>,
-    other: LogSeat<B, K, A>,
+    top: &AnyTop<B, K, A, R>,
+    seat: &mut AnySeat<B, K, A>,
+    other: AnySeat<B, K, A>,
 )
     requires table { (seat.old.table_id ≡ top.now.table_id) × (other.table_id ≡ top.now.table_id)
         × IsSized top.now.table_id × (other.me.1 ≡ []) }

@@ -1,10 +1,10 @@
-//! A seat is told what another has seen.
+//! A seat learns what another has seen.
 ghost use Rattle.std.specs.Prelude.{[], ◌≡◌};
 ghost use Rattle.am_cast.specs.Changes.{both_of, copied, left};
 ghost use Rattle.am_cast.specs.Seats.{IsSized};
 
 use crate::board::take_in::Hear;
-use crate::rule::{Keyed, LogSeat, Top};
+use crate::rule::{AnySeat, AnyTop, Keyed};
 use crate::views::View;
 use atomic_table::Split;
 
@@ -16,11 +16,11 @@ impl<B, K, A> Split<View<B, K, A>> for Tell {
     ghost right = { copied };
 }
 
-/// What the first seat has seen of the log is told to the second.
+/// The second seat learns what the first has seen of the log.
 pub(crate) fn tell_seat<B, K, A, R: Keyed<B, K>>(
-    top: &Top<B, K, A, R>,
-    from: &mut LogSeat<B, K, A>,
-    to: &mut LogSeat<B, K, A>,
+    top: &AnyTop<B, K, A, R>,
+    from: &mut AnySeat<B, K, A>,
+    to: &mut AnySeat<B, K, A>,
 )
     requires table { (from.old.table_id ≡ top.now.table_id) × (to.old.table_id ≡ top.now.table_id)
         × IsSized top.now.table_id }
@@ -32,11 +32,11 @@ pub(crate) fn tell_seat<B, K, A, R: Keyed<B, K>>(
     top.join_seat::<Hear>(to, copy);
 }
 
-/// A new seat, which has heard what this one has seen of the log.
+/// A new seat, which knows what this one has seen of the log.
 pub(crate) fn new_seat<B, K, A, R: Keyed<B, K>>(
-    top: &Top<B, K, A, R>,
-    seat: &mut LogSeat<B, K, A>,
-) -> LogSeat<B, K, A>
+    top: &AnyTop<B, K, A, R>,
+    seat: &mut AnySeat<B, K, A>,
+) -> AnySeat<B, K, A>
     requires table { (seat.old.table_id ≡ top.now.table_id) × IsSized top.now.table_id }
     ensures same { (seat.new.table_id ≡ seat.old.table_id) × (seat.new.me ≡ seat.old.me) }
     ensures new { (result.table_id ≡ seat.old.table_id) × (result.me ≡ (copied seat.old.me.0, [])) }

@@ -3,7 +3,7 @@ ghost use Rattle.std.specs.Prelude.{◌≡◌};
 ghost use Rattle.am_cast.specs.Steps.{Weighed, Weighs};
 ghost use Rattle.am_cast.specs.Seats.{IsSized};
 
-use crate::rule::{Keyed, LogSeat, Top};
+use crate::rule::{AnySeat, AnyTop, Keyed};
 use crate::views::View;
 use atomic_table::Play;
 
@@ -15,8 +15,8 @@ impl<B, K, A> Play<Option<K>, View<B, K, A>> for Weigh {
 
 /// A load that tells what the seat's parts say of each other.
 pub(crate) fn weigh_view<B, K, A, R: Keyed<B, K>>(
-    top: &Top<B, K, A, R>,
-    seat: &mut LogSeat<B, K, A>,
+    top: &AnyTop<B, K, A, R>,
+    seat: &mut AnySeat<B, K, A>,
 )
     requires table { (seat.old.table_id ≡ top.now.table_id) × IsSized top.now.table_id }
     ensures same { (seat.new.table_id ≡ seat.old.table_id) × (seat.new.me.0 ≡ seat.old.me.0)

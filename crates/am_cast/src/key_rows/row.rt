@@ -1,7 +1,9 @@
 //! The keys of one place that are home.
 ghost use Rattle.std.specs.Prelude.{◌≡◌, ◌<◌, [], ◌∷◌, ◌++◌, ◌==◌, length, vec_capacity};
 ghost use Rattle.am_segment.specs.Segments.{AreAllKeys};
+ghost use Rattle.am_cast.specs.declared.limits.TheConstants.{LANES};
 
+use crate::limits::LANES;
 use am_segment::{SegKey, reunite_all_of};
 use std::alloc::{AllocError, Global};
 use std::marker::Model;
@@ -10,13 +12,13 @@ use std::marker::Model;
 pub(crate) struct EmptyRow<T> {
     keys: Vec<SegKey<T>>,
     ghost empty: { keys.items ≡ [] },
-    ghost room: { vec_capacity keys ≡ 8 },
+    ghost room: { vec_capacity keys ≡ LANES },
 }
 
 impl<T> EmptyRow<T> {
     pub(crate) fn new(alloc: Global) -> Result<EmptyRow<T>, AllocError> {
         Ok(EmptyRow {
-            keys: Vec::with_capacity(alloc, 8)?,
+            keys: Vec::with_capacity(alloc, LANES)?,
         })
     }
 
@@ -41,6 +43,7 @@ pub(crate) struct Row<T> {
 }
 
 impl<T> Model for Row<T> {
+    ghost use Rattle.am_cast.specs.declared.limits.TheConstants.{LANES};
     ghost use Rattle.am_cast.specs.inside.KeyRows.{RowView, coded_row};
     ghost use Rattle.std.specs.Prelude.{◌≡◌, vec_capacity};
 
@@ -50,7 +53,7 @@ impl<T> Model for Row<T> {
 
     ghost view = { λ r. record { place = r.place; keys = r.keys.items } };
 
-    ghost invariant = { λ r. vec_capacity r.keys ≡ 8 };
+    ghost invariant = { λ r. vec_capacity r.keys ≡ LANES };
 }
 
 impl<T> Row<T> {
@@ -62,13 +65,13 @@ impl<T> Row<T> {
 
     /// Whether it has the keys of all eight lanes.
     pub(crate) fn is_full(&self) -> bool
-        ensures { result ≡ (length self.now.keys == 8) }
+        ensures { result ≡ (length self.now.keys == LANES) }
     {
-        self.keys.len() == 8
+        self.keys.len() == LANES
     }
 
     pub(crate) fn add(&mut self, key: SegKey<T>)
-        requires { length self.old.keys < 8 }
+        requires { length self.old.keys < LANES }
         ensures { self.new ≡ record self.old { keys = self.old.keys ++ key ∷ [] } }
     {
         self.keys.push_reserved(key);

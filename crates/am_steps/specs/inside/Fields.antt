@@ -5,8 +5,8 @@ use Rattle.am_steps.specs.States.{StateView, core_of}
 use Rattle.am_steps.specs.Soundness.{IsSound}
 
 -- the fields, each list as its items
-abbrev pub view_of : Inside → StateView ℕ
-view_of s = record {
+abbrev pub fields_view : Inside → StateView ℕ
+fields_view s = record {
   places = s.places;
   log = s.log.items;
   closed = s.closed;
@@ -16,4 +16,4 @@ view_of s = record {
 
 -- a `State` is in a sound state
 abbrev pub IsSoundState : Inside → Type 0
-IsSoundState s = IsSound (core_of (view_of s))
+IsSoundState s = IsSound (core_of (fields_view s))

@@ -1,5 +1,5 @@
 -- The rows of the table that change one lane or one poster, as what becomes of it. There is nothing
--- where the event isn't possible. For the crate alone: public contracts cite the relation.
+-- if the event isn't possible. For the crate alone: public contracts cite the relation.
 use Rattle.std.specs.Prelude.{◌≡◌, ℕ, ◌+◌, ◌-◌, Bool, true, false, cond, ◌&&◌, ◌||◌, not}
 use Rattle.std.specs.Prelude.{nat_eq, nat_lt, nat_le}
 use Rattle.std.specs.Prelude.{List, [], ◌∷◌, length, Option, Some, None, MatchOption}
@@ -10,7 +10,8 @@ use Rattle.am_steps.specs.declared.poster.Poster.{Poster}
 use Rattle.am_steps.specs.States.{new_record, new_cursor}
 use Rattle.am_steps.specs.Steps.{MayOwn, one_further, with_own}
 
--- the lane may be cut: it wasn't, its word is the one last found, and it is so many places behind
+-- the lane may be cut: it wasn't, its word is the one last found, and it is as many places behind as there
+-- are
 abbrev pub may_cut : ℕ → ℕ → LaneRecord → ℕ → Bool → Bool
 may_cut places length m passed held = not m.cut
     && (nat_eq passed m.known
@@ -21,30 +22,35 @@ abbrev pub keeps_key : ℕ → LaneRecord → Bool
 keeps_key i m = cond m.cut (m.key_out && nat_eq i m.known) (nat_le m.start i && nat_le m.known i)
 
 module _ {X : Type 0} where
+  -- the lane after a Harvest
   abbrev pub after_harvest : Lane X → Option (Lane X)
   after_harvest Idle = None
   after_harvest (Admitted m) = Some (Admitted (record m { known = m.start; key_out = false }))
   after_harvest (Open m r) = Some (Open (record m { known = r.passed; key_out = r.held }) r)
   after_harvest (Left m) = None
 
+  -- the lane after an Admit, in a log of that length
   abbrev pub after_admit : ℕ → Lane X → Option (Lane X)
   after_admit length Idle = Some (Admitted (new_record length))
   after_admit length (Admitted m) = None
   after_admit length (Open m r) = None
   after_admit length (Left m) = None
 
+  -- the lane after an Open
   abbrev pub after_open : Lane X → Option (Lane X)
   after_open Idle = None
   after_open (Admitted m) = Some (Open m (new_cursor m.start))
   after_open (Open m r) = None
   after_open (Left m) = None
 
+  -- the lane after a Look, at a log of that length that is closed or not
   abbrev pub after_look : ℕ → Bool → Lane X → Option (Lane X)
   after_look length closed Idle = None
   after_look length closed (Admitted m) = None
   after_look length closed (Open m r) = Some (Open m (record r { seen = length; told = closed }))
   after_look length closed (Left m) = None
 
+  -- the lane after a Take
   abbrev pub after_take : Lane X → Option (Lane X)
   after_take Idle = None
   after_take (Admitted m) = None
@@ -60,6 +66,7 @@ module _ {X : Type 0} where
   place_in_hand (Open m r) = cond r.held (Some r.passed) None
   place_in_hand (Left m) = None
 
+  -- the lane after a Pass of a place with that name
   abbrev pub after_pass : X → Lane X → Option (Lane X)
   after_pass x Idle = None
   after_pass x (Admitted m) = None
@@ -68,6 +75,7 @@ module _ {X : Type 0} where
       None
   after_pass x (Left m) = None
 
+  -- the lane after a Cut, in a log of that many places and that length
   abbrev pub after_cut : ℕ → ℕ → Lane X → Option (Lane X)
   after_cut places length Idle = None
   after_cut places length (Admitted m) = cond (may_cut places length m m.start false)
@@ -78,12 +86,14 @@ module _ {X : Type 0} where
       None
   after_cut places length (Left m) = None
 
+  -- the lane after a Leave
   abbrev pub after_leave : Lane X → Option (Lane X)
   after_leave Idle = None
   after_leave (Admitted m) = None
   after_leave (Open m r) = Some (Left m)
   after_leave (Left m) = None
 
+  -- the lane after a Retire
   abbrev pub after_retire : Lane X → Option (Lane X)
   after_retire Idle = None
   after_retire (Admitted m) = None

@@ -1,6 +1,7 @@
 use Rattle.std.proofs.Common.{ap, ◌∙◌, subst, sym}
 use Rattle.am_cast.specs.Cursors.{CursorView}
-use Rattle.am_cast.specs.Lent.{Moves, NeedsLook}
+use Rattle.am_cast.specs.Lent.{Moves}
+use Rattle.am_cast.specs.inside.Moving.{NeedsLook}
 use Rattle.am_cast.proofs.Cursors.{found_moves}
 use Rattle.am_cast.proofs.cursor.Cursor.reach.Goals as goal
 

@@ -1,10 +1,8 @@
 use Rattle.std.proofs.Common.{arith, ◌≡◌, ◌<◌, length, sym, ap, ◌∙◌, subst}
-use Rattle.am_segment.specs.Segments.{KeyView}
-use Rattle.am_cast.specs.declared.name.Name.{Name}
+use Rattle.am_cast.specs.declared.limits.TheConstants.{LONGEST_LOG}
+use Rattle.am_cast.specs.declared.batch_view.BatchView.{BatchView}
 use Rattle.am_cast.specs.declared.views.Tail.{Tail}
-use Rattle.am_cast.specs.declared.views.WriterView.{WriterView}
 use Rattle.am_cast.specs.Changes.{longer_tail}
-use Rattle.am_cast.specs.Rule.{most}
 use Rattle.am_cast.proofs.writer.Writer.publish.Goals as goal
 
 pub returns-in-Ok-clause-ok : goal.returns-in-Ok-clause-ok
@@ -12,13 +10,11 @@ returns-in-Ok-clause-ok g c =
     let sent = c.in-Ok.ensures.ok in
     let x = sent.1 in
     let tail : c.harvest-full.new.self.tail ≡ c.args.self.now.tail = c.harvest-full.ensures.harvested.tail in
-    let tail_of = λ (q : WriterView (Name g.row.T.Denot g.row.P.Denot) (KeyView g.row.T.Denot) g.row.A.Denot). q.tail in
-    let found : c.self.inside.bench.desk.tail ≡ c.args.self.now.tail = ap tail_of c.self.view_is ∙ tail in
-    let few = c.if-len-ge-MOST_PLACES.false in let len = c.len.ensures.0 in (
-      sent.0 ∙ ap (λ (t : Tail (Name g.row.T.Denot g.row.P.Denot)). length t.log) tail,
+    let few = c.if-len-ge-LONGEST_LOG.false in let len = c.len.ensures.0 in (
+      sent.0 ∙ ap (λ (t : Tail (BatchView g.row.T.Denot g.row.P.Denot)). length t.log) tail,
       (
-        sym (ap (λ (t : Tail (Name g.row.T.Denot g.row.P.Denot)). t.closed) found) ∙ (sym c.is_closed.ensures ∙ c.if-is_closed.false),
-        subst (λ (t : Tail (Name g.row.T.Denot g.row.P.Denot)). length t.log < most) found (omega arith),
+        sym (ap (λ (t : Tail (BatchView g.row.T.Denot g.row.P.Denot)). t.closed) tail) ∙ (sym c.is_closed.ensures ∙ c.if-is_closed.false),
+        subst (λ (t : Tail (BatchView g.row.T.Denot g.row.P.Denot)). length t.log < LONGEST_LOG) tail (omega arith),
       ),
-      (x.0, x.1, x.2, x.3 ∙ ap (λ (t : Tail (Name g.row.T.Denot g.row.P.Denot)). longer_tail x.0 t) tail, x.4),
+      (x.0, x.1, x.2, x.3 ∙ ap (λ (t : Tail (BatchView g.row.T.Denot g.row.P.Denot)). longer_tail x.0 t) tail, x.4),
     )

@@ -1,13 +1,14 @@
 use Rattle.std.proofs.Common.{arith, ◌≡◌, ◌≢◌, ◌+◌, ◌<◌, ◌++◌, ◌∷◌, [], ℕ, List, length, sym, ap, ◌∙◌, subst, false, true, Bool}
 use Rattle.am_segment.specs.Segments.{KeyView}
-use Rattle.am_cast.specs.declared.name.Name.{Name}
+use Rattle.am_cast.specs.declared.limits.TheConstants.{LONGEST_LOG}
+use Rattle.am_cast.specs.declared.batch_view.BatchView.{BatchView}
 use Rattle.am_cast.specs.declared.views.Own.{Own}
 use Rattle.am_cast.specs.declared.views.Tail.{Tail}
 use Rattle.am_cast.specs.declared.views.View.{View}
 use Rattle.am_cast.specs.declared.views.WriterView.{WriterView}
 use Rattle.am_cast.specs.Changes.{longer_tail, own_at}
 use Rattle.am_cast.specs.Posters.{PassView}
-use Rattle.am_cast.specs.Rule.{live, most}
+use Rattle.am_cast.specs.Rule.{live}
 use Rattle.am_cast.specs.declared.views.Account.{Account}
 use mathlib.Core.Logic.{dite}
 use native.Mathlib.Decide.{ℕ_discrete}
@@ -16,20 +17,20 @@ use Rattle.am_cast.specs.Writers.{StandsOn, IsCutAs}
 use Rattle.am_cast.proofs.writer.Writer.publish_cutting.Goals as goal
 
 pub returns-clause-ok : goal.returns-clause-ok
-returns-clause-ok g c = let p = c.post.ensures.place in let tail : c.make_all_room-cut.new.self.desk.tail ≡ c.args.self.now.tail = c.make_all_room-cut.ensures.tail ∙ ap (λ (q : WriterView (Name g.row.T.Denot g.row.P.Denot) (KeyView g.row.T.Denot) g.row.A.Denot). q.tail) c.reserve.ensures.desk ∙ c.harvest.ensures.same.tail ∙ ap (λ (q : WriterView (Name g.row.T.Denot g.row.P.Denot) (KeyView g.row.T.Denot) g.row.A.Denot). q.tail) c.self.view_is in
-    let found : c.harvest.new.self.desk.tail ≡ c.args.self.now.tail = c.harvest.ensures.same.tail ∙ ap (λ (q : WriterView (Name g.row.T.Denot g.row.P.Denot) (KeyView g.row.T.Denot) g.row.A.Denot). q.tail) c.self.view_is in
-    let few = c.if-len-ge-MOST_PLACES.false in let len = c.len.ensures.0 in (
-      c.len-place.ensures.0 ∙ ap (λ (t : Tail (Name g.row.T.Denot g.row.P.Denot)). length t.log) tail,
+returns-clause-ok g c = let p = c.post.ensures.place in let tail : c.make_all_room-cut.new.self.known.tail ≡ c.args.self.now.tail = c.make_all_room-cut.ensures.tail ∙ ap (λ (q : WriterView (BatchView g.row.T.Denot g.row.P.Denot) (KeyView g.row.T.Denot) g.row.A.Denot). q.tail) c.reserve.ensures.known ∙ c.harvest.ensures.same.tail ∙ ap (λ (q : WriterView (BatchView g.row.T.Denot g.row.P.Denot) (KeyView g.row.T.Denot) g.row.A.Denot). q.tail) c.self.view_is in
+    let found : c.harvest.new.self.known.tail ≡ c.args.self.now.tail = c.harvest.ensures.same.tail ∙ ap (λ (q : WriterView (BatchView g.row.T.Denot g.row.P.Denot) (KeyView g.row.T.Denot) g.row.A.Denot). q.tail) c.self.view_is in
+    let few = c.if-len-ge-LONGEST_LOG.false in let len = c.len.ensures.0 in (
+      c.len-place.ensures.0 ∙ ap (λ (t : Tail (BatchView g.row.T.Denot g.row.P.Denot)). length t.log) tail,
       (
-        sym (ap (λ (t : Tail (Name g.row.T.Denot g.row.P.Denot)). t.closed) found) ∙ (sym c.is_closed.ensures ∙ c.if-is_closed.false),
-        subst (λ (t : Tail (Name g.row.T.Denot g.row.P.Denot)). length t.log < most) found (omega arith),
+        sym (ap (λ (t : Tail (BatchView g.row.T.Denot g.row.P.Denot)). t.closed) found) ∙ (sym c.is_closed.ensures ∙ c.if-is_closed.false),
+        subst (λ (t : Tail (BatchView g.row.T.Denot g.row.P.Denot)). length t.log < LONGEST_LOG) found (omega arith),
       ),
       (
         p.0,
         p.1,
         p.2,
-        p.3 ∙ ap (λ (t : Tail (Name g.row.T.Denot g.row.P.Denot)). longer_tail p.0 t) tail,
-        c.note.ensures.own ∙ ap (λ (w : View (Name g.row.T.Denot g.row.P.Denot) (KeyView g.row.T.Denot) g.row.A.Denot). w.own) p.6 ∙ ap (λ (own : List (Own (Name g.row.T.Denot g.row.P.Denot))). own ++ own_at (length c.make_all_room-cut.new.self.desk.tail.log) p.0 ∷ []) (ap (λ (v : PassView g.row.T.Denot g.row.P.Denot). v.own) c.pass.view_is)
+        p.3 ∙ ap (λ (t : Tail (BatchView g.row.T.Denot g.row.P.Denot)). longer_tail p.0 t) tail,
+        c.note.ensures.own ∙ ap (λ (w : View (BatchView g.row.T.Denot g.row.P.Denot) (KeyView g.row.T.Denot) g.row.A.Denot). w.own) p.6 ∙ ap (λ (own : List (Own (BatchView g.row.T.Denot g.row.P.Denot))). own ++ own_at (length c.make_all_room-cut.new.self.known.tail.log) p.0 ∷ []) (ap (λ (v : PassView g.row.T.Denot g.row.P.Denot). v.own) c.pass.view_is)
             ∙ ap (λ (n : ℕ). c.args.pass.now.own ++ own_at n p.0 ∷ []) (sym c.len-place.ensures.0),
       ),
     )
@@ -51,11 +52,11 @@ cut_later n m places size b c d e false on is stand known log same =
 
 pub returns-clause-cut : goal.returns-clause-cut
 returns-clause-cut g c l small =
-    let found : c.harvest.new.self.desk.tail ≡ c.args.self.now.tail = c.harvest.ensures.same.tail ∙ ap (λ (q : WriterView (Name g.row.T.Denot g.row.P.Denot) (KeyView g.row.T.Denot) g.row.A.Denot). q.tail) c.self.view_is in
-    let tail : c.reserve.new.self.desk.tail ≡ c.args.self.now.tail = ap (λ (q : WriterView (Name g.row.T.Denot g.row.P.Denot) (KeyView g.row.T.Denot) g.row.A.Denot). q.tail) c.reserve.ensures.desk ∙ found in
-    let W = WriterView (Name g.row.T.Denot g.row.P.Denot) (KeyView g.row.T.Denot) g.row.A.Denot in
-    let on : StandsOn (account_of c.args.self.now l) (account_of c.reserve.new.self.desk l) =
-    subst (λ (q : W). StandsOn (account_of q l) (account_of c.reserve.new.self.desk l)) c.self.view_is
-    (subst (λ (q : W). StandsOn (account_of c.self.inside.bench.desk l) (account_of q l)) (sym c.reserve.ensures.desk) (c.harvest.ensures.same.each l small).1) in
-    cut_later _ _ _ _ (account_of c.args.self.now l) (account_of c.reserve.new.self.desk l) (account_of c.make_all_room-cut.new.self.desk l) (account_of c.post.new.self.desk l) _ on (c.make_all_room-cut.ensures.cut l small) (c.post.ensures.same l small).1 (c.post.ensures.same l small).2
-    (ap (λ (t : Tail (Name g.row.T.Denot g.row.P.Denot)). length t.log) tail) (ap (λ (t : Tail (Name g.row.T.Denot g.row.P.Denot)). t.places) tail)
+    let found : c.harvest.new.self.known.tail ≡ c.args.self.now.tail = c.harvest.ensures.same.tail ∙ ap (λ (q : WriterView (BatchView g.row.T.Denot g.row.P.Denot) (KeyView g.row.T.Denot) g.row.A.Denot). q.tail) c.self.view_is in
+    let tail : c.reserve.new.self.known.tail ≡ c.args.self.now.tail = ap (λ (q : WriterView (BatchView g.row.T.Denot g.row.P.Denot) (KeyView g.row.T.Denot) g.row.A.Denot). q.tail) c.reserve.ensures.known ∙ found in
+    let W = WriterView (BatchView g.row.T.Denot g.row.P.Denot) (KeyView g.row.T.Denot) g.row.A.Denot in
+    let on : StandsOn (account_of c.args.self.now l) (account_of c.reserve.new.self.known l) =
+    subst (λ (q : W). StandsOn (account_of q l) (account_of c.reserve.new.self.known l)) c.self.view_is
+    (subst (λ (q : W). StandsOn (account_of c.self.inside.state.known l) (account_of q l)) (sym c.reserve.ensures.known) (c.harvest.ensures.same.each l small).1) in
+    cut_later _ _ _ _ (account_of c.args.self.now l) (account_of c.reserve.new.self.known l) (account_of c.make_all_room-cut.new.self.known l) (account_of c.post.new.self.known l) _ on (c.make_all_room-cut.ensures.cut l small) (c.post.ensures.same l small).1 (c.post.ensures.same l small).2
+    (ap (λ (t : Tail (BatchView g.row.T.Denot g.row.P.Denot)). length t.log) tail) (ap (λ (t : Tail (BatchView g.row.T.Denot g.row.P.Denot)). t.places) tail)

@@ -1,7 +1,7 @@
 use Rattle.std.proofs.Common.{◌≡◌, ◌<◌, ◌∙◌, refl, arith, length}
 use Rattle.am_steps.specs.declared.event.Event.TheVariants as does
 use Rattle.am_steps.specs.States.{core_of}
-use Rattle.am_steps.specs.inside.Fields.{view_of}
+use Rattle.am_steps.specs.inside.Fields.{fields_view}
 use Rattle.am_steps.specs.inside.LaneRows.{after_admit}
 use Rattle.am_steps.proofs.Common.{len_is}
 use Rattle.am_steps.proofs.LaneRows.{decide_admit}
@@ -9,11 +9,11 @@ use Rattle.am_steps.proofs.Answers.{applied}
 use Rattle.am_steps.proofs.state.State.admit.Goals as goal
 
 pub invariant_of-self : goal.invariant_of-self
-invariant_of-self c = let s = view_of c.self.inside in let l = c.args.lane in let fits = c.if-lane-len.false in let inside : l < length c.self.inside.lanes.items = omega (arith, fits, c.len.ensures, len_is c.self.inside.lanes) in
+invariant_of-self c = let s = fields_view c.self.inside in let l = c.args.lane in let fits = c.if-lane-len.false in let inside : l < length c.self.inside.lanes.items = omega (arith, fits, c.len.ensures, len_is c.self.inside.lanes) in
     let length-n = c.len-length.result in let length-is : length-n ≡ length c.self.inside.log.items = c.len-length.ensures ∙ len_is c.self.inside.log in
     (applied s s refl (does.Admit l) l (after_admit length-n) c.index_mut.result.now c.admit.new.self c.admit.result c.self.invariant inside c.index_mut.ensures.value (decide_admit (core_of s) l inside c.if-self.false length-n length-is) c.admit.ensures).1
 
 pub returns : goal.returns
-returns c = let s = view_of c.self.inside in let l = c.args.lane in let fits = c.if-lane-len.false in let inside : l < length c.self.inside.lanes.items = omega (arith, fits, c.len.ensures, len_is c.self.inside.lanes) in
+returns c = let s = fields_view c.self.inside in let l = c.args.lane in let fits = c.if-lane-len.false in let inside : l < length c.self.inside.lanes.items = omega (arith, fits, c.len.ensures, len_is c.self.inside.lanes) in
     let length-n = c.len-length.result in let length-is : length-n ≡ length c.self.inside.log.items = c.len-length.ensures ∙ len_is c.self.inside.log in
     (applied s c.args.self.now c.self.view_is (does.Admit l) l (after_admit length-n) c.index_mut.result.now c.admit.new.self c.admit.result c.self.invariant inside c.index_mut.ensures.value (decide_admit (core_of s) l inside c.if-self.false length-n length-is) c.admit.ensures).0

@@ -1,7 +1,7 @@
 use Rattle.std.proofs.Common.{◌≡◌, ◌<◌, ◌∙◌, refl, arith, length}
 use Rattle.am_steps.specs.declared.event.Event.TheVariants as does
 use Rattle.am_steps.specs.States.{core_of}
-use Rattle.am_steps.specs.inside.Fields.{view_of}
+use Rattle.am_steps.specs.inside.Fields.{fields_view}
 use Rattle.am_steps.specs.inside.LaneRows.{after_cut}
 use Rattle.am_steps.proofs.Common.{len_is}
 use Rattle.am_steps.proofs.LaneRows.{decide_cut}
@@ -9,11 +9,11 @@ use Rattle.am_steps.proofs.Answers.{applied}
 use Rattle.am_steps.proofs.state.State.cut.Goals as goal
 
 pub invariant_of-self : goal.invariant_of-self
-invariant_of-self c = let s = view_of c.self.inside in let l = c.args.lane in let fits = c.if-lane-len.false in let inside : l < length c.self.inside.lanes.items = omega (arith, fits, c.len.ensures, len_is c.self.inside.lanes) in
+invariant_of-self c = let s = fields_view c.self.inside in let l = c.args.lane in let fits = c.if-lane-len.false in let inside : l < length c.self.inside.lanes.items = omega (arith, fits, c.len.ensures, len_is c.self.inside.lanes) in
     let length-n = c.len-2.result in let length-is : length-n ≡ length c.self.inside.log.items = c.len-2.ensures ∙ len_is c.self.inside.log in
     (applied s s refl (does.Cut l) l (after_cut c.self.inside.places length-n) c.index_mut.result.now c.cut.new.self c.cut.result c.self.invariant inside c.index_mut.ensures.value (decide_cut (core_of s) l length-n length-is) c.cut.ensures).1
 
 pub returns : goal.returns
-returns c = let s = view_of c.self.inside in let l = c.args.lane in let fits = c.if-lane-len.false in let inside : l < length c.self.inside.lanes.items = omega (arith, fits, c.len.ensures, len_is c.self.inside.lanes) in
+returns c = let s = fields_view c.self.inside in let l = c.args.lane in let fits = c.if-lane-len.false in let inside : l < length c.self.inside.lanes.items = omega (arith, fits, c.len.ensures, len_is c.self.inside.lanes) in
     let length-n = c.len-2.result in let length-is : length-n ≡ length c.self.inside.log.items = c.len-2.ensures ∙ len_is c.self.inside.log in
     (applied s c.args.self.now c.self.view_is (does.Cut l) l (after_cut c.self.inside.places length-n) c.index_mut.result.now c.cut.new.self c.cut.result c.self.invariant inside c.index_mut.ensures.value (decide_cut (core_of s) l length-n length-is) c.cut.ensures).0

@@ -1,5 +1,0 @@
-use Rattle.std.proofs.Common.{Some}
-use Rattle.am_cast.proofs.bench.Bench.admit.Given as goal
-
-abbrev pub ghosts-admit_lane : goal.ghosts-admit_lane
-ghosts-admit_lane g a = record { note = Some a.tag.now.value }

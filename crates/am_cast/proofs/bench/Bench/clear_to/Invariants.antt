@@ -1,7 +1,0 @@
-use Rattle.std.proofs.Common.{◌≤◌}
-use Rattle.am_cast.specs.Seats.{account_of}
-use Rattle.am_cast.specs.Benches.{OnlyAccount, KeepsRoom}
-use Rattle.am_cast.proofs.bench.Bench.clear_to.Given as goal
-
-abbrev pub invariant-loop-place : goal.invariant-loop-place
-invariant-loop-place g l = OnlyAccount l.initial.self l.self l.lane (record (account_of l.initial.self.desk l.lane) { cleared = l.place }) × (l.place ≤ l.to) × KeepsRoom l.initial.self.rows l.self.rows
