@@ -11,7 +11,8 @@ use Rattle.am_alert.specs.declared.post.TheConstants.{MAX_ALERTS}
 use Rattle.am_segment.specs.Segments.{KeyView}
 use Rattle.am_cast.specs.declared.views.Account.{Account}
 use Rattle.am_cast.specs.declared.views.Tail.{Tail}
-use Rattle.am_cast.specs.Rule.{idle, live, most, Sound}
+use Rattle.am_cast.specs.declared.limits.TheConstants.{LONGEST_LOG}
+use Rattle.am_cast.specs.Rule.{idle, live, Sound}
 use Rattle.am_cast.specs.Changes.{longer_tail, shut_tail, left}
 use Rattle.am_cast.specs.Seats.{account_of}
 use Rattle.am_cast.specs.Keys.{all_items}
@@ -66,17 +67,17 @@ none_zero (x ∷ xs) some = Rattle.std.proofs.Math.Dec.eqb-suc-zero (length xs)
 
 pub kept_posted : (a b : Shelf) (counted more places now : ℕ) (news batch : List Alert) (x : Batch) → IsKeptBook a counted places → a.log.tail.closed ≡ false
     → journal_of b.journal ≡ with_call (journal_of a.journal) (Posted now news) → b.stored ≡ with_alerts batch a.stored → batch ≡ batch_by_list now news a.stored
-    → length batch ≡ length news → length news ≤ MAX_ALERTS → 0 < length news → length a.log.tail.log < most
-    → x.post ≡ Posted now news → keys.items_of x ≡ batch → b.log.tail ≡ longer_tail x a.log.tail
+    → length batch ≡ length news → length news ≤ MAX_ALERTS → 0 < length news → length a.log.tail.log < LONGEST_LOG
+    → x.post ≡ Posted now news → keys.batch_items x ≡ batch → b.log.tail ≡ longer_tail x a.log.tail
     → ((lane : ℕ) → lane < 8 → GoesOnAs (account_of a.log lane) (account_of b.log lane))
     → b.lanes ≡ a.lanes → b.posts ≡ a.posts + 1 → b.endings ≡ a.endings → b.early ≡ a.early → more ≡ counted + 1 → deque_len b.journal.calls + 9 ≤ deque_capacity b.journal.calls → IsKeptBook b more places
 kept_posted a b counted more places now news batch x kept still journal stored sent long few some fits post items tail on lanes posts endings early counts room =
     let log : b.log.tail.log ≡ a.log.tail.log ++ x ∷ [] = ap (λ (t : Tail Batch). t.log) tail in
     let none : nat_eq (length batch) 0 ≡ false = none_zero batch (omega arith) in
     let all : sent_in b.log.tail.log ≡ cond (nat_eq (length batch) 0) (sent_in a.log.tail.log) (sent_in a.log.tail.log ++ batch ∷ []) =
-    ap sent_in log ∙ (map-append (λ (y : Batch). keys.items_of y) a.log.tail.log (x ∷ []) ∙ (ap (λ (one : List Alert). sent_in a.log.tail.log ++ one ∷ []) items
+    ap sent_in log ∙ (map-append (λ (y : Batch). keys.batch_items y) a.log.tail.log (x ∷ []) ∙ (ap (λ (one : List Alert). sent_in a.log.tail.log ++ one ∷ []) items
     ∙ sym (ap (λ (c : Bool). cond c (sent_in a.log.tail.log) (sent_in a.log.tail.log ++ batch ∷ [])) none))) in
-    let short : length (sent_in a.log.tail.log) ≡ length a.log.tail.log = length-map a.log.tail.log (λ (y : Batch). keys.items_of y) in
+    let short : length (sent_in a.log.tail.log) ≡ length a.log.tail.log = length-map a.log.tail.log (λ (y : Batch). keys.batch_items y) in
     kept_grown a b counted more places places (Posted now news) kept
     (sound_posted (pages_of a) (pages_of b) now news batch kept.pages still journal stored all sent long few (λ h. omega arith) (ap (λ (t : Tail Batch). t.closed) tail) lanes posts room)
     (sym kept.pages.closed ∙ still) (λ came. refl) journal
@@ -139,7 +140,7 @@ kept_subscribed a b counted places room lane one kept still low journal at openi
     let old = journal_of a.journal in
     let within : lane < length a.lanes = omega (arith, low.within, kept.pages.eight) in
     let pages = sound_subscribed (pages_of a) (pages_of b) lane one kept.pages still low journal at opening stored (ap (λ (t : Tail Batch). sent_in t.log) tail) lanes (ap (λ (t : Tail Batch). t.closed) tail) posts deque in
-    let sent : length (sent_in a.log.tail.log) ≡ length a.log.tail.log = length-map a.log.tail.log (λ (y : Batch). keys.items_of y) in
+    let sent : length (sent_in a.log.tail.log) ≡ length a.log.tail.log = length-map a.log.tail.log (λ (y : Batch). keys.batch_items y) in
     let all : length (broadcast old) ≡ length (sent_in a.log.tail.log) - old.places = sym (ap length kept.pages.kept.log) ∙ length-drop old.places (sent_in a.log.tail.log) in
     let starts : length a.log.tail.log ≡ old.places + length (broadcast old) = omega (arith, kept.pages.kept.places) in
     let low_places : old.places ≤ length a.log.tail.log = omega (arith, kept.pages.kept.places) in
@@ -196,18 +197,18 @@ lane_given a counted places lane kept small ne = given (lane_at a.lanes lane) re
 
 items_alike : (log : List Batch) → all_items log ≡ items_of (sent_in log)
 items_alike [] = refl
-items_alike (x ∷ xs) = ap (λ rest. keys.items_of x ++ rest) (items_alike xs)
+items_alike (x ∷ xs) = ap (λ rest. keys.batch_items x ++ rest) (items_alike xs)
 
 -- what is due is the opening, and then what the log has from the subscription's start on
 pub due_is : (a : Shelf) (counted places lane start : ℕ) (one : OpenLane) → IsKeptBook a counted places → IsItsOpening (journal_of a.journal) lane one
     → start ≡ a.journal.places + length (broadcast (until (journal_of a.journal) one.at))
     → one.opening ++ all_items (drop start a.log.tail.log) ≡ due (journal_of a.journal) one.at
 due_is a counted places lane start one kept its starts =
-    ap (λ xs. one.opening ++ xs) (items_alike (drop start a.log.tail.log) ∙ ap items_of (sym (drop-map (λ (y : Batch). keys.items_of y) start a.log.tail.log)))
+    ap (λ xs. one.opening ++ xs) (items_alike (drop start a.log.tail.log) ∙ ap items_of (sym (drop-map (λ (y : Batch). keys.batch_items y) start a.log.tail.log)))
     ∙ due_of (book_of (pages_of a)) start one kept.pages.kept its.opening starts
 
 -- what was taken begins all that there is
-taken_begins : (s : SubscriptionView) (count : ℕ) (rest : List Alert) → IsSubscription s count → IsPrefix (cast.taken s.cursor) rest → IsFront (taken s) (s.opening ++ rest)
+taken_begins : (s : SubscriptionView) (count : ℕ) (rest : List Alert) → IsSubscription s count → IsPrefix (cast.shown_items s.cursor) rest → IsFront (taken s) (s.opening ++ rest)
 taken_begins s count rest of began =
     ⊎_elim (λ (less : s.shown < length s.opening).
     let none = (of.first less).taken in (
@@ -218,8 +219,8 @@ taken_begins s count rest of began =
     ))
     (λ (all : length s.opening ≤ s.shown). (
       began.0,
-      ap (λ xs. (xs ++ cast.taken s.cursor) ++ began.0) (take_all s.shown s.opening all)
-          ∙ (append_assoc s.opening (cast.taken s.cursor) began.0 ∙ ap (λ xs. s.opening ++ xs) began.1),
+      ap (λ xs. (xs ++ cast.shown_items s.cursor) ++ began.0) (take_all s.shown s.opening all)
+          ∙ (append_assoc s.opening (cast.shown_items s.cursor) began.0 ∙ ap (λ xs. s.opening ++ xs) began.1),
     ))
     (below s.shown (length s.opening))
   where
@@ -228,11 +229,11 @@ taken_begins s count rest of began =
     below zero (suc n) = inl (omega arith)
     below (suc m) (suc n) = ⊎_elim (λ (h : m < n). inl (omega arith)) (λ (h : n ≤ m). inr (omega arith)) (below m n)
 
-taken_complete : (s : SubscriptionView) (count : ℕ) (rest : List Alert) → IsSubscription s count → s.closed_told ≡ true → (HasEnded s.cursor → cast.taken s.cursor ≡ rest) → taken s ≡ s.opening ++ rest
+taken_complete : (s : SubscriptionView) (count : ℕ) (rest : List Alert) → IsSubscription s count → s.closed_told ≡ true → (HasEnded s.cursor → cast.shown_items s.cursor ≡ rest) → taken s ≡ s.opening ++ rest
 taken_complete s count rest of told ended =
     let all = of.told told in
     let past : length s.opening ≤ s.shown = omega (arith, all.1) in
-    ap (λ xs. xs ++ cast.taken s.cursor) (take_all s.shown s.opening past) ∙ ap (λ xs. s.opening ++ xs) (ended all.0)
+    ap (λ xs. xs ++ cast.shown_items s.cursor) (take_all s.shown s.opening past) ∙ ap (λ xs. s.opening ++ xs) (ended all.0)
 
 -- all that a left subscription says, of the Book that it leaves
 pub record Leaving (a : Shelf) (s : SubscriptionView) (one : OpenLane) : Type 0 where
@@ -247,8 +248,8 @@ pub record Leaving (a : Shelf) (s : SubscriptionView) (one : OpenLane) : Type 0 
 
 pub leaving : (a : Shelf) (counted places count : ℕ) (s : SubscriptionView) → IsKeptBook a counted places → IsSubscription s count → s.cursor.lane.number < 8
     → (account_of a.log s.cursor.lane.number).stand ≢ idle → Sound a.log.tail (account_of a.log s.cursor.lane.number) (left s.cursor.lane) s.cursor.lane.number
-    → IsPrefix (cast.taken s.cursor) (all_items (drop s.cursor.lane.start a.log.tail.log))
-    → (HasEnded s.cursor → cast.taken s.cursor ≡ all_items (drop s.cursor.lane.start a.log.tail.log))
+    → IsPrefix (cast.shown_items s.cursor) (all_items (drop s.cursor.lane.start a.log.tail.log))
+    → (HasEnded s.cursor → cast.shown_items s.cursor ≡ all_items (drop s.cursor.lane.start a.log.tail.log))
     → (one : OpenLane) × Leaving a s one
 leaving a counted places count s kept of small ne sound began ended =
     let lane = s.cursor.lane.number in
@@ -294,16 +295,16 @@ all_counted a counted places count s one kept of by short =
 -- the same of the cursor that was taken out of it
 pub leaving_by : (a : Shelf) (counted places count : ℕ) (s : SubscriptionView) (cursor : CursorView Alert Call OpenLane) → IsKeptBook a counted places → IsSubscription s count → cursor ≡ s.cursor → cursor.lane.number < 8
     → (account_of a.log cursor.lane.number).stand ≢ idle → Sound a.log.tail (account_of a.log cursor.lane.number) (left cursor.lane) cursor.lane.number
-    → IsPrefix (cast.taken cursor) (all_items (drop cursor.lane.start a.log.tail.log))
-    → (HasEnded cursor → cast.taken cursor ≡ all_items (drop cursor.lane.start a.log.tail.log))
+    → IsPrefix (cast.shown_items cursor) (all_items (drop cursor.lane.start a.log.tail.log))
+    → (HasEnded cursor → cast.shown_items cursor ≡ all_items (drop cursor.lane.start a.log.tail.log))
     → (one : OpenLane) × Leaving a s one
 leaving_by a counted places count s cursor kept of same small ne sound began ended =
     leaving a counted places count s kept of
     (subst (λ (k : CursorView Alert Call OpenLane). k.lane.number < 8) same small)
     (subst (λ (k : CursorView Alert Call OpenLane). (account_of a.log k.lane.number).stand ≢ idle) same ne)
     (subst (λ (k : CursorView Alert Call OpenLane). Sound a.log.tail (account_of a.log k.lane.number) (left k.lane) k.lane.number) same sound)
-    (subst (λ (k : CursorView Alert Call OpenLane). IsPrefix (cast.taken k) (all_items (drop k.lane.start a.log.tail.log))) same began)
-    (subst (λ (k : CursorView Alert Call OpenLane). HasEnded k → cast.taken k ≡ all_items (drop k.lane.start a.log.tail.log)) same ended)
+    (subst (λ (k : CursorView Alert Call OpenLane). IsPrefix (cast.shown_items k) (all_items (drop k.lane.start a.log.tail.log))) same began)
+    (subst (λ (k : CursorView Alert Call OpenLane). HasEnded k → cast.shown_items k ≡ all_items (drop k.lane.start a.log.tail.log)) same ended)
 
 is_given : (a : Shelf) (s : SubscriptionView) (one : OpenLane) → Leaving a s one → is_some (lane_at a.lanes s.cursor.lane.number) ≡ true
 is_given a s one by = ap is_some by.here
@@ -361,7 +362,7 @@ kept_left a b counted places room s one ended kept by small journal stored tail 
     let old = journal_of a.journal in
     let within : lane < length a.lanes = omega (arith, kept.pages.eight) in
     let pages = sound_left (pages_of a) (pages_of b) lane one.at kept.pages by.its.given journal stored (ap (λ (t : Tail Batch). sent_in t.log) tail) lanes (ap (λ (t : Tail Batch). t.closed) tail) posts deque in
-    let sent : length (sent_in a.log.tail.log) ≡ length a.log.tail.log = length-map a.log.tail.log (λ (y : Batch). keys.items_of y) in
+    let sent : length (sent_in a.log.tail.log) ≡ length a.log.tail.log = length-map a.log.tail.log (λ (y : Batch). keys.batch_items y) in
     let low_places : old.places ≤ length a.log.tail.log = omega (arith, kept.pages.kept.places) in
     let is_open : MayFollow old (Left lane) = sym (kept.pages.lanes lane small) ∙ is_given a s one by in
     let mine = ending_of a s one ended counted places kept by at count closed in

@@ -3,7 +3,7 @@ use Rattle.std.proofs.Common.{◌≡◌, ℕ, suc, ◌+◌, ◌<◌, List, [], �
 use Rattle.std.proofs.lemmas.List.{length-append}
 use Rattle.am_cast.specs.declared.views.Own.{Own}
 use Rattle.am_cast.specs.Rule.{IsApart, Once}
-use Rattle.am_cast.specs.Changes.{Stand, own_at}
+use Rattle.am_cast.specs.Changes.{AreInLog, own_at}
 use Rattle.am_provider.specs.Batches.{Batch}
 use Rattle.am_provider.specs.Rising.{AreAbove, AreBelow, IsRising}
 use Rattle.am_provider.proofs.Settling.{all_under, under}
@@ -30,7 +30,7 @@ once_last (x ∷ own) o once = (λ same. apart_last x.place own o once.0 (sym sa
 
 -- a place that is the log's next one is above those that stand there
 pub all_below : (own then : List (Own Batch)) (log longer : List Batch) (x : Batch) (place : ℕ) → then ≡ own ++ own_at place x ∷ [] → longer ≡ log ++ x ∷ [] → place ≡ length log
-    → Stand then longer → Once then → AreBelow place own
+    → AreInLog then longer → Once then → AreBelow place own
 all_below own then log longer x place grown more next stand once =
     let long : length longer ≡ suc place = ap length more ∙ (length-append log (x ∷ []) ∙ (let one : length log + 1 ≡ suc (length log) = omega arith in one ∙ ap suc (sym next))) in
     let all : AreBelow (suc place) (own ++ own_at place x ∷ []) = subst (AreBelow (suc place)) grown (subst (λ (n : ℕ). AreBelow n then) long (all_under longer then stand)) in

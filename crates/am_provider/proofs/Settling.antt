@@ -10,7 +10,7 @@ use Rattle.am_alert.specs.declared.alert.Alert.{Alert}
 use Rattle.am_store.specs.declared.call.Call.{Call}
 use Rattle.am_cast.specs.declared.views.Own.{Own}
 use Rattle.am_cast.specs.Rule.{IsApart, Once}
-use Rattle.am_cast.specs.Changes.{Stand}
+use Rattle.am_cast.specs.Changes.{AreInLog}
 use Rattle.am_cast.specs.Posters.{PassView}
 use Rattle.am_provider.specs.Batches.{Batch}
 use Rattle.am_provider.specs.Rising.{AreBelow, IsRising}
@@ -58,13 +58,13 @@ at_length [] i x e = (cc)
 at_length (y ∷ log) zero x e = omega arith
 at_length (y ∷ log) (suc i) x e = let h = at_length log i x e in omega arith
 
-pub all_under : (log : List Batch) (os : List (Own Batch)) → Stand os log → AreBelow (length log) os
+pub all_under : (log : List Batch) (os : List (Own Batch)) → AreInLog os log → AreBelow (length log) os
 all_under log [] h = tt
-all_under log (o ∷ os) h = (at_length log o.place o.name (h 0 o refl), all_under log os (λ k x e. h (suc k) x e))
+all_under log (o ∷ os) h = (at_length log o.place o.batch (h 0 o refl), all_under log os (λ k x e. h (suc k) x e))
 
 -- as many places as the log has, each once, are all of them
-pub all_places : (log : List Batch) (os : List (Own Batch)) → Stand os log → Once os → length os ≡ length log → (p : ℕ) → p < length log → IsOwn os p
+pub all_places : (log : List Batch) (os : List (Own Batch)) → AreInLog os log → Once os → length os ≡ length log → (p : ℕ) → p < length log → IsOwn os p
 all_places [] os stand once same p inside = absurd (omega arith)
 all_places (b ∷ log) os stand once same p inside = ⊎_elim (λ t. t)
-    (λ (none : IsApart p os). let x : Own Batch = record { place = p; name = b } in let most = bounded (length (b ∷ log)) (x ∷ os) (none, once) (inside, all_under (b ∷ log) os stand) in absurd (omega arith))
+    (λ (none : IsApart p os). let x : Own Batch = record { place = p; batch = b } in let most = bounded (length (b ∷ log)) (x ∷ os) (none, once) (inside, all_under (b ∷ log) os stand) in absurd (omega arith))
     (find p os)

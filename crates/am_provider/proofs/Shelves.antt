@@ -175,7 +175,7 @@ pub kept_grown : (a b : Shelf) (counted more places room : ℕ) (c : Call) → I
 kept_grown a b counted more places room c kept pages may quiet journal posts lanes on endings early total roomy =
     let old = journal_of a.journal in
     let low : old.places ≤ length (sent_in a.log.tail.log) = kept.pages.kept.places in
-    let few : length (sent_in a.log.tail.log) ≡ length a.log.tail.log = length-map a.log.tail.log (λ (b : Batch). Rattle.am_cast.specs.Keys.items_of b) in
+    let few : length (sent_in a.log.tail.log) ≡ length a.log.tail.log = length-map a.log.tail.log (λ (b : Batch). Rattle.am_cast.specs.Keys.batch_items b) in
     let grown = posts_grown old a.log.tail.log b.log.tail.log c kept.posts (omega arith) posts in
     record {
       pages = pages;

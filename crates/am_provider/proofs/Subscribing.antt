@@ -15,10 +15,10 @@ use Rattle.am_provider.specs.inside.Subscribed.{IsFresh, IsSubscription}
 one_more : (count next : ℕ) (xs ys : List Alert) → count ≡ length xs % 2 ^ 64 → next ≡ (count + 1) % 2 ^ 64 → length ys ≡ length xs + 1 → next ≡ length ys % 2 ^ 64
 one_more count next xs ys was is long = let l = length xs in let m = length ys in omega arith
 
-pub took_one : (old new : SubscriptionView) (alert : Alert) → new.opening ≡ old.opening → new.shown ≡ old.shown → cast.taken new.cursor ≡ cast.taken old.cursor ++ alert ∷ [] → taken new ≡ taken old ++ alert ∷ []
+pub took_one : (old new : SubscriptionView) (alert : Alert) → new.opening ≡ old.opening → new.shown ≡ old.shown → cast.shown_items new.cursor ≡ cast.shown_items old.cursor ++ alert ∷ [] → taken new ≡ taken old ++ alert ∷ []
 took_one old new alert opening shown took =
     let front : take new.shown new.opening ≡ take old.shown old.opening = ap (take new.shown) opening ∙ ap (λ n. take n old.opening) shown in
-    ap (λ xs. xs ++ cast.taken new.cursor) front ∙ (ap (λ xs. take old.shown old.opening ++ xs) took ∙ sym (append_assoc (take old.shown old.opening) (cast.taken old.cursor) (alert ∷ [])))
+    ap (λ xs. xs ++ cast.shown_items new.cursor) front ∙ (ap (λ xs. take old.shown old.opening ++ xs) took ∙ sym (append_assoc (take old.shown old.opening) (cast.shown_items old.cursor) (alert ∷ [])))
 
 -- the log showed one alert more
 pub logged_one : (old new : SubscriptionView) (count next : ℕ) (alert : Alert) → IsSubscription old count → length old.opening ≤ old.shown
@@ -48,7 +48,7 @@ cut_told old new count was past same on cut =
     let at : new.at ≡ old.at = ap (λ (s : SubscriptionView). s.at) same in
     let told : new.closed_told ≡ old.closed_told = ap (λ (s : SubscriptionView). s.closed_told) same in
     let front : take new.shown new.opening ≡ take old.shown old.opening = ap (take new.shown) opening ∙ ap (λ n. take n old.opening) shown in
-    let took : taken new ≡ taken old = ap (λ xs. xs ++ cast.taken new.cursor) front ∙ ap (λ xs. take old.shown old.opening ++ xs) cut.taken in
+    let took : taken new ≡ taken old = ap (λ xs. xs ++ cast.shown_items new.cursor) front ∙ ap (λ xs. take old.shown old.opening ++ xs) cut.taken in
     let within = was.within in
     record {
       within = omega (arith, ap length opening);
@@ -69,9 +69,9 @@ opened_one old new alert untold fresh same here =
     let index : new.shown - 1 ≡ old.shown = omega arith in
     let got : slice_get old.opening old.shown ≡ Some alert = sym (ap (slice_get new.opening) index ∙ ap (λ o. slice_get o old.shown) opening) ∙ here in
     let more : take new.shown new.opening ≡ take old.shown old.opening ++ alert ∷ [] = ap (take new.shown) opening ∙ (ap (λ n. take n old.opening) shown ∙ take_more old.opening old.shown alert got) in
-    let none : cast.taken new.cursor ≡ [] = ap cast.taken cursor ∙ fresh.taken in
+    let none : cast.shown_items new.cursor ≡ [] = ap cast.shown_items cursor ∙ fresh.taken in
     record {
-      taken = ap (λ xs. xs ++ cast.taken new.cursor) more ∙ (ap (λ xs. (take old.shown old.opening ++ alert ∷ []) ++ xs) none
+      taken = ap (λ xs. xs ++ cast.shown_items new.cursor) more ∙ (ap (λ xs. (take old.shown old.opening ++ alert ∷ []) ++ xs) none
           ∙ (append-nil (take old.shown old.opening ++ alert ∷ []) ∙ ap (λ xs. xs ++ alert ∷ []) (sym (append-nil (take old.shown old.opening)) ∙ ap (λ xs. take old.shown old.opening ++ xs) (sym fresh.taken))));
       at = ap (λ (s : SubscriptionView). s.at) same;
       opening = opening;

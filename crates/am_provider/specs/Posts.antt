@@ -9,7 +9,7 @@ use Rattle.am_store.specs.declared.call.Call.TheVariants.{Posted}
 use Rattle.am_store.specs.Journal.{is_closed, has_lane}
 use Rattle.am_cast.specs.declared.views.Own.{Own}
 use Rattle.am_cast.specs.Rule.{live}
-use Rattle.am_cast.specs.Changes.{Stand, own_at}
+use Rattle.am_cast.specs.Changes.{AreInLog, own_at}
 use Rattle.am_cast.specs.Seats.{account_of}
 use Rattle.am_cast.specs.Posters.{PassView}
 use Rattle.am_cast.specs.Writers.{StaysAs, SameAdmission, IsCutAs}
@@ -26,15 +26,15 @@ abbrev pub AddsOwn : PassView Alert Call → ℕ → List Alert → Option ℕ �
 AddsOwn was now posted None is = is ≡ was
 AddsOwn was now posted (Some place) is =
     ((x : Batch) × (x.post ≡ Posted now posted) × (is.own ≡ was.own ++ own_at place x ∷ []))
-    × Stand is.own is.noted × IsPrefix was.noted is.noted
+    × AreInLog is.own is.noted × IsPrefix was.noted is.noted
 
 -- a pass met a subscription that has seen so much of the log: each of the pass's own posts that was seen
 -- stands at its place there, and the pass, which owns what it did, knows all that was seen
 pub record HasMet (seen : List Batch) (was is : PassView Alert Call) : Type 0 where
   pub own : is.own ≡ was.own
   pub stand : (k : ℕ) (o : Own Batch) → get_elem? was.own k ≡ some o → o.place < length seen
-      → get_elem? seen o.place ≡ some o.name
-  pub noted : IsPrefix was.noted is.noted × IsPrefix seen is.noted × Stand was.own is.noted
+      → get_elem? seen o.place ≡ some o.batch
+  pub noted : IsPrefix was.noted is.noted × IsPrefix seen is.noted × AreInLog was.own is.noted
 
 -- which lanes a post cut: those that were as many places behind as the log has, and none where the
 -- policy is to refuse

@@ -5,9 +5,9 @@ use Rattle.am_alert.specs.declared.alert.Alert.{Alert}
 use Rattle.am_store.specs.declared.call.Call.{Call}
 use Rattle.am_cast.specs.declared.faults.PublishFault.{PublishFault}
 use Rattle.am_cast.specs.declared.faults.PublishFault.TheVariants as publish
-use Rattle.am_cast.specs.Rule.{most}
-use Rattle.am_cast.specs.Keys.{items_of}
-use Rattle.am_cast.specs.Changes.{Stand, longer_tail, own_at}
+use Rattle.am_cast.specs.declared.limits.TheConstants.{LONGEST_LOG}
+use Rattle.am_cast.specs.Keys.{batch_items}
+use Rattle.am_cast.specs.Changes.{AreInLog, longer_tail, own_at}
 use Rattle.am_cast.specs.Seats.{account_of}
 use Rattle.am_cast.specs.Posters.{PassView}
 use Rattle.am_cast.specs.Writers.{HasRoom, StaysAs, SameAdmission, IsCutAs}
@@ -23,9 +23,9 @@ pub record IsSent (policy : Policy) (old new : LogView) (was is : PassView Alert
     (items : List Alert) (place : ℕ) (cut : List Bool) : Type 0 where
   pub next : place ≡ length old.tail.log
   pub still_open : IsOpen old
-  pub batch : (x : Batch) × (x.post ≡ call) × (items_of x ≡ items)
+  pub batch : (x : Batch) × (x.post ≡ call) × (batch_items x ≡ items)
       × (new.tail ≡ longer_tail x old.tail) × (is.own ≡ was.own ++ own_at place x ∷ [])
-  pub known : Stand is.own is.noted × IsPrefix was.noted is.noted
+  pub known : AreInLog is.own is.noted × IsPrefix was.noted is.noted
   pub lanes : (lane : ℕ) → lane < 8 → SameAdmission (account_of old lane) (account_of new lane)
   pub cuts : (lane : ℕ) → lane < 8 → IsCutAs (length old.tail.log) old.tail.places
       (account_of old lane) (account_of new lane) (slice_index_or cut lane false)
@@ -36,7 +36,7 @@ pub record IsSent (policy : Policy) (old new : LogView) (was is : PassView Alert
 abbrev pub IsLogCause : Policy → LogView → LogView → PutFault → Type 0
 IsLogCause policy old new put_fault.Closed = old.tail.closed ≡ true
 IsLogCause policy old new put_fault.LogEnd =
-    (old.tail.closed ≡ false) × (most ≤ length old.tail.log)
+    (old.tail.closed ≡ false) × (LONGEST_LOG ≤ length old.tail.log)
 IsLogCause policy old new (put_fault.Full lane passed) =
     (policy ≡ Refuse) × IsRefusal old new (publish.Full lane passed)
 IsLogCause policy old new put_fault.NoMemory = IsOpen old × (policy ≡ Refuse → HasRoom new 8)

@@ -9,7 +9,7 @@ use Rattle.am_store.specs.inside.Journals.{journal_of}
 use Rattle.am_store.specs.inside.Shared.{stored_in}
 use Rattle.am_cast.specs.declared.views.Own.{Own}
 use Rattle.am_cast.specs.Rule.{Once}
-use Rattle.am_cast.specs.Changes.{Stand}
+use Rattle.am_cast.specs.Changes.{AreInLog}
 use Rattle.am_cast.specs.Posters.{PassView}
 use Rattle.am_provider.specs.declared.settled.Settled.{Settled}
 use Rattle.am_provider.specs.Batches.{Batch}
@@ -35,6 +35,6 @@ pub record IsSettled (own : List (Own Batch)) (settled : Settled) : Type 0 where
   pub ended : settled.ended.items ≡ book.endings
   pub early : settled.early ≡ book.early
   pub ends : settled.early + length settled.ended.items ≡ lefts_of (journal_of settled.journal)
-  pub posts : Stand own (batches book)
+  pub posts : AreInLog own (batches book)
   pub once : Once own
   pub all : settled.complete ≡ true → (place : ℕ) → place < length (batches book) → IsOwn own place

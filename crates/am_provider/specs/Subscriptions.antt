@@ -17,4 +17,4 @@ pub record SubscriptionView : Type 0 where
 
 -- what it has taken: what it has shown of the opening, and then of the log
 abbrev pub taken : SubscriptionView → List Alert
-taken subscription = take subscription.shown subscription.opening ++ cast.taken subscription.cursor
+taken subscription = take subscription.shown subscription.opening ++ cast.shown_items subscription.cursor

@@ -34,7 +34,7 @@ use crate::pass::Pass;
 use crate::sending::{bits_of, send_batch};
 use crate::subscription::Subscription;
 use am_alert::{Alerts, Moment, Post};
-use am_cast::{AlreadyClosed, MOST_PLACES, Published};
+use am_cast::{AlreadyClosed, LONGEST_LOG, Published};
 use am_store::lanes::{LANES, Lanes, OpenLane, earliest, idle_lane};
 use am_store::store::absorb::{Absorbed, absorb_each, take_back};
 use am_store::store::{AlertMap, remove_resolved, share_all};
@@ -272,7 +272,7 @@ impl<N: Origin> Book<N> {
         ensures err { OnErr result (IsAsBefore self.old self.new × (pass.new ≡ pass.old)) }
     {
         let full = self.log.harvest(cast);
-        if self.log.len() >= MOST_PLACES {
+        if self.log.len() >= LONGEST_LOG {
             return Err(PutFault::LogEnd);
         }
         if let (Policy::Refuse, Some((lane, passed))) = (self.policy, full) {

@@ -3,7 +3,7 @@
 ghost use Rattle.std.specs.Prelude.{◌≡◌, ◌≢◌, ◌<◌, ◌+◌, ◌++◌, ◌∷◌, [], ℕ, false, length, drop, slice_index_or, IfOk, IfErr, OnErr};
 ghost use Rattle.std.specs.Arc.{arc_value};
 ghost use Rattle.am_store.specs.Shared.{alerts_in};
-ghost use Rattle.am_cast.specs.Rule.{most};
+ghost use Rattle.am_cast.specs.declared.limits.TheConstants.{LONGEST_LOG};
 ghost use Rattle.am_cast.specs.Writers.{HasRoom};
 ghost use Rattle.am_store.specs.Journal.{has_lane};
 ghost use Rattle.am_provider.specs.declared.answers.Policy.TheVariants.{Refuse};
@@ -49,7 +49,7 @@ pub(crate) fn send_batch<N: Origin>(
     pass: &mut LogPass<N>,
 ) -> Result<Published, PutFault>
     requires some { 0 < length batch.items }
-    requires open { (writer.old.tail.closed ≡ false) × (length writer.old.tail.log < most) }
+    requires open { (writer.old.tail.closed ≡ false) × (length writer.old.tail.log < LONGEST_LOG) }
     requires room { policy ≡ Refuse → HasRoom writer.old 8 }
     ensures sent { IfOk result (λ sent. IsSent policy writer.old writer.new pass.old pass.new call.now (alerts_in batch.items) sent.place sent.cut) }
     ensures above { IfOk result (λ sent. AreBelow sent.place pass.old.own) }
@@ -100,7 +100,7 @@ fn send<N: Origin>(
     pass: &mut LogPass<N>,
 ) -> Result<Published, PutFault>
     requires some { 0 < length batch.items }
-    requires open { (writer.old.tail.closed ≡ false) × (length writer.old.tail.log < most) }
+    requires open { (writer.old.tail.closed ≡ false) × (length writer.old.tail.log < LONGEST_LOG) }
     requires room { policy ≡ Refuse → HasRoom writer.old 8 }
     ensures sent { IfOk result (λ sent. IsSent policy writer.old writer.new pass.old pass.new call.now batch.items sent.place sent.cut) }
     ensures unsent { IfErr result (λ fault. IsUnsent policy writer.old writer.new fault) }

@@ -3,7 +3,7 @@
 ghost use Rattle.std.specs.Prelude.{◌≡◌, ◌↔◌, ◌≤◌, ◌<◌, ℕ, IsTrue, IfSome, IfNone, [], length};
 ghost use Rattle.std.specs.List.{All};
 ghost use Rattle.am_cast.specs.Rule.{Once};
-ghost use Rattle.am_cast.specs.Changes.{Stand};
+ghost use Rattle.am_cast.specs.Changes.{AreInLog};
 ghost use Rattle.am_provider.specs.Rising.{IsRising};
 ghost use Rattle.am_provider.specs.Settling.{IsOwn, IsSettled, own_of};
 
@@ -72,7 +72,7 @@ fn audit<N: Origin>(
     requires posters { (posters ≡ N.parts) × (1 ≤ posters) }
     requires total { total.old.total ≡ length log.old.tail.log }
     ensures same { log.new ≡ log.old }
-    ensures stand { Stand (own_of passes.items) log.old.tail.log }
+    ensures stand { AreInLog (own_of passes.items) log.old.tail.log }
     ensures once { Once (own_of passes.items) }
     ensures rising { All (λ pass. IsRising pass.own) passes.items }
     ensures all { IsTrue result → (place : ℕ) → place < length log.old.tail.log

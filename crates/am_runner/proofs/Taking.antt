@@ -57,7 +57,7 @@ missed_one new after missed is none = absurd (false≢true (sym none ∙ is))
 
 module _ (old new : SubscriptionView) (before after : Option Consumer) (missed goes_on : Bool) where
   -- what is no alert leaves what was taken
-  none_taken : (told : Bool) → ShowsNone old told new → cast.taken new.cursor ≡ cast.taken old.cursor → taken new ≡ taken old
+  none_taken : (told : Bool) → ShowsNone old told new → cast.shown_items new.cursor ≡ cast.shown_items old.cursor → taken new ≡ taken old
   none_taken told none same = ap taken none.rest ∙ ap (λ (log : List Alert). take old.shown old.opening ++ log) same
 
   after_none : (taken new ≡ taken old) → after ≡ before → TookAll old before missed → TookAll new after missed

@@ -9,7 +9,7 @@ use Rattle.am_provider.specs.Subscriptions.{SubscriptionView, taken}
 
 -- a cursor that has shown nothing and was told nothing
 pub record IsFresh (cursor : CursorView Alert Call OpenLane) : Type 0 where
-  pub taken : cast.taken cursor ≡ []
+  pub taken : cast.shown_items cursor ≡ []
   pub told : cursor.lane.told ≡ false
   pub cut : cursor.lane.cut ≡ false
 

@@ -12,7 +12,7 @@ use Rattle.am_store.specs.inside.Shared.{stored_in, AreKeptByLabels}
 use Rattle.am_store.proofs.Entries.{length_batch, length_became}
 use Rattle.am_alert.specs.declared.alert.Alert.{Alert}
 use Rattle.am_cast.specs.declared.views.Tail.{Tail}
-use Rattle.am_cast.specs.Rule.{most}
+use Rattle.am_cast.specs.declared.limits.TheConstants.{LONGEST_LOG}
 use Rattle.am_cast.specs.Changes.{longer_tail, own_at}
 use Rattle.am_cast.specs.Seats.{account_of}
 use Rattle.am_cast.specs.Posters.{PassView}
@@ -54,7 +54,7 @@ invariant_of-self-in-Ok-1 g c =
     let x = sent.batch in
     let still : c.self.inside.log.tail.closed ≡ false = kept.pages.closed ∙ (ap (λ (b : BookView). is_closed b.journal) c.self.view_is ∙ c.requires.open) in
     let posted : x.0.post ≡ Posted c.args.now valid = x.1 in
-    let few : length c.self.inside.log.tail.log < most = omega (arith, c.if-len-ge-MOST_PLACES.false, c.len.ensures.0, ap (λ (t : Tail Batch). length t.log) tail) in
+    let few : length c.self.inside.log.tail.log < LONGEST_LOG = omega (arith, c.if-len-ge-LONGEST_LOG.false, c.len.ensures.0, ap (λ (t : Tail Batch). length t.log) tail) in
     let room : deque_len c.push_back_reserved.new.self + 9 ≤ deque_capacity c.push_back_reserved.new.self = omega (arith, c.in_ok-reserve.ensures.ok, c.push_back_reserved.ensures.len, c.push_back_reserved.ensures.capacity) in
     let calls : c.push_back_reserved.new.self.items ≡ c.self.inside.journal.calls.items ++ Posted c.args.now valid ∷ [] =
     c.push_back_reserved.ensures.items ∙ ap (λ (calls : List Call). calls ++ Posted c.args.now valid ∷ []) c.in_ok-reserve.ensures.items in

@@ -25,7 +25,7 @@ begin-requires g c =
     let is = c.in-Ok.ensures.ok.3 in
     let same : c.in_ok-kept.kept ≡ c.in_ok-opening.opening = search rules in (
       record {
-        taken = ap cast.taken is ∙ fresh_items c.self.inside.log.tail.log;
+        taken = ap cast.shown_items is ∙ fresh_items c.self.inside.log.tail.log;
         told = ap (λ (x : CursorView Alert Call OpenLane). x.lane.told) is;
         cut = ap (λ (x : CursorView Alert Call OpenLane). x.lane.cut) is;
       },
