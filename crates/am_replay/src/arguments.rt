@@ -96,11 +96,11 @@ const USAGE: &str = "./replay [OPTIONS] < SCRIPT";
 const ABOUT: &str =
     "Runs a script of calls on an in-memory alert provider, and prints each answer.";
 
-const MODE_HELP: &str = "Run the lines in the script's order, or each thread's beside the others";
+const MODE_HELP: &str = "Run the lines in script order, or all threads at the same time";
 
 const PLACES_HELP: &str = "How many batches the log holds, from 1 to 256";
 
-const FULL_HELP: &str = "Where the log is full, refuse the post or cut the slowest subscribers off";
+const FULL_HELP: &str = "If the log is full, refuse the post or cut the slowest subscribers off";
 
 // Two calls that work as they stand, and a line for each command of a script.
 const EXAMPLES: &str = "\
@@ -109,14 +109,14 @@ Examples:
   ./replay --places 1 --full cut < tests/rows/cut_the_slow_lane.in
 
 The first line of a script is the configuration. Each further one is a JSON object
-with a command as `do`, a `thread` from 0 to 7, and what stands beside the command:
+with a command as `do`, a `thread` from 0 to 7, and the command's own members:
   post       at, body          posts alerts
-  subscribe  sub, kind         subscribes, with a `dispatch` or an `inhibit` beside it
-  read       sub, max          prints what the subscription is shown next
+  subscribe  sub, kind         subscribes; `dispatch` adds a dispatcher, `inhibit` an inhibitor
+  read       sub, max          prints what the subscription delivers next
   leave      sub               leaves the subscription
   collect    at                removes the alerts that are resolved by then
   close                        closes the log: no more posts and subscribers
-  trim                         drops the calls that no subscription needs any more
+  trim                         discards the calls that no subscription needs any more
   groups     sub               prints the dispatcher's groups
   sweep      sub, at           removes from the groups what is resolved by then
   mutes      sub, at, labels   asks the inhibitor whether it mutes such an alert";
