@@ -19,7 +19,7 @@ use Rattle.jiff_core.proofs.CalendarLemmas.{days_from_civil-day_count}
 use Rattle.jiff_core.proofs.DateTimeLemmas.{civil_nanos-parts, time_nanos_bound}
 use Rattle.am_alert.specs.Calendar.{Date, next_date, date_after, parts_of}
 
--- a date of the calendar, with so many days from 0001-01-01 to it
+-- a date of the calendar, with the days from 0001-01-01 to it
 pub record IsDateAfter (days : ℕ) (date : Date) : Type 0 where
   pub year_in : 1 ≤ date.year
   pub month_low : 1 ≤ date.month

@@ -1,4 +1,4 @@
--- Facts about the words of specs/ValidAlerts.antt: what the elements of a post come to.
+-- Facts about the words of specs/ValidAlerts.antt: what the elements of a post are read as.
 use Rattle.std.proofs.Common.{◌≡◌, ◌≢◌, ℕ, zero, suc, ◌+◌, ◌<◌, ◌≤◌, Bool, true, false, cond, ◌||◌, nat_lt, nat_eq, List, [], ◌∷◌, ◌++◌, length, reverse, Option, None, Some, Result, Ok, Err, refl, sym, ap, subst, ◌∙◌, arith, add-one, All}
 use Rattle.std.specs.Prelude.{codes, filter, option_and_then, option_map}
 use Rattle.std.specs.FinMap.{empty, get, len, contains_key, get-from_entries}
@@ -161,7 +161,7 @@ well_formed now timeout d alert e =
 
 -- ---- all elements
 
--- what the elements from number i on come to
+-- what the elements from index i on are read as
 pub record AreTold (now i : ℕ) (ds : Items) (entries : Entries) : Type 0 where
   pub valid : All (λ alert. IsWellFormed alert × (alert.updated ≡ now)) entries.0
   pub rising : Rises (indices_of entries.1)

@@ -2,16 +2,18 @@
 use Rattle.std.specs.Prelude.{ℕ, zero, suc, ◌+◌, ◌/◌, ◌%◌, ◌==◌, ◌&&◌, ◌||◌, Bool, not, if◌then◌else◌, nat_lt}
 use Rattle.am_alert.specs.declared.civil_time.CivilTime.{CivilTime}
 
+-- a date of that calendar: its year, its month from 1 and its day of the month from 1
 pub record Date : Type 0 where
   pub year : ℕ
   pub month : ℕ
   pub day : ℕ
 
--- a leap year: each fourth, of the hundredth ones only each fourth
+-- whether a year is a leap year: each fourth is, of the hundredth ones only each fourth
 abbrev pub is_leap_year : ℕ → Bool
 is_leap_year year = (year % 4 == 0) && (not (year % 100 == 0) || (year % 400 == 0))
 
--- February has 28 days, or 29 in a leap year; April, June, September and November have 30, the others 31
+-- how many days a month has: February 28, or 29 in a leap year; April, June, September and November 30, the
+-- others 31
 abbrev pub days_in_month : ℕ → ℕ → ℕ
 days_in_month year month =
     if month == 2 then (if is_leap_year year then 29 else 28)
@@ -24,7 +26,7 @@ next_date date =
     else (if nat_lt date.month 12 then record { year = date.year; month = date.month + 1; day = 1 }
     else record { year = date.year + 1; month = 1; day = 1 })
 
--- the date so many days after 0001-01-01
+-- the date that many days after 0001-01-01
 unfoldable pub date_after : ℕ → Date
 date_after zero = record { year = 1; month = 1; day = 1 }
 date_after (suc days) = next_date (date_after days)

@@ -1,4 +1,4 @@
--- What reading a post and merging two reports come to, in the words of who posts them.
+-- What follows for whoever posts from how a post is read and how two reports are merged.
 use Rattle.std.specs.Prelude.{◌≡◌, ◌≢◌, ◌⊎◌, ℕ, ◌+◌, ◌<◌, ◌≤◌, nat_lt, List, All, length, Ok, if◌then◌else◌}
 use Rattle.am_alert.specs.declared.alert.Alert.{Alert}
 use Rattle.am_alert.specs.declared.post.Post.{Post}
@@ -7,13 +7,13 @@ use Rattle.am_alert.specs.Posts.{IsArray, IsPostOf, count}
 use Rattle.am_alert.specs.ValidAlerts.{IsWellFormed, indices_of, Rises}
 use Rattle.serde_json.specs.Data.{Items}
 
--- a post that is read: its valid alerts are well formed and were updated at the post's moment
+-- the valid alerts of a post are well formed and were updated at the post's moment
 abbrev pub ValidAlertsAreWellFormed : Type 0
 ValidAlertsAreWellFormed =
     (now timeout : ℕ) (bytes : List ℕ) (post : Post) → IsPostOf now timeout bytes (Ok post)
     → All (λ alert. IsWellFormed alert × (alert.updated ≡ now)) post.valid
 
--- the invalid ones are told in order, each by its place in the post
+-- the invalid ones are listed in order, each with its index in the post
 abbrev pub FaultsAreInOrder : Type 0
 FaultsAreInOrder =
     (now timeout : ℕ) (bytes : List ℕ) (post : Post) (elements : Items)
@@ -27,23 +27,24 @@ EachElementCounts =
     → IsPostOf now timeout bytes (Ok post) → IsArray bytes elements
     → length post.valid + length post.faults ≡ count elements
 
--- the report that was updated later; the new one where both were at once
+-- the report that was updated later; the new one if both were updated at once
 abbrev pub younger : Alert → Alert → Alert
 younger stored new = if nat_lt new.updated stored.updated then stored else new
 
--- what is merged starts with the earlier of the two reports
+-- the merged alert starts no later than either report
 abbrev pub MergingStartsEarliest : Type 0
 MergingStartsEarliest =
     (now : ℕ) (stored new : Alert)
     → ((merged now stored new).start ≤ stored.start) × ((merged now stored new).start ≤ new.start)
 
--- and ends when one of them ends
+-- the merged alert ends when one of the two reports ends
 abbrev pub MergingEndsAtAnEnd : Type 0
 MergingEndsAtAnEnd =
     (now : ℕ) (stored new : Alert)
     → ((merged now stored new).end ≡ stored.end) ⊎ ((merged now stored new).end ≡ new.end)
 
--- it is resolved exactly where the younger report is: one that resolves is never overruled, nor one that fires
+-- it is resolved exactly if the younger report is: one that resolves is never overruled, nor one that
+-- fires
 abbrev pub YoungerReportDecides : Type 0
 YoungerReportDecides =
     (now : ℕ) (stored new : Alert)
@@ -56,7 +57,7 @@ YoungerReportStays =
     → let both = merged now stored new in
     both ≡ record (younger stored new) { start = both.start; end = both.end }
 
--- in which order two reports came doesn't matter where they were updated at different moments
+-- in which order two reports came doesn't matter if they were updated at different moments
 abbrev pub MergingHasNoOrder : Type 0
 MergingHasNoOrder =
     (now : ℕ) (one other : Alert) → one.updated ≢ other.updated → merged now one other ≡ merged now other one

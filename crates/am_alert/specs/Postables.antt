@@ -1,7 +1,10 @@
--- The members of an element of a post, over the value that its JSON is (Alertmanager's `postableAlert`, API v2).
-use Rattle.std.specs.Prelude.{◌≡◌, ℕ, Bool, true, false, List, [], ◌∷◌, codes, filter, Option, Some, None, option_map, option_and_then, Result, Ok, Err}
+-- The members of an element of a post, over the value that its JSON is (Alertmanager's `postableAlert`,
+-- API v2).
+use Rattle.std.specs.Prelude.{◌≡◌, ℕ, Bool, true, false, List, [], ◌∷◌, codes, filter}
+use Rattle.std.specs.Prelude.{Option, Some, None, option_map, option_and_then, Result, Ok, Err}
 use Rattle.std.specs.FinMap.{empty}
-use Rattle.serde_json.specs.Data.{Data, null, boolean, number, string, array, object, Members, no_members, member}
+use Rattle.serde_json.specs.Data.{Data, null, boolean, number, string, array, object}
+use Rattle.serde_json.specs.Data.{Members, no_members, member}
 use Rattle.serde_json.specs.Find.{get, as_str, as_object}
 use Rattle.am_labels.specs.LabelSets.{Labels, last_holds}
 use Rattle.am_alert.specs.TimeTexts.{time_of}
@@ -9,19 +12,23 @@ use Rattle.am_alert.specs.declared.postable.Postable.{Postable}
 use Rattle.am_alert.specs.declared.postable.MemberFault.{MemberFault}
 use Rattle.am_alert.specs.declared.postable.MemberFault.TheVariants.{Bad, NoMemory}
 
--- the members of an object as pairs of texts, where each value is a text
+-- the members of an object as pairs of texts, if each value is a text
 abbrev pub pairs_of : Members → Option (List (List ℕ × List ℕ))
 pairs_of no_members = Some []
-pairs_of (member name d ms) = option_and_then (λ pair. option_map (λ rest. pair ∷ rest) (pairs_of ms)) (option_map (λ text. (name, text)) (as_str d))
+pairs_of (member name d ms) =
+    option_and_then (λ pair. option_map (λ rest. pair ∷ rest) (pairs_of ms))
+    (option_map (λ text. (name, text)) (as_str d))
 
+-- the pairs of an object whose members are all texts
 abbrev pub texts_of : Data → Option (List (List ℕ × List ℕ))
 texts_of d = option_and_then pairs_of (as_object d)
 
+-- whether a pair's second text isn't empty
 abbrev pub has_value : List ℕ × List ℕ → Bool
 has_value (name, []) = false
 has_value (name, c ∷ cs) = true
 
--- the labels that have a value (Alertmanager drops the others)
+-- the labels that have a value (Alertmanager ignores the others: `removeEmptyLabels`)
 abbrev pub labels_of : Data → Option Labels
 labels_of d = option_map (λ pairs. last_holds (filter has_value pairs)) (texts_of d)
 
@@ -29,6 +36,7 @@ labels_of d = option_map (λ pairs. last_holds (filter has_value pairs)) (texts_
 abbrev pub annotations_of : Data → Option Labels
 annotations_of d = option_map last_holds (texts_of d)
 
+-- a value, unless it is null
 abbrev pub unless_null : Data → Option Data
 unless_null null = None
 unless_null (boolean b) = Some (boolean b)
@@ -41,24 +49,26 @@ unless_null (object ms) = Some (object ms)
 abbrev pub given : List ℕ → Data → Option Data
 given name d = option_and_then unless_null (get name d)
 
--- an optional member: read where it is given, else the default. None: it is given and isn't read
+-- an optional member: what is read of it if it is given, else the default. None: it is given and isn't
+-- readable
 abbrev pub if_given : {A : Type 0} → A → (Data → Option A) → Option Data → Option A
 if_given absent reads None = Some absent
 if_given absent reads (Some d) = reads d
 
--- a time, or that it is absent
+-- the time of a member, or that it is absent
 abbrev pub time_at : List ℕ → Data → Option (Option ℕ)
 time_at name d = if_given None (λ value. option_and_then time_of (as_str value)) (given name d)
 
--- a text, empty where it is absent
+-- the text of a member, empty if it is absent
 abbrev pub text_at : List ℕ → Data → Option (List ℕ)
 text_at name d = if_given [] as_str (given name d)
 
+-- one reading after another, each of which may fail, for `do`
 infixl 10 ◌>>=◌
 abbrev pub ◌>>=◌ : {A B : Type 0} → Option A → (A → Option B) → Option B
 o >>= f = option_and_then f o
 
--- the members of an element, where each is read: `labels` has to be given, the others may be absent
+-- the members of an element, if each is readable: `labels` has to be given, the others may be absent
 unfoldable pub postable_of : Data → Option Postable
 postable_of d = do
   labels ← option_and_then labels_of (given (codes "labels") d)
@@ -66,7 +76,13 @@ postable_of d = do
   start ← time_at (codes "startsAt") d
   finish ← time_at (codes "endsAt") d
   generator ← text_at (codes "generatorURL") d
-  Some (record { labels = labels; annotations = annotations; start = start; end = finish; generator = generator })
+  Some (record {
+    labels = labels;
+    annotations = annotations;
+    start = start;
+    end = finish;
+    generator = generator;
+  })
 
 -- what a reader returned is what the definition gives, unless memory ran out
 abbrev pub Reads : {X Y : Type 0} → (X → Y) → Result X MemberFault → Option Y → Type 0

@@ -1,5 +1,8 @@
--- The alerts and faults of a post, over the value that its JSON is (Alertmanager's API v2, `postAlertsHandler`).
-use Rattle.std.specs.Prelude.{◌≡◌, ℕ, ◌+◌, ◌<◌, ◌≤◌, ◌⊎◌, ◌||◌, nat_eq, nat_lt, if◌then◌else◌, List, [], ◌∷◌, length, Option, Some, None, option_map, is_none, unwrap_or, Result, Ok, Err, IsUtf8}
+-- The alerts and faults of a post, over the value that its JSON is (Alertmanager's API v2,
+-- `postAlertsHandler`).
+use Rattle.std.specs.Prelude.{◌≡◌, ℕ, ◌+◌, ◌<◌, ◌≤◌, ◌⊎◌, ◌||◌, nat_eq, nat_lt, if◌then◌else◌, List, [], ◌∷◌}
+use Rattle.std.specs.Prelude.{length, Option, Some, None, option_map, is_none, unwrap_or, Result, Ok, Err}
+use Rattle.std.specs.Prelude.{IsUtf8}
 use Rattle.std.specs.FinMap.{contains_key, len}
 use Rattle.serde_json.specs.Data.{Data, array, Items, no_items, item}
 use Rattle.serde_json.specs.Find.{as_array}
@@ -19,11 +22,13 @@ use Rattle.am_alert.specs.declared.post.PostFault.TheVariants as fault
 
 -- ---- one element
 
--- the first of two that is there
+-- the first of two times that is there
 abbrev pub first_given : Option ℕ → Option ℕ → Option ℕ
 first_given None second = second
 first_given (Some time) second = Some time
 
+-- the alert of an element with this end; an absent start is the given end, else the moment
+-- (`postAlertsHandler`'s defaults)
 abbrev pub with_end : ℕ → Postable → ℕ → Alert
 with_end now given finish = record {
   labels = given.labels;
@@ -35,26 +40,30 @@ with_end now given finish = record {
   generator = given.generator;
 }
 
--- an absent end is the moment and the resolve timeout, an absent start is the given end, else the moment
--- (`postAlertsHandler`'s defaults). None: the default end is no instant
+-- the alert of an element: an absent end is the moment and the resolve timeout (`postAlertsHandler`'s
+-- defaults). None: the default end is no instant
 abbrev pub defaulted : ℕ → ℕ → Postable → Option Alert
 defaulted now timeout given = option_map (with_end now given) (first_given given.end (later now timeout))
 
--- why an alert is invalid, the first cause in this order (`types.Alert.Validate`, which tests the times first)
+-- why an alert is invalid, the first cause in this order (`types.Alert.Validate`, which tests the times
+-- first)
 abbrev pub fault_of : Alert → Option AlertFault
 fault_of alert =
     if nat_eq (len alert.labels) 0 then Some NoLabels
     else (if nat_lt alert.end alert.start then Some EndBeforeStart
     else (if contains_key alert.labels [] || contains_key alert.annotations [] then Some EmptyName else None))
 
+-- an alert is valid, or has its fault
 abbrev pub judged : Alert → Option AlertFault → Element
 judged alert None = Valid alert
 judged alert (Some f) = Invalid f
 
+-- an alert whose times are instants is judged; without an instant for its end it is out of range
 abbrev pub in_range : Option Alert → Element
 in_range None = OutOfRange
 in_range (Some alert) = judged alert (fault_of alert)
 
+-- an element whose members are readable gets its defaults and is judged
 abbrev pub read_members : ℕ → ℕ → Option Postable → Element
 read_members now timeout None = BadMember
 read_members now timeout (Some given) = in_range (defaulted now timeout given)
@@ -65,10 +74,11 @@ element_of now timeout d = read_members now timeout (postable_of d)
 
 -- ---- all elements
 
--- valid alerts, and faults by index
+-- valid alerts, and faults with their indices in the post
 abbrev pub Entries : Type 0
 Entries = List Alert × List (ℕ × AlertFault)
 
+-- the entries of the elements after one, and that one before them; its refusal comes before theirs
 abbrev pub with_first : ℕ → Element → Result Entries PostFault → Result Entries PostFault
 with_first i (Valid alert) (Ok rest) = Ok (alert ∷ rest.0, rest.1)
 with_first i (Valid alert) (Err f) = Err f
@@ -77,31 +87,45 @@ with_first i (Invalid f) (Err g) = Err g
 with_first i BadMember rest = Err (fault.BadMember i)
 with_first i OutOfRange rest = Err (fault.OutOfRange i)
 
--- the elements from number i on: what is valid and what is invalid, or the refusal of the first that is refused
+-- the elements from index i on: what is valid and what is invalid, or the refusal of the first that is
+-- refused
 abbrev pub elements_of : ℕ → ℕ → ℕ → Items → Result Entries PostFault
 elements_of now timeout i no_items = Ok ([], [])
-elements_of now timeout i (item d ds) = with_first i (element_of now timeout d) (elements_of now timeout (i + 1) ds)
+elements_of now timeout i (item d ds) =
+    with_first i (element_of now timeout d) (elements_of now timeout (i + 1) ds)
 
 -- ---- the whole post
 
+-- how many elements there are
 abbrev pub count : Items → ℕ
 count no_items = 0
 count (item d ds) = count ds + 1
 
--- few enough bytes that are the JSON of an array of these items
+-- the bytes are the JSON of an array of these elements, and no more bytes than a post may have
 abbrev pub IsArray : List ℕ → Items → Type 0
 IsArray bytes ds = (length bytes ≤ MAX_BYTES) × IsUtf8 bytes × (read bytes ≡ Some (array ds))
 
--- what reading a post answers. Memory may run out at any point after the test of the number of bytes, where there
--- are bytes
+-- what reading a post answers. Memory may run out at any point after the test of the number of bytes, if
+-- there are bytes
 abbrev pub IsPostOf : ℕ → ℕ → List ℕ → Result Post PostFault → Type 0
-IsPostOf now timeout bytes (Ok post) = (ds : Items) × IsArray bytes ds × (count ds ≤ MAX_ALERTS) × (elements_of now timeout 0 ds ≡ Ok (post.valid, post.faults))
-IsPostOf now timeout bytes (Err fault.TooMany) = (MAX_BYTES < length bytes) ⊎ ((ds : Items) × IsArray bytes ds × (MAX_ALERTS < count ds))
-IsPostOf now timeout bytes (Err fault.NotJson) = (length bytes ≤ MAX_BYTES) × (IsUtf8 bytes → read bytes ≡ None)
-IsPostOf now timeout bytes (Err fault.NotAnArray) = (length bytes ≤ MAX_BYTES) × IsUtf8 bytes × (d : Data) × (read bytes ≡ Some d) × (as_array d ≡ None)
-IsPostOf now timeout bytes (Err (fault.BadMember i)) = (ds : Items) × IsArray bytes ds × (count ds ≤ MAX_ALERTS) × (elements_of now timeout 0 ds ≡ Err (fault.BadMember i))
-IsPostOf now timeout bytes (Err (fault.OutOfRange i)) = (ds : Items) × IsArray bytes ds × (count ds ≤ MAX_ALERTS) × (elements_of now timeout 0 ds ≡ Err (fault.OutOfRange i))
-IsPostOf now timeout bytes (Err fault.NoMemory) = (0 < length bytes) × (length bytes ≤ MAX_BYTES)
+IsPostOf now timeout bytes (Ok post) =
+    (ds : Items) × IsArray bytes ds × (count ds ≤ MAX_ALERTS)
+    × (elements_of now timeout 0 ds ≡ Ok (post.valid, post.faults))
+IsPostOf now timeout bytes (Err fault.TooMany) =
+    (MAX_BYTES < length bytes) ⊎ ((ds : Items) × IsArray bytes ds × (MAX_ALERTS < count ds))
+IsPostOf now timeout bytes (Err fault.NotJson) =
+    (length bytes ≤ MAX_BYTES) × (IsUtf8 bytes → read bytes ≡ None)
+IsPostOf now timeout bytes (Err fault.NotAnArray) =
+    (length bytes ≤ MAX_BYTES) × IsUtf8 bytes
+    × (d : Data) × (read bytes ≡ Some d) × (as_array d ≡ None)
+IsPostOf now timeout bytes (Err (fault.BadMember i)) =
+    (ds : Items) × IsArray bytes ds × (count ds ≤ MAX_ALERTS)
+    × (elements_of now timeout 0 ds ≡ Err (fault.BadMember i))
+IsPostOf now timeout bytes (Err (fault.OutOfRange i)) =
+    (ds : Items) × IsArray bytes ds × (count ds ≤ MAX_ALERTS)
+    × (elements_of now timeout 0 ds ≡ Err (fault.OutOfRange i))
+IsPostOf now timeout bytes (Err fault.NoMemory) =
+    (0 < length bytes) × (length bytes ≤ MAX_BYTES)
 
 -- what reading the elements answered is what the definition gives, unless memory ran out
 abbrev pub ReadsEach : Result Post PostFault → Result Entries PostFault → Type 0

@@ -14,13 +14,13 @@ use Rattle.am_alert.specs.declared.post.PostFault.TheVariants as post_fault
 abbrev pub zero_padded : ℕ → ℕ → List ℕ
 zero_padded width n = replicate (width - length (decimal n)) 48 ++ decimal n
 
--- `2024-01-01T10:00:00`
+-- an instant up to its second: `2024-01-01T10:00:00`
 abbrev pub second_text : CivilTime → List ℕ
 second_text p =
     zero_padded 4 p.year ++ (45 ∷ zero_padded 2 p.month ++ (45 ∷ zero_padded 2 p.day
     ++ (84 ∷ zero_padded 2 p.hour ++ (58 ∷ zero_padded 2 p.minute ++ (58 ∷ zero_padded 2 p.second)))))
 
--- nothing for a whole second, else a point and nine digits
+-- a fraction of a second: nothing for a whole second, else a point and nine digits
 abbrev pub fraction_text : ℕ → List ℕ
 fraction_text nanosecond = if nanosecond == 0 then [] else 46 ∷ zero_padded 9 nanosecond
 
@@ -32,7 +32,8 @@ moment_text moment = second_text (parts_of moment) ++ (fraction_text (parts_of m
 abbrev pub alert_text : Alert → List ℕ
 alert_text alert =
     labels_text alert.labels ++ (32 ∷ moment_text alert.start ++ (32 ∷ moment_text alert.end
-    ++ (32 ∷ (if alert.timeout then codes "timeout" else codes "given") ++ (32 ∷ labels_text alert.annotations))))
+    ++ (32 ∷ (if alert.timeout then codes "timeout" else codes "given")
+    ++ (32 ∷ labels_text alert.annotations))))
 
 -- why one alert of a post is invalid
 abbrev pub alert_fault_text : AlertFault → List ℕ

@@ -1,5 +1,6 @@
 -- The instant of a time text, by jiff's Temporal reader.
-use Rattle.std.specs.Prelude.{◌≡◌, ℕ, ℤ, pos, negsuc, ◌+ℤ◌, List, [], ◌∷◌, if◌then◌else◌, nat_eq, Option, Some, None, Result, Ok, Err}
+use Rattle.std.specs.Prelude.{◌≡◌, ℕ, ℤ, pos, negsuc, ◌+ℤ◌, List, [], ◌∷◌, if◌then◌else◌, nat_eq}
+use Rattle.std.specs.Prelude.{Option, Some, None, Result, Ok, Err}
 use Rattle.jiff.specs.Words.{Error, parse_timestamp}
 use Rattle.am_alert.specs.declared.time_text.TimeFault.{TimeFault}
 use Rattle.am_alert.specs.declared.time_text.TimeFault.TheVariants.{BadTime, NoMemory}
@@ -8,16 +9,17 @@ use Rattle.am_alert.specs.declared.time_text.TimeFault.TheVariants.{BadTime, NoM
 abbrev pub year_1970 : ℕ
 year_1970 = 62_135_596_800_000_000_000
 
--- 0001-01-01T00:00:00Z, Go's zero time, counts as absent, and an earlier instant isn't read
+-- 0001-01-01T00:00:00Z, Go's zero time, counts as absent, and an earlier instant isn't readable
 abbrev pub from_year_one : ℤ → Option (Option ℕ)
 from_year_one (pos n) = Some (if nat_eq n 0 then None else Some n)
 from_year_one (negsuc n) = None
 
+-- the instant of what jiff read, if it read one
 abbrev pub instant_of : Result ℤ Error → Option (Option ℕ)
 instant_of (Ok nanosecond) = from_year_one (nanosecond +ℤ pos year_1970)
 instant_of (Err e) = None
 
--- what a time text gives, where it is read: an instant, or that the time is absent
+-- what a time text gives, if it is readable: an instant, or that the time is absent
 abbrev pub time_of : List ℕ → Option (Option ℕ)
 time_of [] = Some None
 time_of (c ∷ cs) = instant_of (parse_timestamp (c ∷ cs))

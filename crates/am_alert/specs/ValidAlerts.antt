@@ -1,5 +1,5 @@
--- What holds of each valid alert (Alertmanager's `types.Alert.Validate`, after its handler has dropped the labels
--- with no value), and of the order of the invalid ones.
+-- What holds of each valid alert (Alertmanager's `types.Alert.Validate`, once `removeEmptyLabels` has taken
+-- out the labels with no value), and of the order of the invalid ones.
 use Rattle.std.specs.Prelude.{◌≡◌, ◌≢◌, ℕ, ◌<◌, ◌≤◌, false, List, [], map, Some}
 use Rattle.std.specs.List.Sorted.{IsStrictlyIncreasing}
 use Rattle.std.specs.FinMap.{contains_key, get, len}
@@ -14,10 +14,10 @@ pub record IsWellFormed (alert : Alert) : Type 0 where
   pub has_annotation_names : contains_key alert.annotations [] ≡ false
   pub ordered : alert.start ≤ alert.end
 
--- the places of invalid alerts in their post
+-- the indices of invalid alerts in their post
 abbrev pub indices_of : List (ℕ × AlertFault) → List ℕ
 indices_of faults = map (λ fault. fault.0) faults
 
--- each is above the one before
+-- each index is above the one before
 abbrev pub Rises : List ℕ → Type 0
 Rises indices = IsStrictlyIncreasing indices

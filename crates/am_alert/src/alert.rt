@@ -11,14 +11,14 @@ use std::fmt;
 /// What was reported of one label set.
 #[derive(Debug, Drop, PartialEq)]
 pub struct Alert {
-    /// What the alert is known by.
+    /// They identify the alert.
     pub labels: LabelSet,
     pub annotations: LabelSet,
     pub start: Moment,
     pub end: Moment,
     /// When the report came.
     pub updated: Moment,
-    /// Whether the end was not given, and is the report's moment and the resolve timeout.
+    /// Whether no end was given: the end is then the report's moment plus the resolve timeout.
     pub timeout: bool,
     /// The `generatorURL`, as it was posted.
     pub generator: SharedText,
@@ -34,8 +34,8 @@ impl Alert {
         self.end <= now
     }
 
-    /// The same alert once more, which shares its texts. It takes no memory, and fails only where
-    /// 2^63 copies are there already.
+    /// The same alert once more, which shares its texts. It takes no memory, and fails only if
+    /// there are 2^63 copies already.
     pub fn copy(&self) -> Result<Alert, AllocError>
         ensures { IfOk result (λ copy. copy ≡ self.now) }
     {

@@ -5,17 +5,17 @@ ghost use Rattle.am_alert.specs.Laws.{MergingHasNoOrder, MergingStartsEarliest};
 ghost use Rattle.am_alert.specs.Laws.{ValidAlertsAreWellFormed, YoungerReportDecides};
 ghost use Rattle.am_alert.specs.Laws.{YoungerReportStays};
 
-/// Of a post that was read: its valid alerts are well formed and were updated at its moment, its
-/// invalid ones are told in order, and each of its elements is one of these, once.
+/// Of a post that was read: its valid alerts are well formed and were updated at its moment. Its
+/// invalid ones are listed in order. Each of its elements is one of these, once.
 pub fn post_laws()
     ensures valid { ValidAlertsAreWellFormed }
     ensures faults { FaultsAreInOrder }
     ensures count { EachElementCounts }
 {}
 
-/// Of two reports that are merged: the alert starts with the earlier one, ends when one of them
-/// ends, is resolved exactly where the younger one is, and has all else from it. In which order
-/// they came doesn't matter where they were updated at different moments.
+/// Of two reports that are merged: the alert starts no later than either, and ends when one of them
+/// ends. It is resolved exactly if the younger one is, and has all else from that one. In which
+/// order they came doesn't matter if they were updated at different moments.
 pub fn merging_laws()
     ensures start { MergingStartsEarliest }
     ensures end { MergingEndsAtAnEnd }

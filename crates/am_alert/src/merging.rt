@@ -9,7 +9,7 @@ use crate::alert::Alert;
 use crate::moment::Moment;
 use std::alloc::AllocError;
 
-/// Whether one report begins or ends strictly within the other.
+/// Whether the new report begins or ends strictly within the old one.
 pub fn overlaps(old: &Alert, new: &Alert) -> bool
     ensures { result ≡ overlap old.now new.now }
 {
@@ -17,8 +17,8 @@ pub fn overlaps(old: &Alert, new: &Alert) -> bool
 }
 
 /// Two reports of one label set as one: the younger report, from the earlier of the two starts. The
-/// older report's later end is kept where it still says something: where both ended by `now`, or
-/// where the younger hasn't and the older's end was given.
+/// older report's end is kept if it is later and still says something: both ended by `now`, or the
+/// younger hasn't and the older's end was given.
 pub fn merge(old: &Alert, new: &Alert, now: Moment) -> Result<Alert, AllocError>
     ensures { IfOk result (λ both. both ≡ merged now old.now new.now) }
 {
@@ -53,8 +53,8 @@ fn combined_end(older: &Alert, younger: &Alert, now: Moment) -> Moment
     }
 }
 
-/// What a label set holds once the new report of it came: both as one where they overlap, and else
-/// the new one. It shares their texts.
+/// What a label set holds once the new report of it came: both as one if they overlap, else the new
+/// one. It shares their texts.
 pub fn absorb(stored: Option<&Alert>, new: &Alert, now: Moment) -> Result<Alert, AllocError>
     ensures { IfOk result (λ alert. alert ≡ absorbed now (option_copied stored.entry) new.now) }
 {

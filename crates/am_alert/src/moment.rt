@@ -54,7 +54,7 @@ impl Moment {
         Moment { nanoseconds }
     }
 
-    /// The instant that many nanoseconds after 0001-01-01T00:00:00Z, where it isn't past the last
+    /// The instant that many nanoseconds after 0001-01-01T00:00:00Z, unless it is after the last
     /// one.
     pub fn try_new(nanoseconds: u128) -> Option<Moment>
         ensures { result ≡ (if nat_lt nanoseconds moments then Some nanoseconds else None) }
@@ -66,7 +66,7 @@ impl Moment {
         }
     }
 
-    /// The instant that much later, where there is one.
+    /// The instant that much later, if there is one.
     pub fn checked_add(self, duration: Duration) -> Option<Moment>
         ensures { result ≡ later self (as_nanos duration) }
     {
@@ -100,7 +100,7 @@ impl Moment {
     }
 }
 
-// In UTC, as `2024-01-01T10:00:00Z`, with nine digits of a second where it isn't whole.
+// In UTC, as `2024-01-01T10:00:00Z`, with nine digits of a second if it isn't whole.
 impl fmt::Display for Moment {
     ghost output = { λ moment. Some (moment_text moment) };
 

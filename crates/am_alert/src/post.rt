@@ -12,9 +12,9 @@ use std::fmt;
 use std::marker::Model;
 use thiserror::Error;
 
-/// At most so many bytes in a post.
+/// A post has at most this many bytes.
 pub const MAX_BYTES: usize = 4_194_304;
-/// At most so many alerts in a post.
+/// A post has at most this many alerts, invalid ones included.
 pub const MAX_ALERTS: usize = 1_024;
 
 /// Why one alert of a post is invalid. The others of the post stay valid.
@@ -72,9 +72,9 @@ pub enum PostFault {
     NotAnArray,
     /// More than 4,194,304 bytes or 1,024 alerts.
     TooMany,
-    /// The element isn't an object, has no labels, or has a member that isn't read.
+    /// The element isn't an object, has no labels, or has a member that isn't readable.
     BadMember(u32),
-    /// The element gives no end, and the moment and the resolve timeout are no instant.
+    /// The element gives no end, and the moment plus the resolve timeout isn't an instant.
     OutOfRange(u32),
 }
 

@@ -1,7 +1,7 @@
 //! Reading a post: from the bytes of a request to `/api/v2/alerts` to its valid alerts and its
 //! faults.
 //!
-//! One bad element refuses the whole post; an invalid alert costs no other.
+//! For one bad element the whole post is refused; an invalid alert affects no other.
 
 ghost use Rattle.std.specs.Prelude.{◌≡◌, ◌≤◌, IfOk, length};
 ghost use Rattle.std.specs.Duration.{as_nanos};
@@ -113,7 +113,7 @@ fn read_element(
     })
 }
 
-// The alert with its times, or None where it gives no end and the default one is no instant.
+// The alert with its times, or None if it gives no end and the default one isn't an instant.
 fn with_defaults(postable: Postable, now: Moment, resolve_timeout: Duration) -> Option<Alert>
     ensures { result ≡ defaulted now (as_nanos resolve_timeout) postable }
 {

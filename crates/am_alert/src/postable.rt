@@ -16,7 +16,7 @@ use std::alloc::{AllocError, AllocFailed, Global};
 /// Why a member was not read.
 #[derive(Clone, Copy, Debug, PartialEq, Eq)]
 pub(crate) enum MemberFault {
-    /// It is missing, has another kind, or is a time that isn't read.
+    /// It is missing, has another kind, or is a time that isn't readable.
     Bad,
     NoMemory,
 }
@@ -73,7 +73,7 @@ pub(crate) fn read_postable(alloc: Global, element: Value) -> Result<Postable, M
     })
 }
 
-// A member that is there and isn't null. It is taken out of the object.
+// A member that is there and isn't null. It is removed from the object.
 fn take(members: &mut Map<String, Value>, name: &str) -> Option<Value>
     ensures given { option_map view result
         ≡ given name.now (object (members_view members.old.entries)) }

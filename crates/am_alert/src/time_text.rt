@@ -9,10 +9,10 @@ use thiserror::Error;
 /// Why a time text gives no instant.
 #[derive(Clone, Copy, Debug, PartialEq, Eq, Error)]
 pub enum TimeFault {
-    /// It isn't read, or names an instant before 0001-01-01T00:00:00Z.
+    /// It isn't readable, or names an instant before 0001-01-01T00:00:00Z.
     #[error("not a time")]
     BadTime,
-    /// It never comes, since jiff's reader takes no memory.
+    /// It never happens, since jiff's reader takes no memory.
     #[error("no memory")]
     NoMemory,
 }

@@ -2,11 +2,14 @@
 //! beside what it is compared with.
 
 ghost use Rattle.std.specs.Prelude.{◌≡◌, ◌<◌, ◌≤◌, length, IfOk};
+ghost use Rattle.am_cast.specs.declared.limits.TheConstants.{MAX_PLACES};
 
 use crate::failure::Failure;
 use crate::printed::Printed;
 use crate::words::number;
-use am_cast::{Begun, Cast, Cursor, Feed, Parts, Pass, Refused, Step, Writer, begin, end};
+use am_cast::{
+    Begun, Cast, Cursor, Feed, LANES, MAX_PLACES, Parts, Pass, Refused, Step, Writer, begin, end,
+};
 use am_segment::SegmentBuilder;
 use std::alloc::{AllocError, Global};
 use std::marker::Brand;
@@ -25,7 +28,7 @@ pub(crate) struct Load {
     items: usize,
     places: u64,
     ghost some: { 0 < items },
-    ghost within: { (0 < places) × (places ≤ 256) },
+    ghost within: { (0 < places) × (places ≤ MAX_PLACES) },
 }
 
 impl Load {
@@ -34,7 +37,7 @@ impl Load {
         let batches = number(words, 1)?;
         let items = number(words, 2)? as usize;
         let places = number(words, 3)?;
-        if readers > 8 || items == 0 || places == 0 || places > 256 {
+        if readers > LANES as u64 || items == 0 || places == 0 || places > MAX_PLACES {
             return None;
         }
         Some(Load {

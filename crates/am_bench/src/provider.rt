@@ -10,6 +10,7 @@ use crate::failure::Failure;
 use crate::printed::Printed;
 use crate::words::{number, small_number};
 use am_alert::{Moment, Post, read_post};
+use am_cast::{LANES, MAX_PLACES};
 use am_provider::{
     Begun, Book, Cast, NoGate, Origin, Parts, Pass, Policy, Provider, Step, Subscription,
 };
@@ -47,7 +48,7 @@ impl Load {
         let alerts = number(words, 4)?;
         let labels = number(words, 5)?;
         let trim = number(words, 6)?;
-        if posters == 0 || posters > 64 || readers > 8 || alerts == 0 || labels == 0 {
+        if posters == 0 || posters > 64 || readers > LANES as u32 || alerts == 0 || labels == 0 {
             return None;
         }
         Some(Load {
@@ -400,7 +401,7 @@ fn run_ready<N: Origin + Send + Sync, R: Threads + Wait + Clock + Sync>(
     })
 }
 
-// A run with a new provider of 256 places.
+// A run with a new provider of as many places as a log may have.
 fn run<R: Threads + Wait + Clock + Sync>(
     rt: &R,
     alloc: Global,
@@ -409,10 +410,10 @@ fn run<R: Threads + Wait + Clock + Sync>(
     let bodies = bodies_of(alloc, load)?;
     if load.ready {
         let posts = read_posts(alloc, &bodies, load)?;
-        let parts = Parts::make(alloc, 256, 1)?;
+        let parts = Parts::make(alloc, MAX_PLACES as u32, 1)?;
         return run_ready::<Brand, R>(rt, alloc, parts, posts, load);
     }
-    let parts = Parts::make(alloc, 256, load.posters)?;
+    let parts = Parts::make(alloc, MAX_PLACES as u32, load.posters)?;
     run_bytes::<Brand, R>(rt, alloc, parts, &bodies, load)
 }
 

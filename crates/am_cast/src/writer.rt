@@ -100,6 +100,7 @@ impl<T: Drop, P, A, N: Feed> Writer<T, P, A, N> {
         ensures same { self.new ≡ self.old }
         ensures own { pass.new.own ≡ pass.old.own }
         ensures noted { IsPrefix pass.old.noted pass.new.noted × AreInLog pass.new.own pass.new.noted }
+        ensures known { IsPrefix pass.new.noted self.new.tail.log }
         ensures stand { AreInLog pass.new.own self.new.tail.log }
         ensures once { Once pass.new.own }
     {

@@ -2,6 +2,7 @@
 //! and go: what each reader is shown, and when it is cut.
 
 ghost use Rattle.std.specs.Prelude.{◌≡◌, ◌<◌, ◌≤◌, length, IfOk};
+ghost use Rattle.am_cast.specs.declared.limits.TheConstants.{MAX_PLACES};
 
 use crate::log::{Log, begin_log, end_log};
 use am_cast::{Cast, Cursor, Feed, Parts, Pass, Refused, Step, Writer};
@@ -213,7 +214,7 @@ fn beside_of<R: Threads + Wait + Sync>(
     places: u64,
     load: Load,
 ) -> Result<Run, AllocError>
-    requires { (0 < places) × (places ≤ 256) }
+    requires { (0 < places) × (places ≤ MAX_PLACES) }
 {
     let parts = Parts::make(alloc, places)?;
     beside::<Brand, R>(rt, alloc, parts, load)

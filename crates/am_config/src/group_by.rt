@@ -6,7 +6,7 @@ ghost use Rattle.std.specs.FinMap.{retain_keys};
 ghost use Rattle.am_labels.specs.Texts.{same_text};
 
 use crate::label_names::LabelNames;
-use am_labels::LabelSet;
+use am_labels::{LabelSet, label_set_laws};
 use std::alloc::{AllocError, Global};
 
 /// By which labels a route groups its alerts.
@@ -51,6 +51,7 @@ fn labels_named(
     ensures { IfOk result (λ named.
         named ≡ retain_keys labels.now (λ name. list_any (same_text name) names.now)) }
 {
+    label_set_laws();
     let mut named = Vec::new(alloc);
     for (name, value) in labels.names_and_values() {
         if names.contains(name.as_str()) {

@@ -1,4 +1,4 @@
--- The sources of rules by their values, as label sets are added and taken back.
+-- The sources of rules by their values, as label sets are added and additions undone.
 use Rattle.std.proofs.Common.{◌≡◌, ℕ, zero, suc, ◌+◌, ◌-◌, ◌<◌, cond, List, [], ◌∷◌, ◌++◌, map, length, take, drop, set, get_or, Some, None, refl, sym, ap, ◌∙◌, arith, append_assoc, length-append}
 use Rattle.std.specs.List.{slice_get, position}
 use Rattle.std.specs.Map.{keys_of, values_of, lookup}
@@ -83,7 +83,7 @@ nothing_left_out (entry ∷ entries) (suc at) past = ap (λ rest. entry ∷ rest
 
 -- ---- all rules
 
--- the last of some changes, taken back first
+-- the last of some changes, undone first
 pub back_one : (changes : List SourceChange) (change : SourceChange) (indexes : List IndexView) (index : IndexView) → length changes < length indexes → index ≡ get_or indexes (length changes) index
     → indexes_before changes (set indexes (length changes) (index_before change index)) ≡ indexes_before (changes ++ change ∷ []) indexes
 back_one changes change [] index early is = absurd (omega arith)

@@ -14,15 +14,15 @@ use Rattle.am_inhibit.specs.Muting.{agree_on, is_on_both_sides, is_candidate, in
 use Rattle.am_inhibit.proofs.Cases.{by_bool}
 use Rattle.am_inhibit.proofs.LastAlerts.{set_last, last_alerts-push, last_alerts-twice}
 
-pub last_alerts_go_on : (taken : List Alert) (alert : Alert) → last_alerts (last_alerts taken ++ alert ∷ []) ≡ last_alerts (taken ++ alert ∷ [])
-last_alerts_go_on taken alert =
-    last_alerts-push (last_alerts taken) alert
-    ∙ (ap (set_last alert) (last_alerts-twice taken) ∙ sym (last_alerts-push taken alert))
+pub last_alerts_go_on : (given : List Alert) (alert : Alert) → last_alerts (last_alerts given ++ alert ∷ []) ≡ last_alerts (given ++ alert ∷ [])
+last_alerts_go_on given alert =
+    last_alerts-push (last_alerts given) alert
+    ∙ (ap (set_last alert) (last_alerts-twice given) ∙ sym (last_alerts-push given alert))
 
-pub last_alerts_decide : (taken : List Alert) (rules : List InhibitRule) (labels : Labels) (now : ℕ)
-    → (muted (last_alerts taken) rules labels now ≡ muted taken rules labels now) × (candidates_seen (last_alerts taken) rules labels now ≡ candidates_seen taken rules labels now)
-last_alerts_decide taken rules labels now =
-    let all : candidates (last_alerts taken) rules labels ≡ candidates taken rules labels = ap (λ alerts. flat_map (rule_candidates labels alerts) (enumerate_from 0 rules)) (last_alerts-twice taken) in (
+pub last_alerts_decide : (given : List Alert) (rules : List InhibitRule) (labels : Labels) (now : ℕ)
+    → (muted (last_alerts given) rules labels now ≡ muted given rules labels now) × (candidates_seen (last_alerts given) rules labels now ≡ candidates_seen given rules labels now)
+last_alerts_decide given rules labels now =
+    let all : candidates (last_alerts given) rules labels ≡ candidates given rules labels = ap (λ alerts. flat_map (rule_candidates labels alerts) (enumerate_from 0 rules)) (last_alerts-twice given) in (
       ap (λ some. option_map {U = ℕ × Labels} (λ (candidate : Candidate). (candidate.number, candidate.alert.labels)) (find (candidate_inhibits labels now) some)) all,
       ap (count_to (candidate_inhibits labels now)) all,
     )
@@ -87,9 +87,9 @@ all_others labels now alerts number (rule ∷ rules) =
     by_answer None other candidate e here there = there e
     by_answer (Some x) other candidate e here there = here e
 
-pub no_alert_mutes_itself : (taken : List Alert) (rules : List InhibitRule) (labels : Labels) (now number : ℕ) → muted taken rules labels now ≡ Some (number, labels) → ⊥
-no_alert_mutes_itself taken rules labels now number answer =
-    by_found (find (candidate_inhibits labels now) (candidates taken rules labels)) answer ((all_others labels now (last_alerts taken) 0 rules).others)
+pub no_alert_mutes_itself : (given : List Alert) (rules : List InhibitRule) (labels : Labels) (now number : ℕ) → muted given rules labels now ≡ Some (number, labels) → ⊥
+no_alert_mutes_itself given rules labels now number answer =
+    by_found (find (candidate_inhibits labels now) (candidates given rules labels)) answer ((all_others labels now (last_alerts given) 0 rules).others)
   where
     by_found : (found : Option Candidate) → option_map {U = ℕ × Labels} (λ (candidate : Candidate). (candidate.number, candidate.alert.labels)) found ≡ Some (number, labels) → ((candidate : Candidate) → found ≡ Some candidate → candidate.alert.labels ≡ labels → ⊥) → ⊥
     by_found None e none = absurd (let e' : ◌≡◌ {A = Option (ℕ × Labels)} None (Some (number, labels)) = e in (cc))

@@ -32,7 +32,7 @@ count-shown labels now number rule (alert ∷ alerts) =
     (λ passes. count_to-yes test one rest passes ∙ sym (count_to-yes (inhibits rule labels now) alert alerts passes))
     (λ fails. count_to-no test one rest fails ∙ (ap (λ n. 1 + n) (count-shown labels now number rule alerts) ∙ sym (count_to-no (inhibits rule labels now) alert alerts fails)))
 
--- what the search of one rule found: the place of an alert, or none, and how many it came to
+-- what the search of one rule found: the index of an alert, or none, and how many it looked at
 pub record IsFound (labels : Labels) (now : ℕ) (alerts : List Alert) (rule : InhibitRule) (at : Option ℕ) (looked : ℕ) : Type 0 where
   pub found : option_and_then (slice_get alerts) at ≡ find (inhibits rule labels now) (filter (is_candidate rule labels) alerts)
   pub count : looked ≡ count_to (inhibits rule labels now) (filter (is_candidate rule labels) alerts)

@@ -8,16 +8,16 @@ use Rattle.am_inhibit.specs.Muting.{candidates_seen, muted}
 
 -- what the last alerts become by one more alert depends on them alone, not on what led to them
 abbrev pub LastAlertsGoOn : Type 0
-LastAlertsGoOn = (taken : List Alert) (alert : Alert)
-    → last_alerts (last_alerts taken ++ alert ∷ []) ≡ last_alerts (taken ++ alert ∷ [])
+LastAlertsGoOn = (given : List Alert) (alert : Alert)
+    → last_alerts (last_alerts given ++ alert ∷ []) ≡ last_alerts (given ++ alert ∷ [])
 
 -- the last alerts decide who is muted, and how many candidates are examined
 abbrev pub LastAlertsDecide : Type 0
-LastAlertsDecide = (taken : List Alert) (rules : List InhibitRule) (labels : Labels) (now : ℕ)
-    → (muted (last_alerts taken) rules labels now ≡ muted taken rules labels now)
-    × (candidates_seen (last_alerts taken) rules labels now ≡ candidates_seen taken rules labels now)
+LastAlertsDecide = (given : List Alert) (rules : List InhibitRule) (labels : Labels) (now : ℕ)
+    → (muted (last_alerts given) rules labels now ≡ muted given rules labels now)
+    × (candidates_seen (last_alerts given) rules labels now ≡ candidates_seen given rules labels now)
 
 -- no alert mutes itself
 abbrev pub NoAlertMutesItself : Type 0
-NoAlertMutesItself = (taken : List Alert) (rules : List InhibitRule) (labels : Labels) (now number : ℕ)
-    → muted taken rules labels now ≢ Some (number, labels)
+NoAlertMutesItself = (given : List Alert) (rules : List InhibitRule) (labels : Labels) (now number : ℕ)
+    → muted given rules labels now ≢ Some (number, labels)

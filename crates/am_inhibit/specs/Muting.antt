@@ -45,10 +45,10 @@ rule_candidates labels alerts (number, rule) =
     map (λ alert. record { number = number; rule = rule; alert = alert })
     (filter (is_candidate rule labels) alerts)
 
--- those of all rules, the lowest first, and of a rule's those first whose label set was taken first
+-- those of all rules, the lowest first, and of a rule's those first whose label set was given first
 abbrev pub candidates : List Alert → List InhibitRule → Labels → List Candidate
-candidates taken rules labels =
-    flat_map (rule_candidates labels (last_alerts taken)) (enumerate_from 0 rules)
+candidates given rules labels =
+    flat_map (rule_candidates labels (last_alerts given)) (enumerate_from 0 rules)
 
 -- whether a candidate mutes the target
 abbrev pub candidate_inhibits : Labels → ℕ → Candidate → Bool
@@ -56,9 +56,9 @@ candidate_inhibits labels now candidate = inhibits candidate.rule labels now can
 
 -- the first that mutes the target: the number of its rule, and its label set
 abbrev pub muted : List Alert → List InhibitRule → Labels → ℕ → Option (ℕ × Labels)
-muted taken rules labels now =
+muted given rules labels now =
     option_map (λ candidate. (candidate.number, candidate.alert.labels))
-    (find (candidate_inhibits labels now) (candidates taken rules labels))
+    (find (candidate_inhibits labels now) (candidates given rules labels))
 
 -- how many elements there are up to and including the first that passes a test; all, if none does
 abbrev pub count_to : {X : Type 0} → (X → Bool) → List X → ℕ
@@ -66,5 +66,5 @@ count_to test all = min (length all) (prefix_len (λ x. not (test x)) all + 1)
 
 -- how many candidates are examined for the answer
 abbrev pub candidates_seen : List Alert → List InhibitRule → Labels → ℕ → ℕ
-candidates_seen taken rules labels now =
-    count_to (candidate_inhibits labels now) (candidates taken rules labels)
+candidates_seen given rules labels now =
+    count_to (candidate_inhibits labels now) (candidates given rules labels)

@@ -3,7 +3,8 @@ use Rattle.std.specs.Prelude.{◌≡◌, ◌⊎◌, true, ℕ, List, ◌++◌, O
 use Rattle.am_labels.specs.declared.operator.Operator.{Operator}
 use Rattle.std.specs.List.{flat_map}
 use Rattle.am_labels.specs.Matchers.{MatcherView, IsTextOf, IsReadingOf}
-use Rattle.am_labels.specs.MatcherTexts.{IsSplit, IsValue, HasParts, HasNoName, HasNoOperator, letters, operator_text, spelled}
+use Rattle.am_labels.specs.MatcherTexts.{IsSplit, IsValue, HasParts, HasNoName, HasNoOperator}
+use Rattle.am_labels.specs.MatcherTexts.{letters, operator_text, spelled}
 use Rattle.am_labels.specs.Printing.{is_classic_name, quoted}
 
 -- a text has at most one name, operator and way to write the value

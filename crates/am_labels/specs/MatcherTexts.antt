@@ -1,5 +1,6 @@
 -- The text of one matcher, as `name="value"` (Alertmanager's `labels.ParseMatcher`, pkg/labels/parse.go).
-use Rattle.std.specs.Prelude.{◌≡◌, ◌⊎◌, ℕ, Bool, true, false, ◌||◌, ◌&&◌, ◌==◌, if◌then◌else◌, List, [], ◌∷◌, ◌++◌, map, reverse, codes, encode_utf8}
+use Rattle.std.specs.Prelude.{◌≡◌, ◌⊎◌, ℕ, Bool, true, false, ◌||◌, ◌&&◌, ◌==◌, if◌then◌else◌}
+use Rattle.std.specs.Prelude.{List, [], ◌∷◌, ◌++◌, map, reverse, codes, encode_utf8}
 use Rattle.std.specs.List.{list_all, list_any}
 use Rattle.std.specs.Char.{is_ascii_whitespace}
 use Rattle.am_labels.specs.Printing.{is_name_start, is_name_byte, is_classic_name}
@@ -38,7 +39,7 @@ IsNamed text name rest =
     (from_name : List ℕ) × (behind_name : List ℕ)
     × IsSpaceThen text from_name × IsNameThen from_name name behind_name × IsSpaceThen behind_name rest
 
--- the text is an operator and what stands behind it, and `=` is none before a `~`
+-- the text is an operator and what follows it, and `=` is none before a `~`
 abbrev pub IsOperatorThen : List ℕ → Operator → List ℕ → Type 0
 IsOperatorThen text op behind =
     (text ≡ operator_text op ++ behind) × (op ≡ operator.Equal → begins (λ byte. byte == 126) behind ≡ false)
@@ -69,16 +70,16 @@ HasNoOperator text =
     (name : List ℕ) × (rest : List ℕ) × IsNamed text name rest
     × ((op : Operator) (behind : List ℕ) → rest ≡ operator_text op ++ behind → ⊥)
 
--- a letter of a value's text: a byte that stands for itself, or a byte after a backslash that escapes it
+-- a letter of a value's text: a byte that means itself, or a byte after a backslash that escapes it
 pub data Letter : Type 0 where
   plain : ℕ → Letter
   escape : ℕ → Letter
 
--- `n`, a quote and a backslash can be escaped
+-- whether a byte can be escaped: `n`, a quote and a backslash can
 abbrev pub is_escapable : ℕ → Bool
 is_escapable byte = byte == 110 || (byte == 34 || byte == 92)
 
--- the letters of a text; a backslash before another byte, or at the end, stands for itself
+-- the letters of a text; a backslash before another byte, or at the end, means itself
 abbrev pub letters : List ℕ → List Letter
 letters [] = []
 letters (byte ∷ []) = plain byte ∷ []
@@ -90,12 +91,12 @@ abbrev pub spelled : Letter → List ℕ
 spelled (plain byte) = byte ∷ []
 spelled (escape byte) = 92 ∷ byte ∷ []
 
--- the byte that a letter stands for: `\n` for a line feed
+-- the byte that a letter means: `\n` is a line feed
 abbrev pub meant : Letter → ℕ
 meant (plain byte) = byte
 meant (escape byte) = if byte == 110 then 10 else byte
 
--- a quote that isn't escaped
+-- whether a letter is a quote that isn't escaped
 abbrev pub is_bare_quote : Letter → Bool
 is_bare_quote (plain byte) = byte == 34
 is_bare_quote (escape byte) = false
@@ -104,11 +105,11 @@ is_bare_quote (escape byte) = false
 abbrev pub after_backslash : ℕ → List Letter
 after_backslash c = if is_escapable c then escape c ∷ [] else plain 92 ∷ map plain (encode_utf8 c)
 
--- the text has no bare quote, and stands for the value
+-- the text has no bare quote, and means the value
 abbrev pub IsMeantWhole : List ℕ → List ℕ → Type 0
 IsMeantWhole text value = (list_any is_bare_quote (letters text) ≡ false) × (value ≡ map meant (letters text))
 
--- the text up to its first bare quote stands for the value, and the rest follows that quote
+-- the text up to its first bare quote means the value, and the rest follows that quote
 abbrev pub IsMeantUntil : List ℕ → List ℕ → List ℕ → Type 0
 IsMeantUntil text rest value =
     (inner : List Letter) × (letters text ≡ inner ++ plain 34 ∷ letters rest)

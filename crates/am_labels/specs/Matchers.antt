@@ -1,5 +1,6 @@
 -- Matchers, what they admit, and how one is read (Alertmanager's `labels.Matcher`, pkg/labels/matcher.go).
-use Rattle.std.specs.Prelude.{◌≡◌, ◌⊎◌, ◌<◌, ℕ, Bool, true, false, not, is_some, List, ◌++◌, codes, chars, None, IfSome, Result, Ok, Err, refl}
+use Rattle.std.specs.Prelude.{◌≡◌, ◌⊎◌, ◌<◌, ℕ, Bool, true, false, not, is_some, List, ◌++◌, codes, chars}
+use Rattle.std.specs.Prelude.{None, IfSome, Result, Ok, Err, refl}
 use Rattle.std.specs.List.{list_all}
 use Rattle.std.specs.Option.{option_map_or}
 use Rattle.std.specs.Coded.{Coded, code_by, coded×, coded_list, coded_ℕ}
@@ -7,9 +8,11 @@ use Rattle.regex.specs.Failures.{IsPattern}
 use Rattle.regex.specs.Patterns.{find_str, default_config}
 use Rattle.regex_syntax.specs.Grammar.{read}
 use Rattle.am_labels.specs.declared.match_fault.MatchFault.{MatchFault}
-use Rattle.am_labels.specs.declared.match_fault.MatchFault.TheVariants.{NoMemory, NoOperator, BadName, BadQuote, BadPattern}
+use Rattle.am_labels.specs.declared.match_fault.MatchFault.TheVariants.{NoMemory, NoOperator, BadName}
+use Rattle.am_labels.specs.declared.match_fault.MatchFault.TheVariants.{BadQuote, BadPattern}
 use Rattle.am_labels.specs.declared.operator.Operator.{Operator}
-use Rattle.am_labels.specs.declared.operator.Operator.TheVariants.{Equal, NotEqual, MatchRegexp, MatchNotRegexp}
+use Rattle.am_labels.specs.declared.operator.Operator.TheVariants.{Equal, NotEqual, MatchRegexp}
+use Rattle.am_labels.specs.declared.operator.Operator.TheVariants.{MatchNotRegexp}
 use Rattle.am_labels.specs.LabelSets.{Labels, value_of}
 use Rattle.am_labels.specs.Texts.{same_text}
 use Rattle.am_labels.specs.MatcherTexts.{IsSplit, HasParts, HasNoName, HasNoOperator, IsValue, IsNoValue}
@@ -20,7 +23,7 @@ pub record MatcherView : Type 0 where
   pub operator : Operator
   pub value : List ℕ
 
--- it is stored as the tuple of its fields
+-- a matcher as the tuple of its fields, in which models store it
 abbrev pub coded_matcher : Coded Operator → Coded MatcherView
 coded_matcher operator =
     code_by (List ℕ × (Operator × List ℕ))
@@ -46,7 +49,7 @@ finds source text =
     option_map_or (λ pattern. is_some (find_str pattern.0.value text 0))
     (read default_config (chars source)) false
 
--- whether a label's value, empty where the label is missing, is accepted
+-- whether a label's value, empty if the label is missing, is accepted
 abbrev pub accepts : Operator → List ℕ → List ℕ → Bool
 accepts Equal value found = same_text found value
 accepts NotEqual value found = not (same_text found value)
@@ -57,11 +60,11 @@ accepts MatchNotRegexp value found = not (finds (anchored value) found)
 abbrev pub admitted : MatcherView → Labels → Bool
 admitted matcher labels = accepts matcher.operator matcher.value (value_of labels matcher.name)
 
--- whether each of a list does (`Matchers.Matches`); none admit every label set
+-- whether each matcher of a list admits it (`Matchers.Matches`); no matchers admit every label set
 abbrev pub all_admitted : List MatcherView → Labels → Bool
 all_admitted matchers labels = list_all (λ matcher. admitted matcher labels) matchers
 
--- `regex`'s grammar reads the source of a pattern, where the operator is one of a pattern
+-- `regex`'s grammar reads the source of a pattern, if the operator is one of a pattern
 abbrev pub IsReadable : Operator → List ℕ → Type 0
 IsReadable op value = is_of_pattern op ≡ true → IsPattern default_config (anchored value)
 

@@ -1,5 +1,6 @@
 -- How a label set is printed: `{name="value",other="value"}`, as Alertmanager prints one in its logs.
-use Rattle.std.specs.Prelude.{ℕ, Bool, false, ◌&&◌, ◌||◌, ◌==◌, if◌then◌else◌, nat_le, List, [], ◌∷◌, ◌++◌, map}
+use Rattle.std.specs.Prelude.{ℕ, Bool, false, ◌&&◌, ◌||◌, ◌==◌, if◌then◌else◌, nat_le}
+use Rattle.std.specs.Prelude.{List, [], ◌∷◌, ◌++◌, map}
 use Rattle.std.specs.List.{flat_map, list_all, join_with_byte}
 use Rattle.std.specs.FinMap.{entries}
 use Rattle.am_labels.specs.LabelSets.{Labels}
@@ -12,6 +13,7 @@ escaped byte =
     else (if byte == 10 then 92 ∷ 110 ∷ []
     else byte ∷ []))
 
+-- a text inside quotes
 abbrev pub escaped_all : List ℕ → List ℕ
 escaped_all text = flat_map escaped text
 
@@ -19,24 +21,25 @@ escaped_all text = flat_map escaped text
 abbrev pub quoted : List ℕ → List ℕ
 quoted text = 34 ∷ escaped_all text ++ 34 ∷ []
 
--- a letter of ASCII, `_` or `:`
+-- whether a byte may begin a name: a letter of ASCII, `_` or `:`
 abbrev pub is_name_start : ℕ → Bool
 is_name_start byte =
     (nat_le 65 byte && nat_le byte 90) || (nat_le 97 byte && nat_le byte 122) || (byte == 95 || byte == 58)
 
--- the same, or a digit of ASCII
+-- whether a byte may follow in a name: one that may begin it, or a digit of ASCII
 abbrev pub is_name_byte : ℕ → Bool
 is_name_byte byte = is_name_start byte || (nat_le 48 byte && nat_le byte 57)
 
--- a name of the classic form (Prometheus's label names before UTF-8 names, with `:` allowed)
+-- whether a name has the classic form (Prometheus's label names before UTF-8 names, with `:` allowed)
 abbrev pub is_classic_name : List ℕ → Bool
 is_classic_name [] = false
 is_classic_name (byte ∷ bytes) = is_name_start byte && list_all is_name_byte bytes
 
--- a name is printed plain where it is classic, else quoted
+-- a name as it is printed: plain if it is classic, else quoted
 abbrev pub name_text : List ℕ → List ℕ
 name_text name = if is_classic_name name then name else quoted name
 
+-- a name and its value: `name="value"`
 abbrev pub pair_text : List ℕ × List ℕ → List ℕ
 pair_text pair = name_text pair.0 ++ (61 ∷ quoted pair.1)
 

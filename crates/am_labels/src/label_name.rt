@@ -7,7 +7,7 @@ ghost use Rattle.am_labels.specs.Printing.{is_classic_name, is_name_byte, is_nam
 use crate::quoted::Quoted;
 use std::fmt;
 
-/// A label's name, printed plain where it is classic (letters and digits of ASCII, `_` and `:`, no
+/// A label's name, printed plain if it is classic (letters and digits of ASCII, `_` and `:`, no
 /// digit first), else as [`Quoted`].
 #[derive(Clone, Copy, Debug)]
 pub struct LabelName<'a>(pub &'a str);

@@ -1,4 +1,4 @@
-//! Label sets: what Alertmanager knows an alert by.
+//! Label sets, by which Alertmanager identifies alerts.
 
 ghost use Rattle.std.specs.Prelude.{◌≡◌, ◌==◌, IfOk};
 ghost use Rattle.std.specs.Prelude.{List, ℕ, map, Some, T};
@@ -67,7 +67,7 @@ impl LabelSet {
     }
 
     /// The label set of these names and values. Of pairs with one name the last holds. It takes O(n)
-    /// where the names come in byte order, each once, and O(n log n) else.
+    /// if the names come in byte order, each once, and else O(n log n).
     pub fn from_texts(alloc: Global, pairs: Vec<(Text, Text)>) -> Result<LabelSet, AllocError>
         ensures { IfOk result (λ labels. labels ≡ last_holds pairs.items) }
     {
@@ -94,7 +94,7 @@ impl LabelSet {
         self.len() == 0
     }
 
-    /// The value of a name, empty where the name is missing.
+    /// The value of a name, empty if the name is missing.
     pub fn get(&self, name: &str) -> &str
         ensures { result.now ≡ value_of self.now name.now }
     {
@@ -118,8 +118,8 @@ impl LabelSet {
         self.pairs.as_slice()
     }
 
-    /// The same label set once more, in O(1). It takes no memory, and fails only where 2^63 copies
-    /// are there already.
+    /// The same label set once more, in O(1). It takes no memory, and fails only if there are 2^63
+    /// copies already.
     pub fn copy(&self) -> Result<LabelSet, AllocError>
         ensures { IfOk result (λ copy. copy ≡ self.now) }
     {
@@ -146,7 +146,7 @@ fn are_ascending(pairs: &[(Text, Text)]) -> bool
     true
 }
 
-// The pairs in byte order of names, of those with one name the last.
+// The pairs in byte order of names; of pairs with one name the last.
 fn last_of_each(alloc: Global, pairs: Vec<(Text, Text)>) -> Result<Vec<(Text, Text)>, AllocError>
     ensures { IfOk result (λ sorted. sorted.items ≡ map_of.entries (last_holds pairs.items)) }
 {
@@ -157,8 +157,8 @@ fn last_of_each(alloc: Global, pairs: Vec<(Text, Text)>) -> Result<Vec<(Text, Te
     Ok(sorted.into_iter().collect(alloc)?)
 }
 
-// Among how many pairs a name is sooner found by comparing it with each. That two names aren't the
-// same mostly shows from their lengths.
+// Up to how many pairs comparing a name with each is faster than a binary search: most names differ
+// in their lengths already.
 const FEW: usize = 8;
 
 // The value of a name among pairs in byte order of names.

@@ -1,12 +1,18 @@
-//! Laws of a matcher's text that callers may cite.
+//! Laws of label sets and of a matcher's text that callers may cite.
 
+ghost use Rattle.am_labels.specs.LabelLaws.{OrderedPairsAreEntries};
 ghost use Rattle.am_labels.specs.MatcherLaws.{EachTextIsSplit, HasOneSplit, HasOneValue};
 ghost use Rattle.am_labels.specs.MatcherLaws.{LettersSpellTheText, NoNameStandsAlone};
 ghost use Rattle.am_labels.specs.MatcherLaws.{NoOperatorStandsAlone, ReadsQuoted, TextIsOfOneMatcher};
 
-/// Each text lacks its name, or its operator, or has one name, operator and way to write its
-/// value, and stands for one value at most: so it is the text of one matcher at most. A value in
-/// quotes, as label sets are printed, is read back.
+/// Pairs in byte order of names, each name once, are those that the label set made of them shows.
+pub fn label_set_laws()
+    ensures { OrderedPairsAreEntries }
+{}
+
+/// A text lacks its name or its operator, or has exactly one name, operator and way to write its
+/// value. It means one value at most, so it is the text of one matcher at most. A value in quotes,
+/// as label sets are printed, is read back.
 pub fn matcher_grammar_laws()
     ensures split { HasOneSplit }
     ensures value { HasOneValue }

@@ -1,9 +1,9 @@
 //! Label sets: finite maps from names to values, both texts; and matchers, which admit some of them.
 //!
-//! A label set is what an alert is known by. It is made of pairs of texts, and of pairs with one
-//! name the last holds. A matcher is read from a text such as `severity=~"page|crit"`; a missing
-//! label counts as empty. Who asks it often prepares it: then its pattern's search is kept, and
-//! asking takes no memory. A label set's copies share its texts.
+//! A label set identifies an alert. It is made of pairs of texts; of pairs with one name the last
+//! holds. Its copies share its texts. A matcher is read from a text such as
+//! `severity=~"page|crit"`; a missing label counts as empty. A caller who asks it often prepares
+//! it: it then keeps its pattern's search, and asking takes no memory.
 //!
 //! ```text
 //! let labels = LabelSet::from_pairs(alloc, pairs)?;   // a Vec<(String, String)>
@@ -36,7 +36,7 @@ mod text;
 
 pub use label_name::LabelName;
 pub use label_set::LabelSet;
-pub use laws::matcher_grammar_laws;
+pub use laws::{label_set_laws, matcher_grammar_laws};
 pub use match_fault::MatchFault;
 pub use matcher::Matcher;
 pub use matchers::Matchers;

@@ -11,13 +11,13 @@ use thiserror::Error;
 #[derive(Clone, Copy, Debug, PartialEq, Eq, Error)]
 pub enum MatchFault {
     NoMemory,
-    /// No operator stands behind the name.
+    /// No operator follows the name.
     NoOperator,
     /// The text begins with no name of the classic form.
     BadName,
-    /// A quote is missing or out of place, or a comma stands outside quotes.
+    /// A quote is missing or out of place, or there is a comma outside quotes.
     BadQuote,
-    /// The value is no pattern that `regex` takes.
+    /// The value isn't a pattern that `regex` accepts.
     BadPattern,
 }
 

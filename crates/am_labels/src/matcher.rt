@@ -13,7 +13,7 @@ use std::alloc::{AllocError, Global};
 use std::marker::Model;
 
 /// A condition on the value of one label, as `name="value"`. Contracts see it as its name, its
-/// operator and its value; that its compiled pattern is the one of its value always holds.
+/// operator and its value. Its compiled pattern is always the one of its value.
 #[derive(Debug, Drop)]
 pub struct Matcher {
     name: Text,
@@ -89,7 +89,7 @@ impl Matcher {
     }
 
     /// Whether it admits a label set. A missing label counts as empty. Only a pattern takes memory,
-    /// and takes it at each call: `prepare` is for who asks often.
+    /// and takes it at each call; a caller who asks often uses `prepare`.
     pub fn admits(&mut self, labels: &LabelSet) -> Result<bool, AllocError>
         ensures answer { IfOk result (λ answer. answer ≡ admitted self.old labels.now) }
         ensures memory { OnErr result (is_of_pattern self.old.operator ≡ true) }

@@ -98,7 +98,7 @@ fn split_operator(text: &str) -> Option<(Operator, &str)>
     Some((Operator::Equal, behind))
 }
 
-/// The value that is written so, or None where a quote or a comma is out of place.
+/// The value that is written so, or None if a quote or a comma is out of place.
 pub(crate) fn read_value(alloc: Global, raw: &str) -> Result<Option<Text>, AllocError>
     ensures { IfOk result (λ read. MatchOption read (IsNoValue raw.now) (IsValue raw.now)) }
 {
@@ -137,7 +137,7 @@ fn read_unquoted(alloc: Global, raw: &str) -> Result<Option<Text>, AllocError>
     })
 }
 
-// What a text stands for up to its first bare quote, and what follows that quote.
+// What a text means up to its first bare quote, and what follows that quote.
 fn read_letters(alloc: Global, text: &str) -> Result<(Text, Option<&str>), AllocError>
     ensures { IfOk result (λ read. MatchOption read.1
         (IsMeantWhole text.now read.0) (λ rest. IsMeantUntil text.now rest.now read.0)) }
@@ -163,7 +163,7 @@ fn read_letters(alloc: Global, text: &str) -> Result<(Text, Option<&str>), Alloc
     Ok((Text { text: value }, None))
 }
 
-// What a backslash and this character stand for.
+// What a backslash and this character mean.
 fn write_escaped(value: &mut String, c: char) -> Result<(), AllocError>
     ensures { OnOk result
         (string_bytes value.new ≡ string_bytes value.old ++ map meant (after_backslash c)) }

@@ -47,8 +47,8 @@ impl Matchers {
         Ok(PreparedMatchers { matchers })
     }
 
-    /// Whether each of them admits a label set; none admit every one. Only a pattern takes memory,
-    /// and takes it at each call: `prepare` is for who asks often.
+    /// Whether each of them admits a label set; no matchers admit every one. Only a pattern takes
+    /// memory, and takes it at each call; a caller who asks often uses `prepare`.
     pub fn admits(&mut self, labels: &LabelSet) -> Result<bool, AllocError>
         ensures answer { IfOk result (λ answer. answer ≡ all_admitted self.old labels.now) }
         ensures memory { OnErr result

@@ -28,7 +28,8 @@ impl<'m> Model for PreparedMatchers<'m> {
 impl<'m> PreparedMatchers<'m> {
     ghost use Rattle.am_labels.specs.Matchers.{all_admitted};
 
-    /// Whether each of them admits a label set; none admit every one. It takes no memory.
+    /// Whether each of them admits a label set; no matchers admit every one. It takes no
+    /// memory.
     pub fn admits(&mut self, labels: &LabelSet) -> bool
         ensures answer { result ≡ all_admitted self.old labels.now }
         ensures same { self.new ≡ self.old }

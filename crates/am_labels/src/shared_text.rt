@@ -49,7 +49,7 @@ impl SharedText {
         }
     }
 
-    /// The same text once more. It takes no memory, and fails only where 2^63 copies are there
+    /// The same text once more. It takes no memory, and fails only if there are 2^63 copies
     /// already.
     pub fn copy(&self) -> Result<SharedText, AllocError>
         ensures { IfOk result (λ copy. copy ≡ self.now) }

@@ -23,7 +23,7 @@ impl Model for Text {
 }
 
 impl Text {
-    /// A text of its own with the same bytes.
+    /// A new text with the same bytes.
     pub fn from_str(alloc: Global, text: &str) -> Result<Text, AllocError>
         ensures { IfOk result (λ made. made ≡ text.now) }
     {

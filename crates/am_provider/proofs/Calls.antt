@@ -26,9 +26,9 @@ use Rattle.am_store.specs.AlertList.{with_alerts, batch_by_list}
 use Rattle.am_store.specs.Journal.{JournalView, with_call, call_count, until, lefts_of, MayFollow}
 use Rattle.am_store.specs.Stored.{stored}
 use Rattle.am_store.specs.Broadcast.{broadcast, items_of, due, IsFront}
-use Rattle.am_store.specs.inside.Journals.{journal_of}
-use Rattle.am_store.specs.inside.Lanes.{lane_at, open_count, IsLowestFree, IsItsOpening}
-use Rattle.am_store.specs.inside.Pages.{book_of}
+use Rattle.am_store.specs.Journal.{journal_of}
+use Rattle.am_store.specs.Lanes.{lane_at, open_count, IsLowestFree, IsItsOpening}
+use Rattle.am_store.specs.Pages.{book_of}
 use Rattle.am_store.proofs.Opens.{until_end, until_stays, open_within}
 use Rattle.am_store.proofs.Kept.{sound_posted, sound_closed, few}
 use Rattle.am_store.proofs.Flags.{sound_subscribed, sound_left, lane_set, due_of, open_count_cleared, room_to_leave}

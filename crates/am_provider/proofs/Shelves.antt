@@ -18,10 +18,10 @@ use Rattle.am_store.specs.Journal.{JournalView, with_call, call_count, until, cl
 use Rattle.am_store.specs.Stored.{Update, updates, updates_of}
 use Rattle.am_store.specs.Broadcast.{broadcast, batches_of, items_of, due}
 use Rattle.std.specs.VecDeque.{deque_len, deque_capacity}
-use Rattle.am_store.specs.inside.LogLimits.{IsWithinLogLimits}
-use Rattle.am_store.specs.inside.Journals.{journal_of}
-use Rattle.am_store.specs.inside.Lanes.{lane_at, open_count, IsItsOpening}
-use Rattle.am_store.specs.inside.Pages.{Pages, book_of, AgreesWithJournal}
+use Rattle.am_store.specs.LogLimits.{IsWithinLogLimits}
+use Rattle.am_store.specs.Journal.{journal_of}
+use Rattle.am_store.specs.Lanes.{lane_at, open_count, IsItsOpening}
+use Rattle.am_store.specs.Pages.{Pages, book_of, AgreesWithJournal}
 use Rattle.am_store.proofs.Journals.{drop_front, due_last, closed_last}
 use Rattle.am_store.proofs.Opens.{until_stays}
 use Rattle.am_store.proofs.Growing.{silent}
@@ -185,7 +185,7 @@ kept_grown a b counted more places room c kept pages may quiet journal posts lan
       lefts = ap (map (λ (e : Ended). e.at)) endings ∙ (kept.lefts ∙ (lefts_quiet old c quiet ∙ sym (ap left_ats journal)));
       ends = omega (arith, kept.ends, early, ap length endings, ap lefts_of journal, count_quiet old c quiet);
       total = total;
-      room = let r = kept.room in omega (arith, ap length endings, ap Rattle.am_store.specs.inside.Lanes.open_count lanes);
+      room = let r = kept.room in omega (arith, ap length endings, ap Rattle.am_store.specs.Lanes.open_count lanes);
     }
 
 -- ---- nothing but room and what the log knows of its lanes

@@ -1,14 +1,23 @@
 -- A subscription as it moves on.
-use Rattle.std.proofs.Common.{◌≡◌, ℕ, ◌+◌, ◌-◌, ◌%◌, ◌^◌, ◌≤◌, true, false, List, [], ◌∷◌, ◌++◌, length, take, Some, refl, sym, ap, subst, ◌∙◌, arith, length-append}
+use Rattle.std.proofs.Common.{◌≡◌, ℕ, Bool, ◌+◌, ◌-◌, ◌%◌, ◌^◌, ◌≤◌, true, false, List, [], ◌∷◌, ◌++◌, length, take, Some, refl, sym, ap, subst, ◌∙◌, arith, length-append}
 use Rattle.std.specs.List.{slice_get}
+use Rattle.std.proofs.lemmas.Bool.{false≢true}
 use Rattle.std.proofs.lemmas.List.{append_assoc, append-nil}
 use Rattle.am_alert.specs.declared.alert.Alert.{Alert}
-use Rattle.am_cast.specs.Cursors.{GoesOn, HasCut}
+use Rattle.am_cast.specs.Cursors.{GoesOn, HasCut, HasEnded}
 use Rattle.am_cast.specs.Cursors as cast
-use Rattle.am_cast.specs.Lent.{IsItem, IsCut, IsInHand}
+use Rattle.am_cast.specs.Lent.{IsItem, IsInHand, Moves}
+use Rattle.am_cast.specs.declared.lends.Moved.{Moved}
+use Rattle.am_cast.specs.declared.lends.Moved.TheVariants as moved
 use Rattle.am_store.proofs.Journals.{take_more}
 use Rattle.am_provider.specs.Subscriptions.{SubscriptionView, taken}
-use Rattle.am_provider.specs.Showings.{ShowsItem}
+use Rattle.am_provider.specs.declared.answers.Step.{Step}
+use Rattle.am_provider.specs.declared.answers.Step.TheVariants as step
+use Rattle.am_provider.specs.declared.subscription.Advance.{Advance}
+use Rattle.am_provider.specs.declared.subscription.Advance.TheVariants as advance
+use Rattle.am_provider.specs.Batches.{Batch}
+use Rattle.am_provider.specs.Showings.{Shows, ShowsItem, ShowsNone, ShowsPast}
+use Rattle.am_provider.specs.inside.Advances.{Advances, AdvancesPast, IsShown, Notes}
 use Rattle.am_provider.specs.inside.Subscribed.{IsFresh, IsSubscription}
 
 -- one alert more, as far as a u64 counts
@@ -39,25 +48,6 @@ logged_one old new count next alert was past same on item here counts =
       counted = one_more count next (taken old) (taken new) was.counted counts (ap length took ∙ length-append (taken old) (alert ∷ []));
     }
 
--- a cut was told
-pub cut_told : (old new : SubscriptionView) (count : ℕ) → IsSubscription old count → length old.opening ≤ old.shown
-    → new ≡ record old { cursor = new.cursor } → GoesOn old.cursor new.cursor → IsCut old.cursor new.cursor → IsSubscription new count
-cut_told old new count was past same on cut =
-    let opening : new.opening ≡ old.opening = ap (λ (s : SubscriptionView). s.opening) same in
-    let shown : new.shown ≡ old.shown = ap (λ (s : SubscriptionView). s.shown) same in
-    let at : new.at ≡ old.at = ap (λ (s : SubscriptionView). s.at) same in
-    let told : new.closed_told ≡ old.closed_told = ap (λ (s : SubscriptionView). s.closed_told) same in
-    let front : take new.shown new.opening ≡ take old.shown old.opening = ap (take new.shown) opening ∙ ap (λ n. take n old.opening) shown in
-    let took : taken new ≡ taken old = ap (λ xs. xs ++ cast.shown_items new.cursor) front ∙ ap (λ xs. take old.shown old.opening ++ xs) cut.taken in
-    let within = was.within in
-    record {
-      within = omega (arith, ap length opening);
-      first = λ less. absurd (omega (arith, ap length opening));
-      note = on.2 ∙ (was.note ∙ (ap (λ a. Some (record { at = a; opening = old.opening })) (sym at) ∙ ap (λ o. Some (record { at = new.at; opening = o })) (sym opening)));
-      told = λ yes. absurd (cut.was_open (was.told (sym told ∙ yes)).0);
-      counted = was.counted ∙ ap (λ xs. length xs % 2 ^ 64) (sym took);
-    }
-
 -- an alert more of the opening was shown
 pub opened_one : (old new : SubscriptionView) (alert : Alert) → old.closed_told ≡ false → IsFresh old.cursor → new ≡ record old { shown = old.shown + 1 }
     → slice_get new.opening (new.shown - 1) ≡ Some alert → ShowsItem old alert new
@@ -79,3 +69,99 @@ opened_one old new alert untold fresh same here =
       told = (untold, told ∙ untold);
       was_uncut = λ cut. absurd (let no : false ≡ true = sym fresh.cut ∙ cut.0 in cc);
     }
+
+-- an alert more of the log was shown
+shown_one : (old new : SubscriptionView) (alert : Alert) → Advances old advance.Logged new → IsInHand new.cursor alert → ShowsItem old alert new
+shown_one old new alert moved here =
+    let rest = moved.0.rest in
+    let opening : new.opening ≡ old.opening = ap (λ (s : SubscriptionView). s.opening) rest in
+    let shown : new.shown ≡ old.shown = ap (λ (s : SubscriptionView). s.shown) rest in
+    let told : new.closed_told ≡ old.closed_told = ap (λ (s : SubscriptionView). s.closed_told) rest in
+    record {
+      taken = took_one old new alert opening shown (moved.2.taken alert here);
+      at = ap (λ (s : SubscriptionView). s.at) rest;
+      opening = opening;
+      on = moved.0.on;
+      told = (moved.1, told ∙ moved.1);
+      was_uncut = moved.2.was_uncut;
+    }
+
+module _ (old new : SubscriptionView) (count next : ℕ) where
+  -- where the opening was shown, the end is told of a log that was ended
+  still_untold : IsSubscription old count → (HasEnded old.cursor → ⊥) → old.closed_told ≡ false
+  still_untold was ongoing = untold old.closed_told refl
+    where
+      untold : (told : Bool) → old.closed_told ≡ told → told ≡ false
+      untold false is = refl
+      untold true is = absurd (ongoing (was.told is).0)
+
+  -- the cursor showed no item, so the count stays
+  none_counted : IsSubscription old count → (told : Bool) → ShowsNone old told new → cast.shown_items new.cursor ≡ cast.shown_items old.cursor → next ≡ count
+      → (told ≡ true → HasEnded new.cursor) → IsSubscription new next
+  none_counted was told none same counts ended =
+      let opening : new.opening ≡ old.opening = ap (λ (s : SubscriptionView). s.opening) none.rest in
+      let shown : new.shown ≡ old.shown = ap (λ (s : SubscriptionView). s.shown) none.rest in
+      let at : new.at ≡ old.at = ap (λ (s : SubscriptionView). s.at) none.rest in
+      let tells : new.closed_told ≡ told = ap (λ (s : SubscriptionView). s.closed_told) none.rest in
+      let front : take new.shown new.opening ≡ take old.shown old.opening = ap (take new.shown) opening ∙ ap (λ n. take n old.opening) shown in
+      let took : taken new ≡ taken old = ap (λ xs. xs ++ cast.shown_items new.cursor) front ∙ ap (λ xs. take old.shown old.opening ++ xs) same in
+      let all : new.shown ≡ length new.opening = shown ∙ (none.shown ∙ ap length (sym opening)) in
+      let on = none.on in
+      record {
+        within = omega (arith, all);
+        first = λ less. absurd (omega (arith, all));
+        note = on.2 ∙ (was.note ∙ (ap (λ a. Some (record { at = a; opening = old.opening })) (sym at) ∙ ap (λ o. Some (record { at = new.at; opening = o })) (sym opening)));
+        told = λ yes. (ended (sym tells ∙ yes), all);
+        counted = counts ∙ (was.counted ∙ ap (λ xs. length xs % 2 ^ 64) (sym took));
+      }
+
+  -- a move of the cursor that was noted is an advance of the subscription, which is one again
+  pub noted : (moved : Moved) (given : Advance) → IsSubscription old count → old.shown ≡ length old.opening
+      → new ≡ record old { cursor = new.cursor; closed_told = new.closed_told } → GoesOn old.cursor new.cursor
+      → Moves old.cursor new.cursor moved → Notes moved new.cursor count old.closed_told given next new.closed_told
+      → IsSubscription new next × Advances old given new
+  noted moved.One given was shown same on item notes =
+      let told = still_untold was item.was_open in
+      let rest : new ≡ record old { cursor = new.cursor } = same ∙ ap (λ (t : Bool). record old { cursor = new.cursor; closed_told = t }) notes.3 in
+      let past : length old.opening ≤ old.shown = omega (arith, shown) in
+      let none : ShowsNone old old.closed_told new = record { shown = shown; rest = rest; on = on } in
+      (logged_one old new count next notes.0.0 was past rest on item notes.0.1 notes.2, subst (λ (a : Advance). Advances old a new) (sym notes.1) (none, told, item))
+  noted moved.Pending given was shown same on pending notes =
+      let told = still_untold was pending.was_open in
+      let none : ShowsNone old old.closed_told new = record { shown = shown; rest = same ∙ ap (λ (t : Bool). record old { cursor = new.cursor; closed_told = t }) notes.2; on = on } in
+      (none_counted was old.closed_told none pending.taken notes.1 (λ yes. absurd (false≢true (sym told ∙ yes))), subst (λ (a : Advance). Advances old a new) (sym notes.0) (none, pending))
+  noted moved.Closed given was shown same on closed notes =
+      let none : ShowsNone old true new = record { shown = shown; rest = same ∙ ap (λ (t : Bool). record old { cursor = new.cursor; closed_told = t }) notes.2; on = on } in
+      (none_counted was true none closed.taken notes.1 (λ yes. closed.ended), subst (λ (a : Advance). Advances old a new) (sym notes.0) (none, closed))
+  noted moved.Cut given was shown same on cut notes =
+      let told = still_untold was cut.was_open in
+      let none : ShowsNone old old.closed_told new = record { shown = shown; rest = same ∙ ap (λ (t : Bool). record old { cursor = new.cursor; closed_told = t }) notes.2; on = on } in
+      (none_counted was old.closed_told none cut.taken notes.1 (λ yes. absurd (false≢true (sym told ∙ yes))), subst (λ (a : Advance). Advances old a new) (sym notes.0) (none, cut))
+
+-- what is lent after an advance is what the call shows
+pub shows : (old new : SubscriptionView) (given : Advance) (answer : Step) → Advances old given new → IsShown new given answer → Shows old answer new
+shows old new advance.Opened (step.Item alert) moved is = opened_one old new alert.now moved.2 moved.1 moved.3 is
+shows old new advance.Logged (step.Item alert) moved is = shown_one old new alert.now moved is
+shows old new advance.Pending answer moved is = subst (λ (a : Step). Shows old a new) (sym is) moved
+shows old new advance.Closed answer moved is = subst (λ (a : Step). Shows old a new) (sym is) moved
+shows old new advance.Cut answer moved is = subst (λ (a : Step). Shows old a new) (sym is) moved
+shows old new advance.Opened step.Pending moved is = absurd is
+shows old new advance.Opened step.Closed moved is = absurd is
+shows old new advance.Opened step.Cut moved is = absurd is
+shows old new advance.Logged step.Pending moved is = absurd is
+shows old new advance.Logged step.Closed moved is = absurd is
+shows old new advance.Logged step.Cut moved is = absurd is
+
+-- the same of what a pass knows
+pub shows_past : (noted : List Batch) (new : SubscriptionView) (given : Advance) (answer : Step) → AdvancesPast noted new given → IsShown new given answer → ShowsPast noted answer new
+shows_past noted new advance.Opened (step.Item alert) past is = record {}
+shows_past noted new advance.Logged (step.Item alert) past is = record {}
+shows_past noted new advance.Pending answer past is = subst (λ (a : Step). ShowsPast noted a new) (sym is) past
+shows_past noted new advance.Closed answer past is = subst (λ (a : Step). ShowsPast noted a new) (sym is) (record {})
+shows_past noted new advance.Cut answer past is = subst (λ (a : Step). ShowsPast noted a new) (sym is) (record {})
+shows_past noted new advance.Opened step.Pending past is = absurd is
+shows_past noted new advance.Opened step.Closed past is = absurd is
+shows_past noted new advance.Opened step.Cut past is = absurd is
+shows_past noted new advance.Logged step.Pending past is = absurd is
+shows_past noted new advance.Logged step.Closed past is = absurd is
+shows_past noted new advance.Logged step.Cut past is = absurd is

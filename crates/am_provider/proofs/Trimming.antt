@@ -17,8 +17,8 @@ use Rattle.am_store.specs.Journal.{JournalView}
 use Rattle.am_store.specs.Stored.{Update, updates_of, first_reports}
 use Rattle.am_store.specs.Broadcast.{broadcast_from, due}
 use Rattle.am_store.specs.Trims.{AreBeforeOpen, IsTrimmed}
-use Rattle.am_store.specs.inside.Journals.{journal_of, AreCounted}
-use Rattle.am_store.specs.inside.Lanes.{lane_at, IsItsOpening}
+use Rattle.am_store.specs.Journal.{journal_of, AreCounted}
+use Rattle.am_store.specs.Lanes.{lane_at, IsItsOpening}
 use Rattle.std.proofs.lemmas.Bool.{cases_lt}
 use Rattle.am_store.proofs.Stored.{by_bool}
 use Rattle.am_store.proofs.Journals.{drop_twice}
@@ -115,7 +115,7 @@ kept_trimmed a b counted places count kept fits of counts stored log lanes posts
       lefts = ap (map (λ (e : Ended). e.at)) endings ∙ (ats_kept b.journal.before a.endings ∙ (ap (filter (nat_le b.journal.before)) kept.lefts ∙ lefts_trimmed old new count of));
       ends = ends ∙ (kept.ends ∙ sym (trimmed_lefts old new count of));
       total = kept.total ∙ sym (ap (λ (q : LogView). length q.tail.log) log);
-      room = let r = kept.room in omega (arith, fewer, ap Rattle.am_store.specs.inside.Lanes.open_count lanes);
+      room = let r = kept.room in omega (arith, fewer, ap Rattle.am_store.specs.Lanes.open_count lanes);
     }
 
 pub kept_room : {a : Shelf} {counted places room : ℕ} → IsKeptBook a counted places → places ≡ room → IsKeptBook a counted room

@@ -1,12 +1,14 @@
 -- What contracts see of a Book over the log.
-use Rattle.std.specs.Prelude.{◌≡◌, ◌≢◌, ℕ, ◌+◌, ◌≤◌, ◌<◌, Bool, true, false, List, [], ◌∷◌, Some, length, map, drop, filter}
+use Rattle.std.specs.Prelude.{◌≡◌, ◌≢◌, ℕ, ◌+◌, ◌≤◌, ◌<◌, Bool, true, false, List, [], ◌∷◌, Some, length, map}
+use Rattle.std.specs.Prelude.{drop, filter}
 use Rattle.std.specs.List.{All}
 use Rattle.am_alert.specs.declared.alert.Alert.{Alert}
 use Rattle.am_cast.specs.Rule.{idle}
 use Rattle.am_cast.specs.Seats.{account_of}
 use Rattle.am_store.specs.declared.call.Call.{Call}
 use Rattle.am_store.specs.declared.call.Call.TheVariants.{Posted, Collected, Subscribed, Left, Closed}
-use Rattle.am_store.specs.Journal.{JournalView, call_count, until, is_closed, lefts_of, is_open, IsOpenSubscription}
+use Rattle.am_store.specs.Journal.{JournalView, call_count, until, is_closed, lefts_of, is_open}
+use Rattle.am_store.specs.Journal.{IsOpenSubscription}
 use Rattle.am_store.specs.Stored.{updates, stored}
 use Rattle.am_store.specs.Broadcast.{broadcast, due}
 use Rattle.am_store.specs.PlainBook.{PlainBook, FollowsJournal}

@@ -3,6 +3,7 @@ pub mod Batches
 pub mod Sending
 pub mod Subscriptions
 pub mod Showings
+pub mod Lending
 pub mod Lefts
 pub mod BookView
 pub mod Posts

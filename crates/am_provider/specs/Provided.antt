@@ -12,7 +12,8 @@ use Rattle.am_provider.specs.Posts.{AddsOwn}
 
 -- the body was read, its valid alerts are the posted ones, it has a place exactly where there is one, and
 -- then the pass owns that place with what was read
-pub record IsPostedAs (now timeout : ℕ) (body : List ℕ) (posted : Posted) (was is : PassView Alert Call) : Type 0 where
+pub record IsPostedAs (now timeout : ℕ) (body : List ℕ) (posted : Posted) (was is : PassView Alert Call)
+    : Type 0 where
   pub post : Post
   pub read : IsPostOf now timeout body (Ok post)
   pub valid : posted.valid ≡ length post.valid

@@ -5,8 +5,8 @@ use lib.ListN.{get_elem?}
 use Rattle.am_alert.specs.declared.alert.Alert.{Alert}
 use Rattle.am_store.specs.declared.call.Call.{Call}
 use Rattle.am_store.specs.Journal.{lefts_of}
-use Rattle.am_store.specs.inside.Journals.{journal_of}
-use Rattle.am_store.specs.inside.Shared.{stored_in}
+use Rattle.am_store.specs.Journal.{journal_of}
+use Rattle.am_store.specs.AlertMaps.{stored_in}
 use Rattle.am_cast.specs.declared.views.Own.{Own}
 use Rattle.am_cast.specs.Rule.{Once}
 use Rattle.am_cast.specs.Changes.{AreInLog}

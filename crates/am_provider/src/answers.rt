@@ -1,8 +1,9 @@
-//! What the calls of a provider answer. Why one is refused stands in `faults.rt`.
+//! What the calls of a provider answer. Why one is refused is in `faults.rt`.
 
 use am_alert::{Alert, Faults};
+use am_store::LaneSet;
 
-/// What a post does where the log is full: a subscriber is as many places behind as there are.
+/// What a post does if the log is full: a subscriber lags by as many batches as the log has places.
 #[derive(Clone, Copy, Debug, PartialEq, Eq, Drop)]
 pub enum Policy {
     /// The post is refused, and names the lane.
@@ -11,15 +12,15 @@ pub enum Policy {
     Cut,
 }
 
-/// What an accepted post came to.
+/// The answer of an accepted post.
 #[derive(Debug, Drop)]
 pub struct Posted {
     /// How many of its alerts were valid.
     pub valid: u32,
-    /// The batch's place in the log, where an alert was valid.
+    /// The batch's number in the log, if an alert was valid.
     pub place: Option<u64>,
-    /// The lanes that this post cut, lane `l` in bit `l`.
-    pub cut: u8,
+    /// The lanes that this post cut.
+    pub cut: LaneSet,
     /// The invalid alerts.
     pub faults: Faults,
 }
@@ -33,20 +34,20 @@ pub enum Step<'a> {
     Pending,
     /// All that there is was shown, and no more will come.
     Closed,
-    /// The subscriber was too slow and was cut: nothing else is shown.
+    /// The subscriber was too slow and was cut off: nothing else is shown.
     Cut,
 }
 
-/// What a subscription that was given back came to.
+/// What is known of a subscription that was given back.
 #[derive(Clone, Copy, Debug, PartialEq, Eq, Drop)]
 pub struct Ended {
-    /// How many calls there were before the subscription, those that were dropped since too.
+    /// How many calls there were before the subscription, those that were discarded since too.
     pub at: u64,
-    /// How many alerts it took.
+    /// How many alerts it has shown.
     pub taken: u64,
-    /// Whether it was told that no more will come.
+    /// Whether `next` answered `Closed`.
     pub closed: bool,
-    /// Whether a post cut it, told or not.
+    /// Whether a post cut it, whether or not `next` answered `Cut`.
     pub cut: bool,
 }
 

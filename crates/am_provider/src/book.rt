@@ -1,9 +1,9 @@
-//! The Book: the stored alerts, the journal, and the writer of the log. It stands under the lock.
+//! The Book: the stored alerts, the journal, and the writer of the log. It is under the lock.
 //!
 //! What a Book promises: whatever posts, subscriptions, collections and ends come, the stored alerts
 //! and the log are those that its journal of accepted calls gives, and the journal is legal. A post
 //! goes out as one batch, with what each of its alerts became. What a subscription has taken begins
-//! what the journal owes it, and is all of it where it was told that no more will come. A refused call
+//! what the journal owes it, and is all of it if `next` answered `Closed`. A refused call
 //! changes nothing but how far the writer knows its readers.
 
 ghost use Rattle.std.specs.Prelude.{◌≡◌, ◌≢◌, ◌↔◌, ◌≤◌, ◌<◌, ◌+◌, ◌++◌, ◌∷◌, IsTrue, IfOk, IfErr, OnOk, OnErr, IsErr, IsErrOf};
@@ -13,36 +13,40 @@ ghost use mathlib.Core.List.{IsPrefix};
 ghost use Rattle.am_alert.specs.Merging.{is_resolved_at};
 ghost use Rattle.am_alert.specs.declared.post.TheConstants.{MAX_ALERTS};
 ghost use Rattle.std.specs.VecDeque.{deque_capacity};
-ghost use Rattle.am_cast.specs.Rule.{cut, idle, live};
+ghost use Rattle.am_cast.specs.Rule.{Once, cut, idle};
+ghost use Rattle.am_cast.specs.Changes.{AreInLog};
 ghost use Rattle.am_cast.specs.Seats.{account_of};
 ghost use Rattle.am_store.specs.Journal.{with_call, call_count, first_calls, is_closed};
-ghost use Rattle.am_store.specs.Journal.{posts_of, has_lane, AreAllOpen, new_journal};
-ghost use Rattle.am_store.specs.inside.Journals.{journal_of};
-ghost use Rattle.am_store.specs.inside.Shared.{stored_in};
+ghost use Rattle.am_store.specs.Journal.{posts_of, AreAllOpen, new_journal, journal_of};
+ghost use Rattle.am_store.specs.AlertMaps.{stored_in};
 ghost use Rattle.am_store.specs.Broadcast.{due, IsFront};
 ghost use Rattle.am_store.specs.Trims.{AreBeforeOpen, Drops, IsTrimmed};
 ghost use Rattle.am_store.specs.Stored.{updates, stored};
 ghost use Rattle.am_provider.specs.BookView.{IsFaithful, batches};
 ghost use Rattle.am_provider.specs.Subscriptions.{taken};
+ghost use Rattle.am_provider.specs.Rising.{IsRising};
+ghost use Rattle.am_provider.specs.Settling.{IsOwn, IsSettled, own_of};
 ghost use Rattle.am_provider.specs.Posts.{AddsOwn, IsCutBy, IsCutTo, IsPutCause, IsAsBefore, Loads};
 
 use crate::answers::{Counts, Ended, Policy, Posted};
 use crate::faults::{PutFault, SubFault};
 use crate::feed::{Cast, Origin, Writer};
+use crate::item::Item;
 use crate::parts::{Begun, Parts};
-use crate::pass::Pass;
-use crate::sending::{bits_of, send_batch};
+use crate::pass::{Pass, deal, join_all};
+use crate::sending::send_batch;
+use crate::settled::Settled;
 use crate::subscription::Subscription;
 use am_alert::{Alerts, Moment, Post};
 use am_cast::{AlreadyClosed, LONGEST_LOG, Published};
 use am_store::lanes::{LANES, Lanes, OpenLane, earliest, idle_lane};
 use am_store::store::absorb::{Absorbed, absorb_each, take_back};
 use am_store::store::{AlertMap, remove_resolved, share_all};
-use am_store::{Call, Journal, MAX_BEFORE, StoredAlerts};
+use am_store::{Call, Journal, LaneSet, MAX_BEFORE, StoredAlerts};
 use std::alloc::{AllocError, Global};
 use std::marker::Model;
 use std::snapshot::Snapshot;
-use std::sync::ledger;
+use std::sync::{Wait, ledger};
 
 // An entry of the journal, one to end each lane, and one to end the log.
 const ENTRIES: usize = LANES + 2;
@@ -58,13 +62,13 @@ pub struct Book<N: Origin> {
     lanes: Lanes,
     // It has room for the ending of each open lane.
     endings: Vec<Ended>,
-    // How many endings were dropped.
+    // How many endings were discarded.
     early: u64,
     policy: Policy,
     // How many passes there are.
     posters: u32,
     // It counts the places of all passes.
-    total: ledger::Book<N>,
+    tally: ledger::Book<N>,
 }
 
 impl<N: Origin> Model for Book<N> {
@@ -73,7 +77,7 @@ impl<N: Origin> Model for Book<N> {
     ghost use Rattle.am_alert.specs.Alerts.{coded_alert};
     ghost use Rattle.am_store.specs.contracts.call.Call as call;
     ghost use Rattle.am_store.specs.contracts.lanes.OpenLane as lane;
-    ghost use Rattle.am_store.specs.inside.Shared.{stored_in, AreKeptByLabels};
+    ghost use Rattle.am_store.specs.AlertMaps.{stored_in, AreKeptByLabels};
     ghost use Rattle.am_provider.specs.BookView.{BookView};
     ghost use Rattle.am_provider.specs.inside.Shelves.{view_of, IsKeptBook};
 
@@ -101,22 +105,61 @@ impl<N: Origin> Model for Book<N> {
       endings = b.endings.items;
       early = b.early;
       policy = b.policy;
-    }) b.total.total (vec_capacity b.endings) × (b.posters ≡ N.parts) × (1 ≤ b.posters) };
+    }) b.tally.total (vec_capacity b.endings) × (b.posters ≡ N.parts) × (1 ≤ b.posters) };
 }
 
 impl<N: Origin> Book<N> {
-    // An empty Book over a log's writer. The writer comes back where there is no memory.
+    /// A new provider over these parts, and its passes.
+    pub fn begin(alloc: Global, parts: Parts, policy: Policy) -> Result<Begun<N>, AllocError>
+        requires table { parts.log.board.shared.table_id ≡ N.table }
+        requires ledger { (parts.ledger.name ≡ N.name) × (parts.ledger.parts ≡ N.parts) }
+        ensures stored { IfOk result (λ begun. begun.book.stored ≡ []) }
+        ensures journal { IfOk result (λ begun. begun.book.journal ≡ new_journal) }
+        ensures log { IfOk result (λ begun. begun.book.log.tail
+            ≡ record { places = parts.log.places; log = []; closed = false }) }
+        ensures endings { IfOk result (λ begun.
+            (begun.book.endings ≡ []) × (begun.book.early ≡ 0) × (begun.book.policy ≡ policy)) }
+        ensures passes { IfOk result (λ begun. (length begun.passes.items ≡ parts.posters)
+            × All (λ pass. pass ≡ record { noted = []; own = [] }) begun.passes.items) }
+    {
+        let Parts {
+            log,
+            ledger,
+            posters,
+        } = parts;
+        let am_cast::Begun {
+            cast,
+            writer,
+            passes,
+        } = am_cast::begin::<Item, Call, OpenLane, N>(log, posters as usize)?;
+        let (tally, share) = ledger.open::<N>();
+        match deal(alloc, passes, share) {
+            Ok(passes) => match Book::over(alloc, writer, tally, posters, policy) {
+                Ok(book) => Ok(Begun { cast, book, passes }),
+                Err(writer) => {
+                    am_cast::end(cast, writer);
+                    Err(AllocError)
+                }
+            },
+            Err(error) => {
+                am_cast::end(cast, writer);
+                Err(error)
+            }
+        }
+    }
+
+    // An empty Book over a log's writer. The writer comes back if there is no memory.
     pub(crate) fn over(
         alloc: Global,
         log: Writer<N>,
-        total: ledger::Book<N>,
+        tally: ledger::Book<N>,
         posters: u32,
         policy: Policy,
     ) -> Result<Book<N>, Writer<N>>
         requires posters { (posters ≡ N.parts) × (1 ≤ posters) }
         requires empty { (log.tail.log ≡ []) × (log.tail.closed ≡ false) }
         requires idle { (lane : ℕ) → lane < 8 → (account_of log lane).stand ≡ idle }
-        requires total { total.total ≡ 0 }
+        requires tally { tally.total ≡ 0 }
         ensures stored { IfOk result (λ book. book.stored ≡ []) }
         ensures journal { IfOk result (λ book. book.journal ≡ new_journal) }
         ensures log { IfOk result (λ book. book.log ≡ log) }
@@ -138,7 +181,7 @@ impl<N: Origin> Book<N> {
             early: 0,
             policy,
             posters,
-            total,
+            tally,
         })
     }
 
@@ -171,9 +214,9 @@ impl<N: Origin> Book<N> {
             early,
             policy: _,
             posters,
-            total,
+            tally,
         } = self;
-        (journal, stored, endings, early, posters, log, total)
+        (journal, stored, endings, early, posters, log, tally)
     }
 
     /// Stores the valid alerts of a post, each into what those before it left, and sends out what
@@ -214,7 +257,7 @@ impl<N: Origin> Book<N> {
             return Ok(Posted {
                 valid: 0,
                 place: None,
-                cut: 0,
+                cut: LaneSet::EMPTY,
                 faults,
             });
         }
@@ -223,7 +266,7 @@ impl<N: Origin> Book<N> {
         Ok(Posted {
             valid: valid_count,
             place: Some(place),
-            cut: bits_of(&cut),
+            cut: LaneSet::from_flags(&cut),
             faults,
         })
     }
@@ -248,7 +291,7 @@ impl<N: Origin> Book<N> {
     }
 
     // Takes a post with valid alerts: room first, then the store, then the log; the store is taken back
-    // where the log refuses.
+    // if the log refuses.
     fn post_some(
         &mut self,
         cast: &Cast<N>,
@@ -293,7 +336,7 @@ impl<N: Origin> Book<N> {
             &mut pass.pass,
         ) {
             Ok(sent) => {
-                self.total.add(&mut pass.share, 1);
+                self.tally.add(&mut pass.share, 1);
                 self.journal.calls.push_back_reserved(call);
                 self.posts += 1;
                 Ok(sent)
@@ -357,7 +400,7 @@ impl<N: Origin> Book<N> {
         ensures cut { IsTrue result.cut
             ↔ ((account_of self.old.log subscription.entry.cursor.lane.number).stand ≡ cut) }
 
-        // What was taken begins what was due, and is all of it where no more was to come.
+        // What was taken begins what was due, and is all of it if no more was to come.
         ensures front { IsFront (taken subscription.entry)
             (due self.old.journal subscription.entry.at) }
         ensures complete { IsTrue subscription.entry.closed_told
@@ -404,7 +447,7 @@ impl<N: Origin> Book<N> {
         }
     }
 
-    /// Removes the stored alerts that are resolved, and answers how many. Subscribers are not told.
+    /// Removes the stored alerts that are resolved, and answers how many. Subscribers aren't notified.
     /// It is accepted after the log's end too.
     pub fn collect_resolved(&mut self, now: Moment) -> Result<u64, AllocError>
         ensures journal { OnOk result
@@ -423,7 +466,7 @@ impl<N: Origin> Book<N> {
         Ok(removed)
     }
 
-    /// Drops the calls before the earliest open subscription from the journal, or all where none is
+    /// Discards the calls before the earliest open subscription from the journal, or all if none is
     /// open, and answers how many. The endings of the subscriptions among them go too, and are
     /// counted. Nothing else changes. It is no call of the journal, and is allowed after the log's
     /// end.
@@ -451,7 +494,7 @@ impl<N: Origin> Book<N> {
         Ok(count)
     }
 
-    // How many calls there had been before the earliest open subscription, or in all where none is
+    // How many calls there had been before the earliest open subscription, or in all if none is
     // open.
     fn owed_from(&self) -> u64
         ensures within { self.now.journal.before ≤ result }
@@ -488,6 +531,61 @@ impl<N: Origin> Book<N> {
             stored: self.stored.len() as u64,
         }
     }
+
+    /// Ends a Book, and with it its log.
+    pub fn settle<R: Wait>(self, rt: &R, cast: Cast<N>, passes: Vec<Pass<N>>) -> Settled
+        ensures settled { IsSettled (own_of passes.items) result }
+        ensures rising { All (λ pass. IsRising pass.own) passes.items }
+        ensures complete { IsTrue result.complete ↔ (length passes.items ≡ N.parts) }
+    {
+        let Counts {
+            places,
+            posts,
+            stored: _,
+        } = self.counts();
+        let (journal, store, ended, early, posters, mut log, mut tally) = self.into_parts();
+        let complete = audit(&cast, &mut log, &mut tally, passes, posters);
+        if !log.is_idle() {
+            for _ in rt.forever() {}
+        }
+        am_cast::end(cast, log);
+        Settled {
+            journal,
+            store,
+            ended,
+            early,
+            complete,
+            places,
+            posts,
+        }
+    }
+}
+
+// Whether these are all passes. What they posted is in the log, and is all of it if they are all.
+fn audit<N: Origin>(
+    cast: &Cast<N>,
+    log: &mut Writer<N>,
+    tally: &mut ledger::Book<N>,
+    passes: Vec<Pass<N>>,
+    posters: u32,
+) -> bool
+    requires posters { (posters ≡ N.parts) × (1 ≤ posters) }
+    requires tally { tally.old.total ≡ length log.old.tail.log }
+    ensures same { log.new ≡ log.old }
+    ensures stand { AreInLog (own_of passes.items) log.old.tail.log }
+    ensures once { Once (own_of passes.items) }
+    ensures rising { All (λ pass. IsRising pass.own) passes.items }
+    ensures all { IsTrue result → (place : ℕ) → place < length log.old.tail.log
+        → IsOwn (own_of passes.items) place }
+    ensures complete { IsTrue result ↔ (length passes.items ≡ N.parts) }
+{
+    let count = passes.len();
+    let Some((mut all, mut share)) = join_all(cast, passes) else {
+        return false;
+    };
+    log.confirm(cast, &mut all);
+    tally.audit(&mut share);
+    count == posters as usize
 }
 
 // A journal without a call, and no endings, with room for what may come.

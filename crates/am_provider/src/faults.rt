@@ -16,7 +16,7 @@ pub enum PutFault {
     Closed,
     /// The log has every place that it can have.
     LogEnd,
-    /// This lane, the lowest such, is as many places behind as the log has.
+    /// This lane, the lowest such, lags by as many batches as the log has places.
     Full { lane: u32, passed: u64 },
 }
 

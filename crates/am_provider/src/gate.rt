@@ -1,4 +1,4 @@
-//! What a post does as soon as it has the lock.
+//! A hook that a post calls as soon as it has the lock.
 
 /// A place where a post may be held up under the lock, for tests and for a replay in a given order.
 pub trait Gate {

@@ -9,15 +9,15 @@
 //!
 //! # What a slow subscriber gets
 //!
-//! All of it, in its own time, as long as it is less than `places` posts behind. One that is as far
-//! behind holds the next post up: under `Policy::Refuse` that post is refused and names the lane;
-//! under `Policy::Cut` the subscriber is cut, is told `Cut` after the alerts that it has in hand,
-//! and everyone else goes on.
+//! All of it, in its own time, as long as it lags by fewer batches than the log has places. With as
+//! many it holds the next post up. Under `Policy::Refuse` that post is refused and names the lane.
+//! Under `Policy::Cut` the subscriber is cut off: `next` answers `Cut` after the alerts of the batch
+//! that it is at, and everyone else goes on.
 //!
 //! # What closing means
 //!
-//! After `close` no post and no subscriber is taken. Who is there reads on, and is told `Closed`
-//! once it was shown everything.
+//! After `close` no post and no subscriber is accepted. The subscribers that there are read on, and
+//! `next` answers `Closed` once it has shown everything.
 //!
 //! # A caller
 //!
@@ -32,29 +32,26 @@
 #![tactic(auto)]
 
 mod answers;
-mod begin;
 mod book;
 mod faults;
 mod feed;
 mod gate;
 mod item;
-mod lends;
 mod parts;
 mod pass;
 mod provider;
 mod sending;
-mod settle;
 mod settled;
 mod subscription;
 
-pub use am_cast::AlreadyClosed;
+pub use am_cast::{AlreadyClosed, MAX_PLACES};
 pub use answers::{Counts, Ended, Policy, Posted, Step};
 pub use book::Book;
 pub use faults::{PostRefused, PutFault, SubFault};
 pub use feed::{Cast, Origin};
 pub use gate::{Gate, NoGate};
 pub use item::Item;
-pub use parts::{Begun, Parts};
+pub use parts::{Begun, MAX_POSTERS, Parts, the_limits};
 pub use pass::Pass;
 pub use provider::Provider;
 pub use settled::Settled;

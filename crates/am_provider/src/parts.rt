@@ -1,6 +1,8 @@
-//! The parts of a new provider, which no type stands for yet.
+//! The parts of a new provider, before a type names it.
 
-ghost use Rattle.std.specs.Prelude.{◌≡◌, ◌<◌, ◌≤◌, IfOk};
+ghost use Rattle.std.specs.Prelude.{◌≡◌, ◌≤◌, IfOk};
+ghost use Rattle.am_cast.specs.declared.limits.TheConstants.{MAX_PLACES};
+ghost use Rattle.am_provider.specs.declared.parts.TheConstants.{MAX_POSTERS};
 
 use crate::book::Book;
 use crate::feed::{Cast, Origin};
@@ -11,6 +13,9 @@ use am_store::lanes::OpenLane;
 use std::alloc::{AllocError, Global};
 use std::sync::ledger::Blank;
 
+/// How many posters a provider has, at most.
+pub const MAX_POSTERS: u32 = 64;
+
 /// The parts of a provider: a log of its own, and a ledger of its posts. They are spent by
 /// `Book::begin`.
 pub struct Parts {
@@ -18,14 +23,14 @@ pub struct Parts {
     pub ledger: Blank,
     pub posters: u32,
     ghost counted: { ledger.parts ≡ posters },
-    ghost some: { (1 ≤ posters) × (posters ≤ 64) },
+    ghost some: { (1 ≤ posters) × (posters ≤ MAX_POSTERS) },
 }
 
 impl Parts {
     /// The parts of a provider whose log has so many places, for so many posters.
     pub fn make(alloc: Global, places: u32, posters: u32) -> Result<Parts, AllocError>
-        requires places { (1 ≤ places) × (places ≤ 256) }
-        requires posters { (1 ≤ posters) × (posters ≤ 64) }
+        requires places { (1 ≤ places) × (places ≤ MAX_PLACES) }
+        requires posters { (1 ≤ posters) × (posters ≤ MAX_POSTERS) }
         ensures { IfOk result (λ parts. (parts.log.places ≡ places) × (parts.posters ≡ posters)) }
     {
         Ok(Parts {
@@ -44,3 +49,8 @@ pub struct Begun<N: Origin> {
     /// A pass for each poster.
     pub passes: Vec<Pass<N>>,
 }
+
+/// The number of the provider's own limit.
+pub fn the_limits()
+    ensures { MAX_POSTERS ≡ 64 }
+{}

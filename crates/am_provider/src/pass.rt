@@ -1,10 +1,13 @@
 //! The right to post.
 
-ghost use Rattle.std.specs.Prelude.{◌≡◌, length};
+ghost use Rattle.std.specs.Prelude.{◌≡◌, IfOk, IfSome, IfNone, [], length};
+ghost use Rattle.std.specs.List.{All};
 ghost use Rattle.am_provider.specs.Rising.{IsRising};
+ghost use Rattle.am_provider.specs.Settling.{own_of};
 
-use crate::feed::Origin;
+use crate::feed::{Cast, Origin};
 use crate::sending::LogPass;
+use std::alloc::{AllocError, Global};
 use std::marker::Model;
 use std::sync::ledger::Share;
 
@@ -48,4 +51,49 @@ impl<N: Origin> Pass<N> {
         let Pass { pass, share } = self;
         (pass, share)
     }
+}
+
+// A pass for each poster, with a part of the ledger each.
+pub(crate) fn deal<N: Origin>(
+    alloc: Global,
+    passes: Vec<LogPass<N>>,
+    share: Share<N>,
+) -> Result<Vec<Pass<N>>, AllocError>
+    requires share { (share.parts ≡ length passes.items) × (share.amount ≡ 0) }
+    requires fresh { All (λ pass. pass ≡ record { noted = []; own = [] }) passes.items }
+    ensures count { IfOk result (λ dealt. length dealt.items ≡ length passes.items) }
+    ensures fresh { IfOk result (λ dealt.
+        All (λ pass. pass ≡ record { noted = []; own = [] }) dealt.items) }
+{
+    let mut share = share;
+    let mut dealt = Vec::with_capacity(alloc, passes.len())?;
+    for pass in passes {
+        let share = share.split_off(1, 0);
+        dealt.push_reserved(Pass { pass, share });
+    }
+    Ok(dealt)
+}
+
+// All passes as one.
+pub(crate) fn join_all<N: Origin>(
+    cast: &Cast<N>,
+    passes: Vec<Pass<N>>,
+) -> Option<(LogPass<N>, Share<N>)>
+    ensures none { IfNone result (passes.items ≡ []) }
+    ensures some { IfSome result (λ all. (all.0.own ≡ own_of passes.items)
+        × (all.1.parts ≡ length passes.items) × (all.1.amount ≡ length (own_of passes.items))) }
+    ensures rising { All (λ pass. IsRising pass.own) passes.items }
+{
+    let mut left = passes;
+    let first = match left.pop() {
+        Some(first) => first,
+        None => return None,
+    };
+    let (mut pass, mut share) = first.into_parts();
+    while let Some(next) = left.pop() {
+        let (other, more) = next.into_parts();
+        pass.merge(cast, other);
+        share.merge(more);
+    }
+    Some((pass, share))
 }

@@ -1,16 +1,18 @@
-//! The provider: a Book behind a lock, with subscriptions that read without it.
+//! The provider: a Book under a lock, with subscriptions that read without it.
 //!
 //! What each call holds the lock for: a post, for the merge of its alerts and their batch (its body is
 //! read before); a subscription, for a share of each stored alert; a collection, for a look at each; a
 //! trim, for the calls that it drops; a leave, for its places. Nothing is printed, parsed or waited for
 //! under it.
 
-ghost use Rattle.std.specs.Prelude.{◌≡◌, ◌↔◌, ◌≤◌, ◌++◌, IfOk, IfErr, OnOk, OnErr, IsErrOf, Ok, Err, [], false, length};
+ghost use Rattle.std.specs.Prelude.{◌≡◌, ◌↔◌, IsTrue, IfOk, IfErr, OnErr, [], false, length};
 ghost use Rattle.std.specs.List.{All};
 ghost use Rattle.std.specs.Duration.{as_nanos};
 ghost use Rattle.am_alert.specs.declared.post.Post.{Post};
 ghost use Rattle.am_alert.specs.Posts.{IsPostOf};
 ghost use Rattle.am_provider.specs.Posts.{AddsOwn, HasMet};
+ghost use Rattle.am_provider.specs.Rising.{IsRising};
+ghost use Rattle.am_provider.specs.Settling.{IsSettled, own_of};
 ghost use Rattle.am_provider.specs.Provided.{IsPostedAs, IsUnread};
 ghost use Rattle.am_provider.specs.Subscriptions.{taken};
 
@@ -21,6 +23,7 @@ use crate::feed::{Cast, Origin};
 use crate::gate::Gate;
 use crate::parts::{Begun, Parts};
 use crate::pass::Pass;
+use crate::settled::Settled;
 use crate::subscription::Subscription;
 use am_alert::{Moment, read_post};
 use am_cast::AlreadyClosed;
@@ -96,7 +99,7 @@ impl<N: Origin> Provider<N> {
         self.book.lock(rt).subscribe(&self.cast)
     }
 
-    /// Each own post of the pass that the subscription has seen stands at its place there, and the
+    /// Each own post of the pass that the subscription has seen is at its place there, and the
     /// pass knows at least as much of the log as the subscription. It takes no lock.
     pub fn meet(&self, subscription: &mut Subscription<'_, N>, pass: &mut Pass<N>)
         ensures same { subscription.new ≡ subscription.old }
@@ -129,7 +132,19 @@ impl<N: Origin> Provider<N> {
         self.book.lock(rt).trim()
     }
 
-    pub(crate) fn into_parts(self) -> (Cast<N>, Book<N>) {
+    /// Ends the provider. Each pass's posts stand at rising places, in the order in which it posted
+    /// them. While a subscription is open it doesn't compile, since the subscription borrows the
+    /// provider; no proof follows that, so a lane that is still given out would be waited for.
+    pub fn settle<R: Wait>(self, rt: &R, passes: Vec<Pass<N>>) -> Settled
+        ensures settled { IsSettled (own_of passes.items) result }
+        ensures rising { All (λ pass. IsRising pass.own) passes.items }
+        ensures complete { IsTrue result.complete ↔ (length passes.items ≡ N.parts) }
+    {
+        let (cast, book) = self.into_parts();
+        book.settle(rt, cast, passes)
+    }
+
+    fn into_parts(self) -> (Cast<N>, Book<N>) {
         let Provider {
             cast,
             book,

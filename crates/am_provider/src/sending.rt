@@ -1,11 +1,10 @@
 //! Sending a batch out: the segment of its alerts, and its place in the log.
 
-ghost use Rattle.std.specs.Prelude.{◌≡◌, ◌≢◌, ◌<◌, ◌+◌, ◌++◌, ◌∷◌, [], ℕ, false, length, drop, slice_index_or, IfOk, IfErr, OnErr};
+ghost use Rattle.std.specs.Prelude.{◌≡◌, ◌<◌, false, length, IfOk, IfErr, OnErr};
 ghost use Rattle.std.specs.Arc.{arc_value};
 ghost use Rattle.am_store.specs.Shared.{alerts_in};
 ghost use Rattle.am_cast.specs.declared.limits.TheConstants.{LONGEST_LOG};
 ghost use Rattle.am_cast.specs.Writers.{HasRoom};
-ghost use Rattle.am_store.specs.Journal.{has_lane};
 ghost use Rattle.am_provider.specs.declared.answers.Policy.TheVariants.{Refuse};
 ghost use Rattle.am_provider.specs.Rising.{AreBelow};
 ghost use Rattle.am_provider.specs.Sending.{IsSent, IsUnsent, NamesALane, fault_as_put};
@@ -65,28 +64,6 @@ pub(crate) fn send_batch<N: Origin>(
         }
         Err(fault) => Err(fault),
     }
-}
-
-/// The lanes that are flagged, lane `l` in bit `l`.
-pub(crate) fn bits_of(flags: &[bool; 8]) -> u8
-    ensures bits { (lane : ℕ) → lane < 8 → has_lane result lane ≡ slice_index_or flags.now lane false }
-    ensures none { ((lane : ℕ) → slice_index_or flags.now lane false ≡ false) → result ≡ 0 }
-{
-    let mut bits = 0;
-    for lane in 0..8u32 {
-        bits = with_bit(bits, lane, flags[lane as usize]);
-    }
-    bits
-}
-
-// The bits with one more, where it is set.
-fn with_bit(bits: u8, lane: u32, set: bool) -> u8
-    requires { (lane < 8) × (has_lane bits lane ≡ false) }
-    ensures here { has_lane result lane ≡ set }
-    ensures others { (other : ℕ) → other ≢ lane → has_lane result other ≡ has_lane bits other }
-    ensures same { set ≡ false → result ≡ bits }
-{
-    if set { bits | 1 << lane } else { bits }
 }
 
 // The batch goes out as the log's next place, which becomes the pass's own, or it is dropped and says

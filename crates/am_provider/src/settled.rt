@@ -2,7 +2,7 @@
 
 ghost use Rattle.std.specs.Prelude.{◌≡◌, length};
 ghost use Rattle.am_store.specs.Journal.{posts_of};
-ghost use Rattle.am_store.specs.inside.Journals.{journal_of};
+ghost use Rattle.am_store.specs.Journal.{journal_of};
 ghost use Rattle.am_provider.specs.BookView.{places_of};
 
 use crate::answers::{Counts, Ended};

@@ -1,15 +1,14 @@
 //! A subscriber's place. It reads without the provider: no lock, no memory, no waiting.
 
-ghost use Rattle.std.specs.Prelude.{◌≡◌, ◌-◌, ◌+◌, ◌<◌, ◌^◌, ◌%◌, Some, false, true, slice_get, length};
-ghost use Rattle.am_cast.specs.Lent.{IsInHand};
+ghost use Rattle.std.specs.Prelude.{◌≡◌, ◌+◌, ◌<◌, ◌^◌, Some, false, true, length};
 ghost use Rattle.am_provider.specs.Subscriptions.{taken};
-ghost use Rattle.am_provider.specs.inside.Advances.{Advances, AdvancesPast};
+ghost use Rattle.am_provider.specs.inside.Advances.{Advances, AdvancesPast, CanShow, IsShown, Notes};
 ghost use Rattle.am_provider.specs.Posts.{HasMet};
 ghost use Rattle.am_provider.specs.inside.Subscribed.{IsFresh, IsSubscription};
 
+use crate::answers::Step;
 use crate::feed::{Cast, Cursor, Origin};
 use crate::pass::Pass;
-use am_alert::Alert;
 use am_cast::Moved;
 use am_store::StoredAlerts;
 use std::marker::Model;
@@ -95,7 +94,7 @@ impl<'a, N: Origin> Subscription<'a, N> {
         }
     }
 
-    /// When it was subscribed, how many alerts it took, whether it was told the end, and its cursor.
+    /// When it was subscribed, how many alerts it has shown, whether it answered `Closed`, and its cursor.
     pub(crate) fn into_parts(self) -> (u64, u64, bool, Cursor<'a, N>)
         ensures parts { (result.0 ≡ self.entry.at) × (result.2 ≡ self.entry.closed_told)
             × (result.3 ≡ self.entry.cursor) }
@@ -128,57 +127,47 @@ impl<'a, N: Origin> Subscription<'a, N> {
         self.opening.as_slice().len() as u64
     }
 
-    // Counts the next alert as shown, where there is one.
+    // One alert more of the opening is shown, if there is one.
+    fn show_opening(&mut self) -> bool
+        ensures yes { result ≡ true → (self.old.shown < length self.old.opening) × IsFresh self.old.cursor
+            × (self.old.closed_told ≡ false)
+            × (self.new ≡ record self.old { shown = self.old.shown + 1 }) }
+        ensures no { result ≡ false
+            → (self.old.shown ≡ length self.old.opening) × (self.new ≡ self.old) }
+    {
+        if self.shown >= self.opening.as_slice().len() {
+            return false;
+        }
+        self.shown += 1;
+        self.count = self.count.wrapping_add(1);
+        true
+    }
+
+    // Counts the next alert as shown, if there is one.
     pub(crate) fn advance(&mut self) -> Advance
         ensures { Advances self.old result self.new }
     {
-        if self.shown < self.opening.as_slice().len() {
-            self.shown += 1;
-            self.count = self.count.wrapping_add(1);
+        if self.show_opening() {
             return Advance::Opened;
         }
-        match self.cursor.advance() {
-            Moved::One => {
-                let _one = self.cursor.in_hand();
-                self.count = self.count.wrapping_add(1);
-                Advance::Logged
-            }
-            Moved::Pending => Advance::Pending,
-            Moved::Closed => {
-                self.closed_told = true;
-                Advance::Closed
-            }
-            Moved::Cut => Advance::Cut,
-        }
+        let moved = self.cursor.advance();
+        note(moved, &self.cursor, &mut self.count, &mut self.closed_told)
     }
 
-    // As `advance`, but nothing is left only where each place that the pass knows was passed.
+    // As `advance`, but nothing is left only if each place that the pass knows was passed.
     pub(crate) fn advance_past(&mut self, pass: &mut Pass<N>) -> Advance
         ensures advances { Advances self.old result self.new }
         ensures past { AdvancesPast pass.old.noted self.new result }
         ensures pass { pass.new ≡ pass.old }
     {
-        if self.shown < self.opening.as_slice().len() {
-            self.shown += 1;
-            self.count = self.count.wrapping_add(1);
+        if self.show_opening() {
             return Advance::Opened;
         }
-        match self.cursor.advance_past(&mut pass.pass) {
-            Moved::One => {
-                let _one = self.cursor.in_hand();
-                self.count = self.count.wrapping_add(1);
-                Advance::Logged
-            }
-            Moved::Pending => Advance::Pending,
-            Moved::Closed => {
-                self.closed_told = true;
-                Advance::Closed
-            }
-            Moved::Cut => Advance::Cut,
-        }
+        let moved = self.cursor.advance_past(&mut pass.pass);
+        note(moved, &self.cursor, &mut self.count, &mut self.closed_told)
     }
 
-    /// Each own post of the pass that the subscription has seen stands at its place there, and the
+    /// Each own post of the pass that the subscription has seen is at its place there, and the
     /// pass knows at least as much of the log as the subscription.
     pub fn meet(&mut self, cast: &Cast<N>, pass: &mut Pass<N>)
         ensures same { self.new ≡ self.old }
@@ -187,19 +176,71 @@ impl<'a, N: Origin> Subscription<'a, N> {
         pass.pass.meet(cast, &mut self.cursor);
     }
 
-    // The alert of the opening that was shown last.
-    pub(crate) fn opened(&self) -> &Alert
-        requires { 0 < self.now.shown }
-        ensures { slice_get self.now.opening (self.now.shown - 1) ≡ Some result.now }
+    // What an advance shows.
+    fn shown(&self, advance: Advance) -> Step<'_>
+        requires { CanShow advance self.now }
+        ensures { IsShown self.now advance result }
     {
-        &self.opening.as_slice()[self.shown - 1]
+        match advance {
+            Advance::Opened => Step::Item(&self.opening.as_slice()[self.shown - 1]),
+            Advance::Logged => Step::Item(self.cursor.in_hand().alert()),
+            Advance::Pending => Step::Pending,
+            Advance::Closed => Step::Closed,
+            Advance::Cut => Step::Cut,
+        }
+    }
+}
+
+impl<'a, N: Origin> Subscription<'a, N> {
+    ghost use Rattle.std.specs.Prelude.{◌≡◌};
+    ghost use Rattle.std.specs.Borrow.{sem};
+    ghost use Rattle.am_provider.specs.Lending.{AfterTheLoan};
+    ghost use Rattle.am_provider.specs.Showings.{Shows, ShowsPast};
+
+    /// The next alert: first those that were stored at the subscription, then those of the log since.
+    /// It is lent until the next call.
+    pub fn next(&mut self) -> Step<'_>
+        ensures* lender { sem 𝓛 (AfterTheLoan N.row N.Feed N.Ledger self.entry
+            (λ subscription. Shows self.old result subscription)) }
+    {
+        let advance = self.advance();
+        self.shown(advance)
     }
 
-    // The alert of the log that was shown last.
-    pub(crate) fn logged(&self) -> &Alert
-        requires { self.now.cursor.lane.held ≡ true }
-        ensures { IsInHand self.now.cursor result.now }
+    /// The next alert. It isn't `Pending` while a place that the pass knows isn't passed: who has the
+    /// pass of a poster reads what that poster has posted.
+    pub fn next_past(&mut self, pass: &mut Pass<N>) -> Step<'_>
+        ensures* lender { sem 𝓛 (AfterTheLoan N.row N.Feed N.Ledger self.entry
+            (λ subscription. Shows self.old result subscription
+            × ShowsPast pass.old.noted result subscription)) }
+        ensures pass { pass.new ≡ pass.old }
     {
-        self.cursor.in_hand().alert()
+        let advance = self.advance_past(pass);
+        self.shown(advance)
+    }
+}
+
+// What a move of the cursor is to a subscription: one alert more is counted, or the end is noted.
+fn note<N: Origin>(
+    moved: Moved,
+    cursor: &Cursor<'_, N>,
+    count: &mut u64,
+    closed_told: &mut bool,
+) -> Advance
+    requires { moved ≡ Moved.One → cursor.now.lane.held ≡ true }
+    ensures { Notes moved cursor.now count.old closed_told.old result count.new closed_told.new }
+{
+    match moved {
+        Moved::One => {
+            let _one = cursor.in_hand();
+            *count = count.wrapping_add(1);
+            Advance::Logged
+        }
+        Moved::Pending => Advance::Pending,
+        Moved::Closed => {
+            *closed_told = true;
+            Advance::Closed
+        }
+        Moved::Cut => Advance::Cut,
     }
 }

@@ -4,10 +4,11 @@
 ghost use Rattle.std.specs.Prelude.{◌≡◌};
 
 use crate::bodies::{body_of, moment};
-use crate::days::Stopped;
+use crate::days::{Settings, Stopped, begin_day, end_day};
 use crate::shown::is_front;
 use am_alert::Moment;
 use am_provider::{NoGate, Origin, Parts, Pass, Policy, Provider, Settled, Step, Subscription};
+use am_store::LaneSet;
 use std::alloc::{AllocError, Global};
 use std::marker::Brand;
 use std::sync::Wait;
@@ -15,7 +16,6 @@ use std::sync::atomic::{AtomicU8, Ordering};
 use std::test::Fail;
 use std::thread;
 use std::thread::Threads;
-use std::time::Duration;
 
 const ROUNDS: u32 = 10_000;
 
@@ -74,7 +74,7 @@ fn post_all<N: Origin, R: Wait>(
         wait_for(began, turns);
         if let Ok(posted) = provider.post(rt, pass, &NoGate, body.as_bytes(), moment(9)) {
             placed = placed.wrapping_add(1);
-            if posted.cut == 1 {
+            if posted.cut == LaneSet::EMPTY.with(0) {
                 cuts = cuts.wrapping_add(1);
             }
         }
@@ -174,21 +174,16 @@ fn race_day<N: Origin + Send + Sync, R: Threads + Wait + Sync>(
     rt: &R,
     alloc: Global,
     parts: Parts,
+    settings: Settings,
     bodies: &[String],
     turns: u32,
 ) -> Result<(Round, Settled), Stopped>
     requires table { parts.log.board.shared.table_id ≡ N.table }
     requires ledger { (parts.ledger.name ≡ N.name) × (parts.ledger.parts ≡ N.parts) }
 {
-    let (provider, mut passes) = Provider::<N>::begin(
-        alloc,
-        parts,
-        Policy::Cut,
-        Duration::from_secs(300),
-    )?;
+    let (provider, mut passes) = begin_day::<N>(alloc, parts, settings)?;
     let outcome = race(rt, alloc, &provider, &mut passes, bodies, turns);
-    let settled = provider.settle(rt, passes);
-    Ok((outcome?, settled))
+    end_day(rt, provider, passes, outcome)
 }
 
 fn race_of<R: Threads + Wait + Sync>(
@@ -197,8 +192,10 @@ fn race_of<R: Threads + Wait + Sync>(
     bodies: &[String],
     turns: u32,
 ) -> Result<(Round, Settled), Stopped> {
-    let parts = Parts::make(alloc, 1, 1)?;
-    race_day::<Brand, R>(rt, alloc, parts, bodies, turns)
+    let mut settings = Settings::of(1, 1);
+    settings.policy = Policy::Cut;
+    let parts = settings.parts(alloc)?;
+    race_day::<Brand, R>(rt, alloc, parts, settings, bodies, turns)
 }
 
 // Whether a round is as it has to be, with that many bodies to post.

@@ -1,4 +1,5 @@
-//! A provider from its beginning to its end, with a part of a test in one thread between.
+//! A provider from its beginning to its end, with a part of a test between. Each test of this crate begins
+//! and ends its provider here: those of one thread as a [`Day`], the others by `begin_day` and `end_day`.
 
 ghost use Rattle.std.specs.Prelude.{◌≡◌, ◌≤◌};
 
@@ -12,7 +13,7 @@ use std::marker::Brand;
 use std::sync::Wait;
 use std::time::Duration;
 
-/// Why a day came to nothing.
+/// Why a day has no outcome.
 #[derive(Clone, Copy, Debug, PartialEq, Eq, Drop)]
 pub enum Stopped {
     NoMemory,
@@ -52,8 +53,8 @@ impl From<AlreadyClosed> for Stopped {
     }
 }
 
-/// What happens between a provider's beginning and its end. Where it is stopped, every subscription
-/// was given back.
+/// What happens in one thread between a provider's beginning and its end. If it is stopped, every
+/// subscription was given back.
 pub trait Day {
     /// What it shows.
     type Outcome: Drop;
@@ -78,7 +79,7 @@ pub struct Settings {
 }
 
 impl Settings {
-    /// So many places for so many posters. What there is no place for is refused.
+    /// This many places and posters. What there is no place for is refused.
     pub fn of(places: u32, posters: u32) -> Settings
         requires places { (1 ≤ places) × (places ≤ 256) }
         requires posters { (1 ≤ posters) × (posters ≤ 64) }
@@ -90,6 +91,34 @@ impl Settings {
             resolve_timeout: Duration::from_secs(300),
         }
     }
+
+    /// The parts of a provider with these places and posters.
+    pub fn parts(&self, alloc: Global) -> Result<Parts, AllocError> {
+        Parts::make(alloc, self.places, self.posters)
+    }
+}
+
+/// A provider that is made of these parts, and its passes.
+pub fn begin_day<N: Origin>(
+    alloc: Global,
+    parts: Parts,
+    settings: Settings,
+) -> Result<(Provider<N>, Vec<Pass<N>>), AllocError>
+    requires table { parts.log.board.shared.table_id ≡ N.table }
+    requires ledger { (parts.ledger.name ≡ N.name) × (parts.ledger.parts ≡ N.parts) }
+{
+    Provider::<N>::begin(alloc, parts, settings.policy, settings.resolve_timeout)
+}
+
+/// What happened with a provider, and what it leaves.
+pub fn end_day<N: Origin, T: Drop, R: Wait>(
+    rt: &R,
+    provider: Provider<N>,
+    passes: Vec<Pass<N>>,
+    outcome: Result<T, Stopped>,
+) -> Result<(T, Settled), Stopped> {
+    let settled = provider.settle(rt, passes);
+    Ok((outcome?, settled))
 }
 
 /// What a provider's day shows, and what it leaves.
@@ -99,7 +128,7 @@ pub fn spend<D: Day, R: Wait>(
     settings: Settings,
     day: &D,
 ) -> Result<(D::Outcome, Settled), Stopped> {
-    let parts = Parts::make(alloc, settings.places, settings.posters)?;
+    let parts = settings.parts(alloc)?;
     spend_over::<Brand, D, R>(rt, alloc, parts, settings, day)
 }
 
@@ -113,15 +142,9 @@ fn spend_over<N: Origin, D: Day, R: Wait>(
     requires table { parts.log.board.shared.table_id ≡ N.table }
     requires ledger { (parts.ledger.name ≡ N.name) × (parts.ledger.parts ≡ N.parts) }
 {
-    let (provider, mut passes) = Provider::<N>::begin(
-        alloc,
-        parts,
-        settings.policy,
-        settings.resolve_timeout,
-    )?;
+    let (provider, mut passes) = begin_day::<N>(alloc, parts, settings)?;
     let outcome = spend_with(rt, alloc, &provider, &mut passes, day);
-    let settled = provider.settle(rt, passes);
-    Ok((outcome?, settled))
+    end_day(rt, provider, passes, outcome)
 }
 
 // The day, over a provider with its passes.

@@ -6,6 +6,7 @@ use crate::stage::Stage;
 use am_alert::{Moment, PostFault};
 use am_provider::{NoGate, Origin, Pass, PostRefused, Settled, Step, Subscription};
 use am_store::Call;
+use std::alloc::Global;
 use std::sync::Wait;
 use std::test::Fail;
 use std::time::Duration;
@@ -108,6 +109,18 @@ impl<'a> Day for AtTheEnd<'a> {
     }
 }
 
+// A day at the greatest instant, with that resolve timeout.
+fn spend_at_the_end<R: Wait>(
+    rt: &R,
+    alloc: Global,
+    resolve_timeout: Duration,
+) -> Result<(Greatest, Settled), Stopped> {
+    let body = end_body(alloc)?;
+    let mut settings = Settings::of(4, 1);
+    settings.resolve_timeout = resolve_timeout;
+    spend(rt, alloc, settings, &AtTheEnd { body: &body })
+}
+
 // How many of the calls are posts and collections at that instant.
 fn calls_at_end(settled: &Settled) -> (u32, u32) {
     let mut posts: u32 = 0;
@@ -127,11 +140,7 @@ fn calls_at_end(settled: &Settled) -> (u32, u32) {
 // An end that is given may be the greatest instant. One that isn't given would be later, so such a post is refused.
 #[test]
 fn greatest_instant(rt: HostRuntime) -> Result<(), Fail> {
-    let body = end_body(rt.alloc())?;
-    let mut settings = Settings::of(4, 1);
-    settings.resolve_timeout = Duration::from_nanos(1);
-    let day = AtTheEnd { body: &body };
-    let (greatest, settled) = spend(&rt, rt.alloc(), settings, &day)?;
+    let (greatest, settled) = spend_at_the_end(&rt, rt.alloc(), Duration::from_nanos(1))?;
     assert_eq!(rt;
         greatest,
         Greatest {
@@ -151,11 +160,7 @@ fn greatest_instant(rt: HostRuntime) -> Result<(), Fail> {
 // Without a resolve timeout an end that isn't given is the post's instant.
 #[test]
 fn greatest_instant_without_timeout(rt: HostRuntime) -> Result<(), Fail> {
-    let body = end_body(rt.alloc())?;
-    let mut settings = Settings::of(4, 1);
-    settings.resolve_timeout = Duration::from_nanos(0);
-    let day = AtTheEnd { body: &body };
-    let (greatest, settled) = spend(&rt, rt.alloc(), settings, &day)?;
+    let (greatest, settled) = spend_at_the_end(&rt, rt.alloc(), Duration::from_nanos(0))?;
     assert_eq!(rt;
         greatest,
         Greatest {

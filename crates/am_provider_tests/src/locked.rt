@@ -3,10 +3,8 @@
 ghost use Rattle.std.specs.Prelude.{◌≡◌};
 
 use crate::bodies::{body_of, moment};
-use crate::days::Stopped;
-use am_provider::{
-    Gate, NoGate, Origin, Parts, Pass, Policy, Provider, Settled, Step, Subscription,
-};
+use crate::days::{Settings, Stopped, begin_day, end_day};
+use am_provider::{Gate, NoGate, Origin, Parts, Pass, Provider, Settled, Step, Subscription};
 use std::alloc::Global;
 use std::marker::Brand;
 use std::sync::Wait;
@@ -14,7 +12,6 @@ use std::sync::atomic::{AtomicU8, Ordering};
 use std::test::Fail;
 use std::thread;
 use std::thread::Threads;
-use std::time::Duration;
 
 // Holds a post under the lock until the reader was shown an alert, or the turns run out.
 #[derive(Clone, Copy, Drop)]
@@ -90,27 +87,23 @@ fn locked_day<N: Origin + Send + Sync, R: Threads + Wait + Sync>(
     rt: &R,
     alloc: Global,
     parts: Parts,
+    settings: Settings,
 ) -> Result<((bool, bool), Settled), Stopped>
     requires table { parts.log.board.shared.table_id ≡ N.table }
     requires ledger { (parts.ledger.name ≡ N.name) × (parts.ledger.parts ≡ N.parts) }
 {
-    let (provider, mut passes) = Provider::<N>::begin(
-        alloc,
-        parts,
-        Policy::Refuse,
-        Duration::from_secs(300),
-    )?;
+    let (provider, mut passes) = begin_day::<N>(alloc, parts, settings)?;
     let outcome = beside_lock(rt, alloc, &provider, &mut passes);
-    let settled = provider.settle(rt, passes);
-    Ok((outcome?, settled))
+    end_day(rt, provider, passes, outcome)
 }
 
 fn locked_of<R: Threads + Wait + Sync>(
     rt: &R,
     alloc: Global,
 ) -> Result<((bool, bool), Settled), Stopped> {
-    let parts = Parts::make(alloc, 16, 1)?;
-    locked_day::<Brand, R>(rt, alloc, parts)
+    let settings = Settings::of(16, 1);
+    let parts = settings.parts(alloc)?;
+    locked_day::<Brand, R>(rt, alloc, parts, settings)
 }
 
 #[test]

@@ -5,12 +5,10 @@
 ghost use Rattle.std.specs.Prelude.{◌≡◌};
 
 use crate::bodies::{Report, moment, reports_body};
-use crate::days::Stopped;
+use crate::days::{Settings, Stopped, begin_day, end_day};
 use crate::many_threads::post_one;
 use am_alert::{Alert, Moment};
-use am_provider::{
-    Counts, Ended, Origin, Parts, Pass, Policy, Provider, Settled, Step, Subscription,
-};
+use am_provider::{Counts, Ended, Origin, Parts, Pass, Provider, Settled, Step, Subscription};
 use am_store::Call;
 use std::alloc::{AllocError, Global};
 use std::marker::Brand;
@@ -19,7 +17,6 @@ use std::sync::atomic::{AtomicU32, Ordering};
 use std::test::Fail;
 use std::thread;
 use std::thread::Threads;
-use std::time::Duration;
 
 // How many alerts each poster reports, and how often each reader subscribes.
 const EACH: u32 = 1_000;
@@ -188,24 +185,20 @@ fn run_day<N: Origin + Send + Sync, R: Threads + Wait + Sync>(
     rt: &R,
     alloc: Global,
     parts: Parts,
+    settings: Settings,
 ) -> Result<(Run, Settled), Stopped>
     requires table { parts.log.board.shared.table_id ≡ N.table }
     requires ledger { (parts.ledger.name ≡ N.name) × (parts.ledger.parts ≡ N.parts) }
 {
-    let (provider, mut passes) = Provider::<N>::begin(
-        alloc,
-        parts,
-        Policy::Refuse,
-        Duration::from_secs(300),
-    )?;
+    let (provider, mut passes) = begin_day::<N>(alloc, parts, settings)?;
     let outcome = run_all(rt, alloc, &provider, &mut passes);
-    let settled = provider.settle(rt, passes);
-    Ok((outcome?, settled))
+    end_day(rt, provider, passes, outcome)
 }
 
 fn run_of<R: Threads + Wait + Sync>(rt: &R, alloc: Global) -> Result<(Run, Settled), Stopped> {
-    let parts = Parts::make(alloc, 256, 4)?;
-    run_day::<Brand, R>(rt, alloc, parts)
+    let settings = Settings::of(256, 4);
+    let parts = settings.parts(alloc)?;
+    run_day::<Brand, R>(rt, alloc, parts, settings)
 }
 
 /// What was stored when a subscription came, and how many alerts had been sent out.

@@ -4,12 +4,11 @@
 ghost use Rattle.std.specs.Prelude.{◌≡◌};
 
 use crate::bodies::{body_of, moment};
-use crate::days::Stopped;
+use crate::days::{Settings, Stopped, begin_day, end_day};
 use crate::shown::{Shown, is_front};
 use am_alert::Moment;
 use am_provider::{
-    NoGate, Origin, Parts, Pass, Policy, PostRefused, Provider, PutFault, Settled, Step,
-    Subscription,
+    NoGate, Origin, Parts, Pass, PostRefused, Provider, PutFault, Settled, Step, Subscription,
 };
 use am_store::Call;
 use std::alloc::{AllocError, Global};
@@ -19,7 +18,6 @@ use std::sync::atomic::{AtomicU32, Ordering};
 use std::test::Fail;
 use std::thread;
 use std::thread::Threads;
-use std::time::Duration;
 
 /// Posts a body, and tries again while the log is full. Answers whether it was accepted.
 pub fn post_one<N: Origin, R: Wait>(
@@ -171,24 +169,20 @@ fn run_day<N: Origin + Send + Sync, R: Threads + Wait + Sync>(
     rt: &R,
     alloc: Global,
     parts: Parts,
+    settings: Settings,
 ) -> Result<(Run, Settled), Stopped>
     requires table { parts.log.board.shared.table_id ≡ N.table }
     requires ledger { (parts.ledger.name ≡ N.name) × (parts.ledger.parts ≡ N.parts) }
 {
-    let (provider, mut passes) = Provider::<N>::begin(
-        alloc,
-        parts,
-        Policy::Refuse,
-        Duration::from_secs(300),
-    )?;
+    let (provider, mut passes) = begin_day::<N>(alloc, parts, settings)?;
     let outcome = run_all(rt, alloc, &provider, &mut passes);
-    let settled = provider.settle(rt, passes);
-    Ok((outcome?, settled))
+    end_day(rt, provider, passes, outcome)
 }
 
 fn run_of<R: Threads + Wait + Sync>(rt: &R, alloc: Global) -> Result<(Run, Settled), Stopped> {
-    let parts = Parts::make(alloc, 16, 4)?;
-    run_day::<Brand, R>(rt, alloc, parts)
+    let settings = Settings::of(16, 4);
+    let parts = settings.parts(alloc)?;
+    run_day::<Brand, R>(rt, alloc, parts, settings)
 }
 
 // How many alerts the journal's posts have.

@@ -6,7 +6,7 @@ use crate::stage::{Placed, Stage};
 use am_provider::{
     Counts, Ended, NoGate, Origin, Pass, Policy, PostRefused, PutFault, Settled, Step, Subscription,
 };
-use am_store::Call;
+use am_store::{Call, LaneSet};
 use std::alloc::{AllocError, Global};
 use std::sync::Wait;
 use std::test::Fail;
@@ -133,7 +133,7 @@ fn settled_journal(rt: HostRuntime) -> Result<(), Fail> {
 #[derive(Clone, Copy, Debug, PartialEq, Eq, Drop)]
 struct Lag {
     full: bool,
-    cut: u8,
+    cut: LaneSet,
     quick: u32,
     slow: u32,
     told_cut: bool,
@@ -197,7 +197,10 @@ fn lag_of<N: Origin, R: Wait>(
         .post(stage.rt, pass, &NoGate, second.as_bytes(), moment(20))
     {
         Ok(posted) => (false, posted.cut),
-        Err(PostRefused::Put(PutFault::Full { lane, passed })) => (lane == 0 && passed == 0, 0),
+        Err(PostRefused::Put(PutFault::Full { lane, passed })) => (
+            lane == 0 && passed == 0,
+            LaneSet::EMPTY,
+        ),
         Err(fault) => return Err(Stopped::from(fault)),
     };
     let (more, _) = read(quick, 9);
@@ -220,7 +223,7 @@ fn a_full_log_refuses(rt: HostRuntime) -> Result<(), Fail> {
         lag,
         Lag {
             full: true,
-            cut: 0,
+            cut: LaneSet::EMPTY,
             quick: 1,
             slow: 1,
             told_cut: false,
@@ -249,7 +252,7 @@ fn a_full_log_cuts_the_slow_lane(rt: HostRuntime) -> Result<(), Fail> {
         lag,
         Lag {
             full: false,
-            cut: 1,
+            cut: LaneSet::EMPTY.with(0),
             quick: 2,
             slow: 0,
             told_cut: true,

@@ -47,13 +47,13 @@ module _ (modes policies : Choices) (are_modes : AreModes modes) (are_policies :
 
   pub given_read : (given : List Text) (matches : ArgMatches) (arguments : Arguments) → rows_of (found_of matches) ≡ matches_of (app_of command) given
       → fault_of (app_of command) given ≡ [] → AreFound (found_of matches) arguments → AreRead given arguments
-  given_read given matches arguments rows taken found =
+  given_read given matches arguments rows accepted found =
       let value : (name : Text) → first_of name (matches_of (app_of command) given) ≡ first_value (found_of matches) name =
       λ name. ap (first_of name) (sym rows) ∙ sym (first_value-rows (found_of matches) name) in
       record {
         options = app_of command;
         are_options = are_options;
-        taken = taken;
+        accepted = accepted;
         mode = value _ ∙ found.mode;
         places = (found.places.0, value _ ∙ found.places.1, found.places.2);
         full = value _ ∙ found.full;

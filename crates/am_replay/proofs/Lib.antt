@@ -1,3 +1,3 @@
 pub mod GivenArguments
 pub mod Options
-pub mod Outcomes
+pub mod Replays

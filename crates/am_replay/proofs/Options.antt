@@ -23,11 +23,11 @@ use Rattle.clap.specs.declared.builder.value_parser.ValueParser.TheVariants as v
 use Rattle.clap.proofs.CallerLemmas.{added_plain, default_present, entry_by_id, same_rules_by_id}
 use Rattle.clap.proofs.WalkLemmas.{list_any-map}
 use Rattle.am_provider.specs.declared.answers.Policy.TheVariants.{Refuse, Cut}
-use Rattle.am_replay.specs.declared.arguments.TheConstants.{MAX_PLACES}
+use Rattle.am_cast.specs.declared.limits.TheConstants.{MAX_PLACES}
 use Rattle.am_replay.specs.Options.{AreModes, ArePolicies, HasOptions, IsCommandOf, IsOption, Choices, mode_name, options_of, policy_name}
 use Rattle.am_replay.specs.declared.arguments.Mode.TheVariants.{Ordered, Free}
 
--- a list with a place that passes has a first one
+-- a list with an element that passes has a first one
 find_some : {X : Type 0} (p : X → Bool) (xs : List X) (i : ℕ) → i < length xs → ((d : X) → p (slice_index_or xs i d) ≡ true)
     → (x : X) × (find p xs ≡ Some x)
 find_some p [] i lt passes = absurd (omega arith)
@@ -47,7 +47,7 @@ pub record Keeps (parser : ValueParser) (option : Arg) : Type 0 where
   pub parser_of : option.value_parser ≡ Some parser
   pub exact : option.ignore_case ≡ false
 
--- what clap finds of the option at place k of a command
+-- what clap finds of the option at index k of a command
 module _ (old : Command) (m : ArgMatches) (p : IsParsedFrom old m) (plain : IsPlain old) (local : (out-Command old).has_globals ≡ false)
     (k : ℕ) (d : Arg) (lt : k < length (args_of old)) (q : ValueParser) (kept : Keeps q (slice_index_or (args_of old) k d))
     (unique : (j : ℕ) (e : Arg) → j < length (args_of old)
@@ -224,7 +224,7 @@ module _ (start one two three : Command) (mode places full : Arg) (modes policie
   ids (suc (suc zero)) e lt = ap (λ (i : Bor Text). i.now) third.rules.id ∙ is_full.id
   ids (suc (suc (suc j))) e lt = absurd (omega arith)
 
-  -- the option at place k of the command
+  -- the option at index k of the command
   found_at : (m : ArgMatches) → IsParsedFrom three m → (k : ℕ) (b : Arg) (parser : ValueParser) → k < 3 → Keeps parser (slice_index_or given k b)
       → (t : Text) × (first_value (found_of m) (slice_index_or option_names k []) ≡ Some t)
       × (one_text (found_of m) (slice_index_or option_names k []) ≡ Some (read_as (reading_of parser) t)) × Accepts false parser t

@@ -23,7 +23,7 @@ number_of text = digits_value 10 (without_leading_plus text)
 pub record AreRead (given : List Text) (arguments : Arguments) : Type 0 where
   pub options : App
   pub are_options : AreOptions options
-  pub taken : fault_of options given ≡ []
+  pub accepted : fault_of options given ≡ []
   pub mode : option_value options given (codes "mode") ≡ Some (mode_name arguments.mode)
   pub places : (text : Text) × (option_value options given (codes "places") ≡ Some text)
       × (number_of text ≡ arguments.places)

@@ -43,8 +43,8 @@ counts_text counts =
     ++ (codes " stored " ++ decimal counts.stored))))
 
 -- what a run prints: a line for each answer in the order of the script's lines, and the last one
-abbrev pub report_text : List Line → List (Vec (Vec Answer)) → Counts → List ℕ
-report_text lines answers counts = lines_text answers 0 lines ++ (counts_text counts ++ 10 ∷ [])
+abbrev pub transcript_text : List Line → List (Vec (Vec Answer)) → Counts → List ℕ
+transcript_text lines answers counts = lines_text answers 0 lines ++ (counts_text counts ++ 10 ∷ [])
 
 -- whether some call was out of memory
 abbrev pub ran_out_of_memory : List (Vec (Vec Answer)) → Bool

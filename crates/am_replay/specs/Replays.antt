@@ -4,12 +4,12 @@ use Rattle.std.specs.Duration.{as_nanos}
 use Rattle.std.specs.Io.KnownBytes.{Appends, Keeps}
 use Rattle.am_script.specs.Outputs.{AppendsBeginning}
 use Rattle.am_script.specs.Inputs.{IsReadOf}
-use Rattle.am_replay.specs.Printing.{ran_out_of_memory, report_text}
+use Rattle.am_replay.specs.Printing.{ran_out_of_memory, transcript_text}
 use Rattle.am_script.specs.ScriptTexts.{refusal_text}
 use Rattle.am_replay.specs.Runs.{IsRun}
 use Rattle.am_replay.specs.Arguments.{AreRead, AreRefused}
 use Rattle.am_replay.specs.declared.arguments.Arguments.{Arguments}
-use Rattle.am_replay.specs.declared.report.Report.{Report}
+use Rattle.am_replay.specs.declared.transcript.Transcript.{Transcript}
 use Rattle.am_provider.specs.declared.settled.Settled.{Settled}
 use Rattle.am_script.specs.Script.{Checks, config_line, lines_of}
 use Rattle.am_script.specs.declared.command.Line.{Line}
@@ -43,12 +43,12 @@ pub data ComesTo (text : List ℕ) : Status → List ℕ → Type 0 where
   refused : (config : Config) (refusal : Refusal) → IsFirstLine text (first_line.Read config)
       → Checks 1 [] (lines_of text) (Err refusal)
       → ComesTo text Refused (refusal_text refusal ++ 10 ∷ [])
-  ran : (config : Config) {lines : List Line} (report : Report) (settled : Settled)
+  ran : (config : Config) {lines : List Line} (transcript : Transcript) (settled : Settled)
       → IsFirstLine text (first_line.Read config)
       → Checks 1 [] (lines_of text) (Ok lines)
-      → IsRun (config_line text) (as_nanos config.resolve_timeout) lines report settled
-      → ComesTo text (status_of (ran_out_of_memory report.answers.items))
-      (report_text lines report.answers.items report.counts)
+      → IsRun (config_line text) (as_nanos config.resolve_timeout) lines transcript settled
+      → ComesTo text (status_of (ran_out_of_memory transcript.answers.items))
+      (transcript_text lines transcript.answers.items transcript.counts)
 
 -- all that the script comes to was printed
 pub record IsPrinted (input old new : Option (List ℕ)) (status : Status) : Type 0 where

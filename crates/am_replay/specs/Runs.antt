@@ -6,7 +6,7 @@ use Rattle.am_alert.specs.declared.alert.Alert.{Alert}
 use Rattle.am_store.specs.declared.call.Call.{Call}
 use Rattle.am_cast.specs.Posters.{PassView}
 use Rattle.am_store.specs.Journal.{posts_of}
-use Rattle.am_store.specs.inside.Journals.{journal_of}
+use Rattle.am_store.specs.Journal.{journal_of}
 use Rattle.am_provider.specs.BookView.{places_of}
 use Rattle.am_provider.specs.Settling.{IsSettled, own_of}
 use Rattle.am_provider.specs.declared.answers.Counts.{Counts}
@@ -14,7 +14,7 @@ use Rattle.am_provider.specs.declared.settled.Settled.{Settled}
 use Rattle.am_runner.specs.Working.{AreWork}
 use Rattle.am_runner.specs.declared.answer.Answer.{Answer}
 use Rattle.am_script.specs.declared.command.Line.{Line}
-use Rattle.am_replay.specs.declared.report.Report.{Report}
+use Rattle.am_replay.specs.declared.transcript.Transcript.{Transcript}
 
 -- the places, the posts and the stored alerts of the journal and the store that a provider came to
 pub record AreCountsOf (settled : Settled) (counts : Counts) : Type 0 where
@@ -25,12 +25,12 @@ pub record AreCountsOf (settled : Settled) (counts : Counts) : Type 0 where
 -- The eight threads ran the lines, each its own, and what each answered is told. Their passes settled the
 -- provider: one journal has each post of theirs at the place that its line names, and no other post. The
 -- counts are that journal's.
-pub record IsRun (configuration : List ℕ) (timeout : ℕ) (lines : List Line) (report : Report)
+pub record IsRun (configuration : List ℕ) (timeout : ℕ) (lines : List Line) (transcript : Transcript)
     (settled : Settled) : Type 0 where
   pub outcomes : List (Result (Vec (Vec Answer)) AllocError × PassView Alert Call)
-  pub script : report.lines.items ≡ lines
+  pub script : transcript.lines.items ≡ lines
   pub work : AreWork configuration timeout lines 8 outcomes
-  pub answered : map (λ one. one.0) outcomes ≡ map Ok report.answers.items
+  pub answered : map (λ one. one.0) outcomes ≡ map Ok transcript.answers.items
   pub end : IsSettled (own_of (map (λ one. one.1) outcomes)) settled
   pub complete : settled.complete ≡ true
-  pub counts : AreCountsOf settled report.counts
+  pub counts : AreCountsOf settled transcript.counts

@@ -2,10 +2,11 @@
 
 ghost use Rattle.std.specs.Prelude.{◌≤◌, ◌≡◌, IfOk, IfErr, map, string_bytes};
 ghost use Rattle.clap.specs.Matches.{found_of};
-ghost use Rattle.am_replay.specs.declared.arguments.TheConstants.{MAX_PLACES};
+ghost use Rattle.am_cast.specs.declared.limits.TheConstants.{MAX_PLACES};
 ghost use Rattle.am_replay.specs.Options.{AreModes, ArePolicies, HasOptions, IsCommandOf, IsOption};
 ghost use Rattle.am_replay.specs.ArgumentsFaults.{IsTold};
 
+use am_cast::MAX_PLACES;
 use am_provider::Policy;
 use clap::builder::ValueParser;
 use clap::error::ErrorKind;
@@ -20,9 +21,6 @@ pub enum Mode {
     /// Each thread runs its own in their order, beside the others.
     Free,
 }
-
-/// How many places a log may have.
-pub const MAX_PLACES: u32 = 256;
 
 /// What the command line asks for.
 #[derive(Clone, Copy)]
@@ -82,7 +80,9 @@ impl Arguments {
                 Some("free") => Mode::Free,
                 _ => Mode::Ordered,
             },
-            places: matches.get_one::<u32>("places").unwrap_or(MAX_PLACES),
+            places: matches
+                .get_one::<u32>("places")
+                .unwrap_or(MAX_PLACES as u32),
             full: match matches.get_str("full") {
                 Some("cut") => Policy::Cut,
                 _ => Policy::Refuse,
@@ -132,7 +132,7 @@ fn command<'a>(
     ensures { IfOk result (IsCommandOf modes.entry policies.entry) }
 {
     let mode = option(alloc, "mode", "MODE", "ordered", modes.into(), MODE_HELP);
-    let numbers = ValueParser::unsigned(1, u64::from(MAX_PLACES));
+    let numbers = ValueParser::unsigned(1, MAX_PLACES);
     let places = option(alloc, "places", "N", "256", numbers, PLACES_HELP);
     let full = option(
         alloc,

@@ -7,11 +7,11 @@
 mod arguments;
 mod first_line;
 mod program;
-mod report;
 mod script_run;
 mod status;
 #[cfg(test)]
 mod tests;
+mod transcript;
 
 use crate::program::run;
 use crate::status::Status;

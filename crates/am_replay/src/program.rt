@@ -3,12 +3,12 @@
 ghost use Rattle.std.specs.Prelude.{◌≡◌, [], Ok, IfOk, IfErr, map, string_bytes};
 ghost use Rattle.am_script.specs.Script.{Checks, IsRefused, config_line, lines_of};
 ghost use Rattle.am_replay.specs.FirstLines.{IsFirstLine};
-ghost use Rattle.am_replay.specs.Printing.{ran_out_of_memory, report_text};
+ghost use Rattle.am_replay.specs.Printing.{ran_out_of_memory, transcript_text};
 ghost use Rattle.am_replay.specs.Replays.{ComesTo, IsProgram, IsReplay, IsTelling, status_of};
 
 use crate::arguments::{Arguments, ArgumentsFault};
 use crate::first_line::FirstLine;
-use crate::script_run::{Ran, run_script};
+use crate::script_run::{Ran, Settings, run_script};
 use crate::status::Status;
 use am_config::Config;
 use am_script::{
@@ -60,35 +60,35 @@ fn replay<R: Threads + Wait + Sync, I: Read, O: Write>(
         Err(Failure::OutOfMemory) => return Status::OutOfMemory,
         Err(_) => return Status::ReadFailed,
     };
-    let Ok(outcome) = outcome_of(rt, alloc, arguments, text) else {
+    let Ok(printout) = printout_of(rt, alloc, arguments, text) else {
         return Status::OutOfMemory;
     };
-    let status = match write_text(out, outcome.output.as_bytes()) {
-        Ok(()) => outcome.status,
+    let status = match write_text(out, printout.output.as_bytes()) {
+        Ok(()) => printout.status,
         Err(_) => Status::WriteFailed,
     };
     // Nobody who reads the output waits for this.
-    drop(outcome);
+    drop(printout);
     status
 }
 
-// What a script comes to: how the replay is to end, and all that is to be printed.
+// How the replay is to end, and all that is to be printed.
 #[derive(Drop)]
-struct Outcome {
+struct Printout {
     status: Status,
     output: String,
     // What was run, to be let go after the output was written.
     ran: Option<Ran>,
 }
 
-fn outcome_of<R: Threads + Wait + Sync>(
+fn printout_of<R: Threads + Wait + Sync>(
     rt: &R,
     alloc: Global,
     arguments: Arguments,
     text: Vec<u8>,
-) -> Result<Outcome, AllocError>
+) -> Result<Printout, AllocError>
     ensures { IfOk result
-        (λ outcome. ComesTo text.items outcome.status (string_bytes outcome.output)) }
+        (λ printout. ComesTo text.items printout.status (string_bytes printout.output)) }
 {
     match FirstLine::read(alloc, &text)? {
         FirstLine::TooLong => {
@@ -96,7 +96,7 @@ fn outcome_of<R: Threads + Wait + Sync>(
             Ok(refused(format!(in alloc; "{refusal}\n")?))
         }
         FirstLine::Refused(fault) => { Ok(refused(format!(in alloc; "config {fault}\n")?)) }
-        FirstLine::Read(config) => outcome_under(rt, alloc, arguments, &config, text),
+        FirstLine::Read(config) => printout_under(rt, alloc, arguments, &config, text),
     }
 }
 
@@ -106,36 +106,39 @@ const FIRST_LINE_TOO_LARGE: Refusal = Refusal {
 };
 
 // Nothing was run.
-fn refused(output: String) -> Outcome
+fn refused(output: String) -> Printout
     ensures status { result.status ≡ Status.Refused }
     ensures output { result.output ≡ output }
 {
-    Outcome {
+    Printout {
         status: Status::Refused,
         output,
         ran: None,
     }
 }
 
-// What a script comes to under its configuration.
-fn outcome_under<R: Threads + Wait + Sync>(
+// What is to be printed of a script under its configuration.
+fn printout_under<R: Threads + Wait + Sync>(
     rt: &R,
     alloc: Global,
     arguments: Arguments,
     config: &Config,
     text: Vec<u8>,
-) -> Result<Outcome, AllocError>
+) -> Result<Printout, AllocError>
     requires { IsFirstLine text.items (FirstLine.Read config.now) }
     ensures { IfOk result
-        (λ outcome. ComesTo text.items outcome.status (string_bytes outcome.output)) }
+        (λ printout. ComesTo text.items printout.status (string_bytes printout.output)) }
 {
     match take_lines(alloc, text) {
         Ok((configuration, lines)) => {
-            let timeout = config.resolve_timeout;
-            ran(
+            let settings = Settings {
+                rt,
                 alloc,
-                run_script(rt, alloc, arguments, timeout, &configuration, lines)?,
-            )
+                arguments,
+                resolve_timeout: config.resolve_timeout,
+                configuration: &configuration,
+            };
+            ran(alloc, run_script(&settings, lines)?)
         }
         Err(ScriptFault::Refused(refusal)) => Ok(refused(format!(in alloc; "{refusal}\n")?)),
         Err(ScriptFault::NoMemory) => Err(AllocError),
@@ -159,20 +162,20 @@ fn take_lines(alloc: Global, text: Vec<u8>) -> Result<(Vec<u8>, Vec<Line>), Scri
     }
 }
 
-fn ran(alloc: Global, ran: Ran) -> Result<Outcome, AllocError>
-    ensures output { IfOk result (λ outcome. string_bytes outcome.output
-        ≡ report_text ran.report.lines.items ran.report.answers.items ran.report.counts) }
-    ensures status { IfOk result (λ outcome. outcome.status
-        ≡ status_of (ran_out_of_memory ran.report.answers.items)) }
+fn ran(alloc: Global, ran: Ran) -> Result<Printout, AllocError>
+    ensures output { IfOk result (λ printout. string_bytes printout.output
+        ≡ transcript_text ran.transcript.lines.items ran.transcript.answers.items ran.transcript.counts) }
+    ensures status { IfOk result (λ printout. printout.status
+        ≡ status_of (ran_out_of_memory ran.transcript.answers.items)) }
 {
-    let status = if ran.report.ran_out_of_memory() {
+    let status = if ran.transcript.ran_out_of_memory() {
         Status::CallOutOfMemory
     } else {
         Status::Done
     };
-    Ok(Outcome {
+    Ok(Printout {
         status,
-        output: ran.report.text(alloc)?,
+        output: ran.transcript.text(alloc)?,
         ran: Some(ran),
     })
 }

@@ -6,8 +6,8 @@ ghost use Rattle.am_runner.specs.Working.{AreWork};
 ghost use Rattle.am_replay.specs.Runs.{IsRun};
 
 use crate::arguments::{Arguments, Mode};
-use crate::report::Report;
-use am_provider::{Origin, Parts, Pass, Policy, Provider, Settled};
+use crate::transcript::Transcript;
+use am_provider::{Origin, Parts, Pass, Provider, Settled};
 use am_runner::{Answer, Freely, InOrder, ThreadOutcome, Turns, run_threads};
 use am_script::{Line, THREADS};
 use std::alloc::{AllocError, Global};
@@ -16,82 +16,55 @@ use std::sync::Wait;
 use std::thread::Threads;
 use std::time::Duration;
 
-/// What a script's run came to, and what its provider came to.
+/// What a script is run under, whatever its turns.
+#[derive(Drop)]
+pub struct Settings<'s, R> {
+    pub rt: &'s R,
+    pub alloc: Global,
+    pub arguments: Arguments,
+    pub resolve_timeout: Duration,
+    pub configuration: &'s [u8],
+}
+
+/// What a script's run answered, and what is left of its provider.
 #[derive(Drop)]
 pub struct Ran {
-    pub report: Report,
+    pub transcript: Transcript,
     pub settled: Settled,
 }
 
 /// Runs the lines on a provider of their own, each in its thread.
 pub fn run_script<R: Threads + Wait + Sync>(
-    rt: &R,
-    alloc: Global,
-    arguments: Arguments,
-    resolve_timeout: Duration,
-    configuration: &[u8],
+    settings: &Settings<'_, R>,
     lines: Vec<Line>,
 ) -> Result<Ran, AllocError>
-    ensures { IfOk result (λ ran. IsRun configuration.now (as_nanos resolve_timeout) lines.items
-        ran.report ran.settled) }
+    ensures { IfOk result (λ ran. IsRun settings.now.configuration.now
+        (as_nanos settings.now.resolve_timeout) lines.items ran.transcript ran.settled) }
 {
-    match arguments.mode {
+    match settings.arguments.mode {
         Mode::Ordered => {
-            let turns = InOrder::new(alloc, &lines)?;
-            run_in(
-                rt,
-                alloc,
-                arguments,
-                resolve_timeout,
-                configuration,
-                lines,
-                &turns,
-            )
+            let turns = InOrder::new(settings.alloc, &lines)?;
+            run_in(settings, lines, &turns)
         }
-        Mode::Free => run_in(
-            rt,
-            alloc,
-            arguments,
-            resolve_timeout,
-            configuration,
-            lines,
-            &Freely,
-        ),
+        Mode::Free => run_in(settings, lines, &Freely),
     }
 }
 
-// Runs the lines in their turns, on a provider that stands for itself alone (`Brand`).
+// Runs the lines in their turns, on a new provider. Its `Brand` keeps it from being mixed up with another.
 fn run_in<R: Threads + Wait + Sync, T: Turns + Sync>(
-    rt: &R,
-    alloc: Global,
-    arguments: Arguments,
-    resolve_timeout: Duration,
-    configuration: &[u8],
+    settings: &Settings<'_, R>,
     lines: Vec<Line>,
     turns: &T,
 ) -> Result<Ran, AllocError>
-    ensures { IfOk result (λ ran. IsRun configuration.now (as_nanos resolve_timeout) lines.items
-        ran.report ran.settled) }
+    ensures { IfOk result (λ ran. IsRun settings.now.configuration.now
+        (as_nanos settings.now.resolve_timeout) lines.items ran.transcript ran.settled) }
 {
-    let parts = Parts::make(alloc, arguments.places, THREADS)?;
-    run_on::<Brand, R, T>(
-        rt,
-        alloc,
-        arguments.full,
-        resolve_timeout,
-        configuration,
-        lines,
-        turns,
-        parts,
-    )
+    let parts = Parts::make(settings.alloc, settings.arguments.places, THREADS)?;
+    run_on::<Brand, R, T>(settings, lines, turns, parts)
 }
 
 fn run_on<N: Origin + Send + Sync, R: Threads + Wait + Sync, T: Turns + Sync>(
-    rt: &R,
-    alloc: Global,
-    full: Policy,
-    resolve_timeout: Duration,
-    configuration: &[u8],
+    settings: &Settings<'_, R>,
     lines: Vec<Line>,
     turns: &T,
     parts: Parts,
@@ -99,10 +72,17 @@ fn run_on<N: Origin + Send + Sync, R: Threads + Wait + Sync, T: Turns + Sync>(
     requires table { parts.log.board.shared.table_id ≡ N.table }
     requires ledger { (parts.ledger.name ≡ N.name) × (parts.ledger.parts ≡ N.parts) }
     requires posters { parts.posters ≡ 8 }
-    ensures { IfOk result (λ ran. IsRun configuration.now (as_nanos resolve_timeout) lines.items
-        ran.report ran.settled) }
+    ensures { IfOk result (λ ran. IsRun settings.now.configuration.now
+        (as_nanos settings.now.resolve_timeout) lines.items ran.transcript ran.settled) }
 {
-    let (provider, passes) = Provider::<N>::begin(alloc, parts, full, resolve_timeout)?;
+    let Settings {
+        rt,
+        alloc,
+        arguments,
+        resolve_timeout,
+        configuration,
+    } = *settings;
+    let (provider, passes) = Provider::<N>::begin(alloc, parts, arguments.full, resolve_timeout)?;
     match run_threads(rt, alloc, &provider, passes, configuration, &lines, turns) {
         Ok(outcomes) => end(rt, alloc, provider, lines, outcomes),
         Err(error) => {
@@ -123,18 +103,21 @@ fn end<N: Origin, R: Wait>(
     requires { N.parts ≡ 8 }
     ensures { IfOk result (λ ran. (configuration : List ℕ) (timeout : ℕ)
         → AreWork configuration timeout lines.items 8 outcomes.items
-        → IsRun configuration timeout lines.items ran.report ran.settled) }
+        → IsRun configuration timeout lines.items ran.transcript ran.settled) }
 {
     match part(alloc, outcomes) {
         Ok((answers, passes)) => {
             let settled = provider.settle(rt, passes);
             let counts = settled.counts();
-            let report = Report {
+            let transcript = Transcript {
                 lines,
                 answers,
                 counts,
             };
-            Ok(Ran { report, settled })
+            Ok(Ran {
+                transcript,
+                settled,
+            })
         }
         Err(error) => {
             let _settled = provider.settle(rt, Vec::new(alloc));

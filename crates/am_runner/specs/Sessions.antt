@@ -5,7 +5,7 @@ use Rattle.std.specs.Option.{option_and_then}
 use Rattle.std.specs.Str.{bytes_eq}
 use Rattle.am_alert.specs.declared.alert.Alert.{Alert}
 use Rattle.am_store.specs.declared.call.Call.{Call}
-use Rattle.am_store.specs.Journal.{has_lane}
+use Rattle.am_store.specs.LaneSets.{has_lane}
 use Rattle.am_cast.specs.Posters.{PassView}
 use Rattle.am_provider.specs.Posts.{HasMet}
 use Rattle.am_provider.specs.Provided.{IsPostedAs, IsUnread}

@@ -19,6 +19,7 @@
 
 mod answer;
 mod consumer;
+mod context;
 mod open_subscription;
 mod session;
 mod start;
@@ -28,6 +29,7 @@ mod work;
 
 pub use answer::Answer;
 pub use consumer::Consumer;
+pub use context::Context;
 pub use open_subscription::OpenSubscription;
 pub use session::Session;
 pub use threads::{ThreadOutcome, run_threads};

@@ -2,19 +2,20 @@
 
 ghost use Rattle.std.specs.Prelude.{◌≡◌, ◌<◌, ◌++◌, ◌∷◌, [], ℕ, IfOk, OnOk, length, map};
 ghost use Rattle.std.specs.Duration.{as_nanos};
-ghost use Rattle.am_store.specs.Journal.{has_lane};
+ghost use Rattle.am_config.specs.declared.config.Config.{Config};
 ghost use Rattle.am_runner.specs.Sessions.{AsksNamed, Does, LeavesAt, ReadsNamed, SessionView};
 ghost use Rattle.am_runner.specs.Sessions.{SweepsNamed, cut_below, groups_told, named_in};
 ghost use Rattle.am_runner.specs.Sessions.{index_named, posted_answers};
 
 use crate::answer::{Answer, one};
 use crate::consumer::Consumer;
+use crate::context::Context;
 use crate::open_subscription::OpenSubscription;
 use am_alert::{AlertFault, Moment};
-use am_config::Config;
 use am_labels::{LabelSet, Text};
-use am_provider::{AlreadyClosed, Ended, Gate, Origin, Pass, Posted, Provider};
+use am_provider::{AlreadyClosed, Ended, Gate, Origin, Pass, Posted};
 use am_script::{Command, Kind, Verb};
+use am_store::LaneSet;
 use std::alloc::{AllocError, Global};
 use std::marker::Model;
 use std::sync::Wait;
@@ -57,29 +58,22 @@ impl<'p, 'c, N: Origin> Session<'p, 'c, N> {
     /// may have been done.
     pub fn run<R: Wait, G: Gate>(
         &mut self,
-        rt: &R,
-        alloc: Global,
-        provider: &'p Provider<N>,
-        config: &'c Config,
-        gate: &G,
+        context: &Context<'p, 'c, N, R, G>,
         command: &Command,
     ) -> Result<Vec<Answer>, AllocError>
-        ensures { IfOk result (λ answers. Does config.now (as_nanos provider.now.resolve_timeout)
-            self.old command.now answers.items self.new) }
+        ensures { IfOk result (λ answers. Does context.now.config.now
+            (as_nanos context.now.provider.now.resolve_timeout) self.old command.now answers.items
+            self.new) }
     {
+        let alloc = context.alloc;
         match command {
-            Command::Post { at, body } => self.post(rt, alloc, provider, gate, *at, body),
-            Command::Subscribe { name, kind } => {
-                one(
-                    alloc,
-                    self.subscribe(rt, alloc, provider, config, name, *kind)?,
-                )
-            }
+            Command::Post { at, body } => self.post(context, *at, body),
+            Command::Subscribe { name, kind } => one(alloc, self.subscribe(context, name, *kind)?),
             Command::Read { name, max } => self.read(alloc, name, *max),
-            Command::Leave { name } => one(alloc, self.leave(rt, provider, name)),
-            Command::Collect { at } => one(alloc, collect(rt, provider, *at)),
-            Command::Close => one(alloc, close(rt, provider)),
-            Command::Trim => one(alloc, trim(rt, provider)),
+            Command::Leave { name } => one(alloc, self.leave(context, name)),
+            Command::Collect { at } => one(alloc, collect(context, *at)),
+            Command::Close => one(alloc, close(context)),
+            Command::Trim => one(alloc, trim(context)),
             Command::Groups { name } => self.groups(alloc, name),
             Command::Sweep { name, at } => self.sweep(alloc, name, *at),
             Command::Mutes { name, at, labels } => self.mutes(alloc, name, labels, *at),
@@ -88,39 +82,36 @@ impl<'p, 'c, N: Origin> Session<'p, 'c, N> {
 
     fn post<R: Wait, G: Gate>(
         &mut self,
-        rt: &R,
-        alloc: Global,
-        provider: &'p Provider<N>,
-        gate: &G,
+        context: &Context<'p, 'c, N, R, G>,
         at: Moment,
         body: &Text,
     ) -> Result<Vec<Answer>, AllocError>
-        ensures { IfOk result (λ answers. (config : Config) → Does config (as_nanos provider.now.resolve_timeout)
+        ensures { IfOk result (λ answers. (config : Config)
+            → Does config (as_nanos context.now.provider.now.resolve_timeout)
             self.old (Command.Post at body.now) answers.items self.new) }
     {
-        let posted = match provider.post(rt, &mut self.pass, gate, body.as_str().as_bytes(), at) {
+        let body = body.as_str().as_bytes();
+        let provider = context.provider;
+        let posted = match provider.post(context.rt, &mut self.pass, context.turns, body, at) {
             Ok(posted) => posted,
-            Err(why) => return one(alloc, Answer::PostRefused(why)),
+            Err(why) => return one(context.alloc, Answer::PostRefused(why)),
         };
-        posted_answers(alloc, &posted)
+        posted_answers(context.alloc, &posted)
     }
 
-    fn subscribe<R: Wait>(
+    fn subscribe<R: Wait, G>(
         &mut self,
-        rt: &R,
-        alloc: Global,
-        provider: &'p Provider<N>,
-        config: &'c Config,
+        context: &Context<'p, 'c, N, R, G>,
         name: &Text,
         kind: Kind,
     ) -> Result<Answer, AllocError>
-        ensures { IfOk result (λ answer. (timeout : ℕ) → Does config.now timeout
+        ensures { IfOk result (λ answer. (timeout : ℕ) → Does context.now.config.now timeout
             self.old (Command.Subscribe name.now kind) (answer ∷ []) self.new) }
     {
         let name = name.copy()?;
-        let consumer = Consumer::begin(alloc, config, kind)?;
+        let consumer = Consumer::begin(context.alloc, context.config, kind)?;
         self.opened.reserve(1)?;
-        match provider.subscribe(rt) {
+        match context.provider.subscribe(context.rt) {
             Ok(subscription) => {
                 let answer = Answer::Subscribed {
                     lane: subscription.lane(),
@@ -141,7 +132,7 @@ impl<'p, 'c, N: Origin> Session<'p, 'c, N> {
         read_named(&mut self.opened, alloc, name, max)
     }
 
-    fn leave<R: Wait>(&mut self, rt: &R, provider: &'p Provider<N>, name: &Text) -> Answer
+    fn leave<R: Wait, G>(&mut self, context: &Context<'p, 'c, N, R, G>, name: &Text) -> Answer
         ensures { (config : Config) (timeout : ℕ) → Does config timeout
             self.old (Command.Leave name.now) (result ∷ []) self.new }
     {
@@ -152,20 +143,20 @@ impl<'p, 'c, N: Origin> Session<'p, 'c, N> {
                     taken,
                     closed,
                     cut,
-                } = self.leave_at(rt, provider, index);
+                } = self.leave_at(context, index);
                 Answer::Left { taken, closed, cut }
             }
             None => Answer::NotOpen(Verb::Leave),
         }
     }
 
-    fn leave_at<R: Wait>(&mut self, rt: &R, provider: &'p Provider<N>, index: usize) -> Ended
+    fn leave_at<R: Wait, G>(&mut self, context: &Context<'p, 'c, N, R, G>, index: usize) -> Ended
         requires { index < length self.old.opened }
         ensures { LeavesAt index self.old result self.new }
     {
         let mut subscription = self.opened.remove(index).into_subscription();
-        provider.meet(&mut subscription, &mut self.pass);
-        provider.leave(rt, subscription)
+        context.provider.meet(&mut subscription, &mut self.pass);
+        context.provider.leave(context.rt, subscription)
     }
 
     fn groups(&self, alloc: Global, name: &Text) -> Result<Vec<Answer>, AllocError>
@@ -196,11 +187,11 @@ impl<'p, 'c, N: Origin> Session<'p, 'c, N> {
     }
 
     /// Leaves the open subscriptions in the order in which they were opened, and gives the pass back.
-    pub fn end<R: Wait>(mut self, rt: &R, provider: &'p Provider<N>) -> Pass<N>
+    pub fn end<R: Wait, G>(mut self, context: &Context<'p, 'c, N, R, G>) -> Pass<N>
         ensures { result.own ≡ self.entry.pass.own }
     {
         while !self.opened.is_empty() {
-            let _ended = self.leave_at(rt, provider, 0);
+            let _ended = self.leave_at(context, 0);
         }
         let Session { pass, opened } = self;
         opened.destroy_empty();
@@ -208,31 +199,31 @@ impl<'p, 'c, N: Origin> Session<'p, 'c, N> {
     }
 }
 
-fn collect<R: Wait, N: Origin>(rt: &R, provider: &Provider<N>, at: Moment) -> Answer
+fn collect<N: Origin, R: Wait, G>(context: &Context<'_, '_, N, R, G>, at: Moment) -> Answer
     ensures { (config : Config) (timeout : ℕ) (session : SessionView) → Does config timeout session
         (Command.Collect at) (result ∷ []) session }
 {
-    match provider.collect_resolved(rt, at) {
+    match context.provider.collect_resolved(context.rt, at) {
         Ok(removed) => Answer::Collected(removed),
         Err(_) => Answer::CollectRefused,
     }
 }
 
-fn close<R: Wait, N: Origin>(rt: &R, provider: &Provider<N>) -> Answer
+fn close<N: Origin, R: Wait, G>(context: &Context<'_, '_, N, R, G>) -> Answer
     ensures { (config : Config) (timeout : ℕ) (session : SessionView) → Does config timeout session
         Command.Close (result ∷ []) session }
 {
-    match provider.close(rt) {
+    match context.provider.close(context.rt) {
         Ok(()) => Answer::CloseAccepted,
         Err(AlreadyClosed) => Answer::CloseRefused,
     }
 }
 
-fn trim<R: Wait, N: Origin>(rt: &R, provider: &Provider<N>) -> Answer
+fn trim<N: Origin, R: Wait, G>(context: &Context<'_, '_, N, R, G>) -> Answer
     ensures { (config : Config) (timeout : ℕ) (session : SessionView) → Does config timeout session
         Command.Trim (result ∷ []) session }
 {
-    match provider.trim(rt) {
+    match context.provider.trim(context.rt) {
         Ok(dropped) => Answer::Trimmed(dropped),
         Err(_) => Answer::TrimRefused,
     }
@@ -334,21 +325,14 @@ fn add_invalid(answers: &mut Vec<Answer>, faults: &[(u32, AlertFault)]) -> Resul
     Ok(())
 }
 
-fn add_cut(answers: &mut Vec<Answer>, bits: u8) -> Result<(), AllocError>
+fn add_cut(answers: &mut Vec<Answer>, lanes: LaneSet) -> Result<(), AllocError>
     ensures { OnOk result
-        (answers.new.items ≡ answers.old.items ++ map Answer.CutLane (cut_below bits 8)) }
+        (answers.new.items ≡ answers.old.items ++ map Answer.CutLane (cut_below lanes 8)) }
 {
     for lane in 0..8u32 {
-        if has_lane(bits, lane) {
+        if lanes.contains(lane) {
             answers.push(Answer::CutLane(lane))?;
         }
     }
     Ok(())
-}
-
-fn has_lane(bits: u8, lane: u32) -> bool
-    requires { lane < 8 }
-    ensures { result ≡ has_lane bits lane }
-{
-    (bits >> lane) % 2 == 1
 }

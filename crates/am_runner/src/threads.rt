@@ -7,6 +7,7 @@ ghost use Rattle.am_runner.specs.Sessions.{new_pass};
 ghost use Rattle.am_runner.specs.Working.{AreWork, IsWorkUnder};
 
 use crate::answer::Answer;
+use crate::context::Context;
 use crate::start::Start;
 use crate::turns::Turns;
 use crate::work::work;
@@ -163,16 +164,14 @@ fn work_when_told<N: Origin, R: Wait, T: Turns>(
     if !shared.start.arrive(rt) {
         return not_run(pass);
     }
-    work(
+    let context = Context {
         rt,
-        shared.alloc,
-        shared.provider,
-        &config,
-        shared.lines,
-        shared.turns,
-        thread,
-        pass,
-    )
+        alloc: shared.alloc,
+        provider: shared.provider,
+        config: &config,
+        turns: shared.turns,
+    };
+    work(&context, shared.lines, thread, pass)
 }
 
 fn not_run<N: Origin>(pass: Pass<N>) -> ThreadOutcome<N>

@@ -6,73 +6,55 @@ ghost use Rattle.am_runner.specs.Sessions.{new_pass};
 ghost use Rattle.am_runner.specs.Working.{Adds, IsWork, RunsLine, Works};
 
 use crate::answer::Answer;
+use crate::context::Context;
 use crate::session::Session;
 use crate::threads::ThreadOutcome;
 use crate::turns::{Turn, Turns};
-use am_config::Config;
-use am_provider::{Origin, Pass, Provider};
+use am_provider::{Origin, Pass};
 use am_script::{Line, Thread};
-use std::alloc::{AllocError, Global};
+use std::alloc::AllocError;
 use std::sync::Wait;
 
 /// Runs a thread's own lines, and leaves the subscriptions that are still open then.
 pub(crate) fn work<'p, 'c, N: Origin, R: Wait, T: Turns>(
-    rt: &R,
-    alloc: Global,
-    provider: &'p Provider<N>,
-    config: &'c Config,
+    context: &Context<'p, 'c, N, R, T>,
     lines: &[Line],
-    turns: &T,
     thread: Thread,
     pass: Pass<N>,
 ) -> ThreadOutcome<N>
     requires { pass ≡ new_pass }
-    ensures { IsWork config.now (as_nanos provider.now.resolve_timeout) lines.now thread
-        result.0 result.1 }
+    ensures { IsWork context.now.config.now (as_nanos context.now.provider.now.resolve_timeout)
+        lines.now thread result.0 result.1 }
 {
-    let mut session = Session::begin(alloc, pass);
-    let answers = run_lines(
-        rt,
-        alloc,
-        provider,
-        config,
-        lines,
-        turns,
-        thread,
-        &mut session,
-    );
+    let mut session = Session::begin(context.alloc, pass);
+    let answers = run_lines(context, lines, thread, &mut session);
     let end = Turn {
         thread,
         at: lines.len().wrapping_add(thread.index()),
     };
-    turns.begin(rt, &end);
-    let pass = session.end(rt, provider);
-    turns.end(rt, &end);
+    context.turns.begin(context.rt, &end);
+    let pass = session.end(context);
+    context.turns.end(context.rt, &end);
     (answers, pass)
 }
 
-// What each line answers: nothing, where it is another thread's. Where memory runs out the turns of the
-// lines behind are taken, but the lines aren't run.
+// What each line answers: nothing, if it is another thread's. If memory runs out, the turns of the
+// following lines are begun and ended, but the lines aren't run.
 fn run_lines<'p, 'c, N: Origin, R: Wait, T: Turns>(
-    rt: &R,
-    alloc: Global,
-    provider: &'p Provider<N>,
-    config: &'c Config,
+    context: &Context<'p, 'c, N, R, T>,
     lines: &[Line],
-    turns: &T,
     thread: Thread,
     session: &mut Session<'p, 'c, N>,
 ) -> Result<Vec<Vec<Answer>>, AllocError>
-    ensures { IfOk result (λ answers. Works config.now (as_nanos provider.now.resolve_timeout) thread
-        session.old lines.now answers.items session.new) }
+    ensures { IfOk result (λ answers. Works context.now.config.now
+        (as_nanos context.now.provider.now.resolve_timeout) thread session.old lines.now answers.items
+        session.new) }
 {
-    let mut answers = Vec::new(alloc);
+    let mut answers = Vec::new(context.alloc);
     let mut failed = false;
     for (at, line) in lines.iter().enumerate() {
         let turn = Turn { thread, at };
-        let given = run_line(
-            rt, alloc, provider, config, line, turns, &turn, session, failed,
-        );
+        let given = run_line(context, line, &turn, session, failed);
         if add(&mut answers, given).is_err() {
             failed = true;
         }
@@ -82,35 +64,31 @@ fn run_lines<'p, 'c, N: Origin, R: Wait, T: Turns>(
 
 // What a line answers in its turn. After a failure it isn't run.
 fn run_line<'p, 'c, N: Origin, R: Wait, T: Turns>(
-    rt: &R,
-    alloc: Global,
-    provider: &'p Provider<N>,
-    config: &'c Config,
+    context: &Context<'p, 'c, N, R, T>,
     line: &Line,
-    turns: &T,
     turn: &Turn,
     session: &mut Session<'p, 'c, N>,
     failed: bool,
 ) -> Result<Vec<Answer>, AllocError>
     ensures ran { OnOk result (failed ≡ false) }
-    ensures does { IfOk result (λ given. RunsLine config.now
-        (as_nanos provider.now.resolve_timeout) turn.now.thread line.now session.old given.items
-        session.new) }
+    ensures does { IfOk result (λ given. RunsLine context.now.config.now
+        (as_nanos context.now.provider.now.resolve_timeout) turn.now.thread line.now session.old
+        given.items session.new) }
 {
     if line.thread != turn.thread {
         return if failed {
             Err(AllocError)
         } else {
-            Ok(Vec::new(alloc))
+            Ok(Vec::new(context.alloc))
         };
     }
-    turns.begin(rt, turn);
+    context.turns.begin(context.rt, turn);
     let given = if failed {
         Err(AllocError)
     } else {
-        session.run(rt, alloc, provider, config, turns, &line.command)
+        session.run(context, &line.command)
     };
-    turns.end(rt, turn);
+    context.turns.end(context.rt, turn);
     given
 }
 

@@ -9,11 +9,13 @@ use Rattle.am_store.specs.declared.call.Call.TheVariants.{Posted, Collected, Sub
 use Rattle.std.specs.declared.alloc.Global.{Global}
 use Rattle.am_store.specs.declared.journal.Journal.{Journal}
 use Rattle.am_store.specs.declared.journal.TheConstants.{MAX_BEFORE}
-use Rattle.am_store.specs.Journal.{with_call, first_calls, closes, is_closed, is_post, posts_of, is_left, lefts_of, open_after, has_lane, is_open, IsLegal}
+use Rattle.am_store.specs.LaneSets.{has_lane}
+use Rattle.am_store.specs.Journal.{with_call, first_calls, closes, is_closed, is_post, posts_of, is_left, lefts_of, open_after, is_open, IsLegal}
 use Rattle.am_store.specs.Stored.{Update, updates, stored}
 use Rattle.am_store.specs.Broadcast.{batches_of, broadcast}
 use Rattle.am_store.specs.Trims.{IsTrimmed}
-use Rattle.am_store.specs.inside.Journals.{journal_of, AreCounted, IsOnALane, IsCounted, AreDropped}
+use Rattle.am_store.specs.Journal.{journal_of, AreCounted}
+use Rattle.am_store.specs.inside.Journals.{IsOnALane, IsCounted, AreDropped}
 use Rattle.am_store.proofs.Journals.{get_drop, drop_twice, first_more, broadcast_last, closed_last, posts_last, lefts_last, open_last}
 use Rattle.am_store.proofs.Kept.{or_false}
 use Rattle.am_store.proofs.LaneBits.{high_lane}

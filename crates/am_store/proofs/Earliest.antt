@@ -2,7 +2,7 @@
 use Rattle.std.proofs.Common.{◌≡◌, ℕ, zero, suc, ◌+◌, ◌<◌, ◌≤◌, List, [], ◌∷◌, length, get_or, Option, None, Some, refl, sym, subst, arith, ◌⊎◌, inl, inr, ◌∙◌}
 use Rattle.std.specs.Option.{IfSome}
 use Rattle.am_store.specs.declared.lanes.OpenLane.{OpenLane}
-use Rattle.am_store.specs.inside.Lanes.{lane_at, IsEarliest}
+use Rattle.am_store.specs.Lanes.{lane_at, IsEarliest}
 
 -- the earliest of the first lanes, or none where none of them is open
 pub record IsBest (lanes : List (Option OpenLane)) (end : ℕ) (first : Option OpenLane) : Type 0 where

@@ -18,7 +18,7 @@ use Rattle.am_alert.specs.Merging.{absorbed}
 use Rattle.am_store.specs.declared.store.absorb.Change.{Change}
 use Rattle.am_store.specs.AlertList.{lookup, with_alert, absorb_into, batch_by_list}
 use Rattle.am_store.specs.Shared.{alerts_in}
-use Rattle.am_store.specs.inside.Shared.{stored_in, AreKeptByLabels, taken_back, all_taken_back}
+use Rattle.am_store.specs.AlertMaps.{stored_in, AreKeptByLabels, taken_back, all_taken_back}
 use Rattle.am_store.proofs.Stored.{by_bool, by_option, absorbed_labels}
 
 pub alerts_in_last : (shared : List (Arc Alert Global)) (last : Arc Alert Global) → alerts_in (shared ++ last ∷ []) ≡ alerts_in shared ++ arc_value last ∷ []

@@ -11,9 +11,9 @@ use Rattle.am_store.specs.Stored.{updates, stored}
 use Rattle.am_store.specs.Broadcast.{broadcast, broadcast_from, items_of, due}
 use Rattle.am_store.specs.Journal.{JournalView, with_call, call_count, until, since, IsOpenSubscription}
 use Rattle.am_store.specs.PlainBook.{PlainBook, FollowsJournal}
-use Rattle.am_store.specs.inside.Journals.{journal_of}
-use Rattle.am_store.specs.inside.Lanes.{lane_at, IsLowestFree, open_count, IsItsOpening}
-use Rattle.am_store.specs.inside.Pages.{Pages, AgreesWithJournal}
+use Rattle.am_store.specs.Journal.{journal_of}
+use Rattle.am_store.specs.Lanes.{lane_at, IsLowestFree, open_count, IsItsOpening}
+use Rattle.am_store.specs.Pages.{Pages, AgreesWithJournal}
 use Rattle.am_store.proofs.Journals.{drop_twice, broadcast_parts}
 use Rattle.am_store.proofs.Opens.{is_still_open, lane_low, until_end, open_begins}
 use Rattle.am_store.proofs.Kept.{sound_grown, or_false, enough, limits_same, if_some, opening_stays}

@@ -5,7 +5,7 @@ use Rattle.std.proofs.lemmas.List.Elements.{All-drop}
 use Rattle.am_alert.specs.declared.alert.Alert.{Alert}
 use Rattle.am_alert.specs.declared.post.TheConstants.{MAX_ALERTS}
 use Rattle.am_store.specs.Broadcast.{items_of}
-use Rattle.am_store.specs.inside.LogLimits.{most_batches, IsWithinLogLimits}
+use Rattle.am_store.specs.LogLimits.{most_batches, IsWithinLogLimits}
 
 items_small : (batches : List (List Alert)) → All (λ batch. length batch ≤ MAX_ALERTS) batches → length (items_of batches) ≤ MAX_ALERTS * length batches
 items_small [] short = omega arith

@@ -8,7 +8,8 @@ use Rattle.std.proofs.Math.Seq.{drop-nil}
 use Rattle.am_store.specs.declared.call.Call.{Call}
 use Rattle.am_store.specs.Stored.{Update, updates_of, call_updates, first_reports, updates, stored}
 use Rattle.am_store.specs.Broadcast.{batches_of, broadcast_from, broadcast, items_of, due}
-use Rattle.am_store.specs.Journal.{JournalView, with_call, call_count, first_calls, until, since, closes, is_closed, is_post, posts_of, is_left, lefts_of, open_after, open_from, has_lane, is_open, MayFollow, IsLegal}
+use Rattle.am_store.specs.LaneSets.{has_lane}
+use Rattle.am_store.specs.Journal.{JournalView, with_call, call_count, first_calls, until, since, closes, is_closed, is_post, posts_of, is_left, lefts_of, open_after, open_from, is_open, MayFollow, IsLegal}
 
 -- ---- lists
 

@@ -3,8 +3,8 @@ use Rattle.std.proofs.Common.{◌≡◌, ℕ, zero, suc, ◌+◌, ◌<◌, ◌�
 use Rattle.std.specs.Option.{is_some, IfSome}
 use Rattle.std.specs.VecDeque.{deque_len, deque_capacity}
 use Rattle.am_store.specs.declared.lanes.OpenLane.{OpenLane}
-use Rattle.am_store.specs.inside.Journals.{journal_of}
-use Rattle.am_store.specs.inside.Lanes.{lane_at, open_count, IsItsOpening}
+use Rattle.am_store.specs.Journal.{journal_of}
+use Rattle.am_store.specs.Lanes.{lane_at, open_count, IsItsOpening}
 use Rattle.std.proofs.lemmas.List.{append-nil}
 use Rattle.std.proofs.lemmas.List.Elements.{All-append}
 use Rattle.std.specs.List.{count_by}
@@ -17,9 +17,9 @@ use Rattle.am_store.specs.Stored.{Update, updates_of, updates, stored}
 use Rattle.am_store.specs.Broadcast.{batch_of, batches_of}
 use Rattle.am_store.specs.Journal.{JournalView, with_call, closes, is_closed, is_post, posts_of, open_after, is_open, MayFollow}
 use Rattle.am_store.specs.AlertList.{with_alerts, batch_by_list}
-use Rattle.am_store.specs.inside.LogLimits.{most_batches, IsWithinLogLimits}
+use Rattle.am_store.specs.LogLimits.{most_batches, IsWithinLogLimits}
 use Rattle.am_store.specs.PlainBook.{FollowsJournal}
-use Rattle.am_store.specs.inside.Pages.{Pages, AgreesWithJournal}
+use Rattle.am_store.specs.Pages.{Pages, AgreesWithJournal}
 use Rattle.am_store.proofs.Stored.{stored_post, batch_of_post, stored_collect}
 use Rattle.am_store.proofs.Journals.{drop_front, updates_last, broadcast_last, posts_last, closed_last, open_last, legal_last}
 use Rattle.am_store.proofs.Opens.{until_stays, open_stays}

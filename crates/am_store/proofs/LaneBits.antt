@@ -7,7 +7,8 @@ use Rattle.std.proofs.lemmas.Nat.Bits.{bit_at_set_same, bit_at_set_other, bit_at
 use lib.Pow.{pow_mono}
 use native.Mathlib.Nat.{div-eq_of_lt}
 use Rattle.am_store.specs.declared.call.Call.TheVariants.{Subscribed, Left}
-use Rattle.am_store.specs.Journal.{open_after, has_lane}
+use Rattle.am_store.specs.LaneSets.{has_lane}
+use Rattle.am_store.specs.Journal.{open_after}
 
 or_true : (b : Bool) → (b || true) ≡ true
 or_true true = refl

@@ -6,7 +6,8 @@ use Rattle.std.proofs.lemmas.List.Elements.{All-push, All-nil}
 use Rattle.std.proofs.Math.Seq.{drop-append_seam}
 use Rattle.am_store.specs.declared.call.Call.{Call}
 use Rattle.am_store.specs.declared.call.Call.TheVariants.{Subscribed}
-use Rattle.am_store.specs.Journal.{JournalView, with_call, call_count, first_calls, until, open_after, open_from, has_lane, is_open, IsKept, IsOpenSubscription, IsLegal}
+use Rattle.am_store.specs.LaneSets.{has_lane}
+use Rattle.am_store.specs.Journal.{JournalView, with_call, call_count, first_calls, until, open_after, open_from, is_open, IsKept, IsOpenSubscription, IsLegal}
 use Rattle.am_store.proofs.Journals.{get_within, get_end, get_front, drop_front, first_stays, first_all}
 
 pub nat_eq_refl : (n : ℕ) → nat_eq n n ≡ true

@@ -6,10 +6,10 @@ use Rattle.am_store.specs.declared.lanes.OpenLane.{OpenLane}
 use Rattle.am_store.specs.Journal.{first_calls, IsOpenSubscription}
 use Rattle.am_store.specs.Stored.{updates, stored}
 use Rattle.am_store.specs.Trims.{AreBeforeOpen, IsTrimmed}
-use Rattle.am_store.specs.inside.LogLimits.{IsWithinLogLimits}
-use Rattle.am_store.specs.inside.Journals.{journal_of, AreCounted}
-use Rattle.am_store.specs.inside.Lanes.{lane_at, open_count, IsEarliest, IsItsOpening}
-use Rattle.am_store.specs.inside.Pages.{Pages, book_of, AgreesWithJournal}
+use Rattle.am_store.specs.LogLimits.{IsWithinLogLimits}
+use Rattle.am_store.specs.Journal.{journal_of, AreCounted}
+use Rattle.am_store.specs.Lanes.{lane_at, open_count, IsEarliest, IsItsOpening}
+use Rattle.am_store.specs.Pages.{Pages, book_of, AgreesWithJournal}
 use Rattle.am_store.proofs.Journals.{first_all}
 use Rattle.am_store.proofs.Opens.{is_still_open, lane_low, one_open, open_within}
 use Rattle.am_store.proofs.Kept.{if_some}

@@ -9,7 +9,8 @@ use Rattle.am_labels.specs.LabelSets.{same_labels}
 use Rattle.am_labels.specs.LabelLaws.{labels_equiv}
 use Rattle.am_store.specs.declared.call.Call.{Call}
 use Rattle.am_store.specs.declared.call.Call.TheVariants.{Posted, Collected, Subscribed, Left, Closed}
-use Rattle.am_store.specs.Journal.{JournalView, first_calls, until, since, closes, is_closed, posts_of, lefts_of, open_from, has_lane, is_open, IsLowestIdle, MayFollow, IsKept, IsOpenSubscription, IsLegal}
+use Rattle.am_store.specs.LaneSets.{has_lane}
+use Rattle.am_store.specs.Journal.{JournalView, first_calls, until, since, closes, is_closed, posts_of, lefts_of, open_from, is_open, IsLowestIdle, MayFollow, IsKept, IsOpenSubscription, IsLegal}
 use Rattle.am_store.specs.PlainBook.{PlainBook, FollowsJournal}
 use Rattle.am_store.specs.Stored.{Update, Report, Collect, updates_of, call_updates, first_reports, updates, stored}
 use Rattle.am_store.specs.Broadcast.{batches_of, broadcast_from, broadcast, items_of, due}

@@ -5,7 +5,8 @@ use Rattle.am_alert.specs.declared.alert.Alert.{Alert}
 use Rattle.am_store.specs.declared.call.Call.{Call}
 use Rattle.am_store.specs.declared.call.Call.TheVariants.{Posted, Collected, Subscribed, Left, Closed}
 use Rattle.am_store.specs.Journal.{JournalView, until, since}
-use Rattle.am_store.specs.Stored.{Update, Report, updates_of, first_reports, updates, Holding, holding_of, stored}
+use Rattle.am_store.specs.Stored.{Update, Report, updates_of, first_reports, updates, Holding, holding_of}
+use Rattle.am_store.specs.Stored.{stored}
 
 -- the alert held, as a list
 abbrev pub alert_of : Option Holding → List Alert

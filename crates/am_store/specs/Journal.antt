@@ -1,10 +1,13 @@
 -- The journal of accepted calls: when its log is closed, which lanes are open, and which call may
 -- come next. Its first calls may have been dropped; what they left stands in their place.
-use Rattle.std.specs.Prelude.{◌≡◌, ℕ, ◌+◌, ◌-◌, ◌<◌, ◌≤◌, Bool, true, false, ◌||◌, if◌then◌else◌, nat_eq, List, [], ◌∷◌, ◌++◌, length, take, drop, slice_get, Some}
-use Rattle.std.specs.Int.{bit_at}
+use Rattle.std.specs.Prelude.{◌≡◌, ℕ, ◌+◌, ◌-◌, ◌^◌, ◌<◌, ◌≤◌, Bool, true, false, ◌||◌, if◌then◌else◌, nat_eq}
+use Rattle.std.specs.Prelude.{List, [], ◌∷◌, ◌++◌, length, take, drop, slice_get, Some}
 use Rattle.std.specs.List.{All, count_by, list_any}
 use Rattle.am_alert.specs.declared.alert.Alert.{Alert}
+use Rattle.am_store.specs.LaneSets.{has_lane}
 use Rattle.am_store.specs.declared.call.Call.{Call}
+use Rattle.am_store.specs.declared.journal.Journal.{Journal}
+use Rattle.am_store.specs.declared.journal.TheConstants.{MAX_BEFORE}
 use Rattle.am_store.specs.declared.call.Call.TheVariants.{Posted, Collected, Subscribed, Left, Closed}
 
 -- a journal: how many of its first calls were dropped, how many batches they sent out, how many posts
@@ -19,6 +22,28 @@ pub record JournalView : Type 0 where
   pub lanes : ℕ
   pub closed : Bool
   pub calls : List Call
+
+-- the fields of a journal as contracts see them
+abbrev pub journal_of : Journal → JournalView
+journal_of journal = record {
+  before = journal.before;
+  places = journal.places;
+  posts = journal.posts;
+  lefts = journal.lefts;
+  store = journal.store;
+  lanes = journal.lanes;
+  closed = journal.closed;
+  calls = journal.calls.items;
+}
+
+-- a discarded batch is a discarded post's, a discarded post or Left is a discarded call, these can be
+-- counted, and there are eight lanes
+pub record AreCounted (journal : Journal) : Type 0 where
+  pub places : journal.places ≤ journal.posts
+  pub posts : journal.posts ≤ journal.before
+  pub lefts : journal.lefts ≤ journal.before
+  pub before : journal.before ≤ MAX_BEFORE
+  pub lanes : journal.lanes < 2 ^ 8
 
 -- the journal before any call
 abbrev pub new_journal : JournalView
@@ -93,10 +118,6 @@ open_after lane was Closed = was
 abbrev pub open_from : ℕ → Bool → List Call → Bool
 open_from lane was [] = was
 open_from lane was (call ∷ calls) = open_from lane (open_after lane was call) calls
-
--- whether a lane's bit is set
-abbrev pub has_lane : ℕ → ℕ → Bool
-has_lane lanes lane = nat_eq (bit_at lanes lane) 1
 
 -- whether a lane is open: it was subscribed and not left since
 abbrev pub is_open : JournalView → ℕ → Bool

@@ -5,7 +5,8 @@ use Rattle.am_alert.specs.declared.alert.Alert.{Alert}
 use Rattle.am_labels.specs.LabelSets.{Labels}
 use Rattle.am_store.specs.declared.call.Call.{Call}
 use Rattle.am_store.specs.declared.call.Call.TheVariants.{Posted, Collected, Subscribed, Left, Closed}
-use Rattle.am_store.specs.Journal.{JournalView, with_call, call_count, until, is_closed, posts_of, lefts_of, open_after, is_open, IsOpenSubscription, MayFollow}
+use Rattle.am_store.specs.Journal.{JournalView, with_call, call_count, until, is_closed, posts_of, lefts_of}
+use Rattle.am_store.specs.Journal.{open_after, is_open, IsOpenSubscription, MayFollow}
 use Rattle.am_store.specs.Stored.{Update, Holding, holding_of, first_reports, updates, stored}
 use Rattle.am_store.specs.Broadcast.{broadcast, due, IsFront}
 use Rattle.am_store.specs.Trims.{AreBeforeOpen, IsTrimmed}

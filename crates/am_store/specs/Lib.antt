@@ -6,11 +6,16 @@ pub use Rattle.am_alert.specs.Moments
 pub use Rattle.am_alert.specs.Alerts
 pub use Rattle.am_alert.specs.Merging
 pub mod Shared
+pub mod AlertMaps
+pub mod LaneSets
 pub mod Journal
 pub mod Stored
 pub mod Broadcast
 pub mod Trims
 pub mod AlertList
 pub mod PlainBook
+pub mod Lanes
+pub mod LogLimits
+pub mod Pages
 pub mod Laws
 pub mod inside

@@ -1,7 +1,9 @@
 -- What a trim drops of a journal, and what it leaves.
 use Rattle.std.specs.Prelude.{◌≡◌, ℕ, ◌+◌, ◌≤◌, ◌⊎◌, if◌then◌else◌, nat_le, length, drop}
 use Rattle.am_store.specs.declared.journal.TheConstants.{MAX_BEFORE}
-use Rattle.am_store.specs.Journal.{JournalView, first_calls, is_closed, posts_of, lefts_of, has_lane, is_open, IsOpenSubscription}
+use Rattle.am_store.specs.LaneSets.{has_lane}
+use Rattle.am_store.specs.Journal.{JournalView, first_calls, is_closed, posts_of, lefts_of, is_open}
+use Rattle.am_store.specs.Journal.{IsOpenSubscription}
 use Rattle.am_store.specs.Stored.{updates, stored}
 use Rattle.am_store.specs.Broadcast.{broadcast}
 

@@ -1,6 +1,2 @@
--- Definitions over fields, for the code of this crate and of the provider over it.
-pub mod Shared
+-- Definitions that only private functions cite.
 pub mod Journals
-pub mod Lanes
-pub mod LogLimits
-pub mod Pages

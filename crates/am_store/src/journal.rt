@@ -1,27 +1,29 @@
-//! The journal of the accepted calls. Its first calls can be dropped, once no open
-//! subscription needs them: what they left stands in their place.
+//! The journal of the accepted calls. Its first calls can be discarded, once no open
+//! subscription needs them: what they left takes their place.
 
 ghost use Rattle.std.specs.Prelude.{◌≡◌, ◌<◌, ◌≤◌, ◌+◌, ◌^◌, IfOk, length};
 ghost use Rattle.std.specs.VecDeque.{deque_capacity};
 ghost use Rattle.am_store.specs.Journal.{call_count, first_calls, new_journal, IsLegal};
 ghost use Rattle.am_store.specs.Stored.{updates, stored};
 ghost use Rattle.am_store.specs.Trims.{IsTrimmed};
-ghost use Rattle.am_store.specs.inside.Journals.{journal_of, AreCounted, IsCounted, IsOnALane};
+ghost use Rattle.am_store.specs.Journal.{journal_of, AreCounted};
+ghost use Rattle.am_store.specs.inside.Journals.{IsCounted, IsOnALane};
 
 use crate::call::Call;
+use crate::lane_set::LaneSet;
 use crate::shared_alerts::StoredAlerts;
 use std::alloc::{AllocError, Global};
 use std::collections::VecDeque;
 
-/// How many calls can be dropped from a journal in all.
+/// How many calls can be discarded from a journal in all.
 pub const MAX_BEFORE: u64 = 9_223_372_036_854_775_807;
 
-/// The accepted calls, of which the first may have been dropped.
+/// The accepted calls, of which the first may have been discarded.
 #[derive(Drop)]
 pub struct Journal {
-    /// How many calls were dropped.
+    /// How many calls were discarded.
     pub before: u64,
-    /// How many batches the dropped calls sent out.
+    /// How many batches the discarded calls sent out.
     pub places: u64,
     /// How many posts were among them.
     pub posts: u64,
@@ -29,8 +31,8 @@ pub struct Journal {
     pub lefts: u64,
     /// What was stored after them.
     pub store: StoredAlerts,
-    /// The lanes that were open after them, lane `l` in bit `l`.
-    pub lanes: u8,
+    /// The lanes that were open after them.
+    pub lanes: LaneSet,
     /// Whether the log was ended by then.
     pub closed: bool,
     /// The calls since.
@@ -48,7 +50,7 @@ impl Journal {
             posts: 0,
             lefts: 0,
             store: StoredAlerts::new(alloc, Vec::new(alloc))?,
-            lanes: 0,
+            lanes: LaneSet::EMPTY,
             closed: false,
             calls: VecDeque::new(alloc),
         })
@@ -62,7 +64,7 @@ impl Journal {
         self.before + self.calls.len() as u64
     }
 
-    /// Drops so many of the calls that are left. What was stored after them is given.
+    /// Discards that many of the calls that are left. What was stored after them is given.
     pub fn drop_first(&mut self, count: usize, store: StoredAlerts)
         requires within { count ≤ length self.old.calls.items }
         requires countable { self.old.before + count ≤ MAX_BEFORE }
@@ -82,7 +84,7 @@ impl Journal {
         self.store = store;
     }
 
-    // Counts a call among those that were dropped.
+    // Counts a call among those that were discarded.
     fn count_dropped(&mut self, call: &Call)
         requires countable { (self.old.posts < MAX_BEFORE) × (self.old.lefts < MAX_BEFORE) }
         requires counted { self.old.places ≤ self.old.posts }
@@ -98,10 +100,10 @@ impl Journal {
                 }
             }
             Call::Collected(_) => {}
-            Call::Subscribed(lane) => self.lanes |= 1 << *lane,
+            Call::Subscribed(lane) => self.lanes = self.lanes.with(*lane),
             Call::Left(lane) => {
                 self.lefts += 1;
-                self.lanes &= !(1 << *lane);
+                self.lanes = self.lanes.without(*lane);
             }
             Call::Closed => self.closed = true,
         }

@@ -1,7 +1,7 @@
 //! The lanes of subscriptions: which are open, since when, and which to give out next.
 
 ghost use Rattle.std.specs.Prelude.{◌≡◌, ◌<◌, None, IsSome, IfSome, IfNone, ℕ};
-ghost use Rattle.am_store.specs.inside.Lanes.{lane_at, IsLowestFree, IsEarliest};
+ghost use Rattle.am_store.specs.Lanes.{lane_at, IsLowestFree, IsEarliest};
 
 use crate::shared_alerts::StoredAlerts;
 
@@ -17,7 +17,7 @@ pub struct OpenLane {
     pub opening: StoredAlerts,
 }
 
-/// Each lane, where it has a subscription.
+/// Each lane, with its subscription if it has one.
 pub type Lanes = [Option<OpenLane>; LANES];
 
 /// The lowest lane that isn't open.

@@ -7,8 +7,8 @@
 //! so that it leaves no trace. `am_alert` says what two reports of one label set become.
 //!
 //! The journal has each accepted call with what was posted, and what is stored and what is owed to a
-//! subscriber follow from it alone. Calls that no open subscription needs any more can be dropped
-//! from its front: what they left stands in their place, and nobody can tell (`trimming_laws`).
+//! subscriber follow from it alone. Calls that no open subscription needs any more can be discarded
+//! from its front: what they left takes their place, and nobody can tell (`trimming_laws`).
 //!
 //! A lane is a subscriber's slot, of which there are eight. An open one keeps when it was subscribed
 //! and what was stored then, so that the journal can be shortened up to the earliest of them.
@@ -23,6 +23,7 @@
 
 mod call;
 mod journal;
+mod lane_set;
 pub mod lanes;
 mod laws;
 mod shared_alerts;
@@ -30,5 +31,6 @@ pub mod store;
 
 pub use call::Call;
 pub use journal::{Journal, MAX_BEFORE};
+pub use lane_set::LaneSet;
 pub use laws::{journal_laws, trimming_laws};
 pub use shared_alerts::{SharedAlert, StoredAlerts};

@@ -3,7 +3,7 @@
 ghost use Rattle.std.specs.Prelude.{◌≡◌, IfOk, filter, not, count_by};
 ghost use Rattle.std.specs.Arc.{arc_value};
 ghost use Rattle.am_alert.specs.Merging.{is_resolved_at};
-ghost use Rattle.am_store.specs.inside.Shared.{stored_in, AreKeptByLabels};
+ghost use Rattle.am_store.specs.AlertMaps.{stored_in, AreKeptByLabels};
 
 pub mod absorb;
 

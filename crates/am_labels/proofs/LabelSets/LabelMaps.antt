@@ -58,7 +58,7 @@ absent_below name [] h = refl
 absent_below name (pair ∷ pairs) h =
     ap (λ o. cond (is_eq o) (Some pair.1) (find text_cmp name pairs)) (less _ (both _ _ h).0) ∙ absent_below name pairs (both _ _ h).1
 
--- and stands first where it is put in
+-- and comes first if it is put in
 put_first : (name value : List ℕ) (pairs : List (List ℕ × List ℕ)) → T (below_all text_cmp name pairs) → put text_cmp name value pairs ≡ (name, value) ∷ pairs
 put_first name value [] h = refl
 put_first name value (pair ∷ pairs) h =
@@ -85,7 +85,7 @@ below_more x y (pair ∷ pairs) h below =
     let far = nat_list_cmp_total.trans x y pair.0 h (less _ (subst T (sym parts.0) tt)) in
     and_from _ _ (ap is_lt far) (below_more x y pairs h parts.1)
 
--- a name below the first of some pairs stands in order before them where they are in order
+-- a name below the first of some pairs is in order before them if they are in order
 pub one_more_rises : (name : List ℕ) (pair : List ℕ × List ℕ) (pairs : List (List ℕ × List ℕ)) → text_cmp name pair.0 ≡ Less
     → (below_all text_cmp name (pair ∷ pairs) && is_sorted text_cmp (pair ∷ pairs)) ≡ (below_all text_cmp pair.0 pairs && is_sorted text_cmp pairs)
 one_more_rises name pair pairs h =

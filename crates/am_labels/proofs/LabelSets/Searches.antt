@@ -72,14 +72,14 @@ searchable pairs name h =
     ap (λ k. is_lt (text_cmp (name_at k) (name_at at))) (add-one at)
     ∙ not_less (text_cmp (name_at (suc at)) (name_at at)) (flipped (name_at at) (name_at (suc at)) (ascends pairs at d h next)))
 
--- where no name ties before a place or from it on
-pub find_between : (pairs : List (List ℕ × List ℕ)) (name : List ℕ) (place : ℕ)
-    → AllWithin (λ (pair : List ℕ × List ℕ). text_cmp pair.0 name ≡ Less) pairs 0 place
-    → AllWithin (λ (pair : List ℕ × List ℕ). text_cmp pair.0 name ≡ Greater) pairs place (length pairs)
+-- if no name ties before an index, nor from it on, the name is not there
+pub find_between : (pairs : List (List ℕ × List ℕ)) (name : List ℕ) (index : ℕ)
+    → AllWithin (λ (pair : List ℕ × List ℕ). text_cmp pair.0 name ≡ Less) pairs 0 index
+    → AllWithin (λ (pair : List ℕ × List ℕ). text_cmp pair.0 name ≡ Greater) pairs index (length pairs)
     → find text_cmp name pairs ≡ None
-find_between pairs name place front back =
+find_between pairs name index front back =
     find_nowhere pairs name (λ at d short e.
     ⊎_elim
-    (λ (before : at < place). let no : Less ≡ Equal = sym (front at d (omega arith) before) ∙ e in (cc))
-    (λ (past : place ≤ at). let no : Greater ≡ Equal = sym (back at d past short) ∙ e in (cc))
-    (cases_lt at place))
+    (λ (before : at < index). let no : Less ≡ Equal = sym (front at d (omega arith) before) ∙ e in (cc))
+    (λ (past : index ≤ at). let no : Greater ≡ Equal = sym (back at d past short) ∙ e in (cc))
+    (cases_lt at index))

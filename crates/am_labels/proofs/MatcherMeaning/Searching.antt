@@ -9,7 +9,7 @@ use Rattle.am_labels.specs.inside.Comparisons.{IsPatternOf}
 use Rattle.am_labels.specs.inside.Searches.{SearchesFor}
 use Rattle.am_labels.proofs.MatcherMeaning.Patterns.{finds_as}
 
--- where the search has the pattern of a regex that was compiled of the value
+-- if the search has the pattern of a regex that was compiled of the value
 pub searches : (regex : Regex) (search : Matcher) (value : List ℕ) → matcher_pattern search ≡ regex_pattern regex → IsPatternOf value regex → SearchesFor value search
 searches regex search value same of text bytes =
     ap (λ pattern. is_some (find_str pattern text 0)) same ∙ finds_as regex value text of bytes

@@ -11,7 +11,7 @@ use Rattle.am_labels.specs.MatcherTexts.{begins, IsSpaceThen, IsNamed, IsOperato
 use Rattle.am_labels.specs.MatcherLaws.{EachTextIsSplit}
 use Rattle.am_labels.proofs.MatcherTexts.Cuts.{space_then, name_then, trimmed_to}
 
--- what stands behind an operator's first byte
+-- what follows an operator's first byte
 tilde_or_none : (behind : List ℕ) → ((more : List ℕ) × (behind ≡ 126 ∷ more)) ⊎ (begins (λ byte. byte == 126) behind ≡ false)
 tilde_or_none [] = inr refl
 tilde_or_none (x ∷ rest) =

@@ -10,7 +10,7 @@ use Rattle.am_labels.specs.MatcherLaws.{LettersSpellTheText}
 use Rattle.am_labels.proofs.MatcherTexts.Spaces.{both}
 use Rattle.am_labels.specs.MatcherTexts.{spelled, Letter, plain, escape, letters, meant, is_escapable, is_bare_quote, after_backslash, IsMeantUntil, IsMeantWhole}
 
--- a byte that is no backslash stands for itself
+-- a byte that is no backslash means itself
 pub letters-plain : (byte : ℕ) (rest : List ℕ) → byte ≢ 92 → letters (byte ∷ rest) ≡ plain byte ∷ letters rest
 letters-plain byte [] other = refl
 letters-plain byte (next ∷ rest) other = rw (ne_eqb byte 92 other) refl
@@ -29,12 +29,12 @@ letters-plains (byte ∷ bytes) rest other =
     letters-plain byte (bytes ++ rest) (other 0 (omega arith))
     ∙ ap (λ (end : List Letter). plain byte ∷ end) (letters-plains bytes rest (λ k short. other (suc k) (omega arith)))
 
--- a byte of a character is no special one, where the character isn't
+-- a byte of a character is no special one, if the character isn't
 pub differs : (c k special : ℕ) → special < 128 → c ≢ special → k < length (encode_utf8 c) → get_or (encode_utf8 c) k 0 ≢ special
 differs c k special ascii other short is =
     other (inside_one c [] (encode_utf8 c) k (sym (append-nil (encode_utf8 c))) short (omega arith) ∙ is)
 
--- a character that is no backslash stands for itself
+-- a character that is no backslash means itself
 pub letters-char : (c : ℕ) (rest : List ℕ) → c ≢ 92 → letters (encode_utf8 c ++ rest) ≡ map plain (encode_utf8 c) ++ letters rest
 letters-char c rest other = letters-plains (encode_utf8 c) rest (λ k short. differs c k 92 (omega arith) other short)
 

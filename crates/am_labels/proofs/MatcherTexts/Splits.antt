@@ -25,7 +25,7 @@ one_front p (x ∷ xs) (y ∷ ys) rest left all_x all_y ends_x ends_y e =
     let more = one_front p xs ys rest left (both _ _ all_x).1 (both _ _ all_y).1 ends_x ends_y tail in
     (ap (λ (first : ℕ). first ∷ xs) head ∙ ap (λ (end : List ℕ). y ∷ end) more.0, more.1)
 
--- what stands behind the white space
+-- what follows the white space
 pub one_rest : (text rest left : List ℕ) → IsSpaceThen text rest → IsSpaceThen text left → rest ≡ left
 one_rest text rest left a b = (one_front is_ascii_whitespace a.0 b.0 rest left a.1 b.1 a.3 b.3 (sym a.2 ∙ b.2)).1
 
@@ -47,7 +47,7 @@ one_named text name other rest left a b =
     let split = one_name a.0 b.0 name other a.1 b.1 start a.3 b.3 in
     (split.0, one_rest_of a.1 b.1 rest left split.1 a.4 b.4)
 
--- the operator at the start of a text that begins with one, and what stands behind it
+-- the operator at the start of a text that begins with one, and what follows it
 cut : List ℕ → Operator × List ℕ
 cut [] = (operator.Equal, [])
 cut (x ∷ []) = (operator.Equal, [])

@@ -10,7 +10,7 @@ either : (a b : Bool) → (a || b) ≡ false → (a ≡ false) × (b ≡ false)
 either true b h = absurd (false≢true (sym h))
 either false b h = (refl, h)
 
--- the letters before the first bare quote, and behind it, are fixed
+-- the letters before the first bare quote, and after it, are fixed
 pub first_bare : (xs ys rest left : List Letter) → list_any is_bare_quote xs ≡ false → list_any is_bare_quote ys ≡ false → xs ++ (plain 34 ∷ rest) ≡ ys ++ (plain 34 ∷ left) → (xs ≡ ys) × (rest ≡ left)
 first_bare [] [] rest left no_x no_y e = (refl, cc)
 first_bare [] (y ∷ ys) rest left no_x no_y e =

@@ -22,7 +22,7 @@ escaped_all_ordinary (byte ∷ bytes) is =
     ap (λ (front : List ℕ). front ++ escaped_all bytes) (escaped_ordinary byte (is 0 (omega arith)))
     ∙ ap (λ (rest : List ℕ). byte ∷ rest) (escaped_all_ordinary bytes (λ k short. is (suc k) (omega arith)))
 
--- a byte of a character is no special one, where the character isn't
+-- a byte of a character is no special one, if the character isn't
 differs : (c k special : ℕ) → special < 128 → c ≢ special → k < length (encode_utf8 c) → get_or (encode_utf8 c) k 0 ≢ special
 differs c k special ascii other short is =
     other (inside_one c [] (encode_utf8 c) k (sym (append-nil (encode_utf8 c))) short (omega arith) ∙ is)

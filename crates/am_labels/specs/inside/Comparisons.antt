@@ -1,13 +1,15 @@
--- How a comparison stands to the operator and the value that it was made of. Only code of this crate
--- cites it.
+-- What a comparison has of the operator and the value that it was made of. Only code of this crate cites
+-- it.
 use Rattle.std.specs.Prelude.{◌≡◌, ℕ, true, List, Result, Ok, Err}
 use Rattle.regex.specs.declared.string.regex.Regex.{Regex}
 use Rattle.regex.specs.Patterns.{default_config}
 use Rattle.regex.specs.Strings.{regex_source, regex_config, IsReadFromSource}
 use Rattle.am_labels.specs.declared.comparison.Comparison.{Comparison}
-use Rattle.am_labels.specs.declared.comparison.Comparison.TheVariants.{Equal, NotEqual, MatchRegexp, MatchNotRegexp}
+use Rattle.am_labels.specs.declared.comparison.Comparison.TheVariants.{Equal, NotEqual, MatchRegexp}
+use Rattle.am_labels.specs.declared.comparison.Comparison.TheVariants.{MatchNotRegexp}
 use Rattle.am_labels.specs.declared.match_fault.MatchFault.{MatchFault}
-use Rattle.am_labels.specs.declared.match_fault.MatchFault.TheVariants.{NoMemory, NoOperator, BadName, BadQuote, BadPattern}
+use Rattle.am_labels.specs.declared.match_fault.MatchFault.TheVariants.{NoMemory, NoOperator, BadName}
+use Rattle.am_labels.specs.declared.match_fault.MatchFault.TheVariants.{BadQuote, BadPattern}
 use Rattle.am_labels.specs.declared.operator.Operator.{Operator}
 use Rattle.am_labels.specs.declared.operator.Operator.TheVariants as operator
 use Rattle.am_labels.specs.Matchers.{anchored, is_of_pattern, MayBeRefused}

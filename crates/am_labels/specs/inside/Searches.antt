@@ -1,5 +1,5 @@
--- How the search of a prepared matcher stands to the matcher's operator and value. Only code of this
--- crate cites it.
+-- What the search of a prepared matcher has of the matcher's operator and value. Only code of this crate
+-- cites it.
 use Rattle.std.specs.Prelude.{◌≡◌, ◌<◌, ℕ, is_some, List, get_or}
 use Rattle.regex.specs.declared.string.matcher.Matcher.{Matcher}
 use Rattle.regex.specs.Patterns.{find_str}

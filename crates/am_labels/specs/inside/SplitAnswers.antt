@@ -2,7 +2,8 @@
 use Rattle.std.specs.Prelude.{ℕ, List, Result, Ok, Err}
 use Rattle.am_labels.specs.declared.matcher_text.MatcherParts.{MatcherParts}
 use Rattle.am_labels.specs.declared.match_fault.MatchFault.{MatchFault}
-use Rattle.am_labels.specs.declared.match_fault.MatchFault.TheVariants.{NoMemory, NoOperator, BadName, BadQuote, BadPattern}
+use Rattle.am_labels.specs.declared.match_fault.MatchFault.TheVariants.{NoMemory, NoOperator, BadName}
+use Rattle.am_labels.specs.declared.match_fault.MatchFault.TheVariants.{BadQuote, BadPattern}
 use Rattle.am_labels.specs.MatcherTexts.{IsSplit, HasNoName, HasNoOperator}
 
 -- the parts, or why there are none

@@ -10,9 +10,9 @@ use Rattle.am_store.specs.declared.journal.Journal.{Journal}
 use Rattle.am_store.specs.declared.lanes.OpenLane.{OpenLane}
 use Rattle.am_store.specs.Journal.{JournalView, until, lefts_of}
 use Rattle.am_store.specs.Broadcast.{broadcast}
-use Rattle.am_store.specs.inside.Journals.{journal_of}
-use Rattle.am_store.specs.inside.Lanes.{lane_at, open_count}
-use Rattle.am_store.specs.inside.Pages.{Pages, AgreesWithJournal}
+use Rattle.am_store.specs.Journal.{journal_of}
+use Rattle.am_store.specs.Lanes.{lane_at, open_count}
+use Rattle.am_store.specs.Pages.{Pages, AgreesWithJournal}
 use Rattle.am_provider.specs.declared.answers.Policy.{Policy}
 use Rattle.am_provider.specs.declared.answers.Ended.{Ended}
 use Rattle.am_provider.specs.Batches.{LogView, sent_in, posts_in}
@@ -30,6 +30,7 @@ pub record Shelf : Type 0 where
   pub early : ℕ
   pub policy : Policy
 
+-- a Book as contracts see it
 abbrev pub view_of : Shelf → BookView
 view_of shelf = record {
   stored = shelf.stored;
@@ -40,7 +41,7 @@ view_of shelf = record {
   policy = shelf.policy;
 }
 
--- what it has beside what the log knows of its lanes
+-- what it has besides what the log knows of its lanes
 abbrev pub pages_of : Shelf → Pages
 pages_of shelf = record {
   stored = shelf.stored;

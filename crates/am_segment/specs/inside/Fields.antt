@@ -1,5 +1,5 @@
--- What contracts see of the fields of a builder, a key and a run of keys, and what always holds of them. Of the
--- inside alone: no public clause cites it but by the views.
+-- What contracts see of the fields of a builder, a key and a run of keys, and what always holds of them.
+-- Public clauses cite it through the views alone.
 use Rattle.std.specs.Prelude.{◌≡◌, ◌+◌, ◌^◌, ◌<◌, ◌≤◌, length, MatchOption}
 use Rattle.am_segment.specs.Segments.{BuilderView, KeyView}
 use Rattle.am_segment.specs.declared.builder.SegmentBuilder.TheInside.{Inside as Builder}
@@ -7,15 +7,17 @@ use Rattle.am_segment.specs.declared.key.SegKey.TheInside.{Inside as Key}
 use Rattle.am_segment.specs.declared.key_run.KeyRun.TheInside.{Inside as Run}
 
 module _ {X : Type 0} where
+  -- a builder as contracts see it
   abbrev pub builder_view : Builder X → BuilderView X
   builder_view b = record { items = b.block.items; places = b.places }
 
-  -- the numbers are those of the block
+  -- what always holds of a builder: its numbers are those of its block
   pub record IsBuilder (b : Builder X) : Type 0 where
     pub count : b.count ≡ length b.block.items
     pub within : b.count ≤ b.places
     pub block : (b.block.places ≡ b.places) × (b.block.alloc ≡ b.alloc)
 
+  -- a key as contracts see it
   abbrev pub key_view : Key X → KeyView X
   key_view k = let part = k.part in
       record { segment = part.segment; number = part.number; keys = part.keys; items = part.items }
@@ -28,6 +30,7 @@ module _ {X : Type 0} where
       × (last.claim.at ≡ k.part.ptr) × (last.claim.items ≡ k.part.items)
       × (last.claim.segment ≡ k.part.segment))
 
+  -- what always holds of a key: its numbers are those of its part of the block
   pub record IsKey (k : Key X) : Type 0 where
     pub len : k.len ≡ length k.part.items
     pub within : k.len ≤ k.part.places
@@ -35,11 +38,12 @@ module _ {X : Type 0} where
     pub few : k.part.keys ≤ 2 ^ 62
     pub share : HasItsShare k
 
+  -- a run of keys, as contracts see the next one
   abbrev pub run_view : Run X → KeyView X
   run_view r = let rest = r.rest in
       record { segment = rest.segment; number = r.next; keys = rest.keys; items = rest.items }
 
-  -- a run that has handed out the keys below `next` has lost one part for each
+  -- what always holds of a run: it has handed out the keys below `next`, and lost one part for each
   pub record IsRun (r : Run X) : Type 0 where
     pub len : r.len ≡ length r.rest.items
     pub within : r.len ≤ r.rest.places

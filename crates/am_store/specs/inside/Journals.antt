@@ -1,34 +1,13 @@
--- The fields of a journal, and how a dropped call is counted in them.
+-- How a dropped call is counted in the fields of a journal.
 use Rattle.std.specs.Prelude.{◌≡◌, ℕ, ◌+◌, ◌^◌, ◌<◌, ◌≤◌, [], ◌∷◌, ◌||◌, length, drop, count_by}
 use Rattle.std.specs.VecDeque.{deque_capacity}
 use Rattle.am_store.specs.declared.journal.Journal.{Journal}
-use Rattle.am_store.specs.declared.journal.TheConstants.{MAX_BEFORE}
 use Rattle.am_store.specs.declared.call.Call.{Call}
 use Rattle.am_store.specs.declared.call.Call.TheVariants.{Posted, Collected, Subscribed, Left, Closed}
-use Rattle.am_store.specs.Journal.{JournalView, first_calls, closes, is_closed, is_post, posts_of, is_left, lefts_of, open_after, has_lane, is_open}
+use Rattle.am_store.specs.Journal.{journal_of, first_calls, closes, is_closed, is_post, posts_of, is_left}
+use Rattle.am_store.specs.LaneSets.{has_lane}
+use Rattle.am_store.specs.Journal.{lefts_of, open_after, is_open}
 use Rattle.am_store.specs.Broadcast.{batches_of, broadcast}
-
--- a journal as contracts see it
-abbrev pub journal_of : Journal → JournalView
-journal_of journal = record {
-  before = journal.before;
-  places = journal.places;
-  posts = journal.posts;
-  lefts = journal.lefts;
-  store = journal.store;
-  lanes = journal.lanes;
-  closed = journal.closed;
-  calls = journal.calls.items;
-}
-
--- a dropped batch is a dropped post's, a dropped post or Left is a dropped call, these can be counted,
--- and there are eight lanes
-pub record AreCounted (journal : Journal) : Type 0 where
-  pub places : journal.places ≤ journal.posts
-  pub posts : journal.posts ≤ journal.before
-  pub lefts : journal.lefts ≤ journal.before
-  pub before : journal.before ≤ MAX_BEFORE
-  pub lanes : journal.lanes < 2 ^ 8
 
 -- a call's lane is one of the eight
 abbrev pub IsOnALane : Call → Type 0

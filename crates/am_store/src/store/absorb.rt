@@ -9,8 +9,8 @@ ghost use Rattle.am_labels.specs.LabelSets.{same_labels};
 ghost use Rattle.am_alert.specs.Merging.{absorbed};
 ghost use Rattle.am_store.specs.AlertList.{lookup, with_alert, with_alerts, batch_by_list};
 ghost use Rattle.am_store.specs.Shared.{alerts_in};
-ghost use Rattle.am_store.specs.inside.Shared.{stored_in, AreKeptByLabels};
-ghost use Rattle.am_store.specs.inside.Shared.{taken_back, all_taken_back};
+ghost use Rattle.am_store.specs.AlertMaps.{stored_in, AreKeptByLabels};
+ghost use Rattle.am_store.specs.AlertMaps.{taken_back, all_taken_back};
 
 use crate::shared_alerts::SharedAlert;
 use crate::store::AlertMap;
@@ -23,7 +23,7 @@ use std::sync::Arc;
 /// What one report changed, kept to take it back.
 #[derive(Drop)]
 pub enum Change {
-    /// The report began its label set, which stands last.
+    /// The report began its label set, which is the last one.
     Added,
     /// Its label set held this alert, at this index.
     Replaced(usize, SharedAlert),
@@ -110,7 +110,7 @@ fn absorb_one(
     }
 }
 
-// The stored alert of a label set, which was looked for and stands at this index.
+// The stored alert of a label set, which was looked for and is at this index.
 fn stored_at<'a>(alerts: &'a AlertMap, labels: &LabelSet, at: Option<usize>) -> Option<&'a Alert>
     requires kept { AreKeptByLabels alerts.now.entries }
     requires found { at ≡ index_of_by (same_labels labels.now) alerts.now }

@@ -12,4 +12,4 @@ returns c =
     let items = c.names_and_values-name-items.result.now in
     let all : take c.loop-name.name-index items ≡ items = take_all c.loop-name.name-index items (omega arith) in
     let named = c.loop-name.invariant ∙ ap (filter (λ (pair : List ℕ × List ℕ). test pair.0)) (all ∙ c.names_and_values-name-items.ensures) in
-    subst (λ m. IfOk c.from_texts.result (λ made. made ≡ m)) (ap last_holds named ∙ last_holds-filter c.args.labels.now test) c.from_texts.ensures
+    subst (λ m. IfOk c.from_texts.result (λ made. made ≡ m)) (ap last_holds named ∙ last_holds-filter c.label_set_laws.ensures c.args.labels.now test) c.from_texts.ensures

@@ -5,7 +5,7 @@ use Rattle.clap.specs.declared.builder.value_parser.ValueParser.{ValueParser}
 use Rattle.clap.specs.declared.builder.value_parser.ValueParser.TheVariants as value
 use Rattle.am_provider.specs.declared.answers.Policy.TheVariants.{Refuse}
 use Rattle.am_replay.specs.declared.arguments.Mode.TheVariants.{Ordered}
-use Rattle.am_replay.specs.declared.arguments.TheConstants.{MAX_PLACES}
+use Rattle.am_cast.specs.declared.limits.TheConstants.{MAX_PLACES}
 use Rattle.am_replay.specs.Options.{IsOption, mode_name, policy_name}
 use Rattle.am_replay.proofs.Options.{is_command}
 use Rattle.am_replay.proofs.arguments.command.Goals as goal
@@ -18,7 +18,7 @@ returns c =
     let mode : IsOption (codes "mode") (mode_name Ordered) (value.Names c.args.modes) c.option-mode.result =
     subst (λ (q : ValueParser). IsOption (codes "mode") (mode_name Ordered) q c.option-mode.result) c.into.ensures c.option-mode.ensures in
     let places : IsOption (codes "places") (codes "256") (value.Unsigned 1 MAX_PLACES) c.option-places.result =
-    subst (λ (q : ValueParser). IsOption (codes "places") (codes "256") q c.option-places.result) (c.unsigned-numbers.ensures ∙ ap (λ most. value.Unsigned 1 most) c.from.ensures) c.option-places.ensures in
+    subst (λ (q : ValueParser). IsOption (codes "places") (codes "256") q c.option-places.result) c.unsigned-numbers.ensures c.option-places.ensures in
     let full : IsOption (codes "full") (policy_name Refuse) (value.Names c.args.policies) c.option-full.result =
     subst (λ (q : ValueParser). IsOption (codes "full") (policy_name Refuse) q c.option-full.result) c.into-2.ensures c.option-full.ensures in
     IfOk-weaker c.arg-3.result _ _ (λ three third. is_command c.after_help.result _ _ three _ _ _ c.args.modes c.args.policies made

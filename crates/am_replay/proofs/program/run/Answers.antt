@@ -1,5 +1,5 @@
 use Rattle.am_replay.specs.Replays.{no_memory, replayed, told}
-use Rattle.am_replay.proofs.Outcomes.{keeps_same}
+use Rattle.am_replay.proofs.Replays.{keeps_same}
 use Rattle.am_replay.proofs.program.run.Goals as goal
 
 pub returns-in-Ok : goal.returns-in-Ok

@@ -1,5 +1,5 @@
 use Rattle.std.proofs.Common.{◌∙◌, refl, sym}
-use Rattle.am_replay.proofs.Outcomes.{run_of}
+use Rattle.am_replay.proofs.Replays.{run_of}
 use Rattle.am_replay.proofs.script_run.end.Goals as goal
 
 pub returns-in-Ok : goal.returns-in-Ok

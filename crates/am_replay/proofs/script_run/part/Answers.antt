@@ -1,4 +1,4 @@
-use Rattle.am_replay.proofs.Outcomes.{one_more_parted}
+use Rattle.am_replay.proofs.Replays.{one_more_parted}
 use Rattle.am_replay.proofs.script_run.part.Goals as goal
 
 pub loop-answered-preserved : goal.loop-answered-preserved

@@ -1,4 +1,4 @@
-use Rattle.std.proofs.Common.{◌≡◌, ◌++◌, Ok, map}
+use Rattle.std.proofs.Common.{◌≡◌, Ok, map}
 use Rattle.am_replay.proofs.script_run.part.Given as goal
 
 -- what the outcomes so far had

@@ -5,4 +5,4 @@ use Rattle.am_runner.proofs.session.add_cut.Given as goal
 
 -- the lanes so far stand
 abbrev pub invariant-loop-lane : goal.invariant-loop-lane
-invariant-loop-lane l = l.answers.items ≡ l.initial.answers.items ++ map CutLane (cut_below l.bits l.lane)
+invariant-loop-lane l = l.answers.items ≡ l.initial.answers.items ++ map CutLane (cut_below l.lanes l.lane)

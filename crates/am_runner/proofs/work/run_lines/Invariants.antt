@@ -5,4 +5,4 @@ use Rattle.am_runner.proofs.work.run_lines.Given as goal
 
 -- unless memory ran out, the lines so far were run
 abbrev pub invariant-loop-at : goal.invariant-loop-at
-invariant-loop-at g l = l.failed ≡ false → Works l.config (as_nanos l.provider.resolve_timeout) l.thread l.initial.session (take l.at l.lines) l.answers.items l.session
+invariant-loop-at g l = l.failed ≡ false → Works l.context.config.now (as_nanos l.context.provider.now.resolve_timeout) l.thread l.initial.session (take l.at l.lines) l.answers.items l.session

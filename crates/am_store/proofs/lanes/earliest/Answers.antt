@@ -1,7 +1,7 @@
 use Rattle.std.proofs.Common.{arith, ◌≡◌, ℕ, ◌+◌, ◌≤◌, List, length, Option, None, Some, Bor, sym, ap, subst, ◌∙◌}
 use Rattle.std.specs.Option.{option_copied, IfSome, IfNone}
 use Rattle.am_store.specs.declared.lanes.OpenLane.{OpenLane}
-use Rattle.am_store.specs.inside.Lanes.{lane_at, IsEarliest}
+use Rattle.am_store.specs.Lanes.{lane_at, IsEarliest}
 use Rattle.am_store.proofs.Earliest.{IsBest, best_none, best_stays, best_next, best_earliest, best_of_none, lane_is, no_lane}
 use Rattle.am_store.proofs.lanes.earliest.Goals.{in-Some+in-Some-first, in-Some+in_default-first, in_default-first-via-in-Some-first+else-other-open, in_default-first-via-in_default-first, in_default}
 use Rattle.am_store.proofs.lanes.earliest.Goals as goal

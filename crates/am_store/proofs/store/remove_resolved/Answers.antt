@@ -6,7 +6,7 @@ use Rattle.std.proofs.lemmas.List.Filters.{length-filter_both}
 use Rattle.std.proofs.lemmas.List.{length-map}
 use Rattle.indexmap.proofs.CallerLemmas.{filter-RetainsPairs}
 use Rattle.am_alert.specs.Merging.{is_resolved_at}
-use Rattle.am_store.specs.inside.Shared.{stored_in, AreKeptByLabels}
+use Rattle.am_store.specs.AlertMaps.{stored_in, AreKeptByLabels}
 use Rattle.am_store.proofs.Entries.{stored_filtered, kept_filtered}
 use Rattle.am_store.proofs.store.remove_resolved.Goals as goal
 

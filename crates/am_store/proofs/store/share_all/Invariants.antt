@@ -1,6 +1,6 @@
 use Rattle.std.proofs.Common.{◌≡◌, ◌++◌}
 use Rattle.am_store.specs.Shared.{alerts_in}
-use Rattle.am_store.specs.inside.Shared.{stored_in}
+use Rattle.am_store.specs.AlertMaps.{stored_in}
 use Rattle.am_store.proofs.store.share_all.Given as goal
 
 abbrev pub invariant-loop-alert : goal.invariant-loop-alert

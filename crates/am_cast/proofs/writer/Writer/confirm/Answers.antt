@@ -26,3 +26,12 @@ returns-clause-stand g c =
     let other : c.hear.new.other.me.0.own ≡ c.pass.inside.seat.me.0.own = ap (λ (m : SeatState N K g.row.A.Denot). m.0.own) c.hear.ensures.other.1 in
     subst (λ o. AreInLog o c.hear.new.self.known.tail.log) (sym other)
     (stand_further c.pass.inside.seat.me.0.own c.pass.inside.seat.me.0.noted c.hear.new.self.known.tail.log (subst (IsPrefix c.pass.inside.seat.me.0.noted) (sym log) c.hear.ensures.begins) here)
+
+pub returns-clause-known : goal.returns-clause-known
+returns-clause-known g c =
+    let N = BatchView g.row.T.Denot g.row.P.Denot in
+    let K = KeyView g.row.T.Denot in
+    let log : c.hear.new.self.known.tail.log ≡ c.self.inside.state.known.tail.log = ap (λ (b : WriterStateView g.row.T.Denot g.row.P.Denot g.row.A.Denot). b.known.tail.log) c.hear.ensures.same in
+    let other : c.hear.new.other.me.0.noted ≡ c.pass.inside.seat.me.0.noted = ap (λ (m : SeatState N K g.row.A.Denot). m.0.noted) c.hear.ensures.other.1 in
+    subst (λ o. IsPrefix o c.hear.new.self.known.tail.log) (sym other)
+    (subst (IsPrefix c.pass.inside.seat.me.0.noted) (sym log) c.hear.ensures.begins)

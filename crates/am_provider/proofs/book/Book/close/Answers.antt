@@ -2,7 +2,7 @@ use Rattle.std.proofs.Common.{◌≡◌, List, refl, ap, false, arith}
 use Rattle.am_store.specs.declared.call.Call.{Call}
 use Rattle.am_store.specs.declared.call.Call.TheVariants.{Closed}
 use Rattle.am_store.specs.Journal.{with_call}
-use Rattle.am_store.specs.inside.Journals.{journal_of}
+use Rattle.am_store.specs.Journal.{journal_of}
 use Rattle.am_provider.proofs.Calls.{kept_closed}
 use Rattle.am_provider.proofs.book.Book.close.Goals as goal
 

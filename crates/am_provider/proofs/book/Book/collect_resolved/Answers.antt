@@ -4,7 +4,7 @@ use Rattle.std.proofs.lemmas.List.{append-nil}
 use Rattle.am_store.specs.declared.call.Call.{Call}
 use Rattle.am_store.specs.declared.call.Call.TheVariants.{Collected}
 use Rattle.am_store.specs.Journal.{with_call}
-use Rattle.am_store.specs.inside.Journals.{journal_of}
+use Rattle.am_store.specs.Journal.{journal_of}
 use Rattle.am_store.proofs.Kept.{sound_collected}
 use Rattle.am_provider.proofs.Shelves.{kept_grown, same_account}
 use Rattle.am_provider.proofs.book.Book.collect_resolved.Goals as goal

@@ -3,7 +3,7 @@ use Rattle.am_store.specs.declared.call.Call.{Call}
 use Rattle.am_store.specs.declared.call.Call.TheVariants.{Left}
 use Rattle.am_store.specs.Journal.{with_call}
 use Rattle.am_store.specs.Broadcast.{due, IsFront}
-use Rattle.am_store.specs.inside.Journals.{journal_of}
+use Rattle.am_store.specs.Journal.{journal_of}
 use Rattle.am_alert.specs.declared.alert.Alert.{Alert}
 use Rattle.am_store.specs.declared.lanes.OpenLane.{OpenLane}
 use Rattle.am_cast.specs.Cursors.{CursorView}

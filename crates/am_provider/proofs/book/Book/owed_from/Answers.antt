@@ -1,7 +1,7 @@
 use Rattle.std.proofs.Common.{◌≡◌, ◌-◌, length, subst, arith}
 use Rattle.am_store.specs.Trims.{AreBeforeOpen}
 use Rattle.am_provider.specs.BookView.{BookView}
-use Rattle.am_store.specs.inside.Journals.{journal_of}
+use Rattle.am_store.specs.Journal.{journal_of}
 use Rattle.am_store.proofs.Trimming.{before_earliest, before_none}
 use Rattle.am_provider.proofs.book.Book.owed_from.Goals as goal
 

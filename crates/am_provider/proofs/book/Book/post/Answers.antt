@@ -8,6 +8,6 @@ returns-clause-cut g c =
     let cut = c.in_ok-place.ensures.cut in
     record {
       lanes = cut.lanes;
-      cuts = λ lane small. subst (IsCutAs (length c.args.self.now.log.tail.log) c.args.self.now.log.tail.places (account_of c.args.self.now.log lane) (account_of c.post_some.new.self.log lane)) (sym (c.bits_of.ensures.bits lane small)) (cut.cuts lane small);
-      none = λ policy. c.bits_of.ensures.none (cut.none policy);
+      cuts = λ lane small. subst (IsCutAs (length c.args.self.now.log.tail.log) c.args.self.now.log.tail.places (account_of c.args.self.now.log lane) (account_of c.post_some.new.self.log lane)) (sym (c.from_flags.ensures.lanes lane)) (cut.cuts lane small);
+      none = λ policy. c.from_flags.ensures.none (cut.none policy);
     }

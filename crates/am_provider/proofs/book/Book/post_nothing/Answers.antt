@@ -3,7 +3,7 @@ use Rattle.std.specs.VecDeque.{deque_len, deque_capacity}
 use Rattle.am_store.specs.declared.call.Call.{Call}
 use Rattle.am_store.specs.declared.call.Call.TheVariants.{Posted}
 use Rattle.am_store.specs.Journal.{with_call, is_closed}
-use Rattle.am_store.specs.inside.Journals.{journal_of}
+use Rattle.am_store.specs.Journal.{journal_of}
 use Rattle.am_provider.specs.BookView.{BookView}
 use Rattle.am_provider.proofs.Calls.{kept_empty}
 use Rattle.am_provider.proofs.book.Book.post_nothing.Goals as goal

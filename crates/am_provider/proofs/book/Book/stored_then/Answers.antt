@@ -1,7 +1,7 @@
 use Rattle.std.proofs.Common.{◌≡◌, ℕ, List, IfOk, subst, ◌∙◌}
 use Rattle.am_alert.specs.declared.alert.Alert.{Alert}
 use Rattle.am_store.specs.Journal.{first_calls}
-use Rattle.am_store.specs.inside.Shared.{stored_in}
+use Rattle.am_store.specs.AlertMaps.{stored_in}
 use Rattle.am_store.specs.Stored.{updates, stored}
 use Rattle.am_store.specs.Trims.{AreBeforeOpen}
 use Rattle.am_provider.specs.BookView.{BookView}

@@ -5,7 +5,7 @@ use Rattle.am_store.specs.declared.call.Call.{Call}
 use Rattle.am_store.specs.declared.call.Call.TheVariants.{Subscribed}
 use Rattle.am_store.specs.declared.lanes.OpenLane.{OpenLane}
 use Rattle.am_store.specs.Journal.{with_call, call_count}
-use Rattle.am_store.specs.inside.Journals.{journal_of}
+use Rattle.am_store.specs.Journal.{journal_of}
 use Rattle.am_cast.specs.Cursors.{CursorView}
 use Rattle.am_cast.specs.Cursors as cast
 use Rattle.am_provider.specs.BookView.{BookView}

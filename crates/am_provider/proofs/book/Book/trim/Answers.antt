@@ -1,6 +1,6 @@
 use Rattle.std.proofs.Common.{◌+◌, ◌-◌, ◌≡◌, length, filter, nat_le, refl, sym, subst, ap, ◌∙◌, arith}
 use Rattle.am_store.specs.Trims.{AreBeforeOpen, IsTrimmed}
-use Rattle.am_store.specs.inside.Journals.{journal_of}
+use Rattle.am_store.specs.Journal.{journal_of}
 use Rattle.am_store.proofs.Trims.{none_trimmed}
 use Rattle.am_provider.specs.declared.answers.Ended.{Ended}
 use Rattle.am_provider.specs.BookView.{BookView}

@@ -1,15 +1,13 @@
-use Rattle.std.proofs.Common.{◌≡◌, length, refl, sym, ap, ◌∙◌, rules, arith}
-use Rattle.std.specs.Arc.{arc_value}
-use Rattle.std.proofs.lemmas.List.{length-map}
-use Rattle.am_provider.proofs.Subscribing.{logged_one, cut_told}
+use Rattle.std.proofs.Common.{◌≡◌, ◌∙◌, length, refl, sym, ap}
+use Rattle.am_provider.specs.Subscriptions.{SubscriptionView}
+use Rattle.am_provider.proofs.Subscribing.{noted}
 use Rattle.am_provider.proofs.subscription.Subscription.advance.Goals as goal
 
-pub invariant_of-self-in-One : goal.invariant_of-self-in-One
-invariant_of-self-in-One g c =
-    let long : length c.as_slice.result.now ≡ length c.self.inside.opening = sym (length-map c.as_slice.result.now arc_value) ∙ ap length c.as_slice.ensures.alerts in
-    logged_one _ _ c.self.inside.count _ c.in_hand-one.result.now c.self.invariant (omega (arith, c.if-self-as_slice.false, long)) refl c.in-One.ensures.on c.in-One.ensures.moves c.in_hand-one.ensures (search rules)
-
-pub invariant_of-self-in-Cut : goal.invariant_of-self-in-Cut
-invariant_of-self-in-Cut g c =
-    let long : length c.as_slice.result.now ≡ length c.self.inside.opening = sym (length-map c.as_slice.result.now arc_value) ∙ ap length c.as_slice.ensures.alerts in
-    cut_told _ _ c.self.inside.count c.self.invariant (omega (arith, c.if-self-as_slice.false, long)) refl c.in-Cut.ensures.on c.in-Cut.ensures.moves
+pub invariant_of-self : goal.invariant_of-self
+invariant_of-self g c =
+    let no = c.show_opening.ensures.no c.if-show_opening.false in
+    let old : SubscriptionView = record { at = c.self.inside.at; opening = c.self.inside.opening; shown = c.self.inside.shown; cursor = c.self.inside.cursor; closed_told = c.self.inside.closed_told } in
+    let new : SubscriptionView = record old { cursor = c.advance-moved.new.self; closed_told = c.note.new.closed_told } in
+    let same : old ≡ c.args.self.now = c.self.view_is ∙ no.1 in
+    let all : old.shown ≡ length old.opening = ap (λ (s : SubscriptionView). s.shown) same ∙ (no.0 ∙ ap (λ (s : SubscriptionView). length s.opening) (sym same)) in
+    (noted old new c.self.inside.count c.note.new.count c.advance-moved.result c.note.result c.self.invariant all refl c.advance-moved.ensures.on c.advance-moved.ensures.moves c.note.ensures).0

@@ -11,7 +11,7 @@ use Rattle.am_runner.proofs.session.Session.subscribe.Goals as goal
 
 pub begin-requires-in-Ok-clause-fresh : goal.begin-requires-in-Ok-clause-fresh
 begin-requires-in-Ok-clause-fresh g c =
-    subst (λ (made : Option Consumer). IfSome made (HasTaken [])) (sym c.in_ok-consumer.ensures) (fresh_took c.args.config.now c.args.kind)
+    subst (λ (made : Option Consumer). IfSome made (HasTaken [])) (sym c.in_ok-consumer.ensures) (fresh_took c.args.context.now.config.now c.args.kind)
 
 pub returns-in-Ok : goal.returns-in-Ok
 returns-in-Ok g c timeout =
@@ -21,10 +21,10 @@ returns-in-Ok g c timeout =
     let named : made.name ≡ c.args.name.now = ap (λ (o : OpenView). o.name) c.begin-in-Ok.ensures ∙ c.in_ok-name.ensures in
     let reads : made.subscription ≡ c.in-Ok.subscription = ap (λ (o : OpenView). o.subscription) c.begin-in-Ok.ensures in
     let unread : taken made.subscription ≡ [] = ap taken reads ∙ c.in-Ok.ensures.fresh.0 in
-    let fresh : made.consumer ≡ fresh_consumer c.args.config.now c.args.kind = ap (λ (o : OpenView). o.consumer) c.begin-in-Ok.ensures ∙ c.in_ok-consumer.ensures in
+    let fresh : made.consumer ≡ fresh_consumer c.args.context.now.config.now c.args.kind = ap (λ (o : OpenView). o.consumer) c.begin-in-Ok.ensures ∙ c.in_ok-consumer.ensures in
     let items : c.push_reserved.new.self.items ≡ c.self.inside.opened.items ++ made ∷ [] = c.push_reserved.ensures.items ∙ ap (λ (front : List OpenView). front ++ made ∷ []) c.in_ok-reserve.ensures.items in
-    subst (λ (old : SessionView). Does c.args.config.now timeout old (Subscribe c.args.name.now c.args.kind) (Subscribed c.lane.result c.opening.result ∷ []) now) c.self.view_is
-    (subscribed_so c.args.config.now timeout view now c.args.name.now c.args.kind made c.lane.result c.opening.result named unread fresh
+    subst (λ (old : SessionView). Does c.args.context.now.config.now timeout old (Subscribe c.args.name.now c.args.kind) (Subscribed c.lane.result c.opening.result ∷ []) now) c.self.view_is
+    (subscribed_so c.args.context.now.config.now timeout view now c.args.name.now c.args.kind made c.lane.result c.opening.result named unread fresh
     (c.lane.ensures ∙ ap (λ (s : SubscriptionView). s.cursor.lane.number) (sym reads))
     (c.opening.ensures ∙ ap (λ (s : SubscriptionView). length s.opening) (sym reads))
     (ap (λ (opened : List OpenView). record { pass = c.self.inside.pass; opened = opened }) items))
@@ -32,6 +32,6 @@ returns-in-Ok g c timeout =
 pub returns-in-Err : goal.returns-in-Err
 returns-in-Err g c timeout =
     let items : c.reserve.new.self.items ≡ c.self.inside.opened.items = c.in_ok-reserve.ensures.items in
-    subst (λ (old : SessionView). Does c.args.config.now timeout old (Subscribe c.args.name.now c.args.kind) (SubscribeRefused c.in-Err.why ∷ []) (record { pass = c.self.inside.pass; opened = c.reserve.new.self.items })) c.self.view_is
-    (subst (λ (opened : List OpenView). Does c.args.config.now timeout (record { pass = c.self.inside.pass; opened = c.self.inside.opened.items }) (Subscribe c.args.name.now c.args.kind) (SubscribeRefused c.in-Err.why ∷ []) (record { pass = c.self.inside.pass; opened = opened })) (sym items)
+    subst (λ (old : SessionView). Does c.args.context.now.config.now timeout old (Subscribe c.args.name.now c.args.kind) (SubscribeRefused c.in-Err.why ∷ []) (record { pass = c.self.inside.pass; opened = c.reserve.new.self.items })) c.self.view_is
+    (subst (λ (opened : List OpenView). Does c.args.context.now.config.now timeout (record { pass = c.self.inside.pass; opened = c.self.inside.opened.items }) (Subscribe c.args.name.now c.args.kind) (SubscribeRefused c.in-Err.why ∷ []) (record { pass = c.self.inside.pass; opened = opened })) (sym items)
     subscribe_refused)

@@ -3,7 +3,7 @@ use Rattle.std.specs.Arc.{arc_value}
 use Rattle.am_alert.specs.Merging.{absorbed}
 use Rattle.am_store.specs.AlertList.{lookup, with_alert, with_alerts, batch_by_list}
 use Rattle.am_store.specs.Shared.{alerts_in}
-use Rattle.am_store.specs.inside.Shared.{stored_in, all_taken_back}
+use Rattle.am_store.specs.AlertMaps.{stored_in, all_taken_back}
 use Rattle.am_store.proofs.Absorbing.{with_alerts_last, batch_more}
 use Rattle.am_store.proofs.Entries.{all_back_last, alerts_in_last}
 use Rattle.am_store.proofs.store.absorb.absorb_each.Goals as goal

@@ -1,7 +1,7 @@
 use Rattle.std.proofs.Common.{◌≡◌, ◌++◌, ◌+◌, ◌≤◌, drop, length, vec_len, vec_capacity}
 use Rattle.am_store.specs.AlertList.{with_alerts, batch_by_list}
 use Rattle.am_store.specs.Shared.{alerts_in}
-use Rattle.am_store.specs.inside.Shared.{stored_in, AreKeptByLabels, all_taken_back}
+use Rattle.am_store.specs.AlertMaps.{stored_in, AreKeptByLabels, all_taken_back}
 use Rattle.am_store.proofs.store.absorb.absorb_each.Given as goal
 
 abbrev pub invariant-loop-new : goal.invariant-loop-new

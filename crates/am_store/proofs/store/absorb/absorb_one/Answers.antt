@@ -8,7 +8,7 @@ use Rattle.am_alert.specs.declared.alert.Alert.{Alert}
 use Rattle.am_alert.specs.Merging.{absorbed}
 use Rattle.am_labels.specs.LabelSets.{same_labels}
 use Rattle.am_store.specs.AlertList.{lookup, with_alert}
-use Rattle.am_store.specs.inside.Shared.{stored_in, AreKeptByLabels}
+use Rattle.am_store.specs.AlertMaps.{stored_in, AreKeptByLabels}
 use Rattle.am_store.proofs.Entries.{stored_inserted, kept_inserted, written_at, added_back, replaced_back, became_own}
 use Rattle.am_store.proofs.store.absorb.absorb_one.Goals as goal
 

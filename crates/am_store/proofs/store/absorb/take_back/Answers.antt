@@ -1,5 +1,5 @@
 use Rattle.std.proofs.Common.{◌≡◌, ◌++◌, ◌∷◌, [], sym, ap, ◌∙◌, rules}
-use Rattle.am_store.specs.inside.Shared.{taken_back, all_taken_back}
+use Rattle.am_store.specs.AlertMaps.{taken_back, all_taken_back}
 use Rattle.am_store.proofs.Entries.{all_back_last}
 use Rattle.am_store.proofs.store.absorb.take_back.Goals as goal
 

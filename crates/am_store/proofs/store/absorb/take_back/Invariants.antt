@@ -1,5 +1,5 @@
 use Rattle.std.proofs.Common.{◌≡◌}
-use Rattle.am_store.specs.inside.Shared.{all_taken_back}
+use Rattle.am_store.specs.AlertMaps.{all_taken_back}
 use Rattle.am_store.proofs.store.absorb.take_back.Given as goal
 
 abbrev pub invariant-loop-change : goal.invariant-loop-change

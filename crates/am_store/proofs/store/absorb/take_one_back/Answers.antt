@@ -1,5 +1,5 @@
 use Rattle.std.proofs.Common.{◌≤◌, length, sym, ap, ◌∙◌}
-use Rattle.am_store.specs.inside.Shared.{taken_back}
+use Rattle.am_store.specs.AlertMaps.{taken_back}
 use Rattle.am_store.proofs.Entries.{outside, written_past}
 use Rattle.am_store.proofs.store.absorb.take_one_back.Goals as goal
 

@@ -1,0 +1,31 @@
+use Rattle.std.proofs.Common.{◌≡◌, ℕ, zero, suc, ◌<◌, ◌++◌, ◌∷◌, [], length, List, get_or, sym, ap, subst, rules, arith, length-append}
+use Rattle.std.specs.List.{All}
+use Rattle.std.specs.Vec.Iter.{into_iter_items}
+use Rattle.std.proofs.lemmas.List.Elements.{All-append}
+use Rattle.am_provider.proofs.pass.deal.Goals as goal
+
+all_tail : {A : Type 0} (P : A → Type 0) (x : A) (xs ys : List A) → ys ≡ x ∷ xs → All P ys → All P xs
+all_tail P x xs ys is all = λ k d h. let more = subst (All P) is all in more (suc k) d (omega arith)
+
+all_head : {A : Type 0} (P : A → Type 0) (x : A) (xs ys : List A) → ys ≡ x ∷ xs → All P ys → P x
+all_head P x xs ys is all = let more = subst (All P) is all in more 0 x (omega arith)
+
+all_last : {A : Type 0} (P : A → Type 0) (x : A) (xs ys : List A) → ys ≡ xs ++ x ∷ [] → All P xs → P x → All P ys
+all_last P x xs ys is all own = subst (All P) (sym is) (All-append P xs (x ∷ []) all one)
+  where
+    one : (k : ℕ) (d : _) → k < 1 → P (get_or (x ∷ []) k d)
+    one zero d h = own
+    one (suc k) d h = absurd (omega arith)
+
+pub loop-pass-preserved : goal.loop-pass-preserved
+loop-pass-preserved g c =
+    let step : into_iter_items c.loop-pass.pass-iterator ≡ c.in-Some.pass ∷ into_iter_items c.next.new.self = search rules in
+    let here = all_head (λ pass. pass ≡ record { noted = []; own = [] }) c.in-Some.pass (into_iter_items c.next.new.self) (into_iter_items c.loop-pass.pass-iterator) step c.loop-pass.invariant.rest in
+    record {
+      parts = omega (arith, c.loop-pass.invariant.parts, ap length step, c.split_off-share.ensures.parts_left);
+      none = omega (arith, c.loop-pass.invariant.none, c.split_off-share.ensures.amount_left);
+      rest = all_tail (λ pass. pass ≡ record { noted = []; own = [] }) c.in-Some.pass (into_iter_items c.next.new.self) (into_iter_items c.loop-pass.pass-iterator) step c.loop-pass.invariant.rest;
+      dealt = all_last (λ pass. pass ≡ record { noted = []; own = [] }) c.in-Some.pass c.loop-pass.dealt.items c.push_reserved.new.self.items c.push_reserved.ensures.items c.loop-pass.invariant.dealt here;
+      count = omega (arith, c.loop-pass.invariant.count, ap length step, ap length c.push_reserved.ensures.items, length-append c.loop-pass.dealt.items (c.in-Some.pass ∷ []));
+      room = omega (arith, c.loop-pass.invariant.room, ap length step, c.push_reserved.ensures.len, c.push_reserved.ensures.capacity);
+    }

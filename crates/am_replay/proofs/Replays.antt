@@ -1,0 +1,83 @@
+-- Facts about the words of specs/Replays.antt, and of specs/Runs.antt below it.
+use Rattle.std.proofs.Common.{◌≡◌, ℕ, ◌+◌, List, [], ◌∷◌, ◌++◌, true, length, map, Option, Some, None, Result, Ok, Err, IfOk, ap, sym, subst, refl, ◌∙◌}
+use Rattle.std.proofs.lemmas.List.{map-append, length-append, length-map}
+use Rattle.std.specs.Global.{Vec}
+use Rattle.std.specs.declared.alloc.AllocError.{AllocError}
+use Rattle.std.specs.Duration.{as_nanos}
+use Rattle.std.specs.Io.KnownBytes.{Keeps}
+use Rattle.am_alert.specs.declared.alert.Alert.{Alert}
+use Rattle.am_store.specs.declared.call.Call.{Call}
+use Rattle.am_cast.specs.Posters.{PassView}
+use Rattle.am_provider.specs.Settling.{IsSettled, own_of}
+use Rattle.am_provider.specs.declared.settled.Settled.{Settled}
+use Rattle.am_runner.specs.Working.{AreWork, none, one_more_thread}
+use Rattle.am_runner.specs.declared.answer.Answer.{Answer}
+use Rattle.am_replay.specs.Printing.{transcript_text, ran_out_of_memory}
+use Rattle.am_replay.specs.Replays.{ComesTo, ran, status_of}
+use Rattle.am_replay.specs.Runs.{AreCountsOf, IsRun}
+use Rattle.am_config.specs.declared.config.Config.{Config}
+use Rattle.am_replay.specs.FirstLines.{IsFirstLine}
+use Rattle.am_replay.specs.declared.first_line.FirstLine.TheVariants.{Read}
+use Rattle.am_replay.specs.declared.transcript.Transcript.{Transcript}
+use Rattle.am_script.specs.Script.{Checks, config_line, lines_of}
+use Rattle.am_script.specs.declared.command.Line.{Line}
+use Rattle.am_replay.specs.declared.status.Status.{Status}
+use Rattle.am_replay.specs.declared.status.Status.TheVariants.{Refused}
+
+pub if_ok_both : {T E : Type 0} {P Q S : T → Type 0} (r : Result T E) → IfOk r P → IfOk r Q → ((x : T) → P x → Q x → S x) → IfOk r S
+if_ok_both (Ok x) one two f = f x one two
+if_ok_both (Err e) one two f = tt
+
+pub refused_so : (text words output : List ℕ) (status : Status) → ComesTo text Refused words → status ≡ Refused → output ≡ words → ComesTo text status output
+refused_so text words output status comes ends said =
+    subst (λ (s : Status). ComesTo text s output) (sym ends) (subst (λ (o : List ℕ). ComesTo text Refused o) (sym said) comes)
+
+-- a script that was run
+pub comes : (text configuration : List ℕ) (lines : List Line) (config : Config) (transcript : Transcript) (settled : Settled) (status : Status) (output : List ℕ)
+    → IsFirstLine text (Read config) → Checks 1 [] (lines_of text) (Ok lines) → configuration ≡ config_line text
+    → IsRun configuration (as_nanos config.resolve_timeout) lines transcript settled
+    → output ≡ transcript_text transcript.lines.items transcript.answers.items transcript.counts
+    → status ≡ status_of (ran_out_of_memory transcript.answers.items) → ComesTo text status output
+comes text configuration lines config transcript settled status output first checks is runs said ends =
+    subst (λ (s : Status). ComesTo text s output) (sym ends)
+    (subst (λ (o : List ℕ). ComesTo text (status_of (ran_out_of_memory transcript.answers.items)) o) (sym (said ∙ ap (λ (all : List Line). transcript_text all transcript.answers.items transcript.counts) runs.script))
+    (ran config transcript settled first checks (subst (λ (bytes : List ℕ). IsRun bytes (as_nanos config.resolve_timeout) lines transcript settled) is runs)))
+
+-- one thread's outcome more
+pub one_more_parted : {A B E : Type 0} (all : List (Result A E × B)) (answers answers_then : List A) (passes passes_then : List B) (one : Result A E) (answer : A) (pass : B)
+    → (map (λ x. x.0) all ≡ map Ok answers) × (map (λ x. x.1) all ≡ passes)
+    → one ≡ Ok answer → answers_then ≡ answers ++ answer ∷ [] → passes_then ≡ passes ++ pass ∷ []
+    → (map (λ x. x.0) (all ++ (one, pass) ∷ []) ≡ map Ok answers_then) × (map (λ x. x.1) (all ++ (one, pass) ∷ []) ≡ passes_then)
+one_more_parted {A} {B} {E} all answers answers_then passes passes_then one answer pass so_far is grown more = (
+  map-append (λ (x : Result A E × B). x.0) all ((one, pass) ∷ [])
+      ∙ (ap (λ (front : List (Result A E)). front ++ one ∷ []) so_far.0
+      ∙ (ap (λ (o : Result A E). map Ok answers ++ o ∷ []) is
+      ∙ (sym (map-append Ok answers (answer ∷ [])) ∙ ap (λ (l : List A). map Ok l) (sym grown)))),
+  map-append (λ (x : Result A E × B). x.1) all ((one, pass) ∷ [])
+      ∙ (ap (λ (front : List B). front ++ pass ∷ []) so_far.1 ∙ sym more),
+)
+
+work_of_each : {bytes : List ℕ} {timeout : ℕ} {lines : List Line} {threads : ℕ} {all : List (Result (Vec (Vec Answer)) AllocError × PassView Alert Call)} → AreWork bytes timeout lines threads all → length all ≡ threads
+work_of_each none = refl
+work_of_each (one_more_thread {thread} {before} one work this) =
+    length-append before (one ∷ []) ∙ ap (λ (n : ℕ). n + 1) (work_of_each work)
+
+-- what the threads came to, and the provider by their passes
+pub run_of : (bytes : List ℕ) (timeout : ℕ) (lines : List Line) (all : List (Result (Vec (Vec Answer)) AllocError × PassView Alert Call)) (transcript : Transcript) (passes : List (PassView Alert Call)) (settled : Settled)
+    → transcript.lines.items ≡ lines → AreWork bytes timeout lines 8 all
+    → (map (λ x. x.0) all ≡ map Ok transcript.answers.items) × (map (λ x. x.1) all ≡ passes)
+    → IsSettled (own_of passes) settled → (length passes ≡ 8 → settled.complete ≡ true) → AreCountsOf settled transcript.counts
+    → IsRun bytes timeout lines transcript settled
+run_of bytes timeout lines all transcript passes settled script work parted end complete counts = record {
+  outcomes = all;
+  script = script;
+  work = work;
+  answered = parted.0;
+  end = subst (λ (given : List (PassView Alert Call)). IsSettled (own_of given) settled) (sym parted.1) end;
+  complete = complete (ap length (sym parted.1) ∙ (length-map all (λ (x : Result (Vec (Vec Answer)) AllocError × PassView Alert Call). x.1) ∙ work_of_each work));
+  counts = counts;
+}
+
+pub keeps_same : (known : Option (List ℕ)) → Keeps known known
+keeps_same None = tt
+keeps_same (Some bytes) = refl

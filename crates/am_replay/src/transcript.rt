@@ -1,0 +1,109 @@
+//! What each line of a script answered, and how that is printed.
+
+ghost use Rattle.std.specs.Prelude.{◌≡◌, ◌++◌, IfOk, OnOk, Some, string_bytes};
+ghost use Rattle.std.specs.List.{list_any};
+ghost use Rattle.am_runner.specs.Answers.{is_out_of_memory};
+ghost use Rattle.am_replay.specs.Printing.{answers_text, counts_text, given_at, lines_text};
+ghost use Rattle.am_replay.specs.Printing.{ran_out_of_memory, transcript_text};
+
+use am_provider::Counts;
+use am_runner::Answer;
+use am_script::{Line, Thread};
+use std::alloc::{AllocError, Global};
+use std::fmt;
+
+/// What each line of a script answered, and the counts at the end.
+#[derive(Drop)]
+pub struct Transcript {
+    pub lines: Vec<Line>,
+    /// What each thread answered to each line.
+    pub answers: Vec<Vec<Vec<Answer>>>,
+    pub counts: Counts,
+}
+
+impl Transcript {
+    /// Whether some call was out of memory.
+    pub fn ran_out_of_memory(&self) -> bool
+        ensures { result ≡ ran_out_of_memory self.now.answers.items }
+    {
+        self.answers.iter().any(|all| has_one_run_out(all))
+    }
+
+    /// A line for each answer, and the last one.
+    pub fn text(&self, alloc: Global) -> Result<String, AllocError>
+        ensures { IfOk result (λ text. string_bytes text
+            ≡ transcript_text self.now.lines.items self.now.answers.items self.now.counts) }
+    {
+        let mut text = String::new(alloc);
+        write_lines(&mut text, &self.lines, &self.answers)?;
+        let counts = End(self.counts);
+        write!(text, "{counts}\n")?;
+        Ok(text)
+    }
+}
+
+fn has_one_run_out(all: &[Vec<Answer>]) -> bool
+    ensures { result ≡ list_any (λ given. list_any is_out_of_memory given.items) all.now }
+{
+    all.iter().any(|given| has_run_out(given))
+}
+
+fn has_run_out(given: &[Answer]) -> bool
+    ensures { result ≡ list_any is_out_of_memory given.now }
+{
+    given.iter().any(|answer| answer.is_out_of_memory())
+}
+
+fn write_lines(
+    text: &mut String,
+    lines: &[Line],
+    answers: &[Vec<Vec<Answer>>],
+) -> Result<(), AllocError>
+    ensures { OnOk result (string_bytes text.new
+        ≡ string_bytes text.old ++ lines_text answers.now 0 lines.now) }
+{
+    for (index, line) in lines.iter().enumerate() {
+        write_answers(text, line.number, given_at(answers, line.thread, index))?;
+    }
+    Ok(())
+}
+
+fn write_answers(text: &mut String, number: u32, given: &[Answer]) -> Result<(), AllocError>
+    ensures { OnOk result
+        (string_bytes text.new ≡ string_bytes text.old ++ answers_text number given.now) }
+{
+    for answer in given {
+        write!(text, "{number} {answer}\n")?;
+    }
+    Ok(())
+}
+
+// What a thread answered to the line at an index of the script.
+fn given_at<'a>(answers: &'a [Vec<Vec<Answer>>], thread: Thread, index: usize) -> &'a [Answer]
+    ensures { result.now ≡ given_at answers.now thread index }
+{
+    match answers.get(thread.index()) {
+        Some(all) => match all.get(index) {
+            Some(given) => given.as_slice(),
+            None => &[],
+        },
+        None => &[],
+    }
+}
+
+// The last line of the output.
+#[derive(Drop)]
+struct End(Counts);
+
+impl fmt::Display for End {
+    ghost output = { λ end. Some (counts_text end.0) };
+
+    fn fmt<W: fmt::Write>(&self, f: &mut fmt::Formatter<W>) -> fmt::Result {
+        let Counts {
+            places,
+            posts,
+            stored,
+        } = self.0;
+        write!(f, "end places {places} posts {posts} stored {stored}")
+    }
+}

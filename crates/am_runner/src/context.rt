@@ -1,0 +1,16 @@
+//! What the lines of a thread are run on.
+
+use am_config::Config;
+use am_provider::{Origin, Provider};
+use std::alloc::Global;
+
+/// What the lines of a thread are run on: a provider, a configuration, and the turns in which they are
+/// run.
+#[derive(Drop)]
+pub struct Context<'p, 'c, N: Origin, R, T> {
+    pub rt: &'p R,
+    pub alloc: Global,
+    pub provider: &'p Provider<N>,
+    pub config: &'c Config,
+    pub turns: &'p T,
+}
