@@ -19,10 +19,10 @@ use Rattle.am_cast.specs.Keys.{batch_items, all_items, key_of}
 use Rattle.am_cast.specs.Steps.{SeatState}
 use Rattle.atomic_table.specs.Seated.{TableId}
 use Rattle.am_cast.specs.declared.views.View.{View}
-use Rattle.am_cast.specs.Cursors.{CursorView, items_at, shown_items, HasCut, HasEnded}
+use Rattle.am_cast.specs.Cursors.{CursorView, items_at, shown_items, HasEnded}
 use Rattle.am_cast.specs.inside.Cursors.{CursorOk, HasHand}
-use Rattle.am_cast.specs.Lent.{IsItem, IsInHand, Moves, MovesPast}
-use Rattle.am_cast.specs.inside.Moving.{AreAllSeen, NeedsLook, AfterLook, TriesTake}
+use Rattle.am_cast.specs.Lent.{IsItem, IsInHand, Moves}
+use Rattle.am_cast.specs.inside.Moving.{NeedsLook, AfterLook}
 use Rattle.am_cast.proofs.Slots.{at_length}
 
 module _ {X : Type 0} where
@@ -125,65 +125,27 @@ module _ {T P A : Type 0} where
     was_uncut = λ h. false≢true (sym h.1 ∙ held);
   }
 
-  -- what a look answers, after the places that were passed
-  pub found_moves : (c m d : CursorView T P A) (r : Moved) → NeedsLook c → c.lane.held ≡ false → c.shown ≡ 0 → m.lane ≡ seeing m.lane.front m.lane.told c.lane → m.shown ≡ c.shown → IsPrefix c.lane.front m.lane.front → AfterLook m d r → Moves c d r
-  found_moves c m d r needs idle none_shown lane shown p f = go r f
+  -- what a look answers, after all that was seen is passed
+  pub found_moves : (c s m d : CursorView T P A) (r : Moved) → NeedsLook c s → m.lane ≡ seeing m.lane.front m.lane.told s.lane → m.shown ≡ s.shown → IsPrefix s.lane.front m.lane.front → AfterLook m d r → Moves c d r
+  found_moves c s m d r needs lane shown p f = go r f
     where
       same : shown_items m ≡ shown_items c
-      same = let at = needs.0 in taken_look c m lane (shown ∙ none_shown) none_shown p (omega arith)
-
-      unended : HasEnded c → ⊥
-      unended h = false≢true (sym needs.1 ∙ h.0)
-
-      uncut : HasCut c → ⊥
-      uncut h = false≢true (sym needs.2 ∙ h.0)
+      same = let at = needs.all in taken_look s m lane (shown ∙ needs.shown) needs.shown p (omega arith) ∙ needs.taken
 
       go : (r : Moved) → AfterLook m d r → Moves c d r
-      go One t = record { held = t.held; taken = λ x at. t.taken x at ∙ ap (λ (l : List T). l ++ x ∷ []) same; was_open = unended; was_uncut = uncut }
+      go One t = record { held = t.held; taken = λ x at. t.taken x at ∙ ap (λ (l : List T). l ++ x ∷ []) same; was_open = needs.was_open; was_uncut = needs.was_uncut }
       go Pending t = record {
         taken = ap (λ (c : CursorView T P A). shown_items c) t.0 ∙ same;
-        looks = ap (λ (c : CursorView T P A). c.lane.looks) t.0 ∙ ap (λ (v : LaneView (BatchView T P) A). v.looks) lane;
+        looks = ap (λ (c : CursorView T P A). c.lane.looks) t.0 ∙ ap (λ (v : LaneView (BatchView T P) A). v.looks) lane ∙ ap (λ (n : ℕ). n + 1) needs.looks;
         told = ap (λ (c : CursorView T P A). c.lane.told) t.0 ∙ t.1;
         all = ap (λ (c : CursorView T P A). c.lane.passed) t.0 ∙ t.2 ∙ ap (λ (c : CursorView T P A). length c.lane.front) (sym t.0);
-        held = ap (λ (c : CursorView T P A). c.lane.held) t.0 ∙ ap (λ (v : LaneView (BatchView T P) A). v.held) lane ∙ idle;
-        cut = ap (λ (c : CursorView T P A). c.lane.cut) t.0 ∙ ap (λ (v : LaneView (BatchView T P) A). v.cut) lane ∙ needs.2;
-        was_open = unended;
-        was_uncut = uncut;
+        held = ap (λ (c : CursorView T P A). c.lane.held) t.0 ∙ ap (λ (v : LaneView (BatchView T P) A). v.held) lane ∙ needs.held;
+        cut = ap (λ (c : CursorView T P A). c.lane.cut) t.0 ∙ ap (λ (v : LaneView (BatchView T P) A). v.cut) lane ∙ needs.cut;
+        was_open = needs.was_open;
+        was_uncut = needs.was_uncut;
       }
-      go Closed t = record { taken = ap (λ (c : CursorView T P A). shown_items c) t.0 ∙ same; ended = subst (λ (c : CursorView T P A). HasEnded c) (sym t.0) t.1; was_uncut = uncut }
-      go Cut t = record { taken = t.taken ∙ same; cut = t.cut; was_open = unended }
-
-  -- the same, of a pass that the cursor was told of
-  pub found_past : (noted : List (BatchView T P)) (m d : CursorView T P A) (r : Moved) → IsPrefix noted m.lane.front → AfterLook m d r → MovesPast noted d r
-  found_past noted m d One p t = tt
-  found_past noted m d Pending p t = subst (λ (c : CursorView T P A). IsPrefix noted c.lane.front) (sym t.0) p
-  found_past noted m d Closed p t = tt
-  found_past noted m d Cut p t = tt
-
-  pub seen_past : (noted : List (BatchView T P)) (d : CursorView T P A) (r : Moved) → AreAllSeen r → MovesPast noted d r
-  seen_past noted d One s = tt
-  seen_past noted d Pending s = absurd s
-  seen_past noted d Closed s = tt
-  seen_past noted d Cut s = tt
-
-  pub takes_found : (c d : CursorView T P A) (r : Moved) → TriesTake c d r → AfterLook c d r
-  takes_found c d One t = t
-  takes_found c d Pending t = absurd t
-  takes_found c d Closed t = absurd t
-  takes_found c d Cut t = t
-
-  pub takes_seen : (c d : CursorView T P A) (r : Moved) → TriesTake c d r → Moves c d r × AreAllSeen r
-  takes_seen c d One t = (t, tt)
-  takes_seen c d Pending t = absurd t
-  takes_seen c d Closed t = absurd t
-  takes_seen c d Cut t = (t, tt)
-
-  -- the same, after a place was passed
-  pub moves_back : (c m d : CursorView T P A) (r : Moved) → shown_items m ≡ shown_items c → m.lane.looks ≡ c.lane.looks → (HasEnded c → HasEnded m) → (HasCut c → HasCut m) → Moves m d r → Moves c d r
-  moves_back c m d One same looks ended cut t = record { held = t.held; taken = λ x at. t.taken x at ∙ ap (λ (l : List T). l ++ x ∷ []) same; was_open = λ h. t.was_open (ended h); was_uncut = λ h. t.was_uncut (cut h) }
-  moves_back c m d Pending same looks ended cut t = record { taken = t.taken ∙ same; looks = t.looks ∙ ap (λ (n : ℕ). n + 1) looks; told = t.told; all = t.all; held = t.held; cut = t.cut; was_open = λ h. t.was_open (ended h); was_uncut = λ h. t.was_uncut (cut h) }
-  moves_back c m d Closed same looks ended cut t = record { taken = t.taken ∙ same; ended = t.ended; was_uncut = λ h. t.was_uncut (cut h) }
-  moves_back c m d Cut same looks ended cut₁ t = record { taken = t.taken ∙ same; cut = t.cut; was_open = λ h. t.was_open (ended h) }
+      go Closed t = record { taken = ap (λ (c : CursorView T P A). shown_items c) t.0 ∙ same; ended = subst (λ (c : CursorView T P A). HasEnded c) (sym t.0) t.1; was_uncut = needs.was_uncut }
+      go Cut t = record { taken = t.taken ∙ same; cut = t.cut; was_open = needs.was_open }
 
   -- the key in hand
   pub hand_of : (m : SeatState (BatchView T P) (KeyView T) A) (v : LaneView (BatchView T P) A) (shown : ℕ) (o : Option (KeyView T)) (k : KeyView T) → o ≡ Some k → HasHand m v shown o → HasHand m v shown (Some k)

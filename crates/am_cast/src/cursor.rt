@@ -102,9 +102,7 @@ impl<'a, T, P, A, N: Feed> Cursor<'a, T, P, A, N> {
         ensures shown { self.new.shown ≡ self.old.shown }
         ensures front { IsPrefix self.old.lane.front self.new.lane.front }
     {
-        let (seen, closed) = board::look_at_log(&self.cast.board.shared, &mut self.seat);
-        self.seen = seen;
-        self.closed = closed;
+        (self.seen, self.closed) = board::look_at_log(&self.cast.board.shared, &mut self.seat);
     }
 
     // The next key comes into the hand, and its first item is shown, or the lane was cut.
@@ -198,8 +196,6 @@ impl<'a, T, P, A, N: Feed> Cursor<'a, T, P, A, N> {
     {
         let top = &self.cast.board.shared;
         board::tell_seat(top, &mut pass.seat, &mut self.seat);
-        let (seen, closed) = board::look_at_log(top, &mut self.seat);
-        self.seen = seen;
-        self.closed = closed;
+        (self.seen, self.closed) = board::look_at_log(top, &mut self.seat);
     }
 }

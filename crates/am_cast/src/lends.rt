@@ -5,7 +5,7 @@ ghost use Rattle.std.specs.Borrow.{sem};
 ghost use Rattle.am_cast.specs.Lending.{AfterTheLoan};
 ghost use Rattle.am_cast.specs.Cursors.{GoesOn};
 ghost use Rattle.am_cast.specs.Lent.{Moves, MovesPast, Lends, LendsPast, IsInHand};
-ghost use Rattle.am_cast.specs.inside.Moving.{TriesTake, AfterLook, NeedsLook, AreAllSeen};
+ghost use Rattle.am_cast.specs.inside.Moving.{TriesTake, AfterLook, NeedsLook, AreAllSeen, LendsInHand, without_item};
 
 use crate::cursor::Cursor;
 use crate::feed::Feed;
@@ -59,14 +59,17 @@ impl<'a, T, P, A, N: Feed> Cursor<'a, T, P, A, N> {
         if self.take() { Moved::One } else { Moved::Cut }
     }
 
-    // What follows from the looks so far, with at most one Take, or that a look is needed.
-    fn reach_seen(&mut self) -> Option<Moved>
-        requires { (self.old.lane.held ≡ false) × (self.old.shown ≡ 0)
-            × (self.old.lane.passed ≤ length self.old.lane.front) }
+    // What needs no look: an item more of the place in hand, or what follows from the looks so far,
+    // with at most one Take.
+    fn advance_seen(&mut self) -> Option<Moved>
         ensures on { GoesOn self.old self.new }
         ensures moves { IfSome result (λ moved. Moves self.old self.new moved × AreAllSeen moved) }
-        ensures none { IfNone result ((self.new ≡ self.old) × NeedsLook self.old) }
+        ensures none { IfNone result (NeedsLook self.old self.new) }
     {
+        if self.show() {
+            return Some(Moved::One);
+        }
+        self.put_back();
         if self.is_cut() {
             return Some(Moved::Cut);
         }
@@ -80,7 +83,7 @@ impl<'a, T, P, A, N: Feed> Cursor<'a, T, P, A, N> {
     }
 
     // What follows from a look, with at most one Take.
-    fn reach_found(&mut self) -> Moved
+    fn advance_found(&mut self) -> Moved
         requires { (self.old.lane.held ≡ false) × (self.old.shown ≡ 0)
             × (self.old.lane.cut ≡ false) }
         ensures on { GoesOn self.old self.new }
@@ -96,62 +99,17 @@ impl<'a, T, P, A, N: Feed> Cursor<'a, T, P, A, N> {
         }
     }
 
-    // What comes after the places that were passed: at most one Look and one Take.
-    fn reach(&mut self) -> Moved
-        requires { (self.old.lane.held ≡ false) × (self.old.shown ≡ 0)
-            × (self.old.lane.passed ≤ length self.old.lane.front) }
-        ensures on { GoesOn self.old self.new }
-        ensures moves { Moves self.old self.new result }
-    {
-        if let Some(moved) = self.reach_seen() {
-            return moved;
-        }
-        self.look();
-        self.reach_found()
-    }
-
     /// `next` in two halves, for a caller that moves on before it lends: one item more is in hand, or
     /// the answer says why not.
     pub fn advance(&mut self) -> Moved
         ensures on { GoesOn self.old self.new }
         ensures moves { Moves self.old self.new result }
     {
-        if self.show() {
-            return Moved::One;
-        }
-        self.put_back();
-        self.reach()
-    }
-
-    /// The next item, lent until the next call.
-    pub fn next(&mut self) -> Step<'_, T>
-        ensures* lender { sem 𝓛 (AfterTheLoan T.row P.row A.row N.row N.Feed self.entry
-            (λ cursor. GoesOn self.old cursor × Lends self.old cursor result)) }
-    {
-        match self.advance() {
-            Moved::One => Step::Item(self.in_hand()),
-            Moved::Pending => Step::Pending,
-            Moved::Closed => Step::Closed,
-            Moved::Cut => Step::Cut,
-        }
-    }
-}
-
-impl<'a, T, P, A, N: Feed> Cursor<'a, T, P, A, N> {
-    // As `reach`, but a look comes after what the pass knows.
-    fn reach_past(&mut self, pass: &mut Pass<T, P, A, N>) -> Moved
-        requires { (self.old.lane.held ≡ false) × (self.old.shown ≡ 0)
-            × (self.old.lane.passed ≤ length self.old.lane.front) }
-        ensures on { GoesOn self.old self.new }
-        ensures moves { Moves self.old self.new result }
-        ensures past { MovesPast pass.old.noted self.new result }
-        ensures pass { pass.new ≡ pass.old }
-    {
-        if let Some(moved) = self.reach_seen() {
+        if let Some(moved) = self.advance_seen() {
             return moved;
         }
-        self.look_past(pass);
-        self.reach_found()
+        self.look();
+        self.advance_found()
     }
 
     /// As `advance`, but a look comes after what the pass knows.
@@ -161,11 +119,34 @@ impl<'a, T, P, A, N: Feed> Cursor<'a, T, P, A, N> {
         ensures past { MovesPast pass.old.noted self.new result }
         ensures pass { pass.new ≡ pass.old }
     {
-        if self.show() {
-            return Moved::One;
+        if let Some(moved) = self.advance_seen() {
+            return moved;
         }
-        self.put_back();
-        self.reach_past(pass)
+        self.look_past(pass);
+        self.advance_found()
+    }
+
+    // The answer of `next` after a move: it lends the item in hand, or says why there is none.
+    fn lend(&self, moved: Moved) -> Step<'_, T>
+        requires { moved ≡ Moved.One → self.now.lane.held ≡ true }
+        ensures answer { without_item result ≡ moved }
+        ensures item { LendsInHand self.now result }
+    {
+        match moved {
+            Moved::One => Step::Item(self.in_hand()),
+            Moved::Pending => Step::Pending,
+            Moved::Closed => Step::Closed,
+            Moved::Cut => Step::Cut,
+        }
+    }
+
+    /// The next item, lent until the next call.
+    pub fn next(&mut self) -> Step<'_, T>
+        ensures* lender { sem 𝓛 (AfterTheLoan T.row P.row A.row N.row N.Feed self.entry
+            (λ cursor. GoesOn self.old cursor × Lends self.old cursor result)) }
+    {
+        let moved = self.advance();
+        self.lend(moved)
     }
 
     /// The next item. It isn't `Pending` while a place that the pass knows isn't passed.
@@ -175,11 +156,7 @@ impl<'a, T, P, A, N: Feed> Cursor<'a, T, P, A, N> {
             × LendsPast pass.old.noted cursor result)) }
         ensures pass { pass.new ≡ pass.old }
     {
-        match self.advance_past(pass) {
-            Moved::One => Step::Item(self.in_hand()),
-            Moved::Pending => Step::Pending,
-            Moved::Closed => Step::Closed,
-            Moved::Cut => Step::Cut,
-        }
+        let moved = self.advance_past(pass);
+        self.lend(moved)
     }
 }
