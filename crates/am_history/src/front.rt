@@ -44,9 +44,11 @@ impl<E, N: Timeline> Front<E, N> {
         self.count
     }
 
-    /// A front for one more holder, who made nothing yet. It has seen as much, and has one part.
+    /// A front for one more holder, who made nothing yet. It has seen as much, and has one part. The
+    /// last part goes with what was made.
     pub fn split_off(&mut self, table: &HistoryTable<E, N>) -> Front<E, N>
-        requires { 1 < self.old.parts }
+        requires some { 0 < self.old.parts }
+        requires last { self.old.parts ≡ 1 → self.old.made ≡ [] }
         ensures left { self.new ≡ record self.old { parts = self.old.parts - 1 } }
         ensures new { result ≡ record { seen = self.old.seen; made = []; parts = 1 } }
     {
