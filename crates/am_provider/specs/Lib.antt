@@ -7,7 +7,10 @@ pub mod Lending
 pub mod Lefts
 pub mod BookView
 pub mod Posts
-pub mod Provided
+pub mod Histories
+pub mod Headline
+pub mod Owing
+pub mod Callers
 pub mod Rising
 pub mod Settling
 pub mod inside

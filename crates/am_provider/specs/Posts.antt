@@ -58,6 +58,10 @@ abbrev pub Loads : LogView → LogView → Type 0
 Loads old new = (lane : ℕ) → lane < 8 → (account_of old lane).stand ≡ live
     → (account_of old lane).loads < (account_of new lane).loads
 
+-- the policy and the number of places are those that the Book began with
+abbrev pub HasSameLimits : BookView → BookView → Type 0
+HasSameLimits old new = (new.policy ≡ old.policy) × (new.log.tail.places ≡ old.log.tail.places)
+
 -- the stored alerts, the journal, the batches and the endings are as before, and no lane was given out,
 -- left or cut
 pub record IsAsBefore (old new : BookView) : Type 0 where

@@ -2,3 +2,5 @@
 pub mod Subscribed
 pub mod Advances
 pub mod Shelves
+pub mod Records
+pub mod Gatherings

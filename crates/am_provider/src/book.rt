@@ -7,17 +7,17 @@
 //! changes nothing but how far the writer knows its readers.
 
 ghost use Rattle.std.specs.Prelude.{◌≡◌, ◌≢◌, ◌↔◌, ◌≤◌, ◌<◌, ◌+◌, ◌++◌, ◌∷◌, IsTrue, IfOk, IfErr, OnOk, OnErr, IsErr, IsErrOf};
-ghost use Rattle.std.specs.Prelude.{ℕ, ◌-◌, None, Some, true, false, [], length, nat_eq, if◌then◌else◌, not, filter, count_by, nat_le, vec_capacity};
+ghost use Rattle.std.specs.Prelude.{ℕ, ◌-◌, None, Some, true, false, [], length, nat_eq, if◌then◌else◌, not, filter, count_by, nat_le, slice_index_or, vec_capacity};
 ghost use Rattle.std.specs.List.{All};
 ghost use mathlib.Core.List.{IsPrefix};
 ghost use Rattle.am_alert.specs.Merging.{is_resolved_at};
 ghost use Rattle.am_alert.specs.declared.post.TheConstants.{MAX_ALERTS};
 ghost use Rattle.std.specs.VecDeque.{deque_capacity};
-ghost use Rattle.am_cast.specs.Rule.{Once, cut, idle};
-ghost use Rattle.am_cast.specs.Changes.{AreInLog};
+ghost use Rattle.am_cast.specs.Rule.{Once, cut, idle, live};
+ghost use Rattle.am_cast.specs.Changes.{AreInLog, shut_tail};
 ghost use Rattle.am_cast.specs.Seats.{account_of};
 ghost use Rattle.am_store.specs.Journal.{with_call, call_count, first_calls, is_closed};
-ghost use Rattle.am_store.specs.Journal.{posts_of, AreAllOpen, new_journal, journal_of};
+ghost use Rattle.am_store.specs.Journal.{posts_of, AreAllOpen, IsOpenSubscription, new_journal, journal_of};
 ghost use Rattle.am_store.specs.AlertMaps.{stored_in};
 ghost use Rattle.am_store.specs.Broadcast.{due, IsFront};
 ghost use Rattle.am_store.specs.Trims.{AreBeforeOpen, Drops, IsTrimmed};
@@ -25,15 +25,15 @@ ghost use Rattle.am_store.specs.Stored.{updates, stored};
 ghost use Rattle.am_provider.specs.BookView.{IsFaithful, batches};
 ghost use Rattle.am_provider.specs.Subscriptions.{taken};
 ghost use Rattle.am_provider.specs.Rising.{IsRising};
-ghost use Rattle.am_provider.specs.Settling.{IsOwn, IsSettled, own_of};
-ghost use Rattle.am_provider.specs.Posts.{AddsOwn, IsCutBy, IsCutTo, IsPutCause, IsAsBefore, Loads};
+ghost use Rattle.am_provider.specs.Settling.{IsOwn, IsSettled, own_in, own_of, parts_in};
+ghost use Rattle.am_provider.specs.Posts.{AddsOwn, IsCutBy, IsCutTo, IsPutCause, IsAsBefore, Loads, HasSameLimits};
 
 use crate::answers::{Counts, Ended, Policy, Posted};
 use crate::faults::{PutFault, SubFault};
 use crate::feed::{Cast, Origin, Writer};
 use crate::item::Item;
 use crate::parts::{Begun, Parts};
-use crate::pass::{Pass, deal, join_all};
+use crate::pass::{Joined, Pass, deal, join_all};
 use crate::sending::send_batch;
 use crate::settled::Settled;
 use crate::subscription::Subscription;
@@ -125,8 +125,34 @@ impl<N: Origin> Book<N> {
         let Parts {
             log,
             ledger,
+            history: _,
             posters,
         } = parts;
+        Book::begin_over(alloc, log, ledger, posters, policy)
+    }
+
+    /// The same over a log and a ledger.
+    pub(crate) fn begin_over(
+        alloc: Global,
+        log: am_cast::Parts<Item, Call, OpenLane>,
+        ledger: ledger::Blank,
+        posters: u32,
+        policy: Policy,
+    ) -> Result<Begun<N>, AllocError>
+        requires table { log.board.shared.table_id ≡ N.table }
+        requires ledger { (ledger.name ≡ N.name) × (ledger.parts ≡ N.parts) }
+        requires posters { (posters ≡ N.parts) × (1 ≤ posters) }
+        ensures stored { IfOk result (λ begun. begun.book.stored ≡ []) }
+        ensures journal { IfOk result (λ begun. begun.book.journal ≡ new_journal) }
+        ensures log { IfOk result (λ begun. begun.book.log.tail
+            ≡ record { places = log.places; log = []; closed = false }) }
+        ensures lanes { IfOk result (λ begun. (lane : ℕ) → lane < 8
+            → (account_of begun.book.log lane).stand ≡ idle) }
+        ensures endings { IfOk result (λ begun.
+            (begun.book.endings ≡ []) × (begun.book.early ≡ 0) × (begun.book.policy ≡ policy)) }
+        ensures passes { IfOk result (λ begun. (length begun.passes.items ≡ posters)
+            × All (λ pass. pass ≡ record { noted = []; own = [] }) begun.passes.items) }
+    {
         let am_cast::Begun {
             cast,
             writer,
@@ -183,6 +209,14 @@ impl<N: Origin> Book<N> {
             posters,
             tally,
         })
+    }
+
+    /// Drops a Book that has no subscription, with its log.
+    pub(crate) fn discard(self, cast: Cast<N>)
+        requires { (lane : ℕ) → lane < 8 → (account_of self.log lane).stand ≡ idle }
+    {
+        let (_, _, _, _, _, writer, _) = self.into_parts();
+        am_cast::end(cast, writer);
     }
 
     // The journal, the stored alerts, the endings, how many endings were dropped, how many passes there
@@ -243,6 +277,7 @@ impl<N: Origin> Book<N> {
         ensures loads { 0 < length post.valid → is_closed self.old.journal ≡ false
             → Loads self.old.log self.new.log }
         ensures endings { (self.new.endings ≡ self.old.endings) × (self.new.early ≡ self.old.early) }
+        ensures limits { HasSameLimits self.old self.new }
 
         ensures closed { IsErrOf result PutFault.Closed ↔ IsTrue (is_closed self.old.journal) }
         ensures refused { IfErr result (IsPutCause self.old self.new (length post.valid)) }
@@ -310,6 +345,7 @@ impl<N: Origin> Book<N> {
         ensures cut { IfOk result (λ sent. IsCutTo self.old self.new sent.cut) }
         ensures loads { Loads self.old.log self.new.log }
         ensures endings { (self.new.endings ≡ self.old.endings) × (self.new.early ≡ self.old.early) }
+        ensures limits { HasSameLimits self.old self.new }
 
         ensures refused { IfErr result (IsPutCause self.old self.new (length valid)) }
         ensures err { OnErr result (IsAsBefore self.old self.new × (pass.new ≡ pass.old)) }
@@ -359,8 +395,13 @@ impl<N: Origin> Book<N> {
         ensures start { IfOk result (λ made.
             made.cursor.lane.start ≡ length (batches self.old)) }
         ensures log { self.new.log.tail ≡ self.old.log.tail }
+        ensures lane { IfOk result (λ made.
+            (account_of self.new.log made.cursor.lane.number).stand ≡ live) }
+        ensures others { IfOk result (λ made. (lane : ℕ) → lane ≢ made.cursor.lane.number
+            → account_of self.new.log lane ≡ account_of self.old.log lane) }
         ensures stored { self.new.stored ≡ self.old.stored }
         ensures endings { (self.new.endings ≡ self.old.endings) × (self.new.early ≡ self.old.early) }
+        ensures limits { HasSameLimits self.old self.new }
 
         ensures closed { IsErrOf result SubFault.Closed ↔ IsTrue (is_closed self.old.journal) }
         ensures no_lane { IsErrOf result SubFault.NoLane
@@ -399,6 +440,8 @@ impl<N: Origin> Book<N> {
         ensures closed { result.closed ≡ subscription.entry.closed_told }
         ensures cut { IsTrue result.cut
             ↔ ((account_of self.old.log subscription.entry.cursor.lane.number).stand ≡ cut) }
+        ensures open { IsOpenSubscription self.old.journal subscription.entry.cursor.lane.number
+            subscription.entry.at }
 
         // What was taken begins what was due, and is all of it if no more was to come.
         ensures front { IsFront (taken subscription.entry)
@@ -409,7 +452,11 @@ impl<N: Origin> Book<N> {
         ensures endings { (self.new.endings ≡ self.old.endings ++ result ∷ [])
             × (self.new.early ≡ self.old.early) }
         ensures log { self.new.log.tail ≡ self.old.log.tail }
+        ensures lane { (account_of self.new.log subscription.entry.cursor.lane.number).stand ≡ idle }
+        ensures others { (lane : ℕ) → lane ≢ subscription.entry.cursor.lane.number
+            → account_of self.new.log lane ≡ account_of self.old.log lane }
         ensures stored { self.new.stored ≡ self.old.stored }
+        ensures limits { HasSameLimits self.old self.new }
     {
         let (at, taken, closed, cursor) = subscription.into_parts();
         let lane = cursor.lane();
@@ -432,8 +479,10 @@ impl<N: Origin> Book<N> {
     pub fn close(&mut self, cast: &Cast<N>) -> Result<(), AlreadyClosed>
         ensures journal { OnOk result (self.new.journal ≡ with_call self.old.journal Call.Closed) }
         ensures stored { self.new.stored ≡ self.old.stored }
-        ensures log { batches self.new ≡ batches self.old }
+        ensures log { OnOk result
+            (self.new.log ≡ record self.old.log { tail = shut_tail self.old.log.tail }) }
         ensures endings { (self.new.endings ≡ self.old.endings) × (self.new.early ≡ self.old.early) }
+        ensures limits { HasSameLimits self.old self.new }
 
         ensures closed { IsErr result ↔ IsTrue (is_closed self.old.journal) }
         ensures err { OnErr result (self.new ≡ self.old) }
@@ -458,6 +507,7 @@ impl<N: Origin> Book<N> {
             (self.new.stored ≡ filter (λ alert. not (is_resolved_at now alert)) self.old.stored) }
         ensures log { self.new.log ≡ self.old.log }
         ensures endings { (self.new.endings ≡ self.old.endings) × (self.new.early ≡ self.old.early) }
+        ensures limits { HasSameLimits self.old self.new }
         ensures err { OnErr result (self.new ≡ self.old) }
     {
         self.journal.calls.reserve(ENTRIES)?;
@@ -480,6 +530,7 @@ impl<N: Origin> Book<N> {
             ≡ self.old.early + length self.old.endings }
         ensures stored { self.new.stored ≡ self.old.stored }
         ensures log { self.new.log ≡ self.old.log }
+        ensures limits { HasSameLimits self.old self.new }
 
         ensures err { OnErr result (self.new ≡ self.old) }
     {
@@ -517,6 +568,26 @@ impl<N: Origin> Book<N> {
         }
     }
 
+    /// What is stored, what was sent out and what its subscriptions came to are what its journal
+    /// gives, whatever was called before. It does nothing.
+    pub fn kept(&self)
+        ensures { IsFaithful self.now }
+    {
+        let _ = &self.stored;
+    }
+
+    // The call that came last.
+    pub(crate) fn last_call(&self) -> &Call
+        requires { 0 < length self.now.journal.calls }
+        ensures { result.now ≡ slice_index_or self.now.journal.calls
+            (length self.now.journal.calls - 1) result.now }
+    {
+        match self.journal.calls.back() {
+            Some(call) => call,
+            None => unreachable!(),
+        }
+    }
+
     /// How many places, posts and stored alerts there are. Whatever Book it is asked of, what is
     /// stored, what was sent out and what its subscriptions came to are what its journal gives.
     pub fn counts(&self) -> Counts
@@ -534,9 +605,26 @@ impl<N: Origin> Book<N> {
 
     /// Ends a Book, and with it its log.
     pub fn settle<R: Wait>(self, rt: &R, cast: Cast<N>, passes: Vec<Pass<N>>) -> Settled
-        ensures settled { IsSettled (own_of passes.items) result }
+        ensures settled { IsSettled self (own_of passes.items) result }
         ensures rising { All (λ pass. IsRising pass.own) passes.items }
         ensures complete { IsTrue result.complete ↔ (length passes.items ≡ N.parts) }
+    {
+        let count = passes.len();
+        let all = join_all(&cast, passes);
+        self.settle_joined(rt, cast, all, count)
+    }
+
+    /// The same with so many passes, joined.
+    pub(crate) fn settle_joined<R: Wait>(
+        self,
+        rt: &R,
+        cast: Cast<N>,
+        all: Option<Joined<N>>,
+        count: usize,
+    ) -> Settled
+        requires { parts_in all ≡ count }
+        ensures settled { IsSettled self (own_in all) result }
+        ensures complete { IsTrue result.complete ↔ (count ≡ N.parts) }
     {
         let Counts {
             places,
@@ -544,7 +632,7 @@ impl<N: Origin> Book<N> {
             stored: _,
         } = self.counts();
         let (journal, store, ended, early, posters, mut log, mut tally) = self.into_parts();
-        let complete = audit(&cast, &mut log, &mut tally, passes, posters);
+        let complete = audit(&cast, &mut log, &mut tally, all, count, posters);
         if !log.is_idle() {
             for _ in rt.forever() {}
         }
@@ -566,25 +654,24 @@ fn audit<N: Origin>(
     cast: &Cast<N>,
     log: &mut Writer<N>,
     tally: &mut ledger::Book<N>,
-    passes: Vec<Pass<N>>,
+    all: Option<Joined<N>>,
+    count: usize,
     posters: u32,
 ) -> bool
+    requires count { parts_in all ≡ count }
     requires posters { (posters ≡ N.parts) × (1 ≤ posters) }
     requires tally { tally.old.total ≡ length log.old.tail.log }
     ensures same { log.new ≡ log.old }
-    ensures stand { AreInLog (own_of passes.items) log.old.tail.log }
-    ensures once { Once (own_of passes.items) }
-    ensures rising { All (λ pass. IsRising pass.own) passes.items }
+    ensures stand { AreInLog (own_in all) log.old.tail.log }
+    ensures once { Once (own_in all) }
     ensures all { IsTrue result → (place : ℕ) → place < length log.old.tail.log
-        → IsOwn (own_of passes.items) place }
-    ensures complete { IsTrue result ↔ (length passes.items ≡ N.parts) }
+        → IsOwn (own_in all) place }
+    ensures complete { IsTrue result ↔ (count ≡ N.parts) }
 {
-    let count = passes.len();
-    let Some((mut all, mut share)) = join_all(cast, passes) else {
+    let Some(mut all) = all else {
         return false;
     };
-    log.confirm(cast, &mut all);
-    tally.audit(&mut share);
+    all.audit(cast, log, tally);
     count == posters as usize
 }
 

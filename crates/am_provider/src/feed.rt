@@ -1,6 +1,7 @@
 //! Which provider a value belongs to.
 
 use crate::item::Item;
+use am_history::Timeline;
 use am_store::Call;
 use am_store::lanes::OpenLane;
 use std::marker::Brand;
@@ -11,6 +12,26 @@ use std::sync::ledger::Ledger;
 pub trait Origin: am_cast::Feed + Ledger {}
 
 impl Origin for Brand {}
+
+/// A provider for threads, for contracts alone: an `Origin`, the history of its calls, and its limits.
+pub trait Recorded: Origin + Timeline {
+    ghost use Rattle.std.specs.Prelude.{ℕ};
+    ghost use Rattle.am_provider.specs.declared.answers.Policy.{Policy};
+
+    // How many places the log has.
+    ghost places: { ℕ };
+
+    // What a post does if the log is full.
+    ghost policy: { Policy };
+}
+
+impl Recorded for Brand {
+    ghost use Rattle.am_provider.specs.declared.answers.Policy.TheVariants.{Refuse};
+
+    ghost places = { 1 };
+
+    ghost policy = { Refuse };
+}
 
 /// The log of one provider, from which its subscriptions read.
 pub type Cast<N> = am_cast::Cast<Item, Call, OpenLane, N>;

@@ -19,7 +19,7 @@
 //! After `close` no post and no subscriber is accepted. The subscribers that there are read on, and
 //! `next` answers `Closed` once it has shown everything.
 //!
-//! # A caller
+//! # In one thread
 //!
 //!     let parts = Parts::make(alloc, 256, 2)?;                  // 256 places, 2 posters
 //!     let Begun { cast, mut book, mut passes } = Book::begin::<Brand>(alloc, parts, Policy::Refuse)?;
@@ -29,17 +29,33 @@
 //!         ..
 //!     }
 //!     let ended = book.leave(&cast, subscription);
+//!
+//! # In many threads
+//!
+//! Each thread calls the provider with a `Caller` of its own. What a call answers is what one history of
+//! all calls gives at the call's place in it, whatever the threads do (`specs/Headline.antt`).
+//!
+//!     let parts = Parts::make(alloc, 256, 2)?;                  // 2 callers
+//!     let (provider, callers) = Provider::<Brand>::begin(alloc, parts, Policy::Refuse, timeout)?;
+//!     let mut subscription = provider.subscribe(rt, caller)?;   // in a thread that has this caller
+//!     provider.post(rt, caller, &NoGate, body, now)?;
+//!     let ended = provider.leave(rt, caller, subscription);
+//!     let settled = provider.settle(rt, callers);               // when all callers are back
 #![tactic(auto)]
 
 mod answers;
 mod book;
+mod caller;
+mod entry;
 mod faults;
 mod feed;
 mod gate;
 mod item;
+mod laws;
 mod parts;
 mod pass;
 mod provider;
+mod recorded_book;
 mod sending;
 mod settled;
 mod subscription;
@@ -47,10 +63,13 @@ mod subscription;
 pub use am_cast::{AlreadyClosed, MAX_PLACES};
 pub use answers::{Counts, Ended, Policy, Posted, Step};
 pub use book::Book;
+pub use caller::Caller;
+pub use entry::Entry;
 pub use faults::{PostRefused, PutFault, SubFault};
-pub use feed::{Cast, Origin};
+pub use feed::{Cast, Origin, Recorded};
 pub use gate::{Gate, NoGate};
 pub use item::Item;
+pub use laws::history_laws;
 pub use parts::{Begun, MAX_POSTERS, Parts, the_limits};
 pub use pass::Pass;
 pub use provider::Provider;

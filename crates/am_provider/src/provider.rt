@@ -5,63 +5,91 @@
 //! trim, for the calls that it drops; a leave, for its places. Nothing is printed, parsed or waited for
 //! under it.
 
-ghost use Rattle.std.specs.Prelude.{◌≡◌, ◌↔◌, IsTrue, IfOk, IfErr, OnErr, [], false, length};
+ghost use Rattle.std.specs.Prelude.{◌≡◌, ◌↔◌, IsTrue, IfOk, length, map};
 ghost use Rattle.std.specs.List.{All};
 ghost use Rattle.std.specs.Duration.{as_nanos};
-ghost use Rattle.am_alert.specs.declared.post.Post.{Post};
-ghost use Rattle.am_alert.specs.Posts.{IsPostOf};
-ghost use Rattle.am_provider.specs.Posts.{AddsOwn, HasMet};
+ghost use Rattle.am_provider.specs.Callers.{AnswersBody, IsNewCaller, SeesCall};
+ghost use Rattle.am_provider.specs.Headline.{AnswersSubscribe, AnswersLeave, AnswersCollect};
+ghost use Rattle.am_provider.specs.Headline.{AnswersClose, AnswersTrim};
+ghost use Rattle.am_provider.specs.Posts.{HasMet};
 ghost use Rattle.am_provider.specs.Rising.{IsRising};
-ghost use Rattle.am_provider.specs.Settling.{IsSettled, own_of};
-ghost use Rattle.am_provider.specs.Provided.{IsPostedAs, IsUnread};
-ghost use Rattle.am_provider.specs.Subscriptions.{taken};
+ghost use Rattle.am_provider.specs.Settling.{IsSettledFrom};
 
 use crate::answers::{Ended, Policy, Posted};
 use crate::book::Book;
+use crate::caller::{Caller, deal};
+use crate::entry::Entry;
 use crate::faults::{PostRefused, SubFault};
-use crate::feed::{Cast, Origin};
+use crate::feed::{Cast, Recorded};
 use crate::gate::Gate;
 use crate::parts::{Begun, Parts};
 use crate::pass::Pass;
+use crate::recorded_book::RecordedBook;
 use crate::settled::Settled;
 use crate::subscription::Subscription;
 use am_alert::{Moment, read_post};
 use am_cast::AlreadyClosed;
+use am_history::{HistoryTable, Opened, open};
 use std::alloc::{AllocError, Global};
 use std::sync::{Mutex, Wait};
 use std::time::Duration;
 
 /// The alert provider for threads. It is ended by `settle`.
-pub struct Provider<N: Origin> {
+pub struct Provider<N: Recorded> {
     cast: Cast<N>,
-    book: Mutex<Book<N>>,
+    table: HistoryTable<Entry, N>,
+    book: Mutex<RecordedBook<N>>,
     alloc: Global,
     /// How long a report without an end lasts.
     pub resolve_timeout: Duration,
 }
 
-impl<N: Origin> Provider<N> {
-    /// A new provider over these parts, and its passes.
+impl<N: Recorded> Provider<N> {
+    /// A new provider over these parts, and its callers.
     pub fn begin(
         alloc: Global,
         parts: Parts,
         policy: Policy,
         resolve_timeout: Duration,
-    ) -> Result<(Provider<N>, Vec<Pass<N>>), AllocError>
+    ) -> Result<(Provider<N>, Vec<Caller<N>>), AllocError>
         requires table { parts.log.board.shared.table_id ≡ N.table }
         requires ledger { (parts.ledger.name ≡ N.name) × (parts.ledger.parts ≡ N.parts) }
+        requires history { parts.history.board.shared.table_id ≡ N.timeline }
+        requires entries { (parts.history.ledger.name ≡ N.entries)
+            × (parts.history.ledger.parts ≡ N.holders) }
+        requires limits { (parts.log.places ≡ N.places) × (policy ≡ N.policy) }
         ensures timeout { IfOk result (λ made. made.0.resolve_timeout ≡ resolve_timeout) }
-        ensures passes { IfOk result (λ made. (length made.1.items ≡ parts.posters)
-            × All (λ pass. pass ≡ record { noted = []; own = [] }) made.1.items) }
+        ensures callers { IfOk result (λ made. (length made.1.items ≡ parts.posters)
+            × All (λ caller. IsNewCaller caller.pass caller.front) made.1.items) }
     {
-        let Begun { cast, book, passes } = Book::begin(alloc, parts, policy)?;
+        let Parts {
+            log,
+            ledger,
+            history,
+            posters,
+        } = parts;
+        let Begun { cast, book, passes } = Book::begin_over(alloc, log, ledger, posters, policy)?;
+        let room = match Vec::with_capacity(alloc, posters as usize) {
+            Ok(room) => room,
+            Err(error) => {
+                book.discard(cast);
+                return Err(error);
+            }
+        };
+        let Opened {
+            table,
+            history,
+            front,
+        } = open::<Entry, N>(history);
+        let callers = deal(&table, front, passes, room);
         let provider = Provider {
             cast,
-            book: Mutex::new(book),
+            table,
+            book: Mutex::new(RecordedBook { book, history }),
             alloc,
             resolve_timeout,
         };
-        Ok((provider, passes))
+        Ok((provider, callers))
     }
 
     /// Reads a post's body, and then posts its valid alerts. The body is read before the lock is
@@ -69,16 +97,13 @@ impl<N: Origin> Provider<N> {
     pub fn post<R: Wait, G: Gate>(
         &self,
         rt: &R,
-        pass: &mut Pass<N>,
+        caller: &mut Caller<N>,
         gate: &G,
         body: &[u8],
         now: Moment,
     ) -> Result<Posted, PostRefused>
-        ensures posted { IfOk result (λ posted.
-            IsPostedAs now (as_nanos self.now.resolve_timeout) body.now posted pass.old pass.new) }
-        ensures unread { IfErr result
-            (IsUnread now (as_nanos self.now.resolve_timeout) body.now) }
-        ensures err { OnErr result (pass.new ≡ pass.old) }
+        ensures { AnswersBody N.policy N.places now (as_nanos self.now.resolve_timeout) body.now
+            caller.old.pass caller.new.pass caller.old.front caller.new.front result }
     {
         let post = match read_post(self.alloc, body, now, self.resolve_timeout) {
             Ok(post) => post,
@@ -86,17 +111,23 @@ impl<N: Origin> Provider<N> {
         };
         let mut book = self.book.lock(rt);
         gate.held(rt);
-        match book.post(&self.cast, pass, post, now) {
+        match book.post(&self.cast, &self.table, caller, post, now) {
             Ok(posted) => Ok(posted),
             Err(fault) => Err(PostRefused::Put(fault)),
         }
     }
 
     /// A subscription to what is stored and to what comes from now on. It reads without the lock.
-    pub fn subscribe<R: Wait>(&self, rt: &R) -> Result<Subscription<'_, N>, SubFault>
-        ensures fresh { IfOk result (λ made. (taken made ≡ []) × (made.closed_told ≡ false)) }
+    pub fn subscribe<R: Wait>(
+        &self,
+        rt: &R,
+        caller: &mut Caller<N>,
+    ) -> Result<Subscription<'_, N>, SubFault>
+        ensures sees { SeesCall caller.old.front caller.new.front (AnswersSubscribe result) }
+        ensures pass { caller.new.pass ≡ caller.old.pass }
     {
-        self.book.lock(rt).subscribe(&self.cast)
+        let mut book = self.book.lock(rt);
+        book.subscribe(&self.cast, &self.table, caller)
     }
 
     /// Each own post of the pass that the subscription has seen is at its place there, and the
@@ -109,48 +140,73 @@ impl<N: Origin> Provider<N> {
     }
 
     /// Takes a subscription back, and answers what it came to.
-    pub fn leave<R: Wait>(&self, rt: &R, subscription: Subscription<'_, N>) -> Ended
-        ensures at { result.at ≡ subscription.entry.at }
-        ensures taken { result.taken ≡ length (taken subscription.entry) }
-        ensures closed { result.closed ≡ subscription.entry.closed_told }
+    pub fn leave<R: Wait>(
+        &self,
+        rt: &R,
+        caller: &mut Caller<N>,
+        subscription: Subscription<'_, N>,
+    ) -> Ended
+        ensures sees { SeesCall caller.old.front caller.new.front
+            (AnswersLeave subscription.entry result) }
+        ensures pass { caller.new.pass ≡ caller.old.pass }
     {
-        self.book.lock(rt).leave(&self.cast, subscription)
+        self.book
+            .lock(rt)
+            .leave(&self.cast, &self.table, caller, subscription)
     }
 
     /// Removes the stored alerts that are resolved, and answers how many.
-    pub fn collect_resolved<R: Wait>(&self, rt: &R, now: Moment) -> Result<u64, AllocError> {
-        self.book.lock(rt).collect_resolved(now)
+    pub fn collect_resolved<R: Wait>(
+        &self,
+        rt: &R,
+        caller: &mut Caller<N>,
+        now: Moment,
+    ) -> Result<u64, AllocError>
+        ensures sees { SeesCall caller.old.front caller.new.front (AnswersCollect now result) }
+        ensures pass { caller.new.pass ≡ caller.old.pass }
+    {
+        self.book
+            .lock(rt)
+            .collect_resolved(&self.table, caller, now)
     }
 
     /// Ends the log: no post and no subscription is accepted from now on.
-    pub fn close<R: Wait>(&self, rt: &R) -> Result<(), AlreadyClosed> {
-        self.book.lock(rt).close(&self.cast)
+    pub fn close<R: Wait>(&self, rt: &R, caller: &mut Caller<N>) -> Result<(), AlreadyClosed>
+        ensures sees { SeesCall caller.old.front caller.new.front (AnswersClose result) }
+        ensures pass { caller.new.pass ≡ caller.old.pass }
+    {
+        self.book.lock(rt).close(&self.cast, &self.table, caller)
     }
 
-    /// Drops the calls of the journal that no open subscription needs, and answers how many.
-    pub fn trim<R: Wait>(&self, rt: &R) -> Result<u64, AllocError> {
-        self.book.lock(rt).trim()
+    /// Discards the calls of the journal that no open subscription needs, and answers how many.
+    pub fn trim<R: Wait>(&self, rt: &R, caller: &mut Caller<N>) -> Result<u64, AllocError>
+        ensures sees { SeesCall caller.old.front caller.new.front (AnswersTrim result) }
+        ensures pass { caller.new.pass ≡ caller.old.pass }
+    {
+        self.book.lock(rt).trim(&self.table, caller)
     }
 
     /// Ends the provider. Each pass's posts stand at rising places, in the order in which it posted
     /// them. While a subscription is open it doesn't compile, since the subscription borrows the
     /// provider; no proof follows that, so a lane that is still given out would be waited for.
-    pub fn settle<R: Wait>(self, rt: &R, passes: Vec<Pass<N>>) -> Settled
-        ensures settled { IsSettled (own_of passes.items) result }
-        ensures rising { All (λ pass. IsRising pass.own) passes.items }
-        ensures complete { IsTrue result.complete ↔ (length passes.items ≡ N.parts) }
+    pub fn settle<R: Wait>(self, rt: &R, callers: Vec<Caller<N>>) -> Settled
+        ensures settled { IsSettledFrom (map (λ caller. caller.pass) callers.items)
+            (map (λ caller. caller.front) callers.items) result }
+        ensures rising { All (λ caller. IsRising caller.pass.own) callers.items }
+        ensures complete { IsTrue result.complete ↔ (length callers.items ≡ N.parts) }
     {
-        let (cast, book) = self.into_parts();
-        book.settle(rt, cast, passes)
+        let (cast, table, book) = self.into_parts();
+        book.settle(rt, cast, &table, callers)
     }
 
-    fn into_parts(self) -> (Cast<N>, Book<N>) {
+    fn into_parts(self) -> (Cast<N>, HistoryTable<Entry, N>, RecordedBook<N>) {
         let Provider {
             cast,
+            table,
             book,
             alloc: _,
             resolve_timeout: _,
         } = self;
-        (cast, book.into_inner())
+        (cast, table, book.into_inner())
     }
 }

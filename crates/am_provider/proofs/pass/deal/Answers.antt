@@ -2,20 +2,8 @@ use Rattle.std.proofs.Common.{◌≡◌, ℕ, zero, suc, ◌<◌, ◌++◌, ◌�
 use Rattle.std.specs.List.{All}
 use Rattle.std.specs.Vec.Iter.{into_iter_items}
 use Rattle.std.proofs.lemmas.List.Elements.{All-append}
+use Rattle.am_provider.proofs.Lists.{all_head, all_last, all_tail}
 use Rattle.am_provider.proofs.pass.deal.Goals as goal
-
-all_tail : {A : Type 0} (P : A → Type 0) (x : A) (xs ys : List A) → ys ≡ x ∷ xs → All P ys → All P xs
-all_tail P x xs ys is all = λ k d h. let more = subst (All P) is all in more (suc k) d (omega arith)
-
-all_head : {A : Type 0} (P : A → Type 0) (x : A) (xs ys : List A) → ys ≡ x ∷ xs → All P ys → P x
-all_head P x xs ys is all = let more = subst (All P) is all in more 0 x (omega arith)
-
-all_last : {A : Type 0} (P : A → Type 0) (x : A) (xs ys : List A) → ys ≡ xs ++ x ∷ [] → All P xs → P x → All P ys
-all_last P x xs ys is all own = subst (All P) (sym is) (All-append P xs (x ∷ []) all one)
-  where
-    one : (k : ℕ) (d : _) → k < 1 → P (get_or (x ∷ []) k d)
-    one zero d h = own
-    one (suc k) d h = absurd (omega arith)
 
 pub loop-pass-preserved : goal.loop-pass-preserved
 loop-pass-preserved g c =

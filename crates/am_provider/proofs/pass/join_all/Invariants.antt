@@ -5,9 +5,8 @@ use Rattle.am_provider.proofs.pass.join_all.Given as goal
 
 abbrev pub invariant-loop-next : goal.invariant-loop-next
 invariant-loop-next g l = record {
-  own : l.pass.own ++ own_of l.left.items ≡ own_of l.fn.passes.items;
-  parts : l.share.parts + length l.left.items ≡ length l.fn.passes.items;
-  amount : l.share.amount ≡ length l.pass.own;
+  own : l.all.own ++ own_of l.left.items ≡ own_of l.fn.passes.items;
+  parts : l.all.parts + length l.left.items ≡ length l.fn.passes.items;
   rising : AreRising l.left.items → AreRising l.fn.passes.items;
 }
 

@@ -1,0 +1,131 @@
+-- What the Book answers is what the history of its calls says.
+use Rattle.std.proofs.Common.{◌≡◌, ◌≢◌, ◌↔◌, ℕ, suc, ◌+◌, ◌-◌, ◌≤◌, ◌<◌, Bool, true, false, cond, nat_eq, IsTrue, List, [], ◌∷◌, ◌++◌, length, Option, None, Some, Ok, Err, Result, refl, sym, ap, subst, ◌∙◌, arith, slice_index_or, length-append}
+use mathlib.Core.List.{IsPrefix}
+use mathlib.Core.Logic.{dite}
+use native.Mathlib.Decide.{ℕ_discrete}
+use Rattle.std.specs.Result.{IsErrOf, IfErr, IsErr}
+use Rattle.am_alert.specs.declared.alert.Alert.{Alert}
+use Rattle.am_alert.specs.declared.post.Post.{Post}
+use Rattle.am_segment.specs.Segments.{KeyView}
+use Rattle.am_cast.specs.declared.views.Account.{Account}
+use Rattle.am_cast.specs.declared.views.Tail.{Tail}
+use Rattle.am_cast.specs.Rule.{idle, live, cut, vacated}
+use Rattle.am_cast.specs.Seats.{account_of}
+use Rattle.am_cast.specs.Writers.{StaysAs, IsCutAs}
+use Rattle.am_history.specs.Fronts.{FrontView, made_at}
+use Rattle.am_store.specs.LaneSets.{has_lane}
+use Rattle.am_store.specs.declared.call.Call.{Call}
+use Rattle.am_store.specs.declared.call.Call.TheVariants.{Posted}
+use Rattle.am_store.specs.declared.lanes.OpenLane.{OpenLane}
+use Rattle.am_store.specs.Journal.{JournalView, with_call, is_closed, is_open, AreAllOpen, MayFollow}
+use Rattle.am_provider.specs.declared.answers.Policy.{Policy}
+use Rattle.am_provider.specs.declared.answers.Policy.TheVariants.{Refuse}
+use Rattle.am_provider.specs.declared.answers.Posted as answers
+use Rattle.am_provider.specs.declared.faults.PutFault.{PutFault}
+use Rattle.am_provider.specs.declared.faults.PutFault.TheVariants as put
+use Rattle.am_provider.specs.Batches.{Batch, LogView}
+use Rattle.am_provider.specs.BookView.{BookView, batches, IsFaithful}
+use Rattle.am_provider.specs.Callers.{SeesCall, made_from}
+use Rattle.am_provider.specs.Headline.{IsPutRefusal, IsSubRefusal}
+use Rattle.am_provider.specs.declared.faults.SubFault.{SubFault}
+use Rattle.am_provider.specs.declared.faults.SubFault.TheVariants as sub
+use Rattle.am_provider.specs.Histories.{EntryView, Accepted, whole, sent_by, is_cut}
+use Rattle.am_provider.specs.Posts.{IsAsBefore, IsPutCause, IsCutBy}
+use Rattle.am_provider.specs.inside.Records.{IsRecorded}
+use Rattle.am_provider.proofs.Recording.{same_closed, same_open, same_places, Tells, tells_of}
+
+-- ---- a caller that has seen its call
+
+pub sees_added : (was is : FrontView EntryView) (before after : List EntryView) (entry : EntryView) (Answers : List EntryView → List EntryView → Type 0) → after ≡ before ++ entry ∷ [] → IsPrefix was.seen before
+    → is.seen ≡ after → is.made ≡ was.made ++ made_at (length before) entry ∷ [] → Answers before (entry ∷ []) → SeesCall was is Answers
+sees_added was is before after entry Answers longer known seen made it =
+    record { before = before; added = entry ∷ []; known = known; seen = seen ∙ longer; made = made; answers = it }
+
+-- the same of an entry whose call is known by another name
+pub sees_called : (was is : FrontView EntryView) (before after : List EntryView) (given call : Call) (bits : ℕ) (Answers : List EntryView → List EntryView → Type 0) → given ≡ call
+    → after ≡ before ++ Accepted given bits ∷ [] → IsPrefix was.seen before → is.seen ≡ after → is.made ≡ was.made ++ made_at (length before) (Accepted given bits) ∷ []
+    → Answers before (Accepted call bits ∷ []) → SeesCall was is Answers
+sees_called was is before after given call bits Answers same longer known seen made it =
+    sees_added was is before after (Accepted call bits) Answers (longer ∙ ap (λ c. before ++ Accepted c bits ∷ []) same) known seen
+    (made ∙ ap (λ c. was.made ++ made_at (length before) (Accepted c bits) ∷ []) same) it
+
+pub sees_none : (was is : FrontView EntryView) (before : List EntryView) (Answers : List EntryView → List EntryView → Type 0) → IsPrefix was.seen before → is ≡ record was { seen = before } → Answers before [] → SeesCall was is Answers
+sees_none was is before Answers known same it = record {
+  before = before;
+  added = [];
+  known = known;
+  seen = ap (λ (f : FrontView EntryView). f.seen) same ∙ sym (Rattle.std.proofs.lemmas.List.append-nil before);
+  made = ap (λ (f : FrontView EntryView). f.made) same ∙ sym (Rattle.std.proofs.lemmas.List.append-nil was.made);
+  answers = it;
+}
+
+-- ---- lanes
+
+module _ {policy : Policy} {places : ℕ} (book : BookView) (entries : List EntryView) (of : IsRecorded policy places book entries) (kept : IsFaithful book) where
+  -- a live lane is open and not cut
+  pub live_lane : (lane : ℕ) → lane < 8 → (account_of book.log lane).stand ≡ live → (is_open (whole entries) lane ≡ true) × (is_cut entries lane ≡ false)
+  live_lane lane small lives = (
+    same_open book entries of lane ∙ opened (is_open book.journal lane) refl,
+    uncut (is_cut entries lane) refl,
+  )
+    where
+      opened : (b : Bool) → is_open book.journal lane ≡ b → is_open book.journal lane ≡ true
+      opened true e = e
+      opened false e = absurd (let stands = (kept.lanes lane small).shut e in omega (arith, stands, lives))
+
+      uncut : (b : Bool) → is_cut entries lane ≡ b → is_cut entries lane ≡ false
+      uncut false e = e
+      uncut true e = absurd (let stands = (tells_of book entries of lane small).yes e in omega (arith, stands, lives))
+
+-- ---- why a post is refused
+
+pub put_refusal : {policy : Policy} {places : ℕ} (a b : BookView) (entries : List EntryView) (count : ℕ) (fault : PutFault) → IsRecorded policy places a entries → IsFaithful a
+    → IsAsBefore a b → IsPutCause a b count fault → IsPutRefusal policy places count entries fault
+put_refusal a b entries count put.Closed of kept same why = same_closed a entries of ∙ why
+put_refusal a b entries count put.NoMemory of kept same why = same_closed a entries of ∙ why.0
+put_refusal a b entries count put.LogEnd of kept same why =
+    let long = same_places a entries of in
+    let most = why.2.1 in
+    (same_closed a entries of ∙ why.0, why.1, omega (arith, long, most))
+put_refusal {policy} {places} a b entries count (put.Full lane passed) of kept same why =
+    let refusal = why.2.1 in
+    let small = refusal.1 in
+    let behind = refusal.3 in
+    let lives : (account_of a.log lane).stand ≡ live = was_live (account_of a.log lane) (account_of b.log lane) (same.lanes lane small) behind.0 in
+    let opened = live_lane a entries of kept lane small lives in
+    let long = same_places a entries of in
+    let log = ap (λ (t : Tail Batch). length t.log) same.tail in
+    let limit = ap (λ (t : Tail Batch). t.places) same.tail in
+    let known = refusal.2 in
+    let most = behind.1 in
+    (same_closed a entries of ∙ why.0, why.1, sym of.limits.0 ∙ why.2.0, small, opened.0, opened.1, omega (arith, long, log, limit, known, most, of.limits.1))
+  where
+    was_live : (was is : Account (KeyView Alert) OpenLane) → StaysAs was is → is.stand ≡ live → was.stand ≡ live
+    was_live was is on lives = dite (ℕ_discrete is.stand was.stand) (λ e. sym e ∙ lives) (λ ne. let moved = on.1 ne in absurd (omega (arith, moved.1, lives)))
+
+-- ---- why a subscription is refused
+
+not_so : (b : Bool) → (b ≡ true → ⊥) → b ≡ false
+not_so true fails = absurd (fails refl)
+not_so false fails = refl
+
+pub sub_refusal : {T : Type 0} {policy : Policy} {places : ℕ} (a : BookView) (entries : List EntryView) (fault : SubFault) → IsRecorded policy places a entries
+    → (IsErrOf {T = T} (Err fault) sub.Closed ↔ IsTrue (is_closed a.journal)) → (IsErrOf {T = T} (Err fault) sub.NoLane ↔ ((is_closed a.journal ≡ false) × AreAllOpen a.journal)) → IsSubRefusal entries fault
+sub_refusal a entries sub.Closed of closed full = same_closed a entries of ∙ closed.0 refl
+sub_refusal a entries sub.NoLane of closed full = let it = full.0 refl in (same_closed a entries of ∙ it.0, λ lane small. same_open a entries of lane ∙ it.1 lane small)
+sub_refusal {T = T} a entries sub.NoMemory of closed full =
+    let still : is_closed a.journal ≡ false = not_so (is_closed a.journal) (λ so. let other : IsErrOf {T = T} (Err sub.NoMemory) sub.Closed = closed.1 so in cc) in (
+      same_closed a entries of ∙ still,
+      λ all. let other : IsErrOf {T = T} (Err sub.NoMemory) sub.NoLane = full.1 (still, λ lane small. sym (same_open a entries of lane) ∙ all lane small) in cc,
+    )
+
+-- ---- the last call
+
+last_of : (calls : List Call) (call other : Call) → slice_index_or (calls ++ call ∷ []) (length (calls ++ call ∷ []) - 1) other ≡ call
+last_of [] call other = refl
+last_of (first ∷ calls) call other =
+    let long : length (first ∷ (calls ++ call ∷ [])) - 1 ≡ suc (length (calls ++ call ∷ []) - 1) = omega (arith, length-append calls (call ∷ [])) in
+    ap (λ n. slice_index_or (first ∷ (calls ++ call ∷ [])) n other) long ∙ last_of calls call other
+
+pub last_is : (was is : JournalView) (call given : Call) → is ≡ with_call was call → given ≡ slice_index_or is.calls (length is.calls - 1) given → given ≡ call
+last_is was is call given grown found = found ∙ (ap (λ (j : JournalView). slice_index_or j.calls (length j.calls - 1) given) grown ∙ last_of was.calls call given)

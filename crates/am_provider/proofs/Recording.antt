@@ -1,0 +1,240 @@
+-- A history grows as the journal does.
+use Rattle.std.proofs.Common.{◌≡◌, ◌≢◌, ℕ, ◌+◌, ◌-◌, ◌≤◌, ◌<◌, Bool, true, false, ◌||◌, cond, nat_eq, nat_le, List, [], ◌∷◌, ◌++◌, length, take, drop, map, None, Some, refl, sym, ap, subst, ◌∙◌, arith, length-append, length-drop, inl, inr}
+use mathlib.Core.List.{IsPrefix}
+use mathlib.Core.Logic.{dite}
+use native.Mathlib.Decide.{ℕ_discrete}
+use Rattle.std.specs.List.{slice_get, flat_map}
+use Rattle.std.proofs.lemmas.List.{append_assoc, append-nil, take-append-drop, length-map, map-append, take-append-le}
+use Rattle.std.proofs.lemmas.Bool.Decides.{eqb_tells}
+use Rattle.am_alert.specs.declared.alert.Alert.{Alert}
+use Rattle.am_segment.specs.Segments.{KeyView}
+use Rattle.am_cast.specs.declared.views.Account.{Account}
+use Rattle.am_cast.specs.declared.views.Tail.{Tail}
+use Rattle.am_cast.specs.Changes.{shut_tail}
+use Rattle.am_cast.specs.Rule.{idle, live, cut, vacated}
+use Rattle.am_cast.specs.Seats.{account_of}
+use Rattle.am_cast.specs.Writers.{StandsOn, IsCutAs}
+use Rattle.am_store.specs.LaneSets.{has_lane}
+use Rattle.am_store.specs.declared.call.Call.{Call}
+use Rattle.am_store.specs.declared.call.Call.TheVariants.{Posted, Collected, Subscribed, Left, Closed}
+use Rattle.am_store.specs.declared.lanes.OpenLane.{OpenLane}
+use Rattle.am_store.specs.Journal.{JournalView, with_call, first_calls, until, since, is_closed, is_open, MayFollow, IsLegal, IsKept, IsOpenSubscription, new_journal}
+use Rattle.am_store.specs.Stored.{updates, stored}
+use Rattle.am_store.specs.Broadcast.{broadcast, batches_of, due}
+use Rattle.am_store.specs.Trims.{IsTrimmed, Drops}
+use Rattle.am_store.specs.Laws.{GiveTheSame}
+use Rattle.am_store.proofs.Journals.{get_end, get_drop, drop_front, first_stays, first_all, broadcast_last, legal_last}
+use Rattle.am_store.proofs.Trims.{trimmed_gives_the_same, trimmed_grows, trimmed_twice, moved, since_same}
+use Rattle.am_provider.specs.declared.answers.Policy.{Policy}
+use Rattle.am_provider.specs.Batches.{Batch, LogView, sent_in}
+use Rattle.am_provider.specs.BookView.{BookView, batches, IsFaithful, places_of}
+use Rattle.am_provider.specs.Histories.{EntryView, call_of, calls_of, whole, trimmed_by, stored_after, sent_by, cut_after, cut_from, is_cut, Accepted, Trimmed}
+use Rattle.am_provider.specs.Posts.{HasSameLimits, IsCutBy}
+use Rattle.am_provider.specs.inside.Records.{IsRecorded}
+
+-- ---- one entry more
+
+pub calls_more : (entries more : List EntryView) → calls_of (entries ++ more) ≡ calls_of entries ++ calls_of more
+calls_more [] more = refl
+calls_more (entry ∷ entries) more = ap (λ calls. call_of entry ++ calls) (calls_more entries more) ∙ sym (append_assoc (call_of entry) (calls_of entries) (calls_of more))
+
+pub whole_more : (entries : List EntryView) (call : Call) (bits : ℕ) → whole (entries ++ Accepted call bits ∷ []) ≡ with_call (whole entries) call
+whole_more entries call bits = ap (λ (calls : List Call). record new_journal { calls = calls }) (calls_more entries (Accepted call bits ∷ []))
+
+pub whole_trimmed : (entries : List EntryView) (count : ℕ) → whole (entries ++ Trimmed count ∷ []) ≡ whole entries
+whole_trimmed entries count = ap (λ (calls : List Call). record new_journal { calls = calls }) (calls_more entries (Trimmed count ∷ []) ∙ append-nil (calls_of entries))
+
+pub trimmed_more : (entries : List EntryView) (call : Call) (bits : ℕ) → trimmed_by (entries ++ Accepted call bits ∷ []) ≡ trimmed_by entries
+trimmed_more [] call bits = refl
+trimmed_more (Accepted first cut ∷ entries) call bits = trimmed_more entries call bits
+trimmed_more (Trimmed count ∷ entries) call bits = ap (λ n. count + n) (trimmed_more entries call bits)
+
+pub trimmed_again : (entries : List EntryView) (count : ℕ) → trimmed_by (entries ++ Trimmed count ∷ []) ≡ trimmed_by entries + count
+trimmed_again [] count = omega arith
+trimmed_again (Accepted first cut ∷ entries) count = trimmed_again entries count
+trimmed_again (Trimmed first ∷ entries) count = omega (arith, trimmed_again entries count)
+
+cut_more : (lane : ℕ) (was : Bool) (entries : List EntryView) (call : Call) (bits : ℕ) → cut_from lane was (entries ++ Accepted call bits ∷ []) ≡ cut_after lane (cut_from lane was entries) call bits
+cut_more lane was [] call bits = refl
+cut_more lane was (Accepted first cut ∷ entries) call bits = cut_more lane (cut_after lane was first cut) entries call bits
+cut_more lane was (Trimmed count ∷ entries) call bits = cut_more lane was entries call bits
+
+cut_trimmed : (lane : ℕ) (was : Bool) (entries : List EntryView) (count : ℕ) → cut_from lane was (entries ++ Trimmed count ∷ []) ≡ cut_from lane was entries
+cut_trimmed lane was [] count = refl
+cut_trimmed lane was (Accepted first cut ∷ entries) count = cut_trimmed lane (cut_after lane was first cut) entries count
+cut_trimmed lane was (Trimmed first ∷ entries) count = cut_trimmed lane was entries count
+
+-- ---- what a recorded Book and its history have in common
+
+module _ {policy : Policy} {places : ℕ} (book : BookView) (entries : List EntryView) (of : IsRecorded policy places book entries) where
+  pub same : GiveTheSame (whole entries) book.journal
+  same = trimmed_gives_the_same (whole entries) book.journal (trimmed_by entries) of.few of.journal
+
+  pub same_closed : is_closed (whole entries) ≡ is_closed book.journal
+  same_closed = sym same.closed
+
+  pub same_open : (lane : ℕ) → is_open (whole entries) lane ≡ is_open book.journal lane
+  same_open lane = sym (same.lanes lane)
+
+  pub may : (call : Call) → MayFollow book.journal call → MayFollow (whole entries) call
+  may call it = (same.follow call).0 it
+
+  pub same_places : length (sent_by entries) ≡ length (batches book)
+  same_places = sym (ap length of.sent) ∙ length-map (batches book) (λ (b : Batch). Rattle.am_cast.specs.Keys.batch_items b)
+
+  pub call_number : book.journal.before + length book.journal.calls ≡ length (calls_of entries)
+  call_number = omega (arith, of.few, of.journal.before, ap length of.journal.calls, length-drop (trimmed_by entries) (calls_of entries))
+
+  -- a subscription that is open is open in the whole history
+  pub open_whole : (lane at : ℕ) → IsOpenSubscription book.journal lane at → IsOpenSubscription (whole entries) lane at
+  open_whole lane at opened =
+      let h = opened.begun in
+      record {
+        begun = omega arith;
+        entry = ap (λ n. slice_get (calls_of entries) n) (sym (moved (whole entries) book.journal (trimmed_by entries) of.journal at h))
+            ∙ (sym (get_drop (trimmed_by entries) (calls_of entries) (at - book.journal.before))
+            ∙ (ap (λ (calls : List Call). slice_get calls (at - book.journal.before)) (sym of.journal.calls) ∙ opened.entry));
+        kept = subst (IsKept lane) (since_same (whole entries) book.journal (trimmed_by entries) of.journal at h) opened.kept;
+      }
+
+  -- what is stored is what the whole history gives
+  pub stored_whole : IsFaithful book → book.stored ≡ stored_after entries
+  stored_whole kept = kept.journal.stored ∙ same.stored
+
+-- ---- the log
+
+pub prefix_same : {A : Type 0} (xs ys : List A) → ys ≡ xs → IsPrefix xs ys
+prefix_same xs ys is = ([], append-nil xs ∙ sym is)
+
+-- lists of one beginning and one rest
+one_list : {A : Type 0} (n : ℕ) (xs ys : List A) → take n xs ≡ take n ys → drop n xs ≡ drop n ys → xs ≡ ys
+one_list n xs ys front rest = sym (take-append-drop n xs) ∙ (ap (λ zs. zs ++ drop n xs) front ∙ (ap (λ zs. take n ys ++ zs) rest ∙ take-append-drop n ys))
+
+take_grown : {A : Type 0} (n : ℕ) (xs more ys : List A) → ys ≡ xs ++ more → n ≤ length xs → take n ys ≡ take n xs
+take_grown n xs more ys is within = ap (take n) is ∙ take-append-le n xs more within
+
+-- the log of a grown Book is what the grown history sends out
+sent_more : (a b : BookView) (entries : List EntryView) (call : Call) (count : ℕ) → sent_in (batches a) ≡ broadcast (whole entries) → IsFaithful a → IsFaithful b
+    → b.journal ≡ with_call a.journal call → IsPrefix (batches a) (batches b) → GiveTheSame (with_call (whole entries) call) (with_call a.journal call)
+    → sent_in (batches b) ≡ broadcast (with_call (whole entries) call)
+sent_more a b entries call count sent old new journal longer grown =
+    let n = a.journal.places in
+    let low : n ≤ length (sent_in (batches a)) = old.journal.places in
+    let log : sent_in (batches b) ≡ sent_in (batches a) ++ sent_in longer.0 =
+    ap sent_in (sym longer.1) ∙ map-append (λ (y : Batch). Rattle.am_cast.specs.Keys.batch_items y) (batches a) longer.0 in
+    let front : take n (sent_in (batches b)) ≡ take n (broadcast (with_call (whole entries) call)) =
+    take_grown n (sent_in (batches a)) (sent_in longer.0) (sent_in (batches b)) log low
+    ∙ (ap (take n) sent ∙ sym (take_grown n (broadcast (whole entries)) (batches_of (updates (whole entries)) call) (broadcast (with_call (whole entries) call)) (broadcast_last (whole entries) call)
+    (omega (arith, low, ap length sent)))) in
+    let none : n - 0 ≡ n = omega arith in
+    let rest : drop n (sent_in (batches b)) ≡ drop n (broadcast (with_call (whole entries) call)) =
+    ap (λ (j : JournalView). drop j.places (sent_in (batches b))) (sym journal) ∙ (new.journal.log ∙ (ap broadcast journal ∙ (grown.sent ∙ ap (λ k. drop k (broadcast (with_call (whole entries) call))) none))) in
+    one_list n (sent_in (batches b)) (broadcast (with_call (whole entries) call)) front rest
+
+-- ---- the lanes
+
+-- what a flag tells of an account
+pub record Tells (flag : Bool) (account : Account (KeyView Alert) OpenLane) : Type 0 where
+  pub yes : flag ≡ true → account.stand ≡ cut
+  pub no : flag ≡ false → account.stand ≢ cut
+
+pub tells_of : {policy : Policy} {places : ℕ} (book : BookView) (entries : List EntryView) → IsRecorded policy places book entries → (lane : ℕ) → lane < 8 → Tells (is_cut entries lane) (account_of book.log lane)
+tells_of book entries of lane small = record { yes = of.cuts lane small; no = of.spares lane small }
+
+tells_stand : (flag : Bool) (was is : Account (KeyView Alert) OpenLane) → is.stand ≡ was.stand → Tells flag was → Tells flag is
+tells_stand flag was is e it = record { yes = λ y. e ∙ it.yes y; no = λ n c. it.no n (sym e ∙ c) }
+
+-- a lane that stands on is cut if it was
+tells_on : (flag : Bool) (was is : Account (KeyView Alert) OpenLane) → StandsOn was is → Tells flag was → Tells flag is
+tells_on flag was is on it = record {
+  yes = λ y. dite (ℕ_discrete is.stand was.stand) (λ e. e ∙ it.yes y) (λ ne. let moved = on ne in let stood = it.yes y in absurd (omega (arith, moved.0, stood)));
+  no = λ n c. dite (ℕ_discrete is.stand was.stand) (λ e. it.no n (sym e ∙ c)) (λ ne. let moved = on ne in absurd (omega (arith, moved.1, c)));
+}
+
+-- each account goes on as the call says
+abbrev pub CutsAs : BookView → BookView → Call → ℕ → Type 0
+CutsAs a b call bits = (lane : ℕ) → lane < 8 → (was : Bool) → Tells was (account_of a.log lane) → Tells (cut_after lane was call bits) (account_of b.log lane)
+
+-- ---- a call more
+
+-- a call that was added may follow
+pub may_whole : {policy : Policy} {places : ℕ} (a b : BookView) (entries : List EntryView) (call : Call) → IsRecorded policy places a entries → IsFaithful b
+    → b.journal ≡ with_call a.journal call → MayFollow (whole entries) call
+may_whole a b entries call of new journal =
+    let legal : IsLegal (with_call a.journal call) = subst IsLegal journal new.journal.legal in
+    may a entries of call (subst (λ j. MayFollow j call) (first_stays a.journal call (length a.journal.calls) (omega arith) ∙ first_all a.journal) (legal (length a.journal.calls) call (get_end a.journal.calls call)))
+
+pub recorded_more : {policy : Policy} {places : ℕ} (a b : BookView) (entries : List EntryView) (call : Call) (bits : ℕ) → IsRecorded policy places a entries → IsFaithful a → IsFaithful b
+    → b.journal ≡ with_call a.journal call → IsPrefix (batches a) (batches b) → HasSameLimits a b → CutsAs a b call bits → IsRecorded policy places b (entries ++ Accepted call bits ∷ [])
+recorded_more {policy} {places} a b entries call bits of old new journal longer limits cuts =
+    let is = whole_more entries call bits in
+    let count = trimmed_by entries in
+    let trimmed : IsTrimmed (with_call (whole entries) call) count (with_call a.journal call) = trimmed_grows (whole entries) a.journal count call of.few of.journal in
+    let long : length (calls_of (entries ++ Accepted call bits ∷ [])) ≡ length (calls_of entries) + 1 = ap length (calls_more entries (Accepted call bits ∷ [])) ∙ length-append (calls_of entries) (call ∷ []) in
+    let fits : count ≤ length (calls_of entries ++ call ∷ []) = omega (arith, of.few, length-append (calls_of entries) (call ∷ [])) in
+    let grown = trimmed_gives_the_same (with_call (whole entries) call) (with_call a.journal call) count fits trimmed in
+    let tells : (lane : ℕ) → lane < 8 → Tells (is_cut (entries ++ Accepted call bits ∷ []) lane) (account_of b.log lane) =
+    λ lane small. subst (λ flag. Tells flag (account_of b.log lane)) (sym (cut_more lane false entries call bits)) (cuts lane small (is_cut entries lane) (tells_of a entries of lane small)) in
+    record {
+      legal = subst IsLegal (sym is) (legal_last (whole entries) call of.legal (may_whole a b entries call of new journal));
+      few = omega (arith, of.few, long, trimmed_more entries call bits);
+      journal = subst (λ n. IsTrimmed (whole (entries ++ Accepted call bits ∷ [])) n b.journal) (sym (trimmed_more entries call bits))
+          (subst (λ j. IsTrimmed j count b.journal) (sym is) (subst (IsTrimmed (with_call (whole entries) call) count) (sym journal) trimmed));
+      sent = sent_more a b entries call count of.sent old new journal longer grown ∙ ap broadcast (sym is);
+      cuts = λ lane small. (tells lane small).yes;
+      spares = λ lane small. (tells lane small).no;
+      limits = (limits.0 ∙ of.limits.0, limits.1 ∙ of.limits.1);
+    }
+
+-- ---- how each kind of call goes on
+
+pub cuts_posted : (a b : BookView) (now : ℕ) (alerts : List Alert) (bits : ℕ) → IsCutBy a b bits → CutsAs a b (Posted now alerts) bits
+cuts_posted a b now alerts bits by lane small was tells = posted was (has_lane bits lane) tells (by.cuts lane small)
+  where
+    posted : (was bit : Bool) → Tells was (account_of a.log lane) → IsCutAs (length (batches a)) a.log.tail.places (account_of a.log lane) (account_of b.log lane) bit → Tells (was || bit) (account_of b.log lane)
+    posted true true it how = record { yes = λ y. how.1; no = λ n. absurd (let no : true ≡ false = n in cc) }
+    posted false true it how = record { yes = λ y. how.1; no = λ n. absurd (let no : true ≡ false = n in cc) }
+    posted true false it how = tells_on true (account_of a.log lane) (account_of b.log lane) how it
+    posted false false it how = tells_on false (account_of a.log lane) (account_of b.log lane) how it
+
+pub cuts_same : (a b : BookView) (call : Call) (bits : ℕ) → ((lane : ℕ) (was : Bool) → cut_after lane was call bits ≡ was) → b.log.accounts ≡ a.log.accounts → CutsAs a b call bits
+cuts_same a b call bits quiet accounts lane small was tells =
+    subst (λ flag. Tells flag (account_of b.log lane)) (sym (quiet lane was))
+    (tells_stand was (account_of a.log lane) (account_of b.log lane) (ap (λ (q : List (Account (KeyView Alert) OpenLane)). (Rattle.std.specs.Prelude.slice_index_or q lane Rattle.am_cast.specs.Rule.first_account).stand) accounts) tells)
+
+-- a lane that is given out or left is not cut, and each other one stands as it did
+pub cuts_one : (a b : BookView) (call : Call) (bits number : ℕ) → ((lane : ℕ) (was : Bool) → cut_after lane was call bits ≡ cond (nat_eq number lane) false was)
+    → (account_of b.log number).stand ≢ cut → ((lane : ℕ) → lane ≢ number → account_of b.log lane ≡ account_of a.log lane) → CutsAs a b call bits
+cuts_one a b call bits number tells_so uncut others lane small was tells =
+    subst (λ flag. Tells flag (account_of b.log lane)) (sym (tells_so lane was))
+    (elim (eqb_tells number lane) [
+      | inl e ↦ subst (λ t. Tells (cond t false was) (account_of b.log lane)) (sym e.0)
+          (record { yes = λ y. absurd (let no : false ≡ true = y in cc); no = λ n. subst (λ n. (account_of b.log n).stand ≢ cut) e.1 uncut })
+      | inr e ↦ subst (λ t. Tells (cond t false was) (account_of b.log lane)) (sym e.0)
+          (tells_stand was (account_of a.log lane) (account_of b.log lane) (ap (λ (x : Account (KeyView Alert) OpenLane). x.stand) (others lane (λ same. e.1 (sym same)))) tells)
+    ])
+
+-- ---- a trim
+
+pub recorded_trimmed : {policy : Policy} {places : ℕ} (a b : BookView) (entries : List EntryView) (count : ℕ) → IsRecorded policy places a entries
+    → Drops a.journal count → IsTrimmed a.journal count b.journal → b.log ≡ a.log → HasSameLimits a b → IsRecorded policy places b (entries ++ Trimmed count ∷ [])
+recorded_trimmed {policy} {places} a b entries count of drops trimmed log limits =
+    let is = whole_trimmed entries count in
+    let within : count ≤ length a.journal.calls = at_most (nat_le (a.journal.before + drops.0) _) drops.2 drops.1.within in
+    let long = length-drop (trimmed_by entries) (calls_of entries) in
+    let all = call_number a entries of in
+    record {
+      legal = subst IsLegal (sym is) of.legal;
+      few = omega (arith, trimmed_again entries count, ap (λ (j : JournalView). length j.calls) is, within, of.few, ap length of.journal.calls, long);
+      journal = subst (λ n. IsTrimmed (whole (entries ++ Trimmed count ∷ [])) n b.journal) (sym (trimmed_again entries count))
+          (subst (λ j. IsTrimmed j (trimmed_by entries + count) b.journal) (sym is)
+          (trimmed_twice (whole entries) a.journal b.journal (trimmed_by entries) count of.few within of.journal trimmed));
+      sent = ap (λ (q : LogView). sent_in q.tail.log) log ∙ (of.sent ∙ ap broadcast (sym is));
+      cuts = λ lane small yes. ap (λ (q : LogView). (account_of q lane).stand) log ∙ of.cuts lane small (sym (cut_trimmed lane false entries count) ∙ yes);
+      spares = λ lane small no c. of.spares lane small (sym (cut_trimmed lane false entries count) ∙ no) (ap (λ (q : LogView). (account_of q lane).stand) (sym log) ∙ c);
+      limits = (limits.0 ∙ of.limits.0, limits.1 ∙ of.limits.1);
+    }
+  where
+    at_most : (fits : Bool) {count given most : ℕ} → given ≡ cond fits count 0 → count ≤ most → given ≤ most
+    at_most true is low = omega (arith, is, low)
+    at_most false is low = omega (arith, is)

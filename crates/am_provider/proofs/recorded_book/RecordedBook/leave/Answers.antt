@@ -1,0 +1,59 @@
+use Rattle.std.proofs.Common.{◌≡◌, ◌≢◌, ◌↔◌, ◌∙◌, Bool, true, false, IsTrue, ℕ, [], ◌∷◌, ◌++◌, length, refl, sym, ap, subst, arith}
+use Rattle.am_cast.specs.declared.views.Tail.{Tail}
+use Rattle.am_cast.specs.Rule.{cut}
+use Rattle.am_store.specs.declared.call.Call.TheVariants.{Left}
+use Rattle.am_store.specs.Broadcast.{IsFront}
+use Rattle.am_store.proofs.Opens.{lane_low}
+use Rattle.am_provider.specs.Batches.{Batch}
+use Rattle.am_provider.specs.Histories.{Accepted, is_cut}
+use Rattle.am_provider.specs.Subscriptions.{taken}
+use Rattle.am_provider.specs.inside.Records.{IsRecorded}
+use Rattle.am_provider.proofs.Answering.{sees_called}
+use Rattle.am_provider.proofs.Recording.{cuts_one, open_whole, prefix_same, recorded_more, same, tells_of}
+use Rattle.am_provider.proofs.recorded_book.RecordedBook.leave.Goals as goal
+
+pub invariant_of-self : goal.invariant_of-self
+invariant_of-self g c =
+    let old = c.self.inside.book in
+    let new = c.leave-ended.new.self in
+    let entries = c.self.inside.history in
+    let left = c.leave-ended.ensures in
+    let number = c.args.subscription.cursor.lane.number in
+    let idles = left.lane in (
+      subst (IsRecorded g.N.Recorded.policy g.N.Recorded.places new) (sym (c.record.ensures.longer ∙ ap (λ lane. entries ++ Accepted (Left lane) 0 ∷ []) c.lane.ensures))
+          (recorded_more old new entries (Left number) 0 c.self.invariant.0 c.kept.ensures c.kept-2.ensures left.journal
+          (prefix_same _ _ (ap (λ (t : Tail Batch). t.log) left.log)) left.limits
+          (cuts_one old new (Left number) 0 number (λ lane was. refl) (λ stands. omega (arith, idles, stands)) left.others)),
+      c.self.invariant.1,
+    )
+
+-- two that tell of one thing are one
+one_flag : {P : Type 0} (told flag : Bool) → (IsTrue told ↔ P) → (flag ≡ true → P) → (flag ≡ false → P → ⊥) → told ≡ flag
+one_flag true true told holds fails = refl
+one_flag true false told holds fails = absurd (fails refl (told.0 refl))
+one_flag false true told holds fails = told.1 (holds refl)
+one_flag false false told holds fails = refl
+
+pub returns-clause-sees : goal.returns-clause-sees
+returns-clause-sees g c =
+    let old = c.self.inside.book in
+    let entries = c.self.inside.history in
+    let left = c.leave-ended.ensures in
+    let s = c.args.subscription in
+    let number = s.cursor.lane.number in
+    let lane = open_whole old entries c.self.invariant.0 number s.at left.open in
+    let begun = left.open.begun in
+    let owed = (same old entries c.self.invariant.0).due s.at begun in
+    let tells = tells_of old entries c.self.invariant.0 number (lane_low old.journal number s.at c.kept.ensures.journal.legal left.open) in
+    sees_called c.args.caller.now.front c.record.new.caller.front entries c.record.new.history (Left c.lane.result) (Left number) 0 _
+    (ap Left c.lane.ensures) c.record.ensures.longer c.record.ensures.known c.record.ensures.seen c.record.ensures.made
+    (record {
+      lane = lane;
+      at = left.at;
+      count = left.taken;
+      closed = left.closed;
+      cut = one_flag c.leave-ended.result.cut (is_cut entries number) left.cut tells.yes tells.no;
+      front = subst (IsFront (taken s)) owed left.front;
+      complete = λ told. left.complete told ∙ owed;
+      entry = refl;
+    })

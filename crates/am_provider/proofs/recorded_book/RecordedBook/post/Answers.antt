@@ -1,0 +1,53 @@
+use Rattle.std.proofs.Common.{◌≡◌, ◌∙◌, cond, nat_eq, [], ◌∷◌, ◌++◌, None, Some, length, refl, sym, ap, subst}
+use Rattle.am_cast.specs.Seats.{account_of}
+use Rattle.am_cast.specs.Writers.{IsCutAs}
+use Rattle.am_store.specs.declared.call.Call.TheVariants.{Posted}
+use Rattle.am_provider.specs.BookView.{batches}
+use Rattle.am_provider.specs.Histories.{Accepted}
+use Rattle.am_provider.specs.inside.Records.{IsRecorded}
+use Rattle.am_provider.proofs.Answering.{last_is, live_lane, put_refusal, sees_called, sees_none}
+use Rattle.am_provider.proofs.Recording.{cuts_posted, may_whole, recorded_more, same_places}
+use Rattle.am_provider.proofs.recorded_book.RecordedBook.post.Goals as goal
+
+pub invariant_of-self-2 : goal.invariant_of-self-2
+invariant_of-self-2 g c =
+    let old = c.self.inside.book in
+    let new = c.post.new.self in
+    let entries = c.self.inside.history in
+    let posted = c.in-Ok.ensures in
+    let call = Posted c.args.now c.args.post.valid in
+    let bits = c.in-Ok.posted.cut in
+    let last : c.last_call.result.now ≡ call = last_is old.journal new.journal call c.last_call.result.now posted.journal c.last_call.ensures in (
+      subst (IsRecorded g.N.Recorded.policy g.N.Recorded.places new) (sym (c.record.ensures.longer ∙ ap (λ one. entries ++ Accepted one bits ∷ []) last))
+          (recorded_more old new entries call bits c.self.invariant.0 c.kept.ensures c.kept-2.ensures posted.journal
+          posted.log posted.limits (cuts_posted old new c.args.now c.args.post.valid bits posted.cut)),
+      c.self.invariant.1,
+    )
+
+pub returns-clause-sees : goal.returns-clause-sees
+returns-clause-sees g c =
+    let old = c.self.inside.book in
+    let new = c.post.new.self in
+    let entries = c.self.inside.history in
+    let posted = c.in-Ok.ensures in
+    let call = Posted c.args.now c.args.post.valid in
+    let bits = c.in-Ok.posted.cut in
+    let last : c.last_call.result.now ≡ call = last_is old.journal new.journal call c.last_call.result.now posted.journal c.last_call.ensures in
+    sees_called c.args.caller.now.front c.record.new.caller.front entries c.record.new.history c.last_call.result.now call bits _
+    last c.record.ensures.longer c.record.ensures.known c.record.ensures.seen c.record.ensures.made
+    (record {
+      still_open = may_whole old new entries call c.self.invariant.0 c.kept-2.ensures posted.journal;
+      valid = posted.valid;
+      faults = posted.faults;
+      place = posted.place ∙ ap (λ n. cond (nat_eq (length c.args.post.valid) 0) None (Some n)) (sym (same_places old entries c.self.invariant.0));
+      cuts = λ lane small yes.
+          live_lane old entries c.self.invariant.0 c.kept.ensures lane small
+          (subst (IsCutAs (length (batches old)) old.log.tail.places (account_of old.log lane) (account_of new.log lane)) yes (posted.cut.cuts lane small)).0;
+      refuses = λ refuse. posted.cut.none (c.self.invariant.0.limits.0 ∙ refuse);
+      entry = refl;
+    })
+
+pub returns-in-Err-clause-sees : goal.returns-in-Err-clause-sees
+returns-in-Err-clause-sees g c =
+    sees_none c.args.caller.now.front c.show.new.to c.self.inside.history _ c.show.ensures.seen c.show.ensures.to
+    (put_refusal c.self.inside.book c.post.new.self c.self.inside.history (length c.args.post.valid) c.in-Err.fault c.self.invariant.0 c.kept.ensures c.in-Err.ensures.err.0 c.in-Err.ensures.refused, refl)

@@ -1,0 +1,69 @@
+use Rattle.std.proofs.Common.{◌≡◌, ◌∙◌, ◌<◌, ℕ, [], length, map, Option, None, Some, sym, ap, subst, arith}
+use Rattle.std.specs.List.{All}
+use Rattle.std.proofs.lemmas.List.{length-map}
+use mathlib.Core.List.{IsPrefix}
+use Rattle.am_history.specs.Fronts.{FrontView, AreMade, AreMadeOnce, IsMade}
+use Rattle.am_store.specs.Journal.{JournalView}
+use Rattle.am_store.specs.Trims.{IsTrimmed}
+use Rattle.am_provider.specs.Histories.{EntryView, trimmed_by, whole}
+use Rattle.am_provider.specs.Settling.{IsSettled, JoinedView, made_of, own_in, own_of}
+use Rattle.am_provider.proofs.Recording.{stored_whole}
+use Rattle.am_provider.proofs.recorded_book.RecordedBook.settle.Goals.{in-None, in-Some}
+use Rattle.am_provider.proofs.recorded_book.RecordedBook.settle.Goals as goal
+
+pub returns-clause-settled : goal.returns-clause-settled
+returns-clause-settled g c =
+    let entries = c.self.inside.history in
+    let book = c.self.inside.book in
+    let of = c.self.invariant.0 in
+    let settled = c.settle_joined.ensures.settled in
+    let end = c.settle_joined.result in
+    let passes = map (λ caller. caller.pass) c.args.callers.items in
+    let fronts = map (λ caller. caller.front) c.args.callers.items in
+    let journal = subst (IsTrimmed (whole entries) (trimmed_by entries)) (sym settled.journal) of.journal in
+    let stored = settled.store ∙ stored_whole book entries of c.kept.ensures in
+    let complete = c.settle_joined.ensures.complete in
+    let long : c.len-count.result ≡ length c.args.callers.items = omega (arith, c.len-count.ensures, c.args.callers.ok.0) in
+    elim c.match-gather.branch [
+      | in-Some w ↦
+          let gathered = w.in-Some.ensures.gathered in
+          let audit = w.audit.ensures in
+          let same = w.in-Some.ensures.same in
+          let front = w.in-Some.front in
+          let made : front.made ≡ made_of fronts = ap (λ (f : FrontView EntryView). f.made) gathered.1 in
+          let own : own_in c.match-gather.passes ≡ own_of passes = ap own_in w.passes-is ∙ ap (λ (j : JoinedView). j.own) gathered.0 in
+          let many = length-map c.args.callers.items (λ caller. caller.front) in
+          record {
+            entries = entries;
+            book = book;
+            settled = subst (λ own. IsSettled book own end) own settled;
+            legal = of.legal;
+            journal = journal;
+            stored = stored;
+            sent = of.sent;
+            seen = gathered.2;
+            made = subst (λ list. AreMade list entries) made (subst (AreMade front.made) same audit.made);
+            once = subst AreMadeOnce made audit.once;
+            all = λ yes index inside.
+                let parts : front.parts ≡ g.N.Timeline.holders = ap (λ (f : FrontView EntryView). f.parts) gathered.1 ∙ (many ∙ (sym long ∙ (complete.0 yes ∙ sym c.self.invariant.1.0))) in
+                subst (λ list. IsMade list index) made (audit.all parts index (subst (λ list. index < length list) (sym same) inside));
+          }
+      | in-None w ↦
+          let gathered = w.in-None.ensures.gathered in
+          let none : fronts ≡ [] = gathered.1 in
+          let nobody : length c.args.callers.items ≡ 0 = sym (length-map c.args.callers.items (λ caller. caller.front)) ∙ ap length none in
+          let own : own_in c.match-gather.passes ≡ own_of passes = ap own_in w.passes-is ∙ ap own_of (sym gathered.0) in
+          record {
+            entries = entries;
+            book = book;
+            settled = subst (λ own. IsSettled book own end) own settled;
+            legal = of.legal;
+            journal = journal;
+            stored = stored;
+            sent = of.sent;
+            seen = subst (All (λ (front : FrontView EntryView). IsPrefix front.seen entries)) (sym none) (λ k d h. absurd (omega arith));
+            made = subst (λ list. AreMade (made_of list) entries) (sym none) (λ k m e. absurd (cc));
+            once = subst (λ list. AreMadeOnce (made_of list)) (sym none) tt;
+            all = λ yes index inside. absurd (let some = complete.0 yes in let one = c.self.invariant.1.1 in omega (arith, long, nobody, some, one));
+          }
+    ]

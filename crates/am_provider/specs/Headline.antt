@@ -1,0 +1,114 @@
+-- What each call of a provider answers: by the history before it, and the entries that it added.
+use Rattle.std.specs.Prelude.{◌≡◌, ℕ, ◌+◌, ◌≤◌, ◌<◌, true, false, if◌then◌else◌, nat_eq}
+use Rattle.std.specs.Prelude.{List, [], ◌∷◌, ◌++◌, length, None, Some, Result, Ok, Err}
+use Rattle.std.specs.List.{count_by}
+use Rattle.am_alert.specs.declared.alert.Alert.{Alert}
+use Rattle.am_alert.specs.declared.post.Post.{Post}
+use Rattle.am_alert.specs.Merging.{is_resolved_at}
+use Rattle.am_cast.specs.declared.faults.AlreadyClosed.{AlreadyClosed}
+use Rattle.am_cast.specs.declared.limits.TheConstants.{LANES, LONGEST_LOG}
+use Rattle.am_store.specs.LaneSets.{has_lane}
+use Rattle.am_store.specs.declared.call.Call.{Call}
+use Rattle.am_store.specs.declared.call.Call.TheVariants.{Posted, Collected, Subscribed, Left, Closed}
+use Rattle.am_store.specs.Journal.{JournalView, is_closed, is_open, AreAllOpen}
+use Rattle.am_store.specs.Journal.{IsOpenSubscription, IsLowestIdle}
+use Rattle.am_store.specs.Broadcast.{due, IsFront}
+use Rattle.am_store.specs.Trims.{IsTrimmed, Drops}
+use Rattle.am_provider.specs.declared.answers.Policy.{Policy}
+use Rattle.am_provider.specs.declared.answers.Policy.TheVariants.{Refuse}
+use Rattle.am_provider.specs.declared.answers.Posted as answers
+use Rattle.am_provider.specs.declared.answers.Ended.{Ended}
+use Rattle.am_provider.specs.declared.faults.PutFault.{PutFault}
+use Rattle.am_provider.specs.declared.faults.PutFault.TheVariants as put
+use Rattle.am_provider.specs.declared.faults.SubFault.{SubFault}
+use Rattle.am_provider.specs.declared.faults.SubFault.TheVariants as sub
+use Rattle.am_provider.specs.Histories.{EntryView, Accepted, Trimmed, calls_of, whole, trimmed_by}
+use Rattle.am_provider.specs.Histories.{stored_after, sent_by, is_cut}
+use Rattle.am_provider.specs.Subscriptions.{SubscriptionView, taken}
+
+-- an accepted post: its alerts are stored, and are sent out as the log's next batch if there is one. It cut
+-- only open lanes that were not cut before, and none if the policy is to refuse (`provider/mem`'s Put)
+pub record IsPosted (policy : Policy) (now : ℕ) (post : Post) (posted : answers.Posted)
+    (before added : List EntryView) : Type 0 where
+  pub still_open : is_closed (whole before) ≡ false
+  pub valid : posted.valid ≡ length post.valid
+  pub faults : posted.faults ≡ post.faults
+  pub place : posted.place ≡ (if nat_eq (length post.valid) 0 then None else Some (length (sent_by before)))
+  pub cuts : (lane : ℕ) → lane < LANES → has_lane posted.cut lane ≡ true
+      → (is_open (whole before) lane ≡ true) × (is_cut before lane ≡ false)
+  pub refuses : policy ≡ Refuse → posted.cut ≡ 0
+  pub entry : added ≡ Accepted (Posted now post.valid) posted.cut ∷ []
+
+-- why a post of so many valid alerts is refused: the first cause in this order. A full log names an open lane
+-- whose subscriber lags by as many batches as there are places
+abbrev pub IsPutRefusal : Policy → ℕ → ℕ → List EntryView → PutFault → Type 0
+IsPutRefusal policy places count before put.Closed = is_closed (whole before) ≡ true
+IsPutRefusal policy places count before put.LogEnd =
+    (is_closed (whole before) ≡ false) × (0 < count) × (LONGEST_LOG ≤ length (sent_by before))
+IsPutRefusal policy places count before (put.Full lane passed) =
+    (is_closed (whole before) ≡ false) × (0 < count) × (policy ≡ Refuse)
+    × (lane < LANES) × (is_open (whole before) lane ≡ true) × (is_cut before lane ≡ false)
+    × (length (sent_by before) ≡ passed + places)
+IsPutRefusal policy places count before put.NoMemory = is_closed (whole before) ≡ false
+
+-- what a post answers
+abbrev pub AnswersPost : Policy → ℕ → ℕ → Post → Result answers.Posted PutFault → List EntryView
+    → List EntryView → Type 0
+AnswersPost policy places now post (Ok posted) before added = IsPosted policy now post posted before added
+AnswersPost policy places now post (Err fault) before added =
+    IsPutRefusal policy places (length post.valid) before fault × (added ≡ [])
+
+-- a new subscription: what is stored is shown first, and then each batch since. It has the lowest lane that
+-- isn't open (`provider/mem`'s Subscribe)
+pub record IsSubscribed (made : SubscriptionView) (before added : List EntryView) : Type 0 where
+  pub still_open : is_closed (whole before) ≡ false
+  pub at : made.at ≡ length (calls_of before)
+  pub opening : made.opening ≡ stored_after before
+  pub lane : IsLowestIdle (whole before) made.cursor.lane.number
+  pub start : made.cursor.lane.start ≡ length (sent_by before)
+  pub fresh : (taken made ≡ []) × (made.closed_told ≡ false)
+  pub entry : added ≡ Accepted (Subscribed made.cursor.lane.number) 0 ∷ []
+
+-- why a subscription is refused: the first cause in this order
+abbrev pub IsSubRefusal : List EntryView → SubFault → Type 0
+IsSubRefusal before sub.Closed = is_closed (whole before) ≡ true
+IsSubRefusal before sub.NoLane = (is_closed (whole before) ≡ false) × AreAllOpen (whole before)
+IsSubRefusal before sub.NoMemory = (is_closed (whole before) ≡ false) × (AreAllOpen (whole before) → ⊥)
+
+-- what a subscription answers
+abbrev pub AnswersSubscribe : Result SubscriptionView SubFault → List EntryView → List EntryView → Type 0
+AnswersSubscribe (Ok made) before added = IsSubscribed made before added
+AnswersSubscribe (Err fault) before added = IsSubRefusal before fault × (added ≡ [])
+
+-- a subscription that is given back: what it has taken begins what was due to it, and is all of it if it was
+-- told that no more would come
+pub record AnswersLeave (subscription : SubscriptionView) (ended : Ended) (before added : List EntryView)
+    : Type 0 where
+  pub lane : IsOpenSubscription (whole before) subscription.cursor.lane.number subscription.at
+  pub at : ended.at ≡ subscription.at
+  pub count : ended.taken ≡ length (taken subscription)
+  pub closed : ended.closed ≡ subscription.closed_told
+  pub cut : ended.cut ≡ is_cut before subscription.cursor.lane.number
+  pub front : IsFront (taken subscription) (due (whole before) subscription.at)
+  pub complete : subscription.closed_told ≡ true → taken subscription ≡ due (whole before) subscription.at
+  pub entry : added ≡ Accepted (Left subscription.cursor.lane.number) 0 ∷ []
+
+-- a collection counts the stored alerts that are resolved (`provider/mem`'s garbage collection)
+abbrev pub AnswersCollect : {E : Type 0} → ℕ → Result ℕ E → List EntryView → List EntryView → Type 0
+AnswersCollect now (Ok removed) before added =
+    (removed ≡ count_by (is_resolved_at now) (stored_after before))
+    × (added ≡ Accepted (Collected now) 0 ∷ [])
+AnswersCollect now (Err fault) before added = added ≡ []
+
+-- the log is ended once
+abbrev pub AnswersClose : {U : Type 0} → Result U AlreadyClosed → List EntryView → List EntryView → Type 0
+AnswersClose (Ok done) before added =
+    (is_closed (whole before) ≡ false) × (added ≡ Accepted Closed 0 ∷ [])
+AnswersClose (Err fault) before added = (is_closed (whole before) ≡ true) × (added ≡ [])
+
+-- a trim discards what the journal that earlier trims left needs no more, and nothing of the history
+abbrev pub AnswersTrim : {E : Type 0} → Result ℕ E → List EntryView → List EntryView → Type 0
+AnswersTrim (Ok dropped) before added =
+    ((journal : JournalView) × IsTrimmed (whole before) (trimmed_by before) journal × Drops journal dropped)
+    × (added ≡ Trimmed dropped ∷ [])
+AnswersTrim (Err fault) before added = added ≡ []

@@ -1,0 +1,21 @@
+-- What is due to a subscription as the history goes on.
+use Rattle.std.specs.Prelude.{◌≡◌, ℕ, ◌≤◌, true, List, length}
+use mathlib.Core.List.{IsPrefix}
+use Rattle.am_alert.specs.declared.alert.Alert.{Alert}
+use Rattle.am_store.specs.Journal.{is_closed, IsLegal}
+use Rattle.am_store.specs.Broadcast.{due, IsFront}
+use Rattle.am_provider.specs.Histories.{EntryView, calls_of, whole}
+
+-- what begins what was due after a history begins what is due after each longer one
+abbrev pub StaysFrontOfDue : Type 0
+StaysFrontOfDue =
+    (first later : List EntryView) (at : ℕ) (front : List Alert) → IsPrefix first later
+    → at ≤ length (calls_of first) → IsFront front (due (whole first) at)
+    → IsFront front (due (whole later) at)
+
+-- once the log was ended, a legal history owes nothing more
+abbrev pub ClosedOwesNoMore : Type 0
+ClosedOwesNoMore =
+    (first later : List EntryView) (at : ℕ) → IsPrefix first later → IsLegal (whole later)
+    → at ≤ length (calls_of first) → is_closed (whole first) ≡ true
+    → due (whole later) at ≡ due (whole first) at

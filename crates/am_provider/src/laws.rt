@@ -1,0 +1,10 @@
+//! Laws over histories that callers may cite.
+
+ghost use Rattle.am_provider.specs.Owing.{ClosedOwesNoMore, StaysFrontOfDue};
+
+/// What a subscription has taken begins what was due to it when it was given back; so it begins what is
+/// due to it after the whole history. If it was told that the log is closed, it has taken all of that.
+pub fn history_laws()
+    ensures front { StaysFrontOfDue }
+    ensures closed { ClosedOwesNoMore }
+{}
