@@ -3,14 +3,17 @@ use Rattle.std.proofs.Common.{◌≡◌, ℕ, ◌+◌, List, [], ◌∷◌, ◌+
 use Rattle.std.proofs.lemmas.List.{map-append, length-append, length-map}
 use Rattle.std.specs.Global.{Vec}
 use Rattle.std.specs.declared.alloc.AllocError.{AllocError}
-use Rattle.std.specs.Duration.{as_nanos}
 use Rattle.std.specs.Io.KnownBytes.{Keeps}
 use Rattle.am_alert.specs.declared.alert.Alert.{Alert}
 use Rattle.am_store.specs.declared.call.Call.{Call}
 use Rattle.am_cast.specs.Posters.{PassView}
-use Rattle.am_provider.specs.Settling.{IsSettled, own_of}
+use Rattle.am_history.specs.Fronts.{FrontView}
+use Rattle.am_provider.specs.Histories.{EntryView}
+use Rattle.am_provider.specs.Settling.{IsSettledFrom}
 use Rattle.am_provider.specs.declared.settled.Settled.{Settled}
-use Rattle.am_runner.specs.Working.{AreWork, none, one_more_thread}
+use Rattle.am_runner.specs.Sessions.{Setting, setting_of}
+use Rattle.am_runner.specs.Working.{AreWork, Outcome, none, one_more_thread}
+use Rattle.am_replay.specs.declared.arguments.Arguments.{Arguments}
 use Rattle.am_runner.specs.declared.answer.Answer.{Answer}
 use Rattle.am_replay.specs.Printing.{transcript_text, ran_out_of_memory}
 use Rattle.am_replay.specs.Replays.{ComesTo, ran, status_of}
@@ -28,20 +31,20 @@ pub if_ok_both : {T E : Type 0} {P Q S : T → Type 0} (r : Result T E) → IfOk
 if_ok_both (Ok x) one two f = f x one two
 if_ok_both (Err e) one two f = tt
 
-pub refused_so : (text words output : List ℕ) (status : Status) → ComesTo text Refused words → status ≡ Refused → output ≡ words → ComesTo text status output
-refused_so text words output status comes ends said =
-    subst (λ (s : Status). ComesTo text s output) (sym ends) (subst (λ (o : List ℕ). ComesTo text Refused o) (sym said) comes)
+pub refused_so : {arguments : Arguments} (text words output : List ℕ) (status : Status) → ComesTo arguments text Refused words → status ≡ Refused → output ≡ words → ComesTo arguments text status output
+refused_so {arguments} text words output status comes ends said =
+    subst (λ (s : Status). ComesTo arguments text s output) (sym ends) (subst (λ (o : List ℕ). ComesTo arguments text Refused o) (sym said) comes)
 
 -- a script that was run
-pub comes : (text configuration : List ℕ) (lines : List Line) (config : Config) (transcript : Transcript) (settled : Settled) (status : Status) (output : List ℕ)
+pub comes : (arguments : Arguments) (text configuration : List ℕ) (lines : List Line) (config : Config) (transcript : Transcript) (settled : Settled) (status : Status) (output : List ℕ)
     → IsFirstLine text (Read config) → Checks 1 [] (lines_of text) (Ok lines) → configuration ≡ config_line text
-    → IsRun configuration (as_nanos config.resolve_timeout) lines transcript settled
+    → IsRun configuration (setting_of arguments.places arguments.full config.resolve_timeout) lines transcript settled
     → output ≡ transcript_text transcript.lines.items transcript.answers.items transcript.counts
-    → status ≡ status_of (ran_out_of_memory transcript.answers.items) → ComesTo text status output
-comes text configuration lines config transcript settled status output first checks is runs said ends =
-    subst (λ (s : Status). ComesTo text s output) (sym ends)
-    (subst (λ (o : List ℕ). ComesTo text (status_of (ran_out_of_memory transcript.answers.items)) o) (sym (said ∙ ap (λ (all : List Line). transcript_text all transcript.answers.items transcript.counts) runs.script))
-    (ran config transcript settled first checks (subst (λ (bytes : List ℕ). IsRun bytes (as_nanos config.resolve_timeout) lines transcript settled) is runs)))
+    → status ≡ status_of (ran_out_of_memory transcript.answers.items) → ComesTo arguments text status output
+comes arguments text configuration lines config transcript settled status output first checks is runs said ends =
+    subst (λ (s : Status). ComesTo arguments text s output) (sym ends)
+    (subst (λ (o : List ℕ). ComesTo arguments text (status_of (ran_out_of_memory transcript.answers.items)) o) (sym (said ∙ ap (λ (all : List Line). transcript_text all transcript.answers.items transcript.counts) runs.script))
+    (ran config transcript settled first checks (subst (λ (bytes : List ℕ). IsRun bytes (setting_of arguments.places arguments.full config.resolve_timeout) lines transcript settled) is runs)))
 
 -- one thread's outcome more
 pub one_more_parted : {A B E : Type 0} (all : List (Result A E × B)) (answers answers_then : List A) (passes passes_then : List B) (one : Result A E) (answer : A) (pass : B)
@@ -57,26 +60,31 @@ one_more_parted {A} {B} {E} all answers answers_then passes passes_then one answ
       ∙ (ap (λ (front : List B). front ++ pass ∷ []) so_far.1 ∙ sym more),
 )
 
-work_of_each : {bytes : List ℕ} {timeout : ℕ} {lines : List Line} {threads : ℕ} {all : List (Result (Vec (Vec Answer)) AllocError × PassView Alert Call)} → AreWork bytes timeout lines threads all → length all ≡ threads
+work_of_each : {bytes : List ℕ} {setting : Setting} {lines : List Line} {threads : ℕ} {all : List (Outcome AllocError)} → AreWork bytes setting lines threads all → length all ≡ threads
 work_of_each none = refl
 work_of_each (one_more_thread {thread} {before} one work this) =
     length-append before (one ∷ []) ∙ ap (λ (n : ℕ). n + 1) (work_of_each work)
 
--- what the threads came to, and the provider by their passes
-pub run_of : (bytes : List ℕ) (timeout : ℕ) (lines : List Line) (all : List (Result (Vec (Vec Answer)) AllocError × PassView Alert Call)) (transcript : Transcript) (passes : List (PassView Alert Call)) (settled : Settled)
-    → transcript.lines.items ≡ lines → AreWork bytes timeout lines 8 all
-    → (map (λ x. x.0) all ≡ map Ok transcript.answers.items) × (map (λ x. x.1) all ≡ passes)
-    → IsSettled (own_of passes) settled → (length passes ≡ 8 → settled.complete ≡ true) → AreCountsOf settled transcript.counts
-    → IsRun bytes timeout lines transcript settled
-run_of bytes timeout lines all transcript passes settled script work parted end complete counts = record {
+-- what the threads came to, and the provider by their callers
+pub run_of : (bytes : List ℕ) (setting : Setting) (lines : List Line) (all : List (Outcome AllocError)) (transcript : Transcript) (passes : List (PassView Alert Call)) (fronts : List (FrontView EntryView)) (settled : Settled)
+    → transcript.lines.items ≡ lines → AreWork bytes setting lines 8 all
+    → map (λ (x : Outcome AllocError). x.answers) all ≡ map Ok transcript.answers.items → map (λ (x : Outcome AllocError). x.pass) all ≡ passes → map (λ (x : Outcome AllocError). x.front) all ≡ fronts
+    → IsSettledFrom passes fronts settled → (length passes ≡ 8 → settled.complete ≡ true) → AreCountsOf settled transcript.counts
+    → IsRun bytes setting lines transcript settled
+run_of bytes setting lines all transcript passes fronts settled script work answered owned seen end complete counts = record {
   outcomes = all;
   script = script;
   work = work;
-  answered = parted.0;
-  end = subst (λ (given : List (PassView Alert Call)). IsSettled (own_of given) settled) (sym parted.1) end;
-  complete = complete (ap length (sym parted.1) ∙ (length-map all (λ (x : Result (Vec (Vec Answer)) AllocError × PassView Alert Call). x.1) ∙ work_of_each work));
+  answered = answered;
+  end = subst (λ (given : List (PassView Alert Call)). IsSettledFrom given (map (λ (x : Outcome AllocError). x.front) all) settled) (sym owned) (subst (λ (given : List (FrontView EntryView)). IsSettledFrom passes given settled) (sym seen) end);
+  complete = complete (ap length (sym owned) ∙ (length-map all (λ (x : Outcome AllocError). x.pass) ∙ work_of_each work));
   counts = counts;
 }
+
+-- one map after another
+pub map_twice : {A B C : Type 0} (f : A → B) (g : B → C) (xs : List A) → map g (map f xs) ≡ map (λ x. g (f x)) xs
+map_twice f g [] = refl
+map_twice f g (x ∷ xs) = ap (λ rest. g (f x) ∷ rest) (map_twice f g xs)
 
 pub keeps_same : (known : Option (List ℕ)) → Keeps known known
 keeps_same None = tt

@@ -1,11 +1,11 @@
 -- A whole replay: what it reads, what it prints and how it ends.
 use Rattle.std.specs.Prelude.{ℕ, Bool, List, [], ◌∷◌, ◌++◌, Option, Ok, Err, if◌then◌else◌}
-use Rattle.std.specs.Duration.{as_nanos}
 use Rattle.std.specs.Io.KnownBytes.{Appends, Keeps}
 use Rattle.am_script.specs.Outputs.{AppendsBeginning}
 use Rattle.am_script.specs.Inputs.{IsReadOf}
 use Rattle.am_replay.specs.Printing.{ran_out_of_memory, transcript_text}
 use Rattle.am_script.specs.ScriptTexts.{refusal_text}
+use Rattle.am_runner.specs.Sessions.{setting_of}
 use Rattle.am_replay.specs.Runs.{IsRun}
 use Rattle.am_replay.specs.Arguments.{AreRead, AreRefused}
 use Rattle.am_replay.specs.declared.arguments.Arguments.{Arguments}
@@ -34,49 +34,51 @@ status_of out_of_memory = if out_of_memory then CallOutOfMemory else Done
 
 -- What a script's text comes to: its first line is looked at before the others, and one that is no
 -- configuration prints its fault; a refused script prints its first fault; in both nothing is run.
--- Another one is run, and prints what its calls answered.
-pub data ComesTo (text : List ℕ) : Status → List ℕ → Type 0 where
+-- Another one is run under the arguments' places and policy, and prints what its calls answered.
+pub data ComesTo (arguments : Arguments) (text : List ℕ) : Status → List ℕ → Type 0 where
   too_long : IsFirstLine text TooLong
-      → ComesTo text Refused (refusal_text first_line_too_large ++ 10 ∷ [])
+      → ComesTo arguments text Refused (refusal_text first_line_too_large ++ 10 ∷ [])
   no_config : (fault : ConfigFault) → IsFirstLine text (first_line.Refused fault)
-      → ComesTo text Refused (config_refusal_text fault ++ 10 ∷ [])
+      → ComesTo arguments text Refused (config_refusal_text fault ++ 10 ∷ [])
   refused : (config : Config) (refusal : Refusal) → IsFirstLine text (first_line.Read config)
       → Checks 1 [] (lines_of text) (Err refusal)
-      → ComesTo text Refused (refusal_text refusal ++ 10 ∷ [])
+      → ComesTo arguments text Refused (refusal_text refusal ++ 10 ∷ [])
   ran : (config : Config) {lines : List Line} (transcript : Transcript) (settled : Settled)
       → IsFirstLine text (first_line.Read config)
       → Checks 1 [] (lines_of text) (Ok lines)
-      → IsRun (config_line text) (as_nanos config.resolve_timeout) lines transcript settled
-      → ComesTo text (status_of (ran_out_of_memory transcript.answers.items))
+      → IsRun (config_line text) (setting_of arguments.places arguments.full config.resolve_timeout) lines
+      transcript settled
+      → ComesTo arguments text (status_of (ran_out_of_memory transcript.answers.items))
       (transcript_text lines transcript.answers.items transcript.counts)
 
 -- all that the script comes to was printed
-pub record IsPrinted (input old new : Option (List ℕ)) (status : Status) : Type 0 where
+pub record IsPrinted (arguments : Arguments) (input old new : Option (List ℕ)) (status : Status)
+    : Type 0 where
   pub text : List ℕ
   pub output : List ℕ
   pub read : IsReadOf input text
-  pub comes : ComesTo text status output
+  pub comes : ComesTo arguments text status output
   pub printed : Appends old new output
 
 -- a write failed: a beginning of what the script comes to was printed
-pub record IsCutShort (input old new : Option (List ℕ)) : Type 0 where
+pub record IsCutShort (arguments : Arguments) (input old new : Option (List ℕ)) : Type 0 where
   pub text : List ℕ
   pub status : Status
   pub output : List ℕ
   pub read : IsReadOf input text
-  pub comes : ComesTo text status output
+  pub comes : ComesTo arguments text status output
   pub printed : AppendsBeginning old new output
 
--- how a replay ends, over the input's bytes and what the output holds before and
+-- how a replay ends under its arguments, over the input's bytes and what the output holds before and
 -- after. Where the script wasn't read, or the program ran out of memory, nothing was printed
-abbrev pub IsReplay : Option (List ℕ) → Option (List ℕ) → Status → Option (List ℕ) → Type 0
-IsReplay input old Done new = IsPrinted input old new Done
-IsReplay input old Refused new = IsPrinted input old new Refused
-IsReplay input old CallOutOfMemory new = IsPrinted input old new CallOutOfMemory
-IsReplay input old OutOfMemory new = Keeps old new
-IsReplay input old ReadFailed new = Keeps old new
-IsReplay input old WriteFailed new = IsCutShort input old new
-IsReplay input old BadArguments new = ⊥
+abbrev pub IsReplay : Arguments → Option (List ℕ) → Option (List ℕ) → Status → Option (List ℕ) → Type 0
+IsReplay arguments input old Done new = IsPrinted arguments input old new Done
+IsReplay arguments input old Refused new = IsPrinted arguments input old new Refused
+IsReplay arguments input old CallOutOfMemory new = IsPrinted arguments input old new CallOutOfMemory
+IsReplay arguments input old OutOfMemory new = Keeps old new
+IsReplay arguments input old ReadFailed new = Keeps old new
+IsReplay arguments input old WriteFailed new = IsCutShort arguments input old new
+IsReplay arguments input old BadArguments new = ⊥
 
 -- what clap has to say of arguments is printed, or a beginning of it where a write failed
 abbrev pub IsTelling : List ℕ → Option (List ℕ) → Status → Option (List ℕ) → Type 0
@@ -93,7 +95,7 @@ IsTelling text old ReadFailed new = ⊥
 pub data IsProgram (given : List (List ℕ)) (input old : Option (List ℕ))
     : Status → Option (List ℕ) → Type 0 where
   replayed : {status : Status} {new : Option (List ℕ)} (arguments : Arguments) → AreRead given arguments
-      → IsReplay input old status new → IsProgram given input old status new
+      → IsReplay arguments input old status new → IsProgram given input old status new
   told : {status : Status} {new : Option (List ℕ)} (text : List ℕ) → AreRefused given
       → IsTelling text old status new → IsProgram given input old status new
   no_memory : {new : Option (List ℕ)} → Keeps old new → IsProgram given input old OutOfMemory new

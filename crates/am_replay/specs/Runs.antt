@@ -1,18 +1,14 @@
 -- What a script's run on a provider of its own comes to.
-use Rattle.std.specs.Prelude.{◌≡◌, ℕ, true, List, map, length, Result, Ok}
-use Rattle.std.specs.Global.{Vec}
+use Rattle.std.specs.Prelude.{◌≡◌, ℕ, true, List, map, length, Ok}
 use Rattle.std.specs.declared.alloc.AllocError.{AllocError}
-use Rattle.am_alert.specs.declared.alert.Alert.{Alert}
-use Rattle.am_store.specs.declared.call.Call.{Call}
-use Rattle.am_cast.specs.Posters.{PassView}
 use Rattle.am_store.specs.Journal.{posts_of}
 use Rattle.am_store.specs.Journal.{journal_of}
 use Rattle.am_provider.specs.BookView.{places_of}
-use Rattle.am_provider.specs.Settling.{IsSettled, own_of}
+use Rattle.am_provider.specs.Settling.{IsSettledFrom}
 use Rattle.am_provider.specs.declared.answers.Counts.{Counts}
 use Rattle.am_provider.specs.declared.settled.Settled.{Settled}
-use Rattle.am_runner.specs.Working.{AreWork}
-use Rattle.am_runner.specs.declared.answer.Answer.{Answer}
+use Rattle.am_runner.specs.Sessions.{Setting}
+use Rattle.am_runner.specs.Working.{AreWork, Outcome}
 use Rattle.am_script.specs.declared.command.Line.{Line}
 use Rattle.am_replay.specs.declared.transcript.Transcript.{Transcript}
 
@@ -22,15 +18,17 @@ pub record AreCountsOf (settled : Settled) (counts : Counts) : Type 0 where
   pub posts : counts.posts ≡ posts_of (journal_of settled.journal)
   pub stored : counts.stored ≡ length settled.store.entries
 
--- The eight threads ran the lines, each its own, and what each answered is told. Their passes settled the
--- provider: one journal has each post of theirs at the place that its line names, and no other post. The
--- counts are that journal's.
-pub record IsRun (configuration : List ℕ) (timeout : ℕ) (lines : List Line) (transcript : Transcript)
+-- The eight threads ran the lines, each its own, and what each answered is told. Their callers settled the
+-- provider: there is one history, in which each accepted call of a line, and each subscription that was left
+-- at the end, has an entry of its own, and no other entry is in it. Each line's answer is the one that the
+-- history gives at its place. The counts are those of the journal that is left of it.
+pub record IsRun (configuration : List ℕ) (setting : Setting) (lines : List Line) (transcript : Transcript)
     (settled : Settled) : Type 0 where
-  pub outcomes : List (Result (Vec (Vec Answer)) AllocError × PassView Alert Call)
+  pub outcomes : List (Outcome AllocError)
   pub script : transcript.lines.items ≡ lines
-  pub work : AreWork configuration timeout lines 8 outcomes
-  pub answered : map (λ one. one.0) outcomes ≡ map Ok transcript.answers.items
-  pub end : IsSettled (own_of (map (λ one. one.1) outcomes)) settled
+  pub work : AreWork configuration setting lines 8 outcomes
+  pub answered : map (λ (one : Outcome AllocError). one.answers) outcomes ≡ map Ok transcript.answers.items
+  pub end : IsSettledFrom (map (λ (one : Outcome AllocError). one.pass) outcomes)
+      (map (λ (one : Outcome AllocError). one.front) outcomes) settled
   pub complete : settled.complete ≡ true
   pub counts : AreCountsOf settled transcript.counts

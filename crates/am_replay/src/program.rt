@@ -53,7 +53,7 @@ fn replay<R: Threads + Wait + Sync, I: Read, O: Write>(
     input: &mut I,
     out: &mut O,
 ) -> Status
-    ensures { IsReplay (I.remaining input.old) (O.contents out.old) result (O.contents out.new) }
+    ensures { IsReplay arguments (I.remaining input.old) (O.contents out.old) result (O.contents out.new) }
 {
     let text = match read_input(alloc, input) {
         Ok(text) => text,
@@ -88,7 +88,7 @@ fn printout_of<R: Threads + Wait + Sync>(
     text: Vec<u8>,
 ) -> Result<Printout, AllocError>
     ensures { IfOk result
-        (λ printout. ComesTo text.items printout.status (string_bytes printout.output)) }
+        (λ printout. ComesTo arguments text.items printout.status (string_bytes printout.output)) }
 {
     match FirstLine::read(alloc, &text)? {
         FirstLine::TooLong => {
@@ -127,7 +127,7 @@ fn printout_under<R: Threads + Wait + Sync>(
 ) -> Result<Printout, AllocError>
     requires { IsFirstLine text.items (FirstLine.Read config.now) }
     ensures { IfOk result
-        (λ printout. ComesTo text.items printout.status (string_bytes printout.output)) }
+        (λ printout. ComesTo arguments text.items printout.status (string_bytes printout.output)) }
 {
     match take_lines(alloc, text) {
         Ok((configuration, lines)) => {

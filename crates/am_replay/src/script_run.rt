@@ -1,13 +1,13 @@
 //! A script's run: a provider of its own, the threads on it, and its end.
 
 ghost use Rattle.std.specs.Prelude.{◌≡◌, ℕ, List, IfOk, Ok, map};
-ghost use Rattle.std.specs.Duration.{as_nanos};
-ghost use Rattle.am_runner.specs.Working.{AreWork};
+ghost use Rattle.am_runner.specs.Sessions.{Setting, setting_of};
+ghost use Rattle.am_runner.specs.Working.{AreWork, outcome_of};
 ghost use Rattle.am_replay.specs.Runs.{IsRun};
 
 use crate::arguments::{Arguments, Mode};
 use crate::transcript::Transcript;
-use am_provider::{Origin, Parts, Pass, Provider, Settled};
+use am_provider::{Caller, Parts, Provider, Recorded, Settled};
 use am_runner::{Answer, Freely, InOrder, ThreadOutcome, Turns, run_threads};
 use am_script::{Line, THREADS};
 use std::alloc::{AllocError, Global};
@@ -39,7 +39,8 @@ pub fn run_script<R: Threads + Wait + Sync>(
     lines: Vec<Line>,
 ) -> Result<Ran, AllocError>
     ensures { IfOk result (λ ran. IsRun settings.now.configuration.now
-        (as_nanos settings.now.resolve_timeout) lines.items ran.transcript ran.settled) }
+        (setting_of settings.now.arguments.places settings.now.arguments.full
+        settings.now.resolve_timeout) lines.items ran.transcript ran.settled) }
 {
     match settings.arguments.mode {
         Mode::Ordered => {
@@ -57,13 +58,14 @@ fn run_in<R: Threads + Wait + Sync, T: Turns + Sync>(
     turns: &T,
 ) -> Result<Ran, AllocError>
     ensures { IfOk result (λ ran. IsRun settings.now.configuration.now
-        (as_nanos settings.now.resolve_timeout) lines.items ran.transcript ran.settled) }
+        (setting_of settings.now.arguments.places settings.now.arguments.full
+        settings.now.resolve_timeout) lines.items ran.transcript ran.settled) }
 {
     let parts = Parts::make(settings.alloc, settings.arguments.places, THREADS)?;
     run_on::<Brand, R, T>(settings, lines, turns, parts)
 }
 
-fn run_on<N: Origin + Send + Sync, R: Threads + Wait + Sync, T: Turns + Sync>(
+fn run_on<N: Recorded + Send + Sync, R: Threads + Wait + Sync, T: Turns + Sync>(
     settings: &Settings<'_, R>,
     lines: Vec<Line>,
     turns: &T,
@@ -71,9 +73,15 @@ fn run_on<N: Origin + Send + Sync, R: Threads + Wait + Sync, T: Turns + Sync>(
 ) -> Result<Ran, AllocError>
     requires table { parts.log.board.shared.table_id ≡ N.table }
     requires ledger { (parts.ledger.name ≡ N.name) × (parts.ledger.parts ≡ N.parts) }
+    requires history { parts.history.board.shared.table_id ≡ N.timeline }
+    requires entries { (parts.history.ledger.name ≡ N.entries)
+        × (parts.history.ledger.parts ≡ N.holders) }
+    requires limits { (parts.log.places ≡ N.places)
+        × (settings.now.arguments.places ≡ N.places) × (settings.now.arguments.full ≡ N.policy) }
     requires posters { parts.posters ≡ 8 }
     ensures { IfOk result (λ ran. IsRun settings.now.configuration.now
-        (as_nanos settings.now.resolve_timeout) lines.items ran.transcript ran.settled) }
+        (setting_of settings.now.arguments.places settings.now.arguments.full
+        settings.now.resolve_timeout) lines.items ran.transcript ran.settled) }
 {
     let Settings {
         rt,
@@ -82,8 +90,8 @@ fn run_on<N: Origin + Send + Sync, R: Threads + Wait + Sync, T: Turns + Sync>(
         resolve_timeout,
         configuration,
     } = *settings;
-    let (provider, passes) = Provider::<N>::begin(alloc, parts, arguments.full, resolve_timeout)?;
-    match run_threads(rt, alloc, &provider, passes, configuration, &lines, turns) {
+    let (provider, callers) = Provider::<N>::begin(alloc, parts, arguments.full, resolve_timeout)?;
+    match run_threads(rt, alloc, &provider, callers, configuration, &lines, turns) {
         Ok(outcomes) => end(rt, alloc, provider, lines, outcomes),
         Err(error) => {
             let _settled = provider.settle(rt, Vec::new(alloc));
@@ -93,7 +101,7 @@ fn run_on<N: Origin + Send + Sync, R: Threads + Wait + Sync, T: Turns + Sync>(
 }
 
 // Ends a provider by what its threads came to.
-fn end<N: Origin, R: Wait>(
+fn end<N: Recorded, R: Wait>(
     rt: &R,
     alloc: Global,
     provider: Provider<N>,
@@ -101,13 +109,14 @@ fn end<N: Origin, R: Wait>(
     outcomes: Vec<ThreadOutcome<N>>,
 ) -> Result<Ran, AllocError>
     requires { N.parts ≡ 8 }
-    ensures { IfOk result (λ ran. (configuration : List ℕ) (timeout : ℕ)
-        → AreWork configuration timeout lines.items 8 outcomes.items
-        → IsRun configuration timeout lines.items ran.transcript ran.settled) }
+    ensures { IfOk result (λ ran. (configuration : List ℕ) (setting : Setting)
+        → AreWork configuration setting lines.items 8
+        (map (λ one. outcome_of one.0 one.1.pass one.1.front) outcomes.items)
+        → IsRun configuration setting lines.items ran.transcript ran.settled) }
 {
     match part(alloc, outcomes) {
-        Ok((answers, passes)) => {
-            let settled = provider.settle(rt, passes);
+        Ok((answers, callers)) => {
+            let settled = provider.settle(rt, callers);
             let counts = settled.counts();
             let transcript = Transcript {
                 lines,
@@ -126,19 +135,19 @@ fn end<N: Origin, R: Wait>(
     }
 }
 
-// What the threads answered, and their passes.
-fn part<N: Origin>(
+// What the threads answered, and their callers.
+fn part<N: Recorded>(
     alloc: Global,
     outcomes: Vec<ThreadOutcome<N>>,
-) -> Result<(Vec<Vec<Vec<Answer>>>, Vec<Pass<N>>), AllocError>
+) -> Result<(Vec<Vec<Vec<Answer>>>, Vec<Caller<N>>), AllocError>
     ensures { IfOk result (λ parted. (map (λ one. one.0) outcomes.items
         ≡ map Ok parted.0.items) × (map (λ one. one.1) outcomes.items ≡ parted.1.items)) }
 {
     let mut answers = Vec::new(alloc);
-    let mut passes = Vec::new(alloc);
-    for (answered, pass) in outcomes {
+    let mut callers = Vec::new(alloc);
+    for (answered, caller) in outcomes {
         answers.push(answered?)?;
-        passes.push(pass)?;
+        callers.push(caller)?;
     }
-    Ok((answers, passes))
+    Ok((answers, callers))
 }

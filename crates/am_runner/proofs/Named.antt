@@ -1,10 +1,11 @@
 -- What is done to the subscription of a name.
-use Rattle.std.proofs.Common.{◌≡◌, ℕ, List, [], ◌∷◌, ◌++◌, Some, IfSome, refl, ap, sym, subst, ◌∙◌, length, get_or, slice_get, slice_set}
+use Rattle.std.proofs.Common.{◌≡◌, ℕ, List, [], ◌∷◌, ◌++◌, Some, Ok, IfSome, refl, ap, sym, subst, ◌∙◌, length, get_or, slice_get, slice_set}
 use Rattle.std.proofs.lemmas.List.{length-set}
 use Rattle.std.proofs.lemmas.List.Quantifiers.{position-Some}
 use Rattle.std.proofs.lemmas.Option.{slice_get-get_or}
 use Rattle.std.specs.Str.{bytes_eq}
-use Rattle.am_provider.specs.Subscriptions.{taken}
+use Rattle.am_provider.specs.Callers.{SeesCall}
+use Rattle.am_provider.specs.Headline.{AnswersSubscribe}
 use Rattle.am_config.specs.declared.config.Config.{Config}
 use Rattle.am_script.specs.declared.command.Command.{Command}
 use Rattle.am_script.specs.declared.command.Command.TheVariants.{Subscribe}
@@ -13,7 +14,7 @@ use Rattle.am_script.specs.declared.kind.Kind.{Kind}
 use Rattle.am_script.specs.declared.kind.Kind.TheVariants.{Plain, Dispatch, Inhibit}
 use Rattle.am_runner.specs.Consuming.{HasTaken, fresh_consumer}
 use Rattle.am_runner.specs.Reading.{OpenView}
-use Rattle.am_runner.specs.Sessions.{SessionView, Does, subscribed, OnNamed, one_named, none_named, index_named}
+use Rattle.am_runner.specs.Sessions.{Setting, SessionView, Does, subscribed, OnNamed, one_named, none_named, index_named}
 use Rattle.am_runner.specs.declared.answer.Answer.{Answer}
 use Rattle.am_runner.specs.declared.answer.Answer.TheVariants.{Subscribed}
 
@@ -32,22 +33,17 @@ fresh_took config Plain = tt
 fresh_took config Dispatch = ([], refl, refl)
 fresh_took config Inhibit = refl
 
-pub subscribed_so : (config : Config) (timeout : ℕ) (old new : SessionView) (name : List ℕ) (kind : Kind) (made : OpenView) (lane opening : ℕ)
-    → made.name ≡ name → taken made.subscription ≡ [] → made.consumer ≡ fresh_consumer config kind
+pub subscribed_so : (config : Config) (setting : Setting) (old new : SessionView) (name : List ℕ) (kind : Kind) (made : OpenView) (lane opening : ℕ)
+    → made.name ≡ name → SeesCall old.front new.front (AnswersSubscribe (Ok made.subscription)) → made.consumer ≡ fresh_consumer config kind
     → lane ≡ made.subscription.cursor.lane.number → opening ≡ length made.subscription.opening
-    → new ≡ record old { opened = old.opened ++ made ∷ [] }
-    → Does config timeout old (Subscribe name kind) (Subscribed lane opening ∷ []) new
-subscribed_so config timeout old new name kind made lane opening named unread fresh on_lane counted is =
-    subst (λ (session : SessionView). Does config timeout old (Subscribe name kind) (Subscribed lane opening ∷ []) session) (sym is)
-    (subst (λ (n : ℕ). Does config timeout old (Subscribe name kind) (Subscribed n opening ∷ []) (record old { opened = old.opened ++ made ∷ [] })) (sym on_lane)
-    (subst (λ (n : ℕ). Does config timeout old (Subscribe name kind) (Subscribed made.subscription.cursor.lane.number n ∷ []) (record old { opened = old.opened ++ made ∷ [] })) (sym counted)
-    (subscribed made named unread fresh)))
-
--- a session of which only the subscriptions changed
-pub with_opened : (config : Config) (timeout : ℕ) (old new : SessionView) (command : Command) (answers : List Answer)
-    → new.pass ≡ old.pass → Does config timeout old command answers (record old { opened = new.opened }) → Does config timeout old command answers new
-with_opened config timeout old new command answers kept does =
-    subst (λ (pass : _). Does config timeout old command answers (record { pass = pass; opened = new.opened })) (sym kept) does
+    → new ≡ record old { front = new.front; opened = old.opened ++ made ∷ [] }
+    → Does config setting old (Subscribe name kind) (Subscribed lane opening ∷ []) new
+subscribed_so config setting old new name kind made lane opening named sees fresh on_lane counted is =
+    let then : SessionView = record old { front = new.front; opened = old.opened ++ made ∷ [] } in
+    subst (λ (session : SessionView). Does config setting old (Subscribe name kind) (Subscribed lane opening ∷ []) session) (sym is)
+    (subst (λ (n : ℕ). Does config setting old (Subscribe name kind) (Subscribed n opening ∷ []) then) (sym on_lane)
+    (subst (λ (n : ℕ). Does config setting old (Subscribe name kind) (Subscribed made.subscription.cursor.lane.number n ∷ []) then) (sym counted)
+    (subscribed made named sees fresh)))
 
 -- as many subscriptions are there as before
 pub as_many : (name : List ℕ) (word : Verb) (does : OpenView → List Answer → OpenView → Type 0) (old new : List OpenView) (answers : List Answer) → OnNamed name word does old answers new → length new ≡ length old

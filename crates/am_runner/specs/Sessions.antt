@@ -1,15 +1,23 @@
 -- A thread's pass and its open subscriptions, and what each command of its lines does to them.
 use Rattle.std.specs.Prelude.{◌≡◌, ℕ, zero, suc, List, [], ◌∷◌, ◌++◌, map, length, position, slice_get}
-use Rattle.std.specs.Prelude.{slice_set, remove, Option, Some, None, if◌then◌else◌}
+use Rattle.std.specs.Prelude.{slice_set, remove, Option, Some, None, Ok, Err, if◌then◌else◌}
 use Rattle.std.specs.Option.{option_and_then}
 use Rattle.std.specs.Str.{bytes_eq}
+use Rattle.std.specs.Duration.{as_nanos}
+use Rattle.std.specs.declared.time.Duration.{Duration}
 use Rattle.am_alert.specs.declared.alert.Alert.{Alert}
 use Rattle.am_store.specs.declared.call.Call.{Call}
 use Rattle.am_store.specs.LaneSets.{has_lane}
+use Rattle.std.specs.declared.alloc.AllocError.{AllocError}
 use Rattle.am_cast.specs.Posters.{PassView}
+use Rattle.am_cast.specs.declared.faults.AlreadyClosed.{AlreadyClosed}
+use Rattle.am_history.specs.Fronts.{FrontView}
 use Rattle.am_provider.specs.Posts.{HasMet}
-use Rattle.am_provider.specs.Provided.{IsPostedAs, IsUnread}
-use Rattle.am_provider.specs.Subscriptions.{taken}
+use Rattle.am_provider.specs.Callers.{AnswersBody, SeesCall}
+use Rattle.am_provider.specs.Headline.{AnswersSubscribe, AnswersLeave, AnswersCollect, AnswersClose}
+use Rattle.am_provider.specs.Headline.{AnswersTrim}
+use Rattle.am_provider.specs.Histories.{EntryView}
+use Rattle.am_provider.specs.declared.answers.Policy.{Policy}
 use Rattle.am_provider.specs.declared.answers.Ended.{Ended}
 use Rattle.am_provider.specs.declared.answers.Posted.{Posted}
 use Rattle.am_provider.specs.declared.faults.PostRefused.{PostRefused}
@@ -27,18 +35,32 @@ use Rattle.am_runner.specs.Reading.{OpenView, ReadAnswers, Asks, groups_beside}
 use Rattle.am_runner.specs.declared.answer.Answer.{Answer}
 use Rattle.am_runner.specs.declared.answer.Answer.TheVariants as answer
 
--- a thread's pass, and its open subscriptions in the order in which they were opened
+-- what a script is run under: a resolve timeout in nanoseconds, how many places the log has, and what a post
+-- does if it is full
+pub record Setting : Type 0 where
+  pub timeout : ℕ
+  pub places : ℕ
+  pub policy : Policy
+
+-- the setting of a provider with so many places, a policy and a resolve timeout
+abbrev pub setting_of : ℕ → Policy → Duration → Setting
+setting_of places policy timeout =
+    record { timeout = as_nanos timeout; places = places; policy = policy }
+
+-- a thread's pass, how much of the provider's history it has seen and which entries of it are its own, and
+-- its open subscriptions in the order in which they were opened
 pub record SessionView : Type 0 where
   pub pass : PassView Alert Call
+  pub front : FrontView EntryView
   pub opened : List OpenView
-
--- the pass of who hasn't posted yet
-abbrev pub new_pass : PassView Alert Call
-new_pass = record { noted = []; own = [] }
 
 -- a session that nothing was done in
 abbrev pub new_session : SessionView
-new_session = record { pass = new_pass; opened = [] }
+new_session = record {
+  pass = record { noted = []; own = [] };
+  front = record { seen = []; made = []; parts = 1 };
+  opened = [];
+}
 
 -- where the subscription of this name stands
 abbrev pub index_named : List ℕ → List OpenView → Option ℕ
@@ -73,9 +95,14 @@ pub record LeavesAt (index : ℕ) (old : SessionView) (ended : Ended) (new : Ses
   pub one : OpenView
   pub there : slice_get old.opened index ≡ Some one
   pub opened : new.opened ≡ remove old.opened index
-  pub taken : ended.taken ≡ length (taken one.subscription)
-  pub closed : ended.closed ≡ one.subscription.closed_told
+  pub sees : SeesCall old.front new.front (AnswersLeave one.subscription ended)
   pub met : HasMet one.subscription.cursor.lane.front old.pass new.pass
+
+-- all subscriptions are left, in the order in which they were opened
+pub data LeavesAll : SessionView → SessionView → Type 0 where
+  none_left : {session : SessionView} → session.opened ≡ [] → LeavesAll session session
+  one_left : {old mid new : SessionView} {ended : Ended} → LeavesAt 0 old ended mid → LeavesAll mid new
+      → LeavesAll old new
 
 -- one answer
 pub data IsOne (does : Answer → Type 0) : List Answer → Type 0 where
@@ -106,45 +133,65 @@ AsksNamed name labels at old answers new = OnNamed name verb.Mutes (λ before gi
     IsOne (λ one. Asks (IsAsked labels at) (answer.NotOpen verb.Mutes) before one after) given)
     old answers new
 
--- What a command does to a session, and what it answers, under a configuration and a resolve timeout in
--- nanoseconds. What the provider makes of it is what its calls say.
-pub data Does (config : Config) (timeout : ℕ) (old : SessionView)
+-- What a command does to a session, and what it answers, under a configuration and a setting. What the
+-- provider makes of it is what its calls say, at their places in the one history.
+pub data Does (config : Config) (setting : Setting) (old : SessionView)
     : Command → List Answer → SessionView → Type 0 where
   posted : {at : ℕ} {body : List ℕ} {posted : Posted} {pass : PassView Alert Call}
-      → IsPostedAs at timeout body posted old.pass pass
-      → Does config timeout old (Post at body) (posted_answers posted) (record old { pass = pass })
-  post_refused : {at : ℕ} {body : List ℕ} {why : PostRefused} → IsUnread at timeout body why
-      → Does config timeout old (Post at body) (answer.PostRefused why ∷ []) old
-  subscribed : {name : List ℕ} {kind : Kind} (one : OpenView) → one.name ≡ name
-      → taken one.subscription ≡ [] → one.consumer ≡ fresh_consumer config kind
-      → Does config timeout old (Subscribe name kind)
+      {front : FrontView EntryView}
+      → AnswersBody setting.policy setting.places at setting.timeout body old.pass pass old.front front
+      (Ok posted)
+      → Does config setting old (Post at body) (posted_answers posted)
+      (record old { pass = pass; front = front })
+  post_refused : {at : ℕ} {body : List ℕ} {why : PostRefused} {pass : PassView Alert Call}
+      {front : FrontView EntryView}
+      → AnswersBody setting.policy setting.places at setting.timeout body old.pass pass old.front front
+      (Err why)
+      → Does config setting old (Post at body) (answer.PostRefused why ∷ [])
+      (record old { pass = pass; front = front })
+  subscribed : {name : List ℕ} {kind : Kind} {front : FrontView EntryView} (one : OpenView) → one.name ≡ name
+      → SeesCall old.front front (AnswersSubscribe (Ok one.subscription))
+      → one.consumer ≡ fresh_consumer config kind
+      → Does config setting old (Subscribe name kind)
       (answer.Subscribed one.subscription.cursor.lane.number
       (length one.subscription.opening) ∷ [])
-      (record old { opened = old.opened ++ one ∷ [] })
-  subscribe_refused : {name : List ℕ} {kind : Kind} {why : SubFault}
-      → Does config timeout old (Subscribe name kind) (answer.SubscribeRefused why ∷ []) old
+      (record old { front = front; opened = old.opened ++ one ∷ [] })
+  subscribe_refused : {name : List ℕ} {kind : Kind} {why : SubFault} {front : FrontView EntryView}
+      → SeesCall old.front front (AnswersSubscribe (Err why))
+      → Does config setting old (Subscribe name kind) (answer.SubscribeRefused why ∷ [])
+      (record old { front = front })
   read : {name : List ℕ} {max : ℕ} {answers : List Answer} {opened : List OpenView}
       → ReadsNamed name max old.opened answers opened
-      → Does config timeout old (Read name max) answers (record old { opened = opened })
+      → Does config setting old (Read name max) answers (record old { opened = opened })
   left : {name : List ℕ} {index : ℕ} {ended : Ended} {new : SessionView}
       → index_named name old.opened ≡ Some index → LeavesAt index old ended new
-      → Does config timeout old (Leave name)
+      → Does config setting old (Leave name)
       (answer.Left ended.taken ended.closed ended.cut ∷ []) new
   nothing_to_leave : {name : List ℕ} → index_named name old.opened ≡ None
-      → Does config timeout old (Leave name) (answer.NotOpen verb.Leave ∷ []) old
-  collected : {at removed : ℕ}
-      → Does config timeout old (Collect at) (answer.Collected removed ∷ []) old
-  collect_refused : {at : ℕ} → Does config timeout old (Collect at) (answer.CollectRefused ∷ []) old
-  closed : Does config timeout old Close (answer.CloseAccepted ∷ []) old
-  close_refused : Does config timeout old Close (answer.CloseRefused ∷ []) old
-  trimmed : {dropped : ℕ} → Does config timeout old Trim (answer.Trimmed dropped ∷ []) old
-  trim_refused : Does config timeout old Trim (answer.TrimRefused ∷ []) old
+      → Does config setting old (Leave name) (answer.NotOpen verb.Leave ∷ []) old
+  collected : {at removed : ℕ} {front : FrontView EntryView}
+      → SeesCall old.front front (AnswersCollect {E = AllocError} at (Ok removed))
+      → Does config setting old (Collect at) (answer.Collected removed ∷ []) (record old { front = front })
+  collect_refused : {at : ℕ} {error : AllocError} {front : FrontView EntryView}
+      → SeesCall old.front front (AnswersCollect at (Err error))
+      → Does config setting old (Collect at) (answer.CollectRefused ∷ []) (record old { front = front })
+  closed : {front : FrontView EntryView} → SeesCall old.front front (AnswersClose {U = Unit {0}} (Ok tt))
+      → Does config setting old Close (answer.CloseAccepted ∷ []) (record old { front = front })
+  close_refused : {fault : AlreadyClosed} {front : FrontView EntryView}
+      → SeesCall old.front front (AnswersClose {U = Unit {0}} (Err fault))
+      → Does config setting old Close (answer.CloseRefused ∷ []) (record old { front = front })
+  trimmed : {dropped : ℕ} {front : FrontView EntryView}
+      → SeesCall old.front front (AnswersTrim {E = AllocError} (Ok dropped))
+      → Does config setting old Trim (answer.Trimmed dropped ∷ []) (record old { front = front })
+  trim_refused : {error : AllocError} {front : FrontView EntryView}
+      → SeesCall old.front front (AnswersTrim (Err error))
+      → Does config setting old Trim (answer.TrimRefused ∷ []) (record old { front = front })
   groups : {name : List ℕ} {answers : List Answer}
       → answers ≡ groups_told (named_in name old.opened)
-      → Does config timeout old (Groups name) answers old
+      → Does config setting old (Groups name) answers old
   swept : {name : List ℕ} {at : ℕ} {answers : List Answer} {opened : List OpenView}
       → SweepsNamed name at old.opened answers opened
-      → Does config timeout old (Sweep name at) answers (record old { opened = opened })
+      → Does config setting old (Sweep name at) answers (record old { opened = opened })
   mutes : {name : List ℕ} {at : ℕ} {labels : Labels} {answers : List Answer} {opened : List OpenView}
       → AsksNamed name labels at old.opened answers opened
-      → Does config timeout old (Mutes name at labels) answers (record old { opened = opened })
+      → Does config setting old (Mutes name at labels) answers (record old { opened = opened })

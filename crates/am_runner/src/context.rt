@@ -1,13 +1,13 @@
 //! What the lines of a thread are run on.
 
 use am_config::Config;
-use am_provider::{Origin, Provider};
+use am_provider::{Provider, Recorded};
 use std::alloc::Global;
 
 /// What the lines of a thread are run on: a provider, a configuration, and the turns in which they are
 /// run.
 #[derive(Drop)]
-pub struct Context<'p, 'c, N: Origin, R, T> {
+pub struct Context<'p, 'c, N: Recorded, R, T> {
     pub rt: &'p R,
     pub alloc: Global,
     pub provider: &'p Provider<N>,

@@ -1,10 +1,10 @@
-//! What a thread of a script has: its pass and the subscriptions that its lines opened.
+//! What a thread of a script has: its right to call the provider, and the subscriptions that its lines
+//! opened.
 
-ghost use Rattle.std.specs.Prelude.{◌≡◌, ◌<◌, ◌++◌, ◌∷◌, [], ℕ, IfOk, OnOk, length, map};
-ghost use Rattle.std.specs.Duration.{as_nanos};
+ghost use Rattle.std.specs.Prelude.{◌≡◌, ◌<◌, ◌++◌, ◌∷◌, [], IfOk, OnOk, length, map};
 ghost use Rattle.am_config.specs.declared.config.Config.{Config};
-ghost use Rattle.am_runner.specs.Sessions.{AsksNamed, Does, LeavesAt, ReadsNamed, SessionView};
-ghost use Rattle.am_runner.specs.Sessions.{SweepsNamed, cut_below, groups_told, named_in};
+ghost use Rattle.am_runner.specs.Sessions.{AsksNamed, Does, LeavesAll, LeavesAt, ReadsNamed, Setting};
+ghost use Rattle.am_runner.specs.Sessions.{SweepsNamed, cut_below, groups_told, named_in, setting_of};
 ghost use Rattle.am_runner.specs.Sessions.{index_named, posted_answers};
 
 use crate::answer::{Answer, one};
@@ -13,20 +13,21 @@ use crate::context::Context;
 use crate::open_subscription::OpenSubscription;
 use am_alert::{AlertFault, Moment};
 use am_labels::{LabelSet, Text};
-use am_provider::{AlreadyClosed, Ended, Gate, Origin, Pass, Posted};
+use am_provider::{Caller, Ended, Gate, Posted, Recorded};
 use am_script::{Command, Kind, Verb};
 use am_store::LaneSet;
 use std::alloc::{AllocError, Global};
 use std::marker::Model;
 use std::sync::Wait;
 
-/// A thread's pass, and its open subscriptions in the order in which they were opened.
-pub struct Session<'p, 'c, N: Origin> {
-    pass: Pass<N>,
+/// A thread's right to call the provider, and its open subscriptions in the order in which they were
+/// opened.
+pub struct Session<'p, 'c, N: Recorded> {
+    caller: Caller<N>,
     opened: Vec<OpenSubscription<'p, 'c, N>>,
 }
 
-impl<'p, 'c, N: Origin> Model for Session<'p, 'c, N> {
+impl<'p, 'c, N: Recorded> Model for Session<'p, 'c, N> {
     ghost use Rattle.std.specs.Coded.{codes};
     ghost use Rattle.am_alert.specs.Alerts.{coded_alert};
     ghost use Rattle.am_store.specs.contracts.call.Call as call;
@@ -40,16 +41,20 @@ impl<'p, 'c, N: Origin> Model for Session<'p, 'c, N> {
 
     ghost coded = { Prim.hlevel (codes, coded_alert, call.the_row.coded, lane.the_row.coded, (beside.the_row (record { mir = named 0; lft = [] })).coded) };
 
-    ghost view = { λ s. record { pass = s.pass; opened = s.opened.items } };
+    ghost view = { λ s. record {
+      pass = s.caller.pass;
+      front = s.caller.front;
+      opened = s.opened.items;
+    } };
 }
 
-impl<'p, 'c, N: Origin> Session<'p, 'c, N> {
+impl<'p, 'c, N: Recorded> Session<'p, 'c, N> {
     /// A session with no subscription yet.
-    pub fn begin(alloc: Global, pass: Pass<N>) -> Session<'p, 'c, N>
-        ensures { result ≡ record { pass = pass; opened = [] } }
+    pub fn begin(alloc: Global, caller: Caller<N>) -> Session<'p, 'c, N>
+        ensures { result ≡ record { pass = caller.pass; front = caller.front; opened = [] } }
     {
         Session {
-            pass,
+            caller,
             opened: Vec::new(alloc),
         }
     }
@@ -62,8 +67,8 @@ impl<'p, 'c, N: Origin> Session<'p, 'c, N> {
         command: &Command,
     ) -> Result<Vec<Answer>, AllocError>
         ensures { IfOk result (λ answers. Does context.now.config.now
-            (as_nanos context.now.provider.now.resolve_timeout) self.old command.now answers.items
-            self.new) }
+            (setting_of N.places N.policy context.now.provider.now.resolve_timeout)
+            self.old command.now answers.items self.new) }
     {
         let alloc = context.alloc;
         match command {
@@ -71,9 +76,9 @@ impl<'p, 'c, N: Origin> Session<'p, 'c, N> {
             Command::Subscribe { name, kind } => one(alloc, self.subscribe(context, name, *kind)?),
             Command::Read { name, max } => self.read(alloc, name, *max),
             Command::Leave { name } => one(alloc, self.leave(context, name)),
-            Command::Collect { at } => one(alloc, collect(context, *at)),
-            Command::Close => one(alloc, close(context)),
-            Command::Trim => one(alloc, trim(context)),
+            Command::Collect { at } => one(alloc, self.collect(context, *at)),
+            Command::Close => one(alloc, self.close(context)),
+            Command::Trim => one(alloc, self.trim(context)),
             Command::Groups { name } => self.groups(alloc, name),
             Command::Sweep { name, at } => self.sweep(alloc, name, *at),
             Command::Mutes { name, at, labels } => self.mutes(alloc, name, labels, *at),
@@ -87,12 +92,12 @@ impl<'p, 'c, N: Origin> Session<'p, 'c, N> {
         body: &Text,
     ) -> Result<Vec<Answer>, AllocError>
         ensures { IfOk result (λ answers. (config : Config)
-            → Does config (as_nanos context.now.provider.now.resolve_timeout)
+            → Does config (setting_of N.places N.policy context.now.provider.now.resolve_timeout)
             self.old (Command.Post at body.now) answers.items self.new) }
     {
         let body = body.as_str().as_bytes();
         let provider = context.provider;
-        let posted = match provider.post(context.rt, &mut self.pass, context.turns, body, at) {
+        let posted = match provider.post(context.rt, &mut self.caller, context.turns, body, at) {
             Ok(posted) => posted,
             Err(why) => return one(context.alloc, Answer::PostRefused(why)),
         };
@@ -105,13 +110,13 @@ impl<'p, 'c, N: Origin> Session<'p, 'c, N> {
         name: &Text,
         kind: Kind,
     ) -> Result<Answer, AllocError>
-        ensures { IfOk result (λ answer. (timeout : ℕ) → Does context.now.config.now timeout
+        ensures { IfOk result (λ answer. (setting : Setting) → Does context.now.config.now setting
             self.old (Command.Subscribe name.now kind) (answer ∷ []) self.new) }
     {
         let name = name.copy()?;
         let consumer = Consumer::begin(context.alloc, context.config, kind)?;
         self.opened.reserve(1)?;
-        match context.provider.subscribe(context.rt) {
+        match context.provider.subscribe(context.rt, &mut self.caller) {
             Ok(subscription) => {
                 let answer = Answer::Subscribed {
                     lane: subscription.lane(),
@@ -126,14 +131,14 @@ impl<'p, 'c, N: Origin> Session<'p, 'c, N> {
     }
 
     fn read(&mut self, alloc: Global, name: &Text, max: u32) -> Result<Vec<Answer>, AllocError>
-        ensures { IfOk result (λ answers. (config : Config) (timeout : ℕ) → Does config timeout
+        ensures { IfOk result (λ answers. (config : Config) (setting : Setting) → Does config setting
             self.old (Command.Read name.now max) answers.items self.new) }
     {
         read_named(&mut self.opened, alloc, name, max)
     }
 
     fn leave<R: Wait, G>(&mut self, context: &Context<'p, 'c, N, R, G>, name: &Text) -> Answer
-        ensures { (config : Config) (timeout : ℕ) → Does config timeout
+        ensures { (config : Config) (setting : Setting) → Does config setting
             self.old (Command.Leave name.now) (result ∷ []) self.new }
     {
         match index_named(&self.opened, name) {
@@ -154,20 +159,18 @@ impl<'p, 'c, N: Origin> Session<'p, 'c, N> {
         requires { index < length self.old.opened }
         ensures { LeavesAt index self.old result self.new }
     {
-        let mut subscription = self.opened.remove(index).into_subscription();
-        context.provider.meet(&mut subscription, &mut self.pass);
-        context.provider.leave(context.rt, subscription)
+        leave_one(context, &mut self.caller, &mut self.opened, index)
     }
 
     fn groups(&self, alloc: Global, name: &Text) -> Result<Vec<Answer>, AllocError>
-        ensures { IfOk result (λ answers. (config : Config) (timeout : ℕ) → Does config timeout
+        ensures { IfOk result (λ answers. (config : Config) (setting : Setting) → Does config setting
             self.now (Command.Groups name.now) answers.items self.now) }
     {
         groups_named(&self.opened, alloc, name)
     }
 
     fn sweep(&mut self, alloc: Global, name: &Text, at: Moment) -> Result<Vec<Answer>, AllocError>
-        ensures { IfOk result (λ answers. (config : Config) (timeout : ℕ) → Does config timeout
+        ensures { IfOk result (λ answers. (config : Config) (setting : Setting) → Does config setting
             self.old (Command.Sweep name.now at) answers.items self.new) }
     {
         sweep_named(&mut self.opened, alloc, name, at)
@@ -180,56 +183,77 @@ impl<'p, 'c, N: Origin> Session<'p, 'c, N> {
         labels: &LabelSet,
         at: Moment,
     ) -> Result<Vec<Answer>, AllocError>
-        ensures { IfOk result (λ answers. (config : Config) (timeout : ℕ) → Does config timeout
+        ensures { IfOk result (λ answers. (config : Config) (setting : Setting) → Does config setting
             self.old (Command.Mutes name.now at labels.now) answers.items self.new) }
     {
         ask_named(&mut self.opened, alloc, name, labels, at)
     }
 
-    /// Leaves the open subscriptions in the order in which they were opened, and gives the pass back.
-    pub fn end<R: Wait, G>(mut self, context: &Context<'p, 'c, N, R, G>) -> Pass<N>
-        ensures { result.own ≡ self.entry.pass.own }
+    fn collect<R: Wait, G>(&mut self, context: &Context<'p, 'c, N, R, G>, at: Moment) -> Answer
+        ensures { (config : Config) (setting : Setting) → Does config setting
+            self.old (Command.Collect at) (result ∷ []) self.new }
+    {
+        let provider = context.provider;
+        let removed = match provider.collect_resolved(context.rt, &mut self.caller, at) {
+            Ok(removed) => removed,
+            Err(_) => return Answer::CollectRefused,
+        };
+        Answer::Collected(removed)
+    }
+
+    fn close<R: Wait, G>(&mut self, context: &Context<'p, 'c, N, R, G>) -> Answer
+        ensures { (config : Config) (setting : Setting) → Does config setting
+            self.old Command.Close (result ∷ []) self.new }
+    {
+        let Ok(()) = context.provider.close(context.rt, &mut self.caller) else {
+            return Answer::CloseRefused;
+        };
+        Answer::CloseAccepted
+    }
+
+    fn trim<R: Wait, G>(&mut self, context: &Context<'p, 'c, N, R, G>) -> Answer
+        ensures { (config : Config) (setting : Setting) → Does config setting
+            self.old Command.Trim (result ∷ []) self.new }
+    {
+        let dropped = match context.provider.trim(context.rt, &mut self.caller) {
+            Ok(dropped) => dropped,
+            Err(_) => return Answer::TrimRefused,
+        };
+        Answer::Trimmed(dropped)
+    }
+
+    /// Leaves the open subscriptions in the order in which they were opened, and gives the caller back.
+    pub fn end<R: Wait, G>(mut self, context: &Context<'p, 'c, N, R, G>) -> Caller<N>
+        ensures { LeavesAll self.entry
+            (record { pass = result.pass; front = result.front; opened = [] }) }
     {
         while !self.opened.is_empty() {
             let _ended = self.leave_at(context, 0);
         }
-        let Session { pass, opened } = self;
+        let Session { caller, opened } = self;
         opened.destroy_empty();
-        pass
+        caller
     }
 }
 
-fn collect<N: Origin, R: Wait, G>(context: &Context<'_, '_, N, R, G>, at: Moment) -> Answer
-    ensures { (config : Config) (timeout : ℕ) (session : SessionView) → Does config timeout session
-        (Command.Collect at) (result ∷ []) session }
+// Leaves the subscription at an index.
+fn leave_one<'p, 'c, N: Recorded, R: Wait, G>(
+    context: &Context<'p, 'c, N, R, G>,
+    caller: &mut Caller<N>,
+    opened: &mut Vec<OpenSubscription<'p, 'c, N>>,
+    index: usize,
+) -> Ended
+    requires { index < length opened.old.items }
+    ensures { LeavesAt index
+        (record { pass = caller.old.pass; front = caller.old.front; opened = opened.old.items }) result
+        (record { pass = caller.new.pass; front = caller.new.front; opened = opened.new.items }) }
 {
-    match context.provider.collect_resolved(context.rt, at) {
-        Ok(removed) => Answer::Collected(removed),
-        Err(_) => Answer::CollectRefused,
-    }
+    let mut subscription = opened.remove(index).into_subscription();
+    context.provider.meet(&mut subscription, &mut caller.pass);
+    context.provider.leave(context.rt, caller, subscription)
 }
 
-fn close<N: Origin, R: Wait, G>(context: &Context<'_, '_, N, R, G>) -> Answer
-    ensures { (config : Config) (timeout : ℕ) (session : SessionView) → Does config timeout session
-        Command.Close (result ∷ []) session }
-{
-    match context.provider.close(context.rt) {
-        Ok(()) => Answer::CloseAccepted,
-        Err(AlreadyClosed) => Answer::CloseRefused,
-    }
-}
-
-fn trim<N: Origin, R: Wait, G>(context: &Context<'_, '_, N, R, G>) -> Answer
-    ensures { (config : Config) (timeout : ℕ) (session : SessionView) → Does config timeout session
-        Command.Trim (result ∷ []) session }
-{
-    match context.provider.trim(context.rt) {
-        Ok(dropped) => Answer::Trimmed(dropped),
-        Err(_) => Answer::TrimRefused,
-    }
-}
-
-fn read_named<N: Origin>(
+fn read_named<N: Recorded>(
     opened: &mut [OpenSubscription<'_, '_, N>],
     alloc: Global,
     name: &Text,
@@ -244,7 +268,7 @@ fn read_named<N: Origin>(
     }
 }
 
-fn groups_named<N: Origin>(
+fn groups_named<N: Recorded>(
     opened: &[OpenSubscription<'_, '_, N>],
     alloc: Global,
     name: &Text,
@@ -258,7 +282,7 @@ fn groups_named<N: Origin>(
     }
 }
 
-fn sweep_named<N: Origin>(
+fn sweep_named<N: Recorded>(
     opened: &mut [OpenSubscription<'_, '_, N>],
     alloc: Global,
     name: &Text,
@@ -273,7 +297,7 @@ fn sweep_named<N: Origin>(
     }
 }
 
-fn ask_named<N: Origin>(
+fn ask_named<N: Recorded>(
     opened: &mut [OpenSubscription<'_, '_, N>],
     alloc: Global,
     name: &Text,
@@ -290,7 +314,7 @@ fn ask_named<N: Origin>(
 }
 
 // Where the subscription of that name stands.
-fn index_named<N: Origin>(opened: &[OpenSubscription<'_, '_, N>], name: &Text) -> Option<usize>
+fn index_named<N: Recorded>(opened: &[OpenSubscription<'_, '_, N>], name: &Text) -> Option<usize>
     ensures { result ≡ index_named name.now opened.now }
 {
     opened.iter().position(|open| open.has_name(name))

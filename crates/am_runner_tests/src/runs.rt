@@ -2,7 +2,7 @@
 
 ghost use Rattle.std.specs.Prelude.{◌≡◌, ◌≤◌};
 
-use am_provider::{Counts, Ended, Origin, Parts, Pass, Policy, Provider, Settled};
+use am_provider::{Caller, Counts, Ended, Parts, Policy, Provider, Recorded, Settled};
 use am_runner::{Answer, Freely, InOrder, ThreadOutcome, Turns, run_threads};
 use am_script::{Line, ScriptFault, THREADS, config_line, read_script};
 use am_store::Call;
@@ -201,7 +201,7 @@ pub fn run_lines<R: Threads + Wait + Sync, T: Turns + Sync>(
     })
 }
 
-fn run_over<N: Origin + Send + Sync, R: Threads + Wait + Sync, T: Turns + Sync>(
+fn run_over<N: Recorded + Send + Sync, R: Threads + Wait + Sync, T: Turns + Sync>(
     rt: &R,
     alloc: Global,
     parts: Parts,
@@ -212,28 +212,32 @@ fn run_over<N: Origin + Send + Sync, R: Threads + Wait + Sync, T: Turns + Sync>(
 ) -> Result<(Result<Answers, Stopped>, Settled), Stopped>
     requires table { parts.log.board.shared.table_id ≡ N.table }
     requires ledger { (parts.ledger.name ≡ N.name) × (parts.ledger.parts ≡ N.parts) }
+    requires history { parts.history.board.shared.table_id ≡ N.timeline }
+    requires entries { (parts.history.ledger.name ≡ N.entries)
+        × (parts.history.ledger.parts ≡ N.holders) }
+    requires limits { (parts.log.places ≡ N.places) × (log.policy ≡ N.policy) }
     requires posters { parts.posters ≡ 8 }
 {
     let timeout = Duration::from_secs(RESOLVE_SECONDS);
-    let (provider, passes) = Provider::<N>::begin(alloc, parts, log.policy, timeout)?;
-    let ran = run_threads(rt, alloc, &provider, passes, configuration, lines, turns);
-    let mut passes = Vec::new(alloc);
-    let threads = take_passes(alloc, ran, &mut passes);
-    let settled = provider.settle(rt, passes);
+    let (provider, callers) = Provider::<N>::begin(alloc, parts, log.policy, timeout)?;
+    let ran = run_threads(rt, alloc, &provider, callers, configuration, lines, turns);
+    let mut callers = Vec::new(alloc);
+    let threads = take_callers(alloc, ran, &mut callers);
+    let settled = provider.settle(rt, callers);
     Ok((threads, settled))
 }
 
-// The answers of all threads, whose passes are added to the others. A call that was out of memory spoils
+// The answers of all threads, whose callers are added to the others. A call that was out of memory spoils
 // them.
-fn take_passes<N: Origin>(
+fn take_callers<N: Recorded>(
     alloc: Global,
     ran: Result<Vec<ThreadOutcome<N>>, AllocError>,
-    passes: &mut Vec<Pass<N>>,
+    callers: &mut Vec<Caller<N>>,
 ) -> Result<Answers, Stopped> {
     let mut threads = Vec::new(alloc);
     for outcome in ran? {
-        let (answers, pass) = outcome;
-        passes.push(pass)?;
+        let (answers, caller) = outcome;
+        callers.push(caller)?;
         threads.push(answers?)?;
     }
     if threads.iter().any(is_out_of_memory) {

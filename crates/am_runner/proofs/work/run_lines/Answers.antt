@@ -1,9 +1,9 @@
 use Rattle.std.proofs.Common.{◌≡◌, ◌∙◌, ◌+◌, ◌++◌, ◌∷◌, [], ℕ, suc, List, ap, sym, subst, take, arith}
 use Rattle.std.proofs.Math.Seq.{take-suc}
 use Rattle.std.proofs.lemmas.Bool.{false≢true}
-use Rattle.std.specs.Duration.{as_nanos}
 use Rattle.std.specs.Global.{Vec}
 use Rattle.am_script.specs.declared.command.Line.{Line}
+use Rattle.am_runner.specs.Sessions.{setting_of}
 use Rattle.am_runner.specs.Working.{Works, nothing}
 use Rattle.am_runner.specs.declared.answer.Answer.{Answer}
 use Rattle.am_runner.proofs.Lines.{more_work}
@@ -13,7 +13,7 @@ use Rattle.am_runner.proofs.work.run_lines.Goals as goal
 
 pub loop-at-init : goal.loop-at-init
 loop-at-init g c still =
-    subst (λ (answers : List (Vec Answer)). Works c.args.context.now.config.now (as_nanos c.args.context.now.provider.now.resolve_timeout) c.args.thread c.args.session.now [] answers c.args.session.now) (sym c.new-answers.ensures.items) nothing
+    subst (λ (answers : List (Vec Answer)). Works c.args.context.now.config.now (setting_of g.N.Recorded.places g.N.Recorded.policy c.args.context.now.provider.now.resolve_timeout) c.args.thread c.args.session.now [] answers c.args.session.now) (sym c.new-answers.ensures.items) nothing
 
 pub loop-at-preserved : goal.loop-at-preserved
 loop-at-preserved g c still =
@@ -26,8 +26,8 @@ loop-at-preserved g c still =
     elim c.if-is_err.branch [
       | then-is_err w ↦ absurd (false≢true (sym still ∙ w.failed-is))
       | else-is_err w ↦
-          subst (λ (front : List Line). Works c.args.context.now.config.now (as_nanos c.args.context.now.provider.now.resolve_timeout) c.args.thread c.args.session.now front c.add.new.answers.items c.run_line-given.new.session) (sym grown)
-          (more_work c.args.context.now.config.now (as_nanos c.args.context.now.provider.now.resolve_timeout) c.args.thread c.args.session.now c.loop-at.session c.run_line-given.new.session (take at lines) line c.loop-at.answers.items c.add.new.answers.items c.run_line-given.result
+          subst (λ (front : List Line). Works c.args.context.now.config.now (setting_of g.N.Recorded.places g.N.Recorded.policy c.args.context.now.provider.now.resolve_timeout) c.args.thread c.args.session.now front c.add.new.answers.items c.run_line-given.new.session) (sym grown)
+          (more_work c.args.context.now.config.now (setting_of g.N.Recorded.places g.N.Recorded.policy c.args.context.now.provider.now.resolve_timeout) c.args.thread c.args.session.now c.loop-at.session c.run_line-given.new.session (take at lines) line c.loop-at.answers.items c.add.new.answers.items c.run_line-given.result
           (c.loop-at.invariant (sym w.failed-is ∙ still)) c.run_line-given.ensures.does
           (on_ok_of c.add.result (sym c.is_err.ensures.value ∙ w.if-is_err.false) c.add.ensures))
     ]

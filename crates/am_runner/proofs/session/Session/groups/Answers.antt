@@ -7,6 +7,6 @@ use Rattle.am_runner.proofs.session.Session.groups.Goals as goal
 
 pub returns : goal.returns
 returns g c =
-    if_ok_map c.groups_named.result c.groups_named.ensures (λ answers are config timeout.
-    subst (λ (old : SessionView). Does config timeout old (Groups c.args.name.now) answers.items old) c.self.view_is
+    if_ok_map c.groups_named.result c.groups_named.ensures (λ answers are config setting.
+    subst (λ (old : SessionView). Does config setting old (Groups c.args.name.now) answers.items old) c.self.view_is
     (groups (are ∙ ap (λ (opened : List OpenView). groups_told (named_in c.args.name.now opened)) c.deref.ensures.value)))

@@ -12,8 +12,8 @@ use Rattle.am_runner.proofs.session.Session.mutes.Goals as goal
 
 pub returns : goal.returns
 returns g c =
-    if_ok_map c.ask_named.result c.ask_named.ensures (λ answers does config timeout.
+    if_ok_map c.ask_named.result c.ask_named.ensures (λ answers does config setting.
     let many : length c.ask_named.new.opened ≡ c.self.inside.opened.len = as_many c.args.name.now verb.Mutes (λ before given after. IsOne (λ told. Asks (IsAsked c.args.labels.now c.args.at) (answer.NotOpen verb.Mutes) before told after) given) c.deref_mut.result.now c.ask_named.new.opened answers.items does ∙ (ap length c.deref_mut.ensures.value ∙ sym c.self.inside.opened.ok.0) in
-    subst (λ (opened : List OpenView). Does config timeout c.args.self.now (Mutes c.args.name.now c.args.at c.args.labels.now) answers.items (record { pass = c.self.inside.pass; opened = opened })) (sym (with_items_is c.self.inside.opened c.ask_named.new.opened many))
-    (subst (λ (old : SessionView). Does config timeout old (Mutes c.args.name.now c.args.at c.args.labels.now) answers.items (record { pass = c.self.inside.pass; opened = c.ask_named.new.opened })) c.self.view_is
+    subst (λ (opened : List OpenView). Does config setting c.args.self.now (Mutes c.args.name.now c.args.at c.args.labels.now) answers.items (record { pass = c.self.inside.caller.pass; front = c.self.inside.caller.front; opened = opened })) (sym (with_items_is c.self.inside.opened c.ask_named.new.opened many))
+    (subst (λ (old : SessionView). Does config setting old (Mutes c.args.name.now c.args.at c.args.labels.now) answers.items (record { pass = c.self.inside.caller.pass; front = c.self.inside.caller.front; opened = c.ask_named.new.opened })) c.self.view_is
     (mutes (subst (λ (opened : List OpenView). AsksNamed c.args.name.now c.args.labels.now c.args.at opened answers.items c.ask_named.new.opened) c.deref_mut.ensures.value does))))

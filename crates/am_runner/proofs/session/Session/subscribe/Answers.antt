@@ -1,5 +1,7 @@
-use Rattle.std.proofs.Common.{◌≡◌, ◌∙◌, ◌∷◌, ◌++◌, [], List, Option, IfSome, ap, sym, subst, length}
-use Rattle.am_provider.specs.Subscriptions.{SubscriptionView, taken}
+use Rattle.std.proofs.Common.{◌≡◌, ◌∙◌, ◌∷◌, ◌++◌, [], List, Ok, Option, IfSome, ap, sym, subst, length}
+use Rattle.am_provider.specs.Callers.{SeesCall}
+use Rattle.am_provider.specs.Headline.{AnswersSubscribe}
+use Rattle.am_provider.specs.Subscriptions.{SubscriptionView}
 use Rattle.am_runner.specs.Consuming.{HasTaken, fresh_consumer}
 use Rattle.am_runner.specs.Reading.{OpenView}
 use Rattle.am_runner.specs.Sessions.{SessionView, Does, subscribe_refused}
@@ -13,25 +15,32 @@ pub begin-requires-in-Ok-clause-fresh : goal.begin-requires-in-Ok-clause-fresh
 begin-requires-in-Ok-clause-fresh g c =
     subst (λ (made : Option Consumer). IfSome made (HasTaken [])) (sym c.in_ok-consumer.ensures) (fresh_took c.args.context.now.config.now c.args.kind)
 
+pub begin-requires-in-Ok-clause-unread : goal.begin-requires-in-Ok-clause-unread
+begin-requires-in-Ok-clause-unread g c = c.in-Ok.ensures.sees.answers.fresh.0
+
 pub returns-in-Ok : goal.returns-in-Ok
-returns-in-Ok g c timeout =
+returns-in-Ok g c setting =
     let made = c.begin-in-Ok.result in
-    let view : SessionView = record { pass = c.self.inside.pass; opened = c.self.inside.opened.items } in
-    let now : SessionView = record { pass = c.self.inside.pass; opened = c.push_reserved.new.self.items } in
+    let view : SessionView = record { pass = c.self.inside.caller.pass; front = c.self.inside.caller.front; opened = c.self.inside.opened.items } in
+    let now : SessionView = record { pass = c.subscribe.new.caller.pass; front = c.subscribe.new.caller.front; opened = c.push_reserved.new.self.items } in
     let named : made.name ≡ c.args.name.now = ap (λ (o : OpenView). o.name) c.begin-in-Ok.ensures ∙ c.in_ok-name.ensures in
     let reads : made.subscription ≡ c.in-Ok.subscription = ap (λ (o : OpenView). o.subscription) c.begin-in-Ok.ensures in
-    let unread : taken made.subscription ≡ [] = ap taken reads ∙ c.in-Ok.ensures.fresh.0 in
+    let sees : SeesCall view.front now.front (AnswersSubscribe (Ok made.subscription)) = subst (λ (s : SubscriptionView). SeesCall view.front now.front (AnswersSubscribe (Ok s))) (sym reads) c.in-Ok.ensures.sees in
     let fresh : made.consumer ≡ fresh_consumer c.args.context.now.config.now c.args.kind = ap (λ (o : OpenView). o.consumer) c.begin-in-Ok.ensures ∙ c.in_ok-consumer.ensures in
     let items : c.push_reserved.new.self.items ≡ c.self.inside.opened.items ++ made ∷ [] = c.push_reserved.ensures.items ∙ ap (λ (front : List OpenView). front ++ made ∷ []) c.in_ok-reserve.ensures.items in
-    subst (λ (old : SessionView). Does c.args.context.now.config.now timeout old (Subscribe c.args.name.now c.args.kind) (Subscribed c.lane.result c.opening.result ∷ []) now) c.self.view_is
-    (subscribed_so c.args.context.now.config.now timeout view now c.args.name.now c.args.kind made c.lane.result c.opening.result named unread fresh
+    subst (λ (old : SessionView). Does c.args.context.now.config.now setting old (Subscribe c.args.name.now c.args.kind) (Subscribed c.lane.result c.opening.result ∷ []) now) c.self.view_is
+    (subscribed_so c.args.context.now.config.now setting view now c.args.name.now c.args.kind made c.lane.result c.opening.result named sees fresh
     (c.lane.ensures ∙ ap (λ (s : SubscriptionView). s.cursor.lane.number) (sym reads))
     (c.opening.ensures ∙ ap (λ (s : SubscriptionView). length s.opening) (sym reads))
-    (ap (λ (opened : List OpenView). record { pass = c.self.inside.pass; opened = opened }) items))
+    (λ i. record { pass = c.in-Ok.ensures.pass i; front = c.subscribe.new.caller.front; opened = items i }))
 
 pub returns-in-Err : goal.returns-in-Err
-returns-in-Err g c timeout =
+returns-in-Err g c setting =
     let items : c.reserve.new.self.items ≡ c.self.inside.opened.items = c.in_ok-reserve.ensures.items in
-    subst (λ (old : SessionView). Does c.args.context.now.config.now timeout old (Subscribe c.args.name.now c.args.kind) (SubscribeRefused c.in-Err.why ∷ []) (record { pass = c.self.inside.pass; opened = c.reserve.new.self.items })) c.self.view_is
-    (subst (λ (opened : List OpenView). Does c.args.context.now.config.now timeout (record { pass = c.self.inside.pass; opened = c.self.inside.opened.items }) (Subscribe c.args.name.now c.args.kind) (SubscribeRefused c.in-Err.why ∷ []) (record { pass = c.self.inside.pass; opened = opened })) (sym items)
-    subscribe_refused)
+    let command = Subscribe c.args.name.now c.args.kind in
+    let then : SessionView = record { pass = c.self.inside.caller.pass; front = c.subscribe.new.caller.front; opened = c.self.inside.opened.items } in
+    let now : SessionView = record { pass = c.subscribe.new.caller.pass; front = c.subscribe.new.caller.front; opened = c.reserve.new.self.items } in
+    let same : now ≡ then = λ i. record { pass = c.in-Err.ensures.pass i; front = c.subscribe.new.caller.front; opened = items i } in
+    subst (λ (old : SessionView). Does c.args.context.now.config.now setting old command (SubscribeRefused c.in-Err.why ∷ []) now) c.self.view_is
+    (subst (λ (session : SessionView). Does c.args.context.now.config.now setting (record { pass = c.self.inside.caller.pass; front = c.self.inside.caller.front; opened = c.self.inside.opened.items }) command (SubscribeRefused c.in-Err.why ∷ []) session) (sym same)
+    (subscribe_refused c.in-Err.ensures.sees))

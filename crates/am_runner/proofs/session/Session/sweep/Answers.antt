@@ -12,8 +12,8 @@ use Rattle.am_runner.proofs.session.Session.sweep.Goals as goal
 
 pub returns : goal.returns
 returns g c =
-    if_ok_map c.sweep_named.result c.sweep_named.ensures (λ answers does config timeout.
+    if_ok_map c.sweep_named.result c.sweep_named.ensures (λ answers does config setting.
     let many : length c.sweep_named.new.opened ≡ c.self.inside.opened.len = as_many c.args.name.now verb.Sweep (λ before given after. IsOne (λ told. Asks (IsSwept c.args.at) (answer.NotOpen verb.Sweep) before told after) given) c.deref_mut.result.now c.sweep_named.new.opened answers.items does ∙ (ap length c.deref_mut.ensures.value ∙ sym c.self.inside.opened.ok.0) in
-    subst (λ (opened : List OpenView). Does config timeout c.args.self.now (Sweep c.args.name.now c.args.at) answers.items (record { pass = c.self.inside.pass; opened = opened })) (sym (with_items_is c.self.inside.opened c.sweep_named.new.opened many))
-    (subst (λ (old : SessionView). Does config timeout old (Sweep c.args.name.now c.args.at) answers.items (record { pass = c.self.inside.pass; opened = c.sweep_named.new.opened })) c.self.view_is
+    subst (λ (opened : List OpenView). Does config setting c.args.self.now (Sweep c.args.name.now c.args.at) answers.items (record { pass = c.self.inside.caller.pass; front = c.self.inside.caller.front; opened = opened })) (sym (with_items_is c.self.inside.opened c.sweep_named.new.opened many))
+    (subst (λ (old : SessionView). Does config setting old (Sweep c.args.name.now c.args.at) answers.items (record { pass = c.self.inside.caller.pass; front = c.self.inside.caller.front; opened = c.sweep_named.new.opened })) c.self.view_is
     (swept (subst (λ (opened : List OpenView). SweepsNamed c.args.name.now c.args.at opened answers.items c.sweep_named.new.opened) c.deref_mut.ensures.value does))))

@@ -1,0 +1,22 @@
+use Rattle.std.proofs.Common.{[], ◌∷◌, sym, subst}
+use Rattle.am_alert.specs.declared.alert.Alert.{Alert}
+use Rattle.am_store.specs.declared.call.Call.{Call}
+use Rattle.am_cast.specs.Posters.{PassView}
+use Rattle.am_runner.specs.Sessions.{SessionView, Does, trimmed, trim_refused}
+use Rattle.am_runner.specs.declared.answer.Answer.TheVariants.{Trimmed, TrimRefused}
+use Rattle.am_script.specs.declared.command.Command.TheVariants.{Trim}
+use Rattle.am_runner.proofs.session.Session.trim.Goals as goal
+
+pub returns : goal.returns
+returns g c config setting =
+    let command = Trim in
+    subst (λ (old : SessionView). Does config setting old command (Trimmed c.in-Ok.dropped ∷ []) (record { pass = c.trim.new.caller.pass; front = c.trim.new.caller.front; opened = c.self.inside.opened.items })) c.self.view_is
+    (subst (λ (pass : PassView Alert Call). Does config setting (record { pass = c.self.inside.caller.pass; front = c.self.inside.caller.front; opened = c.self.inside.opened.items }) command (Trimmed c.in-Ok.dropped ∷ []) (record { pass = pass; front = c.trim.new.caller.front; opened = c.self.inside.opened.items })) (sym c.in-Ok.ensures.pass)
+    (trimmed c.in-Ok.ensures.sees))
+
+pub returns-in-Err : goal.returns-in-Err
+returns-in-Err g c config setting =
+    let command = Trim in
+    subst (λ (old : SessionView). Does config setting old command (TrimRefused ∷ []) (record { pass = c.trim.new.caller.pass; front = c.trim.new.caller.front; opened = c.self.inside.opened.items })) c.self.view_is
+    (subst (λ (pass : PassView Alert Call). Does config setting (record { pass = c.self.inside.caller.pass; front = c.self.inside.caller.front; opened = c.self.inside.opened.items }) command (TrimRefused ∷ []) (record { pass = pass; front = c.trim.new.caller.front; opened = c.self.inside.opened.items })) (sym c.in-Err.ensures.pass)
+    (trim_refused c.in-Err.ensures.sees))
