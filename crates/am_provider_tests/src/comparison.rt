@@ -7,7 +7,7 @@ use crate::days::{Day, Settings, Stopped, spend};
 use crate::plain_store::{absorb_each, remove_resolved};
 use crate::stage::Stage;
 use am_alert::{Alert, read_post};
-use am_provider::{Origin, Pass, Step, Subscription};
+use am_provider::{Caller, Recorded, Step, Subscription};
 use std::alloc::{AllocError, Global};
 use std::sync::Wait;
 use std::test::Fail;
@@ -44,7 +44,7 @@ fn next_body(alloc: Global, seed: &mut u64, now: u32) -> Result<String, AllocErr
 }
 
 // Whether the subscription shows these alerts next, and then no more.
-fn shows<N: Origin>(subscription: &mut Subscription<'_, N>, alerts: &[Alert]) -> bool {
+fn shows<N: Recorded>(subscription: &mut Subscription<'_, N>, alerts: &[Alert]) -> bool {
     for alert in alerts {
         match subscription.next() {
             Step::Item(shown) if *shown == *alert => {}
@@ -55,40 +55,44 @@ fn shows<N: Origin>(subscription: &mut Subscription<'_, N>, alerts: &[Alert]) ->
 }
 
 // Takes so many alerts, whatever they are.
-fn skip<N: Origin>(subscription: &mut Subscription<'_, N>, count: u64) {
+fn skip<N: Recorded>(subscription: &mut Subscription<'_, N>, count: u64) {
     for _ in 0..count {
         let _step = subscription.next();
     }
 }
 
 // Whether the provider stores exactly these alerts.
-fn stores<N: Origin, R: Wait>(stage: &Stage<'_, N, R>, alerts: &[Alert]) -> Result<bool, Stopped> {
-    let mut subscription = stage.provider.subscribe(stage.rt)?;
+fn stores<N: Recorded, R: Wait>(
+    stage: &Stage<'_, N, R>,
+    caller: &mut Caller<N>,
+    alerts: &[Alert],
+) -> Result<bool, Stopped> {
+    let mut subscription = stage.provider.subscribe(stage.rt, caller)?;
     let shown = shows(&mut subscription, alerts);
-    stage.provider.leave(stage.rt, subscription);
+    stage.provider.leave(stage.rt, caller, subscription);
     Ok(shown)
 }
 
 // Whether the provider sends out exactly these alerts for a post.
-fn sends<N: Origin, R: Wait>(
+fn sends<N: Recorded, R: Wait>(
     stage: &Stage<'_, N, R>,
-    pass: &mut Pass<N>,
+    caller: &mut Caller<N>,
     body: &[u8],
     now: u32,
     batch: &[Alert],
 ) -> Result<bool, Stopped> {
-    let mut subscription = stage.provider.subscribe(stage.rt)?;
+    let mut subscription = stage.provider.subscribe(stage.rt, caller)?;
     let opening = subscription.opening();
     skip(&mut subscription, opening);
-    let posted = stage.post(pass, body, now);
+    let posted = stage.post(caller, body, now);
     let shown = shows(&mut subscription, batch);
-    stage.provider.leave(stage.rt, subscription);
+    stage.provider.leave(stage.rt, caller, subscription);
     posted?;
     Ok(shown)
 }
 
 // What the list makes of a body.
-fn batch_of<N: Origin, R: Wait>(
+fn batch_of<N: Recorded, R: Wait>(
     stage: &Stage<'_, N, R>,
     list: &mut Vec<Alert>,
     body: &[u8],
@@ -102,9 +106,9 @@ fn batch_of<N: Origin, R: Wait>(
 }
 
 // Whether both take a post alike, and store the same after it. Some posts come late.
-fn agree_on_a_post<N: Origin, R: Wait>(
+fn agree_on_a_post<N: Recorded, R: Wait>(
     stage: &Stage<'_, N, R>,
-    pass: &mut Pass<N>,
+    caller: &mut Caller<N>,
     list: &mut Vec<Alert>,
     seed: &mut u64,
     now: u32,
@@ -112,19 +116,22 @@ fn agree_on_a_post<N: Origin, R: Wait>(
     let late = now.saturating_sub(below(seed, 20));
     let body = next_body(stage.alloc, seed, now)?;
     let batch = batch_of(stage, list, body.as_bytes(), late)?;
-    let sent = sends(stage, pass, body.as_bytes(), late, &batch)?;
-    Ok(sent && stores(stage, list)?)
+    let sent = sends(stage, caller, body.as_bytes(), late, &batch)?;
+    Ok(sent && stores(stage, caller, list)?)
 }
 
 // Whether a collection removes what the list loses, and the provider stores what is left.
-fn agree_on_a_collection<N: Origin, R: Wait>(
+fn agree_on_a_collection<N: Recorded, R: Wait>(
     stage: &Stage<'_, N, R>,
+    caller: &mut Caller<N>,
     list: &mut Vec<Alert>,
     now: u32,
 ) -> Result<bool, Stopped> {
     let want = remove_resolved(list, moment(now));
-    let removed = stage.provider.collect_resolved(stage.rt, moment(now))?;
-    Ok(removed == want && stores(stage, list)?)
+    let removed = stage
+        .provider
+        .collect_resolved(stage.rt, caller, moment(now))?;
+    Ok(removed == want && stores(stage, caller, list)?)
 }
 
 #[derive(Clone, Copy, Drop)]
@@ -134,19 +141,19 @@ struct BesideAList;
 impl Day for BesideAList {
     type Outcome = u32;
 
-    fn spend<N: Origin, R: Wait>(
+    fn spend<N: Recorded, R: Wait>(
         &self,
         stage: &Stage<'_, N, R>,
-        pass: &mut Pass<N>,
+        caller: &mut Caller<N>,
     ) -> Result<u32, Stopped> {
         let mut list = Vec::new(stage.alloc);
         let mut seed = 1;
         for turn in 0..TURNS {
             let now = turn * 10;
-            if !agree_on_a_post(stage, pass, &mut list, &mut seed, now)? {
+            if !agree_on_a_post(stage, caller, &mut list, &mut seed, now)? {
                 return Ok(turn);
             }
-            if turn % 7 == 0 && !agree_on_a_collection(stage, &mut list, now)? {
+            if turn % 7 == 0 && !agree_on_a_collection(stage, caller, &mut list, now)? {
                 return Ok(turn);
             }
         }

@@ -1,16 +1,13 @@
 //! A poster against one reader, at one place in a log that cuts who is slow: however the two meet, the
 //! reader is shown the first of what was posted, and then at most one cut.
 
-ghost use Rattle.std.specs.Prelude.{◌≡◌};
-
 use crate::bodies::{body_of, moment};
-use crate::days::{Settings, Stopped, begin_day, end_day};
+use crate::days::{DayInThreads, Settings, Stopped, spend_in_threads};
 use crate::shown::is_front;
 use am_alert::Moment;
-use am_provider::{NoGate, Origin, Parts, Pass, Policy, Provider, Settled, Step, Subscription};
+use am_provider::{Caller, NoGate, Policy, Provider, Recorded, Settled, Step, Subscription};
 use am_store::LaneSet;
 use std::alloc::{AllocError, Global};
-use std::marker::Brand;
 use std::sync::Wait;
 use std::sync::atomic::{AtomicU8, Ordering};
 use std::test::Fail;
@@ -60,10 +57,10 @@ fn wait_for(began: &AtomicU8, turns: u32) {
 }
 
 // Posts these bodies, and closes. Answers how many were accepted, and how many of them cut the reader.
-fn post_all<N: Origin, R: Wait>(
+fn post_all<N: Recorded, R: Wait>(
     rt: &R,
     provider: &Provider<N>,
-    pass: &mut Pass<N>,
+    caller: &mut Caller<N>,
     bodies: &[String],
     began: &AtomicU8,
     turns: u32,
@@ -72,14 +69,14 @@ fn post_all<N: Origin, R: Wait>(
     let mut cuts: usize = 0;
     for body in bodies {
         wait_for(began, turns);
-        if let Ok(posted) = provider.post(rt, pass, &NoGate, body.as_bytes(), moment(9)) {
+        if let Ok(posted) = provider.post(rt, caller, &NoGate, body.as_bytes(), moment(9)) {
             placed = placed.wrapping_add(1);
             if posted.cut == LaneSet::EMPTY.with(0) {
                 cuts = cuts.wrapping_add(1);
             }
         }
     }
-    let _closed = provider.close(rt);
+    let _closed = provider.close(rt, caller);
     (placed, cuts)
 }
 
@@ -91,7 +88,7 @@ fn rest(turn: u32) {
 }
 
 // Reads until it is told a cut or the log's end, or the turns run out.
-fn read_all<N: Origin>(
+fn read_all<N: Recorded>(
     alloc: Global,
     subscription: &mut Subscription<'_, N>,
     began: &AtomicU8,
@@ -123,7 +120,7 @@ fn read_all<N: Origin>(
 }
 
 // Whether a reader is told that end each time that it asks again.
-fn stays<N: Origin>(subscription: &mut Subscription<'_, N>, end: End) -> bool {
+fn stays<N: Recorded>(subscription: &mut Subscription<'_, N>, end: End) -> bool {
     for _turn in 0..3u32 {
         let again = match subscription.next() {
             Step::Cut => End::Cut,
@@ -137,65 +134,49 @@ fn stays<N: Origin>(subscription: &mut Subscription<'_, N>, end: End) -> bool {
     true
 }
 
-fn race<N: Origin + Send + Sync, R: Threads + Wait + Sync>(
-    rt: &R,
-    alloc: Global,
-    provider: &Provider<N>,
-    passes: &mut [Pass<N>],
-    bodies: &[String],
+/// One round: these bodies, and how many turns the poster waits before each.
+#[derive(Clone, Copy, Drop)]
+struct Race<'a> {
+    bodies: &'a [String],
     turns: u32,
-) -> Result<Round, Stopped> {
-    let pass = passes.first_mut().ok_or(Stopped::Refused)?;
-    let mut subscription = provider.subscribe(rt)?;
-    let began = AtomicU8::new(0);
-    let shared = &began;
-    let reader = &mut subscription;
-    let ((placed, cuts), told) = thread::join(
-        rt,
-        move || post_all(rt, provider, pass, bodies, shared, turns),
-        move || read_all(alloc, reader, shared),
-    );
-    let end = match &told {
-        Ok(told) => told.end,
-        Err(_) => End::Nothing,
-    };
-    let stays = stays(&mut subscription, end);
-    let ended = provider.leave(rt, subscription);
-    Ok(Round {
-        told: told?,
-        stays,
-        placed,
-        cuts,
-        ended_cut: ended.cut,
-    })
 }
 
-fn race_day<N: Origin + Send + Sync, R: Threads + Wait + Sync>(
-    rt: &R,
-    alloc: Global,
-    parts: Parts,
-    settings: Settings,
-    bodies: &[String],
-    turns: u32,
-) -> Result<(Round, Settled), Stopped>
-    requires table { parts.log.board.shared.table_id ≡ N.table }
-    requires ledger { (parts.ledger.name ≡ N.name) × (parts.ledger.parts ≡ N.parts) }
-{
-    let (provider, mut passes) = begin_day::<N>(alloc, parts, settings)?;
-    let outcome = race(rt, alloc, &provider, &mut passes, bodies, turns);
-    end_day(rt, provider, passes, outcome)
-}
+impl<'a> DayInThreads for Race<'a> {
+    type Outcome = Round;
 
-fn race_of<R: Threads + Wait + Sync>(
-    rt: &R,
-    alloc: Global,
-    bodies: &[String],
-    turns: u32,
-) -> Result<(Round, Settled), Stopped> {
-    let mut settings = Settings::of(1, 1);
-    settings.policy = Policy::Cut;
-    let parts = settings.parts(alloc)?;
-    race_day::<Brand, R>(rt, alloc, parts, settings, bodies, turns)
+    fn spend<N: Recorded + Send + Sync, R: Threads + Wait + Sync>(
+        &self,
+        rt: &R,
+        alloc: Global,
+        provider: &Provider<N>,
+        callers: &mut [Caller<N>],
+    ) -> Result<Round, Stopped> {
+        let (poster, others) = callers.split_first_mut().ok_or(Stopped::Refused)?;
+        let reader = others.first_mut().ok_or(Stopped::Refused)?;
+        let Race { bodies, turns } = *self;
+        let mut subscription = provider.subscribe(rt, reader)?;
+        let began = AtomicU8::new(0);
+        let shared = &began;
+        let lent = &mut subscription;
+        let ((placed, cuts), told) = thread::join(
+            rt,
+            move || post_all(rt, provider, poster, bodies, shared, turns),
+            move || read_all(alloc, lent, shared),
+        );
+        let end = match &told {
+            Ok(told) => told.end,
+            Err(_) => End::Nothing,
+        };
+        let stays = stays(&mut subscription, end);
+        let ended = provider.leave(rt, reader, subscription);
+        Ok(Round {
+            told: told?,
+            stays,
+            placed,
+            cuts,
+            ended_cut: ended.cut,
+        })
+    }
 }
 
 // Whether a round is as it has to be, with that many bodies to post.
@@ -222,7 +203,9 @@ fn is_right_round<R: Threads + Wait + Sync>(
     bodies: &[String],
     turns: u32,
 ) -> Result<bool, Stopped> {
-    let (round, settled) = race_of(rt, alloc, bodies, turns)?;
+    let mut settings = Settings::of(1, 2);
+    settings.policy = Policy::Cut;
+    let (round, settled) = spend_in_threads(rt, alloc, settings, &Race { bodies, turns })?;
     Ok(is_right(&round, &settled, bodies.len()))
 }
 

@@ -1,23 +1,25 @@
 //! A provider from its beginning to its end, with a part of a test between. Each test of this crate begins
-//! and ends its provider here: those of one thread as a [`Day`], the others by `begin_day` and `end_day`.
+//! and ends its provider here: those of one thread as a [`Day`], the others as a [`DayInThreads`].
 
 ghost use Rattle.std.specs.Prelude.{◌≡◌, ◌≤◌};
 
 use crate::stage::Stage;
 use am_alert::PostFault;
 use am_provider::{
-    AlreadyClosed, Origin, Parts, Pass, Policy, PostRefused, Provider, PutFault, Settled, SubFault,
+    AlreadyClosed, Caller, Parts, Policy, PostRefused, Provider, PutFault, Recorded, Settled,
+    SubFault,
 };
 use std::alloc::{AllocError, Global};
 use std::marker::Brand;
 use std::sync::Wait;
+use std::thread::Threads;
 use std::time::Duration;
 
 /// Why a day has no outcome.
 #[derive(Clone, Copy, Debug, PartialEq, Eq, Drop)]
 pub enum Stopped {
     NoMemory,
-    /// A call was refused that should not have been, or no pass was there.
+    /// A call was refused that should not have been, or a caller is missing.
     Refused,
 }
 
@@ -59,11 +61,25 @@ pub trait Day {
     /// What it shows.
     type Outcome: Drop;
 
-    /// The pass is the first poster's.
-    fn spend<N: Origin, R: Wait>(
+    /// The caller is the provider's first.
+    fn spend<N: Recorded, R: Wait>(
         &self,
         stage: &Stage<'_, N, R>,
-        pass: &mut Pass<N>,
+        caller: &mut Caller<N>,
+    ) -> Result<Self::Outcome, Stopped>;
+}
+
+/// As a [`Day`], in several threads.
+pub trait DayInThreads {
+    /// What it shows.
+    type Outcome: Drop;
+
+    fn spend<N: Recorded + Send + Sync, R: Threads + Wait + Sync>(
+        &self,
+        rt: &R,
+        alloc: Global,
+        provider: &Provider<N>,
+        callers: &mut [Caller<N>],
     ) -> Result<Self::Outcome, Stopped>;
 }
 
@@ -71,54 +87,31 @@ pub trait Day {
 #[derive(Clone, Copy, Debug, Drop)]
 pub struct Settings {
     places: u32,
-    posters: u32,
+    callers: u32,
     pub policy: Policy,
     pub resolve_timeout: Duration,
     ghost places_fit: { (1 ≤ places) × (places ≤ 256) },
-    ghost posters_fit: { (1 ≤ posters) × (posters ≤ 64) },
+    ghost callers_fit: { (1 ≤ callers) × (callers ≤ 64) },
 }
 
 impl Settings {
-    /// This many places and posters. What there is no place for is refused.
-    pub fn of(places: u32, posters: u32) -> Settings
+    /// This many places and callers. What there is no place for is refused.
+    pub fn of(places: u32, callers: u32) -> Settings
         requires places { (1 ≤ places) × (places ≤ 256) }
-        requires posters { (1 ≤ posters) × (posters ≤ 64) }
+        requires callers { (1 ≤ callers) × (callers ≤ 64) }
     {
         Settings {
             places,
-            posters,
+            callers,
             policy: Policy::Refuse,
             resolve_timeout: Duration::from_secs(300),
         }
     }
 
-    /// The parts of a provider with these places and posters.
-    pub fn parts(&self, alloc: Global) -> Result<Parts, AllocError> {
-        Parts::make(alloc, self.places, self.posters)
+    // The parts of a provider with these places and callers.
+    fn parts(&self, alloc: Global) -> Result<Parts, AllocError> {
+        Parts::make(alloc, self.places, self.callers)
     }
-}
-
-/// A provider that is made of these parts, and its passes.
-pub fn begin_day<N: Origin>(
-    alloc: Global,
-    parts: Parts,
-    settings: Settings,
-) -> Result<(Provider<N>, Vec<Pass<N>>), AllocError>
-    requires table { parts.log.board.shared.table_id ≡ N.table }
-    requires ledger { (parts.ledger.name ≡ N.name) × (parts.ledger.parts ≡ N.parts) }
-{
-    Provider::<N>::begin(alloc, parts, settings.policy, settings.resolve_timeout)
-}
-
-/// What happened with a provider, and what it leaves.
-pub fn end_day<N: Origin, T: Drop, R: Wait>(
-    rt: &R,
-    provider: Provider<N>,
-    passes: Vec<Pass<N>>,
-    outcome: Result<T, Stopped>,
-) -> Result<(T, Settled), Stopped> {
-    let settled = provider.settle(rt, passes);
-    Ok((outcome?, settled))
 }
 
 /// What a provider's day shows, and what it leaves.
@@ -132,7 +125,7 @@ pub fn spend<D: Day, R: Wait>(
     spend_over::<Brand, D, R>(rt, alloc, parts, settings, day)
 }
 
-fn spend_over<N: Origin, D: Day, R: Wait>(
+fn spend_over<N: Recorded, D: Day, R: Wait>(
     rt: &R,
     alloc: Global,
     parts: Parts,
@@ -141,25 +134,71 @@ fn spend_over<N: Origin, D: Day, R: Wait>(
 ) -> Result<(D::Outcome, Settled), Stopped>
     requires table { parts.log.board.shared.table_id ≡ N.table }
     requires ledger { (parts.ledger.name ≡ N.name) × (parts.ledger.parts ≡ N.parts) }
+    requires history { parts.history.board.shared.table_id ≡ N.timeline }
+    requires entries { (parts.history.ledger.name ≡ N.entries)
+        × (parts.history.ledger.parts ≡ N.holders) }
+    requires limits { (parts.log.places ≡ N.places) × (settings.policy ≡ N.policy) }
 {
-    let (provider, mut passes) = begin_day::<N>(alloc, parts, settings)?;
-    let outcome = spend_with(rt, alloc, &provider, &mut passes, day);
-    end_day(rt, provider, passes, outcome)
+    let (provider, mut callers) = Provider::<N>::begin(
+        alloc,
+        parts,
+        settings.policy,
+        settings.resolve_timeout,
+    )?;
+    let outcome = spend_with(rt, alloc, &provider, &mut callers, day);
+    let settled = provider.settle(rt, callers);
+    Ok((outcome?, settled))
 }
 
-// The day, over a provider with its passes.
-fn spend_with<N: Origin, D: Day, R: Wait>(
+// The day, over a provider with its callers.
+fn spend_with<N: Recorded, D: Day, R: Wait>(
     rt: &R,
     alloc: Global,
     provider: &Provider<N>,
-    passes: &mut [Pass<N>],
+    callers: &mut [Caller<N>],
     day: &D,
 ) -> Result<D::Outcome, Stopped> {
-    let pass = passes.first_mut().ok_or(Stopped::Refused)?;
+    let caller = callers.first_mut().ok_or(Stopped::Refused)?;
     let stage = Stage {
         rt,
         alloc,
         provider,
     };
-    day.spend(&stage, pass)
+    day.spend(&stage, caller)
+}
+
+/// As [`spend`], in several threads.
+pub fn spend_in_threads<D: DayInThreads, R: Threads + Wait + Sync>(
+    rt: &R,
+    alloc: Global,
+    settings: Settings,
+    day: &D,
+) -> Result<(D::Outcome, Settled), Stopped> {
+    let parts = settings.parts(alloc)?;
+    in_threads_over::<Brand, D, R>(rt, alloc, parts, settings, day)
+}
+
+fn in_threads_over<N: Recorded + Send + Sync, D: DayInThreads, R: Threads + Wait + Sync>(
+    rt: &R,
+    alloc: Global,
+    parts: Parts,
+    settings: Settings,
+    day: &D,
+) -> Result<(D::Outcome, Settled), Stopped>
+    requires table { parts.log.board.shared.table_id ≡ N.table }
+    requires ledger { (parts.ledger.name ≡ N.name) × (parts.ledger.parts ≡ N.parts) }
+    requires history { parts.history.board.shared.table_id ≡ N.timeline }
+    requires entries { (parts.history.ledger.name ≡ N.entries)
+        × (parts.history.ledger.parts ≡ N.holders) }
+    requires limits { (parts.log.places ≡ N.places) × (settings.policy ≡ N.policy) }
+{
+    let (provider, mut callers) = Provider::<N>::begin(
+        alloc,
+        parts,
+        settings.policy,
+        settings.resolve_timeout,
+    )?;
+    let outcome = day.spend(rt, alloc, &provider, &mut callers);
+    let settled = provider.settle(rt, callers);
+    Ok((outcome?, settled))
 }

@@ -4,7 +4,7 @@ use crate::bodies::end_body;
 use crate::days::{Day, Settings, Stopped, spend};
 use crate::stage::Stage;
 use am_alert::{Moment, PostFault};
-use am_provider::{NoGate, Origin, Pass, PostRefused, Settled, Step, Subscription};
+use am_provider::{Caller, NoGate, PostRefused, Recorded, Settled, Step, Subscription};
 use am_store::Call;
 use std::alloc::Global;
 use std::sync::Wait;
@@ -28,26 +28,26 @@ struct Greatest {
 }
 
 // A post of an alert that gives an end, and one of an alert that doesn't.
-fn post_both<N: Origin, R: Wait>(
+fn post_both<N: Recorded, R: Wait>(
     stage: &Stage<'_, N, R>,
-    pass: &mut Pass<N>,
+    caller: &mut Caller<N>,
     body: &[u8],
 ) -> Result<(Answer, Answer), Stopped> {
-    let ended = post(stage, pass, body)?;
+    let ended = post(stage, caller, body)?;
     Ok((
         ended,
-        post(stage, pass, b"[{\"labels\":{\"open\":\"1\"}}]")?,
+        post(stage, caller, b"[{\"labels\":{\"open\":\"1\"}}]")?,
     ))
 }
 
-fn post<N: Origin, R: Wait>(
+fn post<N: Recorded, R: Wait>(
     stage: &Stage<'_, N, R>,
-    pass: &mut Pass<N>,
+    caller: &mut Caller<N>,
     body: &[u8],
 ) -> Result<Answer, Stopped> {
     match stage
         .provider
-        .post(stage.rt, pass, &NoGate, body, Moment::MAX)
+        .post(stage.rt, caller, &NoGate, body, Moment::MAX)
     {
         Ok(posted) => Ok(Ok((posted.valid, posted.place))),
         Err(fault) => {
@@ -59,7 +59,7 @@ fn post<N: Origin, R: Wait>(
     }
 }
 
-fn count_shown<N: Origin>(subscription: &mut Subscription<'_, N>) -> (u32, u32) {
+fn count_shown<N: Recorded>(subscription: &mut Subscription<'_, N>) -> (u32, u32) {
     let mut at_end: u32 = 0;
     let mut others: u32 = 0;
     for _turn in 0..9u32 {
@@ -88,23 +88,25 @@ struct AtTheEnd<'a> {
 impl<'a> Day for AtTheEnd<'a> {
     type Outcome = Greatest;
 
-    fn spend<N: Origin, R: Wait>(
+    fn spend<N: Recorded, R: Wait>(
         &self,
         stage: &Stage<'_, N, R>,
-        pass: &mut Pass<N>,
+        caller: &mut Caller<N>,
     ) -> Result<Greatest, Stopped> {
-        let mut subscription = stage.provider.subscribe(stage.rt)?;
-        let posted = post_both(stage, pass, self.body.as_bytes());
+        let mut subscription = stage.provider.subscribe(stage.rt, caller)?;
+        let posted = post_both(stage, caller, self.body.as_bytes());
         let shown = count_shown(&mut subscription);
-        stage.provider.leave(stage.rt, subscription);
+        stage.provider.leave(stage.rt, caller, subscription);
         let (ended, open) = posted?;
         let earlier = Moment::try_new(Moment::MAX.nanoseconds() - 1).ok_or(Stopped::Refused)?;
         Ok(Greatest {
             ended,
             open,
             shown,
-            before: stage.provider.collect_resolved(stage.rt, earlier)?,
-            collected: stage.provider.collect_resolved(stage.rt, Moment::MAX)?,
+            before: stage.provider.collect_resolved(stage.rt, caller, earlier)?,
+            collected: stage
+                .provider
+                .collect_resolved(stage.rt, caller, Moment::MAX)?,
         })
     }
 }

@@ -5,6 +5,8 @@
 #[cfg(test)]
 mod bodies;
 #[cfg(test)]
+mod call_numbers;
+#[cfg(test)]
 mod comparison;
 #[cfg(test)]
 mod cut_races;

@@ -2,18 +2,15 @@
 //! again: what each was shown begins what was stored when it came and what became of each report since,
 //! by the journal alone.
 
-ghost use Rattle.std.specs.Prelude.{◌≡◌};
-
 use crate::bodies::{Report, moment, reports_body};
-use crate::days::{Settings, Stopped, begin_day, end_day};
+use crate::days::{DayInThreads, Settings, Stopped, spend_in_threads};
 use crate::many_threads::post_one;
 use am_alert::{Alert, Moment};
-use am_provider::{Counts, Ended, Origin, Parts, Pass, Provider, Settled, Step, Subscription};
+use am_provider::{Caller, Counts, Ended, Provider, Recorded, Settled, Step, Subscription};
 use am_store::Call;
 use std::alloc::{AllocError, Global};
-use std::marker::Brand;
-use std::sync::Wait;
 use std::sync::atomic::{AtomicU32, Ordering};
+use std::sync::{Mutex, Wait};
 use std::test::Fail;
 use std::thread;
 use std::thread::Threads;
@@ -75,11 +72,11 @@ struct Reading {
 
 // Reports one of the label sets. Most reports begin or end within the stored one, so that they are
 // merged; some come earlier than another that was accepted before.
-fn report<N: Origin, R: Wait>(
+fn report<N: Recorded, R: Wait>(
     rt: &R,
     alloc: Global,
     provider: &Provider<N>,
-    pass: &mut Pass<N>,
+    caller: &mut Caller<N>,
     number: u32,
 ) -> Result<bool, AllocError> {
     let label = number % LABELS;
@@ -87,25 +84,25 @@ fn report<N: Origin, R: Wait>(
     let start = 10_000 + label * 10_000 + apart + number % 50;
     let end = start + 100 + number % 30;
     let body = reports_body(alloc, &[Report::new(label, start, end)])?;
-    Ok(post_one(rt, provider, pass, body.as_bytes(), moment(number)))
+    Ok(post_one(rt, provider, caller, body.as_bytes(), moment(number)))
 }
 
 // Each poster in a thread of its own. Answers how many reports were accepted.
-fn report_all<N: Origin + Send + Sync, R: Threads + Wait + Sync>(
+fn report_all<N: Recorded + Send + Sync, R: Threads + Wait + Sync>(
     rt: &R,
     alloc: Global,
     provider: &Provider<N>,
-    passes: &mut [Pass<N>],
+    posters: &mut [Caller<N>],
 ) -> u32 {
     let accepted = AtomicU32::new(0);
     thread::for_each_mut(
         rt,
-        passes,
+        posters,
         4,
-        &|poster, pass| {
+        &|poster, caller| {
             for at in 0..EACH {
                 let number = at * 4 + (poster % 4) as u32;
-                if report(rt, alloc, provider, pass, number) == Ok(true) {
+                if report(rt, alloc, provider, caller, number) == Ok(true) {
                     accepted.fetch_add(1, Ordering::SeqCst);
                 }
             }
@@ -115,7 +112,7 @@ fn report_all<N: Origin + Send + Sync, R: Threads + Wait + Sync>(
 }
 
 // What is shown in so many turns.
-fn read<N: Origin>(
+fn read<N: Recorded>(
     alloc: Global,
     subscription: &mut Subscription<'_, N>,
     turns: u32,
@@ -131,30 +128,52 @@ fn read<N: Origin>(
 }
 
 // Subscribes, reads a while and leaves.
-fn read_once<N: Origin, R: Wait>(
+fn read_once<N: Recorded, R: Wait>(
     rt: &R,
     alloc: Global,
     provider: &Provider<N>,
+    caller: &mut Caller<N>,
     turns: u32,
 ) -> Result<Reading, Stopped> {
-    let mut subscription = provider.subscribe(rt)?;
+    let mut subscription = provider.subscribe(rt, caller)?;
     let seen = read(alloc, &mut subscription, turns);
-    let ended = provider.leave(rt, subscription);
+    let ended = provider.leave(rt, caller, subscription);
     Ok(Reading { seen: seen?, ended })
 }
 
 // Subscribes again and again.
-fn read_again<N: Origin, R: Wait>(
+fn read_again<N: Recorded, R: Wait>(
     rt: &R,
     alloc: Global,
     provider: &Provider<N>,
+    caller: &mut Caller<N>,
 ) -> Result<Vec<Reading>, Stopped> {
     let mut readings = Vec::with_capacity(alloc, EACH as usize)?;
     for turn in 0..EACH {
-        let reading = read_once(rt, alloc, provider, turn % 40)?;
+        let reading = read_once(rt, alloc, provider, caller, turn % 40)?;
         readings.push(reading).map_err(AllocError::from)?;
     }
     Ok(readings)
+}
+
+// Each reader in a thread of its own. What can't be kept for want of memory is missing.
+fn read_each<N: Recorded + Send + Sync, R: Threads + Wait + Sync>(
+    rt: &R,
+    alloc: Global,
+    provider: &Provider<N>,
+    readers: &mut [Caller<N>],
+) -> Vec<Result<Vec<Reading>, Stopped>> {
+    let all = Mutex::new(Vec::new(alloc));
+    thread::for_each_mut(
+        rt,
+        readers,
+        4,
+        &|_reader, caller| {
+            let readings = read_again(rt, alloc, provider, caller);
+            let _kept = all.lock(rt).push(readings);
+        },
+    );
+    all.into_inner()
 }
 
 /// How many reports were accepted, and each reader's readings.
@@ -164,41 +183,27 @@ struct Run {
     readers: Vec<Result<Vec<Reading>, Stopped>>,
 }
 
-fn run_all<N: Origin + Send + Sync, R: Threads + Wait + Sync>(
-    rt: &R,
-    alloc: Global,
-    provider: &Provider<N>,
-    passes: &mut [Pass<N>],
-) -> Result<Run, Stopped> {
-    let (accepted, readers) = thread::join(
-        rt,
-        move || report_all(rt, alloc, provider, passes),
-        move || thread::map_indices(rt, alloc, 4, &|_reader| read_again(rt, alloc, provider)),
-    );
-    Ok(Run {
-        accepted,
-        readers: readers?,
-    })
-}
+#[derive(Clone, Copy, Drop)]
+struct ComeAndGo;
 
-fn run_day<N: Origin + Send + Sync, R: Threads + Wait + Sync>(
-    rt: &R,
-    alloc: Global,
-    parts: Parts,
-    settings: Settings,
-) -> Result<(Run, Settled), Stopped>
-    requires table { parts.log.board.shared.table_id ≡ N.table }
-    requires ledger { (parts.ledger.name ≡ N.name) × (parts.ledger.parts ≡ N.parts) }
-{
-    let (provider, mut passes) = begin_day::<N>(alloc, parts, settings)?;
-    let outcome = run_all(rt, alloc, &provider, &mut passes);
-    end_day(rt, provider, passes, outcome)
-}
+impl DayInThreads for ComeAndGo {
+    type Outcome = Run;
 
-fn run_of<R: Threads + Wait + Sync>(rt: &R, alloc: Global) -> Result<(Run, Settled), Stopped> {
-    let settings = Settings::of(256, 4);
-    let parts = settings.parts(alloc)?;
-    run_day::<Brand, R>(rt, alloc, parts, settings)
+    fn spend<N: Recorded + Send + Sync, R: Threads + Wait + Sync>(
+        &self,
+        rt: &R,
+        alloc: Global,
+        provider: &Provider<N>,
+        callers: &mut [Caller<N>],
+    ) -> Result<Run, Stopped> {
+        let (posters, readers) = callers.split_at_mut_checked(4).ok_or(Stopped::Refused)?;
+        let (accepted, readers) = thread::join(
+            rt,
+            move || report_all(rt, alloc, provider, posters),
+            move || read_each(rt, alloc, provider, readers),
+        );
+        Ok(Run { accepted, readers })
+    }
 }
 
 /// What was stored when a subscription came, and how many alerts had been sent out.
@@ -317,7 +322,7 @@ fn count_right(
 
 #[test]
 fn four_thousand_subscriptions(rt: HostRuntime) -> Result<(), Fail> {
-    let (run, settled) = run_of(&rt, rt.alloc())?;
+    let (run, settled) = spend_in_threads(&rt, rt.alloc(), Settings::of(256, 8), &ComeAndGo)?;
     assert_eq!(rt; run.accepted, 4_000);
     assert_eq!(rt; count_right(rt.alloc(), &settled, &run.readers)?, 4_000);
     assert_eq!(rt; settled.ended.len(), 4_000);

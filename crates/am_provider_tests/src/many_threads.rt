@@ -1,34 +1,31 @@
 //! A provider with four posters, four readers and a close in threads of their own: what each reader
 //! was shown begins what the journal owes it, and is all of it where it was told the end.
 
-ghost use Rattle.std.specs.Prelude.{◌≡◌};
-
 use crate::bodies::{body_of, moment};
-use crate::days::{Settings, Stopped, begin_day, end_day};
+use crate::days::{DayInThreads, Settings, Stopped, spend_in_threads};
 use crate::shown::{Shown, is_front};
 use am_alert::Moment;
 use am_provider::{
-    NoGate, Origin, Parts, Pass, PostRefused, Provider, PutFault, Settled, Step, Subscription,
+    Caller, NoGate, PostRefused, Provider, PutFault, Recorded, Settled, Step, Subscription,
 };
 use am_store::Call;
 use std::alloc::{AllocError, Global};
-use std::marker::Brand;
-use std::sync::Wait;
 use std::sync::atomic::{AtomicU32, Ordering};
+use std::sync::{Mutex, Wait};
 use std::test::Fail;
 use std::thread;
 use std::thread::Threads;
 
 /// Posts a body, and tries again while the log is full. Answers whether it was accepted.
-pub fn post_one<N: Origin, R: Wait>(
+pub fn post_one<N: Recorded, R: Wait>(
     rt: &R,
     provider: &Provider<N>,
-    pass: &mut Pass<N>,
+    caller: &mut Caller<N>,
     body: &[u8],
     now: Moment,
 ) -> bool {
     for _turn in 0..10_000_000u32 {
-        match provider.post(rt, pass, &NoGate, body, now) {
+        match provider.post(rt, caller, &NoGate, body, now) {
             Ok(_) => return true,
             Err(PostRefused::Put(PutFault::Full { lane: _, passed: _ })) => thread::yield_now(),
             Err(_) => return false,
@@ -38,11 +35,11 @@ pub fn post_one<N: Origin, R: Wait>(
 }
 
 // Posts so many alerts of numbers of its own, until one is refused. Answers how many were accepted.
-fn post_some<N: Origin, R: Wait>(
+fn post_some<N: Recorded, R: Wait>(
     rt: &R,
     alloc: Global,
     provider: &Provider<N>,
-    pass: &mut Pass<N>,
+    caller: &mut Caller<N>,
     first: u32,
     count: u32,
 ) -> u32 {
@@ -50,7 +47,7 @@ fn post_some<N: Origin, R: Wait>(
         let Ok(body) = body_of(alloc, first.wrapping_add(at)) else {
             return at;
         };
-        if !post_one(rt, provider, pass, body.as_bytes(), moment(3_000_000)) {
+        if !post_one(rt, provider, caller, body.as_bytes(), moment(3_000_000)) {
             return at;
         }
     }
@@ -58,17 +55,22 @@ fn post_some<N: Origin, R: Wait>(
 }
 
 // Closes once all four readers have subscribed.
-fn close_at_four<N: Origin, R: Wait>(rt: &R, provider: &Provider<N>, arrived: &AtomicU32) {
+fn close_at_four<N: Recorded, R: Wait>(
+    rt: &R,
+    provider: &Provider<N>,
+    caller: &mut Caller<N>,
+    arrived: &AtomicU32,
+) {
     for _turn in 0..10_000_000u32 {
         if arrived.load(Ordering::SeqCst) == 4 {
             break;
         }
         thread::yield_now();
     }
-    let _closed = provider.close(rt);
+    let _closed = provider.close(rt, caller);
 }
 
-fn read_on<N: Origin>(
+fn read_on<N: Recorded>(
     alloc: Global,
     subscription: &mut Subscription<'_, N>,
 ) -> Result<Shown, AllocError> {
@@ -93,16 +95,17 @@ fn read_on<N: Origin>(
 }
 
 // Subscribes, and reads until it is told the end, or the turns run out.
-fn read_all<N: Origin, R: Wait>(
+fn read_all<N: Recorded, R: Wait>(
     rt: &R,
     alloc: Global,
     provider: &Provider<N>,
+    caller: &mut Caller<N>,
     arrived: &AtomicU32,
 ) -> Result<Shown, Stopped> {
-    let mut subscription = provider.subscribe(rt)?;
+    let mut subscription = provider.subscribe(rt, caller)?;
     arrived.fetch_add(1, Ordering::SeqCst);
     let shown = read_on(alloc, &mut subscription);
-    provider.leave(rt, subscription);
+    provider.leave(rt, caller, subscription);
     Ok(shown?)
 }
 
@@ -114,75 +117,77 @@ struct Run {
 }
 
 // Each poster in a thread of its own; the first one has fewer alerts, and closes then.
-fn post_all<N: Origin + Send + Sync, R: Threads + Wait + Sync>(
+fn post_all<N: Recorded + Send + Sync, R: Threads + Wait + Sync>(
     rt: &R,
     alloc: Global,
     provider: &Provider<N>,
-    passes: &mut [Pass<N>],
+    posters: &mut [Caller<N>],
     arrived: &AtomicU32,
 ) -> u32 {
     let posted = AtomicU32::new(0);
     thread::for_each_mut(
         rt,
-        passes,
+        posters,
         4,
-        &|at, pass| {
+        &|at, caller| {
             let first = (at % 4) as u32 * 1000;
             let count = if at == 0 { 100 } else { 200 };
             posted.fetch_add(
-                post_some(rt, alloc, provider, pass, first, count),
+                post_some(rt, alloc, provider, caller, first, count),
                 Ordering::SeqCst,
             );
             if at == 0 {
-                close_at_four(rt, provider, arrived);
+                close_at_four(rt, provider, caller, arrived);
             }
         },
     );
     posted.load(Ordering::SeqCst)
 }
 
-fn run_all<N: Origin + Send + Sync, R: Threads + Wait + Sync>(
+// Each reader in a thread of its own. What can't be kept for want of memory is missing.
+fn read_each<N: Recorded + Send + Sync, R: Threads + Wait + Sync>(
     rt: &R,
     alloc: Global,
     provider: &Provider<N>,
-    passes: &mut [Pass<N>],
-) -> Result<Run, Stopped> {
-    let arrived = AtomicU32::new(0);
-    let shared = &arrived;
-    let (posted, readings) = thread::join(
+    readers: &mut [Caller<N>],
+    arrived: &AtomicU32,
+) -> Vec<Result<Shown, Stopped>> {
+    let readings = Mutex::new(Vec::new(alloc));
+    thread::for_each_mut(
         rt,
-        move || post_all(rt, alloc, provider, passes, shared),
-        move || thread::map_indices(
-            rt,
-            alloc,
-            4,
-            &|_reader| read_all(rt, alloc, provider, shared),
-        ),
+        readers,
+        4,
+        &|_at, caller| {
+            let reading = read_all(rt, alloc, provider, caller, arrived);
+            let _kept = readings.lock(rt).push(reading);
+        },
     );
-    Ok(Run {
-        posted,
-        readings: readings?,
-    })
+    readings.into_inner()
 }
 
-fn run_day<N: Origin + Send + Sync, R: Threads + Wait + Sync>(
-    rt: &R,
-    alloc: Global,
-    parts: Parts,
-    settings: Settings,
-) -> Result<(Run, Settled), Stopped>
-    requires table { parts.log.board.shared.table_id ≡ N.table }
-    requires ledger { (parts.ledger.name ≡ N.name) × (parts.ledger.parts ≡ N.parts) }
-{
-    let (provider, mut passes) = begin_day::<N>(alloc, parts, settings)?;
-    let outcome = run_all(rt, alloc, &provider, &mut passes);
-    end_day(rt, provider, passes, outcome)
-}
+#[derive(Clone, Copy, Drop)]
+struct FourAndFour;
 
-fn run_of<R: Threads + Wait + Sync>(rt: &R, alloc: Global) -> Result<(Run, Settled), Stopped> {
-    let settings = Settings::of(16, 4);
-    let parts = settings.parts(alloc)?;
-    run_day::<Brand, R>(rt, alloc, parts, settings)
+impl DayInThreads for FourAndFour {
+    type Outcome = Run;
+
+    fn spend<N: Recorded + Send + Sync, R: Threads + Wait + Sync>(
+        &self,
+        rt: &R,
+        alloc: Global,
+        provider: &Provider<N>,
+        callers: &mut [Caller<N>],
+    ) -> Result<Run, Stopped> {
+        let (posters, readers) = callers.split_at_mut_checked(4).ok_or(Stopped::Refused)?;
+        let arrived = AtomicU32::new(0);
+        let shared = &arrived;
+        let (posted, readings) = thread::join(
+            rt,
+            move || post_all(rt, alloc, provider, posters, shared),
+            move || read_each(rt, alloc, provider, readers, shared),
+        );
+        Ok(Run { posted, readings })
+    }
 }
 
 // How many alerts the journal's posts have.
@@ -216,7 +221,7 @@ fn count_whole(settled: &Settled, readings: &[Result<Shown, Stopped>]) -> u32 {
 
 #[test]
 fn four_posters_and_four_readers(rt: HostRuntime) -> Result<(), Fail> {
-    let (run, settled) = run_of(&rt, rt.alloc())?;
+    let (run, settled) = spend_in_threads(&rt, rt.alloc(), Settings::of(16, 8), &FourAndFour)?;
     assert_eq!(rt; count_whole(&settled, &run.readings), 4);
     assert_eq!(rt; count_due(&settled), run.posted as usize);
     assert!(rt; settled.complete);

@@ -4,7 +4,8 @@ use crate::bodies::{body_of, moment};
 use crate::days::{Day, Settings, Stopped, spend};
 use crate::stage::{Placed, Stage};
 use am_provider::{
-    Counts, Ended, NoGate, Origin, Pass, Policy, PostRefused, PutFault, Settled, Step, Subscription,
+    Caller, Counts, Ended, NoGate, Policy, PostRefused, PutFault, Recorded, Settled, Step,
+    Subscription,
 };
 use am_store::{Call, LaneSet};
 use std::alloc::{AllocError, Global};
@@ -28,45 +29,49 @@ struct SmallDay;
 impl Day for SmallDay {
     type Outcome = Answers;
 
-    fn spend<N: Origin, R: Wait>(
+    fn spend<N: Recorded, R: Wait>(
         &self,
         stage: &Stage<'_, N, R>,
-        pass: &mut Pass<N>,
+        caller: &mut Caller<N>,
     ) -> Result<Answers, Stopped> {
-        let first = stage.post(pass, b"[]", 0)?;
-        let subscription = stage.provider.subscribe(stage.rt)?;
-        let within = post_and_collect(stage, pass);
-        let ended = stage.provider.leave(stage.rt, subscription);
+        let first = stage.post(caller, b"[]", 0)?;
+        let subscription = stage.provider.subscribe(stage.rt, caller)?;
+        let within = post_and_collect(stage, caller);
+        let ended = stage.provider.leave(stage.rt, caller, subscription);
         let (placed, collected) = within?;
-        stage.provider.close(stage.rt)?;
+        stage.provider.close(stage.rt, caller)?;
         Ok(Answers {
             first,
             placed,
             collected,
             ended,
-            refused: is_closed(stage, pass)?,
-            late: stage.provider.collect_resolved(stage.rt, moment(420))?,
+            refused: is_closed(stage, caller)?,
+            late: stage
+                .provider
+                .collect_resolved(stage.rt, caller, moment(420))?,
         })
     }
 }
 
-fn post_and_collect<N: Origin, R: Wait>(
+fn post_and_collect<N: Recorded, R: Wait>(
     stage: &Stage<'_, N, R>,
-    pass: &mut Pass<N>,
+    caller: &mut Caller<N>,
 ) -> Result<(Option<u64>, u64), Stopped> {
-    let (_, place) = stage.post(pass, b"[{\"labels\":{\"a\":\"1\"}}]", 60)?;
+    let (_, place) = stage.post(caller, b"[{\"labels\":{\"a\":\"1\"}}]", 60)?;
     Ok((
         place,
-        stage.provider.collect_resolved(stage.rt, moment(360))?,
+        stage
+            .provider
+            .collect_resolved(stage.rt, caller, moment(360))?,
     ))
 }
 
 // Whether a post is refused since the log was ended.
-fn is_closed<N: Origin, R: Wait>(
+fn is_closed<N: Recorded, R: Wait>(
     stage: &Stage<'_, N, R>,
-    pass: &mut Pass<N>,
+    caller: &mut Caller<N>,
 ) -> Result<bool, Stopped> {
-    match stage.post(pass, b"[]", 370) {
+    match stage.post(caller, b"[]", 370) {
         Ok(_) => Ok(false),
         Err(PostRefused::Put(PutFault::Closed)) => Ok(true),
         Err(fault) => Err(Stopped::from(fault)),
@@ -146,31 +151,31 @@ struct Lagging;
 impl Day for Lagging {
     type Outcome = (Lag, Ended);
 
-    fn spend<N: Origin, R: Wait>(
+    fn spend<N: Recorded, R: Wait>(
         &self,
         stage: &Stage<'_, N, R>,
-        pass: &mut Pass<N>,
+        caller: &mut Caller<N>,
     ) -> Result<(Lag, Ended), Stopped> {
-        let mut slow = stage.provider.subscribe(stage.rt)?;
-        let lag = with_quick(stage, pass, &mut slow);
-        let ended = stage.provider.leave(stage.rt, slow);
+        let mut slow = stage.provider.subscribe(stage.rt, caller)?;
+        let lag = with_quick(stage, caller, &mut slow);
+        let ended = stage.provider.leave(stage.rt, caller, slow);
         Ok((lag?, ended))
     }
 }
 
-fn with_quick<N: Origin, R: Wait>(
+fn with_quick<N: Recorded, R: Wait>(
     stage: &Stage<'_, N, R>,
-    pass: &mut Pass<N>,
+    caller: &mut Caller<N>,
     slow: &mut Subscription<'_, N>,
 ) -> Result<Lag, Stopped> {
-    let mut quick = stage.provider.subscribe(stage.rt)?;
-    let lag = lag_of(stage, pass, slow, &mut quick);
-    stage.provider.leave(stage.rt, quick);
+    let mut quick = stage.provider.subscribe(stage.rt, caller)?;
+    let lag = lag_of(stage, caller, slow, &mut quick);
+    stage.provider.leave(stage.rt, caller, quick);
     lag
 }
 
 // How many items a subscription shows until it shows none, and whether it was told a cut.
-fn read<N: Origin>(subscription: &mut Subscription<'_, N>, most: u32) -> (u32, bool) {
+fn read<N: Recorded>(subscription: &mut Subscription<'_, N>, most: u32) -> (u32, bool) {
     let mut items: u32 = 0;
     for _turn in 0..most {
         match subscription.next() {
@@ -182,19 +187,19 @@ fn read<N: Origin>(subscription: &mut Subscription<'_, N>, most: u32) -> (u32, b
     (items, false)
 }
 
-fn lag_of<N: Origin, R: Wait>(
+fn lag_of<N: Recorded, R: Wait>(
     stage: &Stage<'_, N, R>,
-    pass: &mut Pass<N>,
+    caller: &mut Caller<N>,
     slow: &mut Subscription<'_, N>,
     quick: &mut Subscription<'_, N>,
 ) -> Result<Lag, Stopped> {
     let first = body_of(stage.alloc, 1)?;
     let second = body_of(stage.alloc, 2)?;
-    stage.post(pass, first.as_bytes(), 10)?;
+    stage.post(caller, first.as_bytes(), 10)?;
     let (items, _) = read(quick, 9);
     let (full, cut) = match stage
         .provider
-        .post(stage.rt, pass, &NoGate, second.as_bytes(), moment(20))
+        .post(stage.rt, caller, &NoGate, second.as_bytes(), moment(20))
     {
         Ok(posted) => (false, posted.cut),
         Err(PostRefused::Put(PutFault::Full { lane, passed })) => (
@@ -288,41 +293,41 @@ struct Carrying;
 impl Day for Carrying {
     type Outcome = Carried;
 
-    fn spend<N: Origin, R: Wait>(
+    fn spend<N: Recorded, R: Wait>(
         &self,
         stage: &Stage<'_, N, R>,
-        pass: &mut Pass<N>,
+        caller: &mut Caller<N>,
     ) -> Result<Carried, Stopped> {
-        let mut subscription = stage.provider.subscribe(stage.rt)?;
-        let within = read_past(stage, pass, &mut subscription);
-        stage.provider.leave(stage.rt, subscription);
+        let mut subscription = stage.provider.subscribe(stage.rt, caller)?;
+        let within = read_past(stage, caller, &mut subscription);
+        stage.provider.leave(stage.rt, caller, subscription);
         let (item, then_pending, kept) = within?;
         Ok(Carried {
             item,
             then_pending,
             kept,
-            trimmed: stage.provider.trim(stage.rt)?,
+            trimmed: stage.provider.trim(stage.rt, caller)?,
         })
     }
 }
 
 // Whether the reader is shown what the poster posted, and then that no more is there; what a trim drops.
-fn read_past<N: Origin, R: Wait>(
+fn read_past<N: Recorded, R: Wait>(
     stage: &Stage<'_, N, R>,
-    pass: &mut Pass<N>,
+    caller: &mut Caller<N>,
     subscription: &mut Subscription<'_, N>,
 ) -> Result<(bool, bool, u64), Stopped> {
-    stage.post(pass, b"[{\"labels\":{\"a\":\"1\"}}]", 60)?;
-    stage.provider.meet(subscription, pass);
-    let item = match subscription.next_past(pass) {
+    stage.post(caller, b"[{\"labels\":{\"a\":\"1\"}}]", 60)?;
+    stage.provider.meet(subscription, &mut caller.pass);
+    let item = match subscription.next_past(&mut caller.pass) {
         Step::Item(_) => true,
         _ => false,
     };
-    let then_pending = match subscription.next_past(pass) {
+    let then_pending = match subscription.next_past(&mut caller.pass) {
         Step::Pending => true,
         _ => false,
     };
-    Ok((item, then_pending, stage.provider.trim(stage.rt)?))
+    Ok((item, then_pending, stage.provider.trim(stage.rt, caller)?))
 }
 
 #[test]

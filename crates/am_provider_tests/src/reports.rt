@@ -3,12 +3,12 @@
 use crate::bodies::{Report, moment};
 use crate::days::{Day, Settings, Stopped, spend};
 use crate::stage::{Placed, Stage};
-use am_provider::{Counts, Ended, Origin, Pass, Step, SubFault, Subscription};
+use am_provider::{Caller, Counts, Ended, Recorded, Step, SubFault, Subscription};
 use std::sync::Wait;
 use std::test::Fail;
 
 // Whether alerts of these starts and ends are shown next, and then no more.
-fn shows<N: Origin>(subscription: &mut Subscription<'_, N>, times: &[(u32, u32)]) -> bool {
+fn shows<N: Recorded>(subscription: &mut Subscription<'_, N>, times: &[(u32, u32)]) -> bool {
     for (start, end) in times {
         match subscription.next() {
             Step::Item(alert) if alert.start == moment(*start) && alert.end == moment(*end) => {}
@@ -23,14 +23,14 @@ fn two_reports() -> [Report; 2] {
 }
 
 // Two reports, a longer one of the first label set, and none.
-fn post_three<N: Origin, R: Wait>(
+fn post_three<N: Recorded, R: Wait>(
     stage: &Stage<'_, N, R>,
-    pass: &mut Pass<N>,
+    caller: &mut Caller<N>,
 ) -> Result<[Placed; 3], Stopped> {
     let longer = [Report::new(1, 15, 25)];
-    let first = stage.post_reports(pass, &two_reports(), 10)?;
-    let second = stage.post_reports(pass, &longer, 15)?;
-    let third = stage.post_reports(pass, &[], 16)?;
+    let first = stage.post_reports(caller, &two_reports(), 10)?;
+    let second = stage.post_reports(caller, &longer, 15)?;
+    let third = stage.post_reports(caller, &[], 16)?;
     Ok([first, second, third])
 }
 
@@ -49,15 +49,15 @@ struct Reaching;
 impl Day for Reaching {
     type Outcome = Reached;
 
-    fn spend<N: Origin, R: Wait>(
+    fn spend<N: Recorded, R: Wait>(
         &self,
         stage: &Stage<'_, N, R>,
-        pass: &mut Pass<N>,
+        caller: &mut Caller<N>,
     ) -> Result<Reached, Stopped> {
-        let mut subscription = stage.provider.subscribe(stage.rt)?;
-        let posted = post_three(stage, pass);
+        let mut subscription = stage.provider.subscribe(stage.rt, caller)?;
+        let posted = post_three(stage, caller);
         let shown = shows(&mut subscription, &[(10, 20), (10, 30), (10, 25)]);
-        let ended = stage.provider.leave(stage.rt, subscription);
+        let ended = stage.provider.leave(stage.rt, caller, subscription);
         Ok(Reached {
             posted: posted?,
             shown,
@@ -96,11 +96,14 @@ struct Late {
 }
 
 // Subscribes, where the alert of two that isn't collected is left.
-fn come_late<N: Origin, R: Wait>(stage: &Stage<'_, N, R>) -> Result<Late, Stopped> {
-    let mut subscription = stage.provider.subscribe(stage.rt)?;
+fn come_late<N: Recorded, R: Wait>(
+    stage: &Stage<'_, N, R>,
+    caller: &mut Caller<N>,
+) -> Result<Late, Stopped> {
+    let mut subscription = stage.provider.subscribe(stage.rt, caller)?;
     let (lane, opening) = (subscription.lane(), subscription.opening());
     let shown = shows(&mut subscription, &[(10, 30)]);
-    let ended = stage.provider.leave(stage.rt, subscription);
+    let ended = stage.provider.leave(stage.rt, caller, subscription);
     Ok(Late {
         lane,
         opening,
@@ -110,10 +113,13 @@ fn come_late<N: Origin, R: Wait>(stage: &Stage<'_, N, R>) -> Result<Late, Stoppe
 }
 
 // Why a subscription is refused.
-fn refusal<N: Origin, R: Wait>(stage: &Stage<'_, N, R>) -> Option<SubFault> {
-    match stage.provider.subscribe(stage.rt) {
+fn refusal<N: Recorded, R: Wait>(
+    stage: &Stage<'_, N, R>,
+    caller: &mut Caller<N>,
+) -> Option<SubFault> {
+    match stage.provider.subscribe(stage.rt, caller) {
         Ok(subscription) => {
-            stage.provider.leave(stage.rt, subscription);
+            stage.provider.leave(stage.rt, caller, subscription);
             None
         }
         Err(fault) => Some(fault),
@@ -136,21 +142,23 @@ struct Collecting;
 impl Day for Collecting {
     type Outcome = Collected;
 
-    fn spend<N: Origin, R: Wait>(
+    fn spend<N: Recorded, R: Wait>(
         &self,
         stage: &Stage<'_, N, R>,
-        pass: &mut Pass<N>,
+        caller: &mut Caller<N>,
     ) -> Result<Collected, Stopped> {
-        let posted = stage.post_reports(pass, &two_reports(), 10)?;
-        let removed = stage.provider.collect_resolved(stage.rt, moment(20))?;
-        let late = come_late(stage)?;
-        stage.provider.close(stage.rt)?;
+        let posted = stage.post_reports(caller, &two_reports(), 10)?;
+        let removed = stage
+            .provider
+            .collect_resolved(stage.rt, caller, moment(20))?;
+        let late = come_late(stage, caller)?;
+        stage.provider.close(stage.rt, caller)?;
         Ok(Collected {
             posted,
             removed,
             late,
-            closed_again: stage.provider.close(stage.rt).is_ok(),
-            refusal: refusal(stage),
+            closed_again: stage.provider.close(stage.rt, caller).is_ok(),
+            refusal: refusal(stage, caller),
         })
     }
 }

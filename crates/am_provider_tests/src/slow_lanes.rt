@@ -4,7 +4,7 @@
 use crate::bodies::moment;
 use crate::days::{Day, Settings, Stopped, spend};
 use crate::stage::Stage;
-use am_provider::{NoGate, Origin, Pass, PostRefused, PutFault, Step, Subscription};
+use am_provider::{Caller, NoGate, PostRefused, PutFault, Recorded, Step, Subscription};
 use std::sync::Wait;
 use std::test::Fail;
 
@@ -30,13 +30,13 @@ struct Filled {
     shown: bool,
 }
 
-fn post_one<N: Origin, R: Wait>(
+fn post_one<N: Recorded, R: Wait>(
     stage: &Stage<'_, N, R>,
-    pass: &mut Pass<N>,
+    caller: &mut Caller<N>,
 ) -> Result<Answer, Stopped> {
     match stage
         .provider
-        .post(stage.rt, pass, &NoGate, BODY, moment(60))
+        .post(stage.rt, caller, &NoGate, BODY, moment(60))
     {
         Ok(posted) => Ok(Answer::Placed(posted.place)),
         Err(PostRefused::Put(PutFault::Full { lane, passed })) => Ok(Answer::Full { lane, passed }),
@@ -45,7 +45,7 @@ fn post_one<N: Origin, R: Wait>(
 }
 
 // Whether so many alerts are shown.
-fn shows<N: Origin>(subscription: &mut Subscription<'_, N>, count: u32) -> bool {
+fn shows<N: Recorded>(subscription: &mut Subscription<'_, N>, count: u32) -> bool {
     for _turn in 0..count {
         match subscription.next() {
             Step::Item(_) => {}
@@ -56,7 +56,7 @@ fn shows<N: Origin>(subscription: &mut Subscription<'_, N>, count: u32) -> bool 
 }
 
 // Whether so many alerts are shown, and then that no more are there. The last one's place is passed then.
-fn shows_all<N: Origin>(subscription: &mut Subscription<'_, N>, count: u32) -> bool {
+fn shows_all<N: Recorded>(subscription: &mut Subscription<'_, N>, count: u32) -> bool {
     if !shows(subscription, count) {
         return false;
     }
@@ -67,25 +67,25 @@ fn shows_all<N: Origin>(subscription: &mut Subscription<'_, N>, count: u32) -> b
 }
 
 // The quick subscriber reads all that comes; the slow and the slowest one stay two places behind.
-fn fill<N: Origin, R: Wait>(
+fn fill<N: Recorded, R: Wait>(
     stage: &Stage<'_, N, R>,
-    pass: &mut Pass<N>,
+    caller: &mut Caller<N>,
     quick: &mut Subscription<'_, N>,
     slow: &mut Subscription<'_, N>,
     slowest: &mut Subscription<'_, N>,
 ) -> Result<Filled, Stopped> {
-    let one = post_one(stage, pass)?;
+    let one = post_one(stage, caller)?;
     let first = shows_all(quick, 1) && shows_all(slow, 1) && shows_all(slowest, 1);
-    let two = post_one(stage, pass)?;
-    let three = post_one(stage, pass)?;
+    let two = post_one(stage, caller)?;
+    let three = post_one(stage, caller)?;
     let all = shows_all(quick, 2);
-    let full = post_one(stage, pass)?;
+    let full = post_one(stage, caller)?;
     let held = shows(slow, 1);
-    let in_hand = post_one(stage, pass)?;
+    let in_hand = post_one(stage, caller)?;
     let passed = shows(slow, 1);
-    let asked = post_one(stage, pass)?;
+    let asked = post_one(stage, caller)?;
     let both = shows(slowest, 2);
-    let last = post_one(stage, pass)?;
+    let last = post_one(stage, caller)?;
     Ok(Filled {
         one,
         two,
@@ -98,26 +98,26 @@ fn fill<N: Origin, R: Wait>(
     })
 }
 
-fn with_slowest<N: Origin, R: Wait>(
+fn with_slowest<N: Recorded, R: Wait>(
     stage: &Stage<'_, N, R>,
-    pass: &mut Pass<N>,
+    caller: &mut Caller<N>,
     quick: &mut Subscription<'_, N>,
     slow: &mut Subscription<'_, N>,
 ) -> Result<Filled, Stopped> {
-    let mut slowest = stage.provider.subscribe(stage.rt)?;
-    let filled = fill(stage, pass, quick, slow, &mut slowest);
-    stage.provider.leave(stage.rt, slowest);
+    let mut slowest = stage.provider.subscribe(stage.rt, caller)?;
+    let filled = fill(stage, caller, quick, slow, &mut slowest);
+    stage.provider.leave(stage.rt, caller, slowest);
     filled
 }
 
-fn with_slow<N: Origin, R: Wait>(
+fn with_slow<N: Recorded, R: Wait>(
     stage: &Stage<'_, N, R>,
-    pass: &mut Pass<N>,
+    caller: &mut Caller<N>,
     quick: &mut Subscription<'_, N>,
 ) -> Result<Filled, Stopped> {
-    let mut slow = stage.provider.subscribe(stage.rt)?;
-    let filled = with_slowest(stage, pass, quick, &mut slow);
-    stage.provider.leave(stage.rt, slow);
+    let mut slow = stage.provider.subscribe(stage.rt, caller)?;
+    let filled = with_slowest(stage, caller, quick, &mut slow);
+    stage.provider.leave(stage.rt, caller, slow);
     filled
 }
 
@@ -127,14 +127,14 @@ struct Filling;
 impl Day for Filling {
     type Outcome = Filled;
 
-    fn spend<N: Origin, R: Wait>(
+    fn spend<N: Recorded, R: Wait>(
         &self,
         stage: &Stage<'_, N, R>,
-        pass: &mut Pass<N>,
+        caller: &mut Caller<N>,
     ) -> Result<Filled, Stopped> {
-        let mut quick = stage.provider.subscribe(stage.rt)?;
-        let filled = with_slow(stage, pass, &mut quick);
-        stage.provider.leave(stage.rt, quick);
+        let mut quick = stage.provider.subscribe(stage.rt, caller)?;
+        let filled = with_slow(stage, caller, &mut quick);
+        stage.provider.leave(stage.rt, caller, quick);
         filled
     }
 }

@@ -2,7 +2,7 @@
 
 use crate::bodies::{Report, moment, reports_body};
 use crate::days::Stopped;
-use am_provider::{NoGate, Origin, Pass, PostRefused, Provider};
+use am_provider::{Caller, NoGate, PostRefused, Provider, Recorded};
 use std::alloc::Global;
 use std::sync::Wait;
 
@@ -11,29 +11,34 @@ pub type Placed = (u32, Option<u64>);
 
 /// A provider, with what its calls take.
 #[derive(Drop)]
-pub struct Stage<'a, N: Origin, R: Wait> {
+pub struct Stage<'a, N: Recorded, R: Wait> {
     pub rt: &'a R,
     pub alloc: Global,
     pub provider: &'a Provider<N>,
 }
 
-impl<'a, N: Origin, R: Wait> Stage<'a, N, R> {
+impl<'a, N: Recorded, R: Wait> Stage<'a, N, R> {
     /// Posts a body.
-    pub fn post(&self, pass: &mut Pass<N>, body: &[u8], at: u32) -> Result<Placed, PostRefused> {
+    pub fn post(
+        &self,
+        caller: &mut Caller<N>,
+        body: &[u8],
+        at: u32,
+    ) -> Result<Placed, PostRefused> {
         let posted = self
             .provider
-            .post(self.rt, pass, &NoGate, body, moment(at))?;
+            .post(self.rt, caller, &NoGate, body, moment(at))?;
         Ok((posted.valid, posted.place))
     }
 
     /// Posts these reports.
     pub fn post_reports(
         &self,
-        pass: &mut Pass<N>,
+        caller: &mut Caller<N>,
         reports: &[Report],
         at: u32,
     ) -> Result<Placed, Stopped> {
         let body = reports_body(self.alloc, reports)?;
-        Ok(self.post(pass, body.as_bytes(), at)?)
+        Ok(self.post(caller, body.as_bytes(), at)?)
     }
 }

@@ -3,14 +3,14 @@
 use crate::bodies::{Report, moment};
 use crate::days::{Day, Settings, Stopped, spend};
 use crate::stage::Stage;
-use am_provider::{Counts, Ended, Origin, Pass};
+use am_provider::{Caller, Counts, Ended, Recorded};
 use std::sync::Wait;
 use std::test::Fail;
 
 // Posts one report at its start. The number names its label set.
-fn post_one<N: Origin, R: Wait>(
+fn post_one<N: Recorded, R: Wait>(
     stage: &Stage<'_, N, R>,
-    pass: &mut Pass<N>,
+    caller: &mut Caller<N>,
     number: u32,
 ) -> Result<(), Stopped> {
     let report = Report {
@@ -18,15 +18,18 @@ fn post_one<N: Origin, R: Wait>(
         start: number,
         end: None,
     };
-    stage.post_reports(pass, &[report], number)?;
+    stage.post_reports(caller, &[report], number)?;
     Ok(())
 }
 
 // What a trim drops while a subscription is open that came just now, and what that came to.
-fn trim_while_open<N: Origin, R: Wait>(stage: &Stage<'_, N, R>) -> Result<(u64, Ended), Stopped> {
-    let subscription = stage.provider.subscribe(stage.rt)?;
-    let dropped = stage.provider.trim(stage.rt);
-    let ended = stage.provider.leave(stage.rt, subscription);
+fn trim_while_open<N: Recorded, R: Wait>(
+    stage: &Stage<'_, N, R>,
+    caller: &mut Caller<N>,
+) -> Result<(u64, Ended), Stopped> {
+    let subscription = stage.provider.subscribe(stage.rt, caller)?;
+    let dropped = stage.provider.trim(stage.rt, caller);
+    let ended = stage.provider.leave(stage.rt, caller, subscription);
     Ok((dropped?, ended))
 }
 
@@ -49,26 +52,28 @@ struct Trimming;
 impl Day for Trimming {
     type Outcome = Trimmed;
 
-    fn spend<N: Origin, R: Wait>(
+    fn spend<N: Recorded, R: Wait>(
         &self,
         stage: &Stage<'_, N, R>,
-        pass: &mut Pass<N>,
+        caller: &mut Caller<N>,
     ) -> Result<Trimmed, Stopped> {
-        post_one(stage, pass, 1)?;
-        post_one(stage, pass, 2)?;
-        let posts = stage.provider.trim(stage.rt)?;
-        let (while_open, ended) = trim_while_open(stage)?;
-        let subscription = stage.provider.trim(stage.rt)?;
-        let removed = stage.provider.collect_resolved(stage.rt, moment(9_000))?;
-        stage.provider.close(stage.rt)?;
+        post_one(stage, caller, 1)?;
+        post_one(stage, caller, 2)?;
+        let posts = stage.provider.trim(stage.rt, caller)?;
+        let (while_open, ended) = trim_while_open(stage, caller)?;
+        let subscription = stage.provider.trim(stage.rt, caller)?;
+        let removed = stage
+            .provider
+            .collect_resolved(stage.rt, caller, moment(9_000))?;
+        stage.provider.close(stage.rt, caller)?;
         Ok(Trimmed {
             posts,
             while_open,
             ended,
             subscription,
             removed,
-            at_the_end: stage.provider.trim(stage.rt)?,
-            closed_again: stage.provider.close(stage.rt).is_ok(),
+            at_the_end: stage.provider.trim(stage.rt, caller)?,
+            closed_again: stage.provider.close(stage.rt, caller).is_ok(),
         })
     }
 }
@@ -114,16 +119,16 @@ struct LongRun;
 impl Day for LongRun {
     type Outcome = u32;
 
-    fn spend<N: Origin, R: Wait>(
+    fn spend<N: Recorded, R: Wait>(
         &self,
         stage: &Stage<'_, N, R>,
-        pass: &mut Pass<N>,
+        caller: &mut Caller<N>,
     ) -> Result<u32, Stopped> {
         for turn in 0..20u32 {
             for number in 0..1_000u32 {
-                post_one(stage, pass, number)?;
+                post_one(stage, caller, number)?;
             }
-            if stage.provider.trim(stage.rt)? != 1_000 {
+            if stage.provider.trim(stage.rt, caller)? != 1_000 {
                 return Ok(turn);
             }
         }
