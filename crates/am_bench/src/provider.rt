@@ -4,7 +4,8 @@
 //! trimmed after each TRIM posts, or never if that is 0. The readers read meanwhile. With `ready` there
 //! is one poster, and its posts were read before.
 
-ghost use Rattle.std.specs.Prelude.{◌≡◌, ◌<◌, ◌≤◌};
+ghost use Rattle.std.specs.Prelude.{◌≡◌, ◌+◌, ◌<◌, ◌≤◌};
+ghost use Rattle.am_provider.specs.declared.answers.Policy.TheVariants.{Refuse};
 
 use crate::failure::Failure;
 use crate::printed::Printed;
@@ -12,7 +13,8 @@ use crate::words::{number, small_number};
 use am_alert::{Moment, Post, read_post};
 use am_cast::{LANES, MAX_PLACES};
 use am_provider::{
-    Begun, Book, Cast, NoGate, Origin, Parts, Pass, Policy, Provider, Step, Subscription,
+    Begun, Book, Caller, Cast, NoGate, Origin, Parts, Pass, Policy, Provider, Recorded, Step,
+    Subscription,
 };
 use std::alloc::{AllocError, Global};
 use std::hint::spin_loop;
@@ -36,7 +38,7 @@ pub(crate) struct Load {
     alerts: u64,
     labels: u64,
     trim: u64,
-    ghost some: { (1 ≤ posters) × (posters ≤ 64) × (1 ≤ labels) },
+    ghost some: { (1 ≤ posters) × (posters + readers ≤ 64) × (1 ≤ labels) },
 }
 
 impl Load {
@@ -48,7 +50,10 @@ impl Load {
         let alerts = number(words, 4)?;
         let labels = number(words, 5)?;
         let trim = number(words, 6)?;
-        if posters == 0 || posters > 64 || readers > LANES as u32 || alerts == 0 || labels == 0 {
+        if readers > LANES as u32 || posters == 0 || posters > 64 - readers {
+            return None;
+        }
+        if alerts == 0 || labels == 0 {
             return None;
         }
         Some(Load {
@@ -82,6 +87,14 @@ struct Posted {
     accepted: u64,
     posting: u128,
     subscribing: u128,
+}
+
+impl Posted {
+    const NOTHING: Posted = Posted {
+        accepted: 0,
+        posting: 0,
+        subscribing: 0,
+    };
 }
 
 /// What was measured of a run.
@@ -171,21 +184,45 @@ fn since<R: Clock>(rt: &R, begin: io::Result<Instant>) -> u128 {
 }
 
 // Subscribes, and reads until the log ends.
-fn read<N: Origin, R: Wait + Clock>(rt: &R, provider: &Provider<N>, arrived: &AtomicU64) -> u64 {
-    let Ok(mut subscription) = provider.subscribe(rt) else {
+fn read<N: Recorded, R: Wait + Clock>(
+    rt: &R,
+    provider: &Provider<N>,
+    caller: &mut Caller<N>,
+    arrived: &AtomicU64,
+) -> u64 {
+    let Ok(mut subscription) = provider.subscribe(rt, caller) else {
         return 0;
     };
     arrived.fetch_add(1, Ordering::SeqCst);
     let shown = count_shown(rt, &mut subscription);
-    provider.leave(rt, subscription);
+    provider.leave(rt, caller, subscription);
     shown
 }
 
-// Posts the bodies in turn, trying each again while the log is full. Returns how many were accepted.
-fn post<N: Origin, R: Wait>(
+// Reads in a thread for each reader. Returns how many alerts all of them received.
+fn read_all<N: Recorded + Send + Sync, R: Threads + Wait + Clock + Sync>(
     rt: &R,
     provider: &Provider<N>,
-    pass: &mut Pass<N>,
+    readers: &mut [Caller<N>],
+    arrived: &AtomicU64,
+) -> u64 {
+    let shown = AtomicU64::new(0);
+    thread::for_each_mut(
+        rt,
+        readers,
+        64,
+        &|_reader, caller| {
+            shown.fetch_add(read(rt, provider, caller, arrived), Ordering::SeqCst);
+        },
+    );
+    shown.load(Ordering::SeqCst)
+}
+
+// Posts the bodies in turn, trying each again while the log is full. Returns how many were accepted.
+fn post<N: Recorded, R: Wait>(
+    rt: &R,
+    provider: &Provider<N>,
+    caller: &mut Caller<N>,
     bodies: &[String],
     load: Load,
 ) -> u64 {
@@ -197,7 +234,7 @@ fn post<N: Origin, R: Wait>(
         };
         for _turn in 0..u64::MAX {
             if provider
-                .post(rt, pass, &NoGate, body.as_bytes(), moment(at))
+                .post(rt, caller, &NoGate, body.as_bytes(), moment(at))
                 .is_ok()
             {
                 accepted = accepted.wrapping_add(1);
@@ -206,18 +243,34 @@ fn post<N: Origin, R: Wait>(
             wait(&mut turns);
         }
         if load.trim > 0 && at % load.trim == 0 {
-            let _dropped = provider.trim(rt);
+            let _dropped = provider.trim(rt, caller);
         }
     }
     accepted
 }
 
-// Posts in a thread for each poster once the readers have subscribed, subscribes once more, and closes
-// the log.
-fn post_all<N: Origin + Send + Sync, R: Threads + Wait + Clock + Sync>(
+// Subscribes once more, and closes the log. Returns the nanoseconds of that subscription.
+fn subscribe_last<N: Recorded, R: Wait + Clock>(
     rt: &R,
     provider: &Provider<N>,
-    passes: &mut [Pass<N>],
+    caller: &mut Caller<N>,
+) -> u128 {
+    let begin = Instant::now(rt);
+    let last = provider.subscribe(rt, caller);
+    let subscribing = since(rt, begin);
+    if let Ok(last) = last {
+        provider.leave(rt, caller, last);
+    }
+    let _closed = provider.close(rt, caller);
+    subscribing
+}
+
+// Posts in a thread for each poster once the readers have subscribed. Then the first poster subscribes
+// once more, and closes the log.
+fn post_all<N: Recorded + Send + Sync, R: Threads + Wait + Clock + Sync>(
+    rt: &R,
+    provider: &Provider<N>,
+    posters: &mut [Caller<N>],
     bodies: &[String],
     arrived: &AtomicU64,
     load: Load,
@@ -227,20 +280,17 @@ fn post_all<N: Origin + Send + Sync, R: Threads + Wait + Clock + Sync>(
     let begin = Instant::now(rt);
     thread::for_each_mut(
         rt,
-        passes,
+        posters,
         64,
-        &|_poster, pass| {
-            accepted.fetch_add(post(rt, provider, pass, bodies, load), Ordering::SeqCst);
+        &|_poster, caller| {
+            accepted.fetch_add(post(rt, provider, caller, bodies, load), Ordering::SeqCst);
         },
     );
     let posting = since(rt, begin);
-    let begin = Instant::now(rt);
-    let last = provider.subscribe(rt);
-    let subscribing = since(rt, begin);
-    if let Ok(last) = last {
-        provider.leave(rt, last);
-    }
-    let _closed = provider.close(rt);
+    let subscribing = match posters.first_mut() {
+        Some(first) => subscribe_last(rt, provider, first),
+        None => 0,
+    };
     Posted {
         accepted: accepted.load(Ordering::SeqCst),
         posting,
@@ -260,7 +310,7 @@ fn sum_of(shown: Result<Vec<u64>, AllocError>) -> u64 {
 }
 
 // Posts bodies to a provider while the readers read.
-fn run_bytes<N: Origin + Send + Sync, R: Threads + Wait + Clock + Sync>(
+fn run_bytes<N: Recorded + Send + Sync, R: Threads + Wait + Clock + Sync>(
     rt: &R,
     alloc: Global,
     parts: Parts,
@@ -269,21 +319,27 @@ fn run_bytes<N: Origin + Send + Sync, R: Threads + Wait + Clock + Sync>(
 ) -> Result<Measured, AllocError>
     requires table { parts.log.board.shared.table_id ≡ N.table }
     requires ledger { (parts.ledger.name ≡ N.name) × (parts.ledger.parts ≡ N.parts) }
+    requires history { parts.history.board.shared.table_id ≡ N.timeline }
+    requires entries { (parts.history.ledger.name ≡ N.entries)
+        × (parts.history.ledger.parts ≡ N.holders) }
+    requires limits { (parts.log.places ≡ N.places) × (Refuse ≡ N.policy) }
 {
     let timeout = Duration::from_secs(300);
-    let (provider, mut passes) = Provider::<N>::begin(alloc, parts, Policy::Refuse, timeout)?;
+    let (provider, mut callers) = Provider::<N>::begin(alloc, parts, Policy::Refuse, timeout)?;
     let arrived = AtomicU64::new(0);
-    let (shared, posters, come) = (&provider, &mut passes, &arrived);
-    let readers = load.readers as usize;
-    let (posted, shown) = thread::join(
-        rt,
-        move || post_all(rt, shared, posters, bodies, come, load),
-        move || thread::map_indices(rt, alloc, readers, &|_reader| read(rt, shared, come)),
-    );
-    let settled = provider.settle(rt, passes);
+    let (shared, come) = (&provider, &arrived);
+    let (posted, shown) = match callers.split_at_mut_checked(load.posters as usize) {
+        Some((posters, readers)) => thread::join(
+            rt,
+            move || post_all(rt, shared, posters, bodies, come, load),
+            move || read_all(rt, shared, readers, come),
+        ),
+        None => (Posted::NOTHING, 0),
+    };
+    let settled = provider.settle(rt, callers);
     Ok(Measured {
         posted,
-        shown: sum_of(shown),
+        shown,
         stored: settled.store.len() as u64,
     })
 }
@@ -372,11 +428,6 @@ fn run_ready<N: Origin + Send + Sync, R: Threads + Wait + Clock + Sync>(
     } = Book::<N>::begin(alloc, parts, Policy::Refuse)?;
     let book = Mutex::new(book);
     let arrived = AtomicU64::new(0);
-    let nothing = Posted {
-        accepted: 0,
-        posting: 0,
-        subscribing: 0,
-    };
     let (log, shared, come) = (&cast, &book, &arrived);
     let poster = passes.first_mut();
     let readers = load.readers as usize;
@@ -384,7 +435,7 @@ fn run_ready<N: Origin + Send + Sync, R: Threads + Wait + Clock + Sync>(
         rt,
         move || match poster {
             Some(pass) => post_ready(rt, log, shared, pass, posts, come, load),
-            None => nothing,
+            None => Posted::NOTHING,
         },
         move || thread::map_indices(
             rt,
@@ -413,7 +464,7 @@ fn run<R: Threads + Wait + Clock + Sync>(
         let parts = Parts::make(alloc, MAX_PLACES as u32, 1)?;
         return run_ready::<Brand, R>(rt, alloc, parts, posts, load);
     }
-    let parts = Parts::make(alloc, MAX_PLACES as u32, load.posters)?;
+    let parts = Parts::make(alloc, MAX_PLACES as u32, load.posters + load.readers)?;
     run_bytes::<Brand, R>(rt, alloc, parts, &bodies, load)
 }
 
