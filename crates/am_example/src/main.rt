@@ -5,9 +5,10 @@
 #![tactic(auto)]
 
 ghost use Rattle.std.specs.Prelude.{◌≡◌};
+ghost use Rattle.am_provider.specs.declared.answers.Policy.TheVariants.{Refuse};
 
 use am_alert::Moment;
-use am_provider::{NoGate, Origin, Parts, Pass, Policy, Provider, Step, Subscription};
+use am_provider::{Caller, NoGate, Parts, Policy, Provider, Recorded, Step, Subscription};
 use std::alloc::{AllocError, Global};
 use std::marker::Brand;
 use std::process::ExitCode;
@@ -24,11 +25,11 @@ const BODY: &[u8] = b"[{\"labels\":{\"alertname\":\"DiskFull\"}}]";
 const NEW_YEAR: u128 = 63_839_664_000_000_000_000;
 
 // Posts one alert ten times. A post that is refused, since a reader is too far behind, is made again.
-fn post_ten<N: Origin, R: Wait>(rt: &R, provider: &Provider<N>, pass: &mut Pass<N>) {
+fn post_ten<N: Recorded, R: Wait>(rt: &R, provider: &Provider<N>, caller: &mut Caller<N>) {
     let now = Moment::try_new(NEW_YEAR).unwrap_or(Moment::MAX);
     for _alert in 0..10u32 {
         for _turn in rt.forever() {
-            if provider.post(rt, pass, &NoGate, BODY, now).is_ok() {
+            if provider.post(rt, caller, &NoGate, BODY, now).is_ok() {
                 break;
             }
             thread::yield_now();
@@ -38,7 +39,7 @@ fn post_ten<N: Origin, R: Wait>(rt: &R, provider: &Provider<N>, pass: &mut Pass<
 
 // Reads until it is told the end. `next` takes no lock and no memory; here it is asked again at once where
 // nothing is there.
-fn read_all<N: Origin, R: Wait>(rt: &R, subscription: &mut Subscription<'_, N>) {
+fn read_all<N: Recorded, R: Wait>(rt: &R, subscription: &mut Subscription<'_, N>) {
     for _turn in rt.forever() {
         match subscription.next() {
             Step::Item(_alert) => {}
@@ -48,62 +49,78 @@ fn read_all<N: Origin, R: Wait>(rt: &R, subscription: &mut Subscription<'_, N>) 
     }
 }
 
-// What one run of a provider comes to: how many alerts the reader was shown, and whether each post
-// stands in the journal. `N` stands for this provider alone, so that no pass or subscription of another
-// one fits.
-fn run<N: Origin + Send + Sync, R: Threads + Wait + Sync>(
+// What one run of a provider comes to: how many alerts the reader was shown, and whether all of its callers
+// are back, so that each post stands in the journal. `N` stands for this provider alone, so that no caller or
+// subscription of another one fits.
+fn run<N: Recorded + Send + Sync, R: Threads + Wait + Sync>(
     rt: &R,
     alloc: Global,
     parts: Parts,
 ) -> Result<(u64, bool), AllocError>
     requires table { parts.log.board.shared.table_id ≡ N.table }
     requires ledger { (parts.ledger.name ≡ N.name) × (parts.ledger.parts ≡ N.parts) }
+    requires history { parts.history.board.shared.table_id ≡ N.timeline }
+    requires entries { (parts.history.ledger.name ≡ N.entries)
+        × (parts.history.ledger.parts ≡ N.holders) }
+    requires limits { (parts.log.places ≡ N.places) × (Refuse ≡ N.policy) }
 {
     let timeout = Duration::from_secs(300);
-    let (provider, mut passes) = Provider::<N>::begin(alloc, parts, Policy::Refuse, timeout)?;
-    let shown = match passes.split_first_mut() {
-        Some((first, rest)) => match rest.first_mut() {
-            Some(second) => post_and_read(rt, &provider, first, second),
+    let (provider, mut callers) = Provider::<N>::begin(alloc, parts, Policy::Refuse, timeout)?;
+    let shown = match callers.split_first_mut() {
+        Some((first, rest)) => match rest.split_first_mut() {
+            Some((second, rest)) => match rest.first_mut() {
+                Some(reader) => post_and_read(rt, &provider, first, second, reader),
+                None => 0,
+            },
             None => 0,
         },
         None => 0,
     };
-    let settled = provider.settle(rt, passes);
+    let settled = provider.settle(rt, callers);
     Ok((shown, settled.complete))
 }
 
 // The reader subscribes before the first post, so that it is owed all of them.
-fn post_and_read<N: Origin + Send + Sync, R: Threads + Wait + Sync>(
+fn post_and_read<N: Recorded + Send + Sync, R: Threads + Wait + Sync>(
     rt: &R,
     provider: &Provider<N>,
-    first: &mut Pass<N>,
-    second: &mut Pass<N>,
+    first: &mut Caller<N>,
+    second: &mut Caller<N>,
+    reader: &mut Caller<N>,
 ) -> u64 {
-    let Ok(mut subscription) = provider.subscribe(rt) else {
+    let Ok(mut subscription) = provider.subscribe(rt, reader) else {
         return 0;
     };
-    let reader = &mut subscription;
+    let lent = &mut subscription;
     thread::join(
         rt,
-        move || {
-            thread::join(
-                rt,
-                move || post_ten(rt, provider, first),
-                move || post_ten(rt, provider, second),
-            );
-            let _closed = provider.close(rt);
-        },
-        move || read_all(rt, reader),
+        move || post_all(rt, provider, first, second),
+        move || read_all(rt, lent),
     );
-    provider.leave(rt, subscription).taken
+    provider.leave(rt, reader, subscription).taken
 }
 
-// A provider of its own: a log with 16 places, and two passes.
+// Two threads post, and then no more will come.
+fn post_all<N: Recorded + Send + Sync, R: Threads + Wait + Sync>(
+    rt: &R,
+    provider: &Provider<N>,
+    first: &mut Caller<N>,
+    second: &mut Caller<N>,
+) {
+    thread::join(
+        rt,
+        || post_ten(rt, provider, first),
+        || post_ten(rt, provider, second),
+    );
+    let _closed = provider.close(rt, first);
+}
+
+// A provider of its own: a log with 16 places, and a caller for each of three threads.
 fn run_provider<R: Threads + Wait + Sync>(
     rt: &R,
     alloc: Global,
 ) -> Result<(u64, bool), AllocError> {
-    let parts = Parts::make(alloc, 16, 2)?;
+    let parts = Parts::make(alloc, 16, 3)?;
     run::<Brand, R>(rt, alloc, parts)
 }
 
