@@ -1,13 +1,16 @@
 //! Four threads that post, four that subscribe and leave, and two that collect, beside each other: the number
 //! that each caller reads off its front after a call is that call's number in the journal, counted from one.
 
+ghost use Rattle.std.specs.Prelude.{◌≡◌};
+
 use crate::bodies::{body_of, moment};
-use crate::days::{DayInThreads, Settings, Stopped, spend_in_threads};
+use crate::days::{Settings, Stopped, begin_day};
 use crate::many_threads::post_one;
 use am_alert::Moment;
-use am_provider::{Caller, Provider, Recorded, Settled, Subscription};
+use am_provider::{Caller, Parts, Provider, Recorded, Settled, Subscription};
 use am_store::Call;
 use std::alloc::{AllocError, Global};
+use std::marker::Brand;
 use std::sync::{Mutex, Wait};
 use std::test::Fail;
 use std::thread;
@@ -123,37 +126,57 @@ fn subscribe_each<N: Recorded, R: Wait>(
     Ok(notes)
 }
 
-#[derive(Clone, Copy, Drop)]
-struct TenThreads;
-
 // What each thread noted. What can't be kept for want of memory is missing.
-impl DayInThreads for TenThreads {
-    type Outcome = Vec<Result<Notes, Stopped>>;
+fn ten_threads<N: Recorded + Send + Sync, R: Threads + Wait + Sync>(
+    rt: &R,
+    alloc: Global,
+    provider: &Provider<N>,
+    callers: &mut [Caller<N>],
+) -> Result<Vec<Result<Notes, Stopped>>, Stopped> {
+    let all = Mutex::new(Vec::new(alloc));
+    thread::for_each_mut(
+        rt,
+        callers,
+        10,
+        &|at, caller| {
+            let thread = (at % 10) as u32;
+            let notes = match thread {
+                0 | 1 | 2 | 3 => post_each(rt, alloc, provider, caller, thread),
+                4 | 5 => collect_each(rt, alloc, provider, caller, thread),
+                _ => subscribe_each(rt, alloc, provider, caller),
+            };
+            let _kept = all.lock(rt).push(notes);
+        },
+    );
+    Ok(all.into_inner())
+}
 
-    fn spend<N: Recorded + Send + Sync, R: Threads + Wait + Sync>(
-        &self,
-        rt: &R,
-        alloc: Global,
-        provider: &Provider<N>,
-        callers: &mut [Caller<N>],
-    ) -> Result<Vec<Result<Notes, Stopped>>, Stopped> {
-        let all = Mutex::new(Vec::new(alloc));
-        thread::for_each_mut(
-            rt,
-            callers,
-            10,
-            &|at, caller| {
-                let thread = (at % 10) as u32;
-                let notes = match thread {
-                    0 | 1 | 2 | 3 => post_each(rt, alloc, provider, caller, thread),
-                    4 | 5 => collect_each(rt, alloc, provider, caller, thread),
-                    _ => subscribe_each(rt, alloc, provider, caller),
-                };
-                let _kept = all.lock(rt).push(notes);
-            },
-        );
-        Ok(all.into_inner())
-    }
+fn ten_threads_over<N: Recorded + Send + Sync, R: Threads + Wait + Sync>(
+    rt: &R,
+    alloc: Global,
+    parts: Parts,
+    settings: Settings,
+) -> Result<(Vec<Result<Notes, Stopped>>, Settled), Stopped>
+    requires table { parts.log.board.shared.table_id ≡ N.table }
+    requires ledger { (parts.ledger.name ≡ N.name) × (parts.ledger.parts ≡ N.parts) }
+    requires history { parts.history.board.shared.table_id ≡ N.timeline }
+    requires entries { (parts.history.ledger.name ≡ N.entries)
+        × (parts.history.ledger.parts ≡ N.holders) }
+    requires limits { (parts.log.places ≡ N.places) × (settings.policy ≡ N.policy) }
+{
+    let (provider, mut callers) = begin_day::<N>(alloc, parts, settings)?;
+    let outcome = ten_threads(rt, alloc, &provider, &mut callers);
+    let settled = provider.settle(rt, callers);
+    Ok((outcome?, settled))
+}
+
+fn ten_threads_of<R: Threads + Wait + Sync>(
+    rt: &R,
+    alloc: Global,
+    settings: Settings,
+) -> Result<(Vec<Result<Notes, Stopped>>, Settled), Stopped> {
+    let parts = settings.parts(alloc)?;
+    ten_threads_over::<Brand, R>(rt, alloc, parts, settings)
 }
 
 // How many of the noted calls are the journal's calls of their numbers. No call of the journal counts twice.
@@ -187,7 +210,7 @@ fn take(left: &mut [Option<Made>], number: u64) -> Option<Made> {
 
 #[test]
 fn numbers_of_calls_are_those_of_the_journal(rt: HostRuntime) -> Result<(), Fail> {
-    let (all, settled) = spend_in_threads(&rt, rt.alloc(), Settings::of(16, 10), &TenThreads)?;
+    let (all, settled) = ten_threads_of(&rt, rt.alloc(), Settings::of(16, 10))?;
     assert_eq!(rt; count_right(rt.alloc(), &settled, &all)?, 4_000);
     assert_eq!(rt; settled.journal.calls.len(), 4_000);
     assert_eq!(rt; settled.journal.before, 0);

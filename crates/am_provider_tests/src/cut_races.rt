@@ -1,13 +1,16 @@
 //! A poster against one reader, at one place in a log that cuts who is slow: however the two meet, the
 //! reader is shown the first of what was posted, and then at most one cut.
 
+ghost use Rattle.std.specs.Prelude.{◌≡◌};
+
 use crate::bodies::{body_of, moment};
-use crate::days::{DayInThreads, Settings, Stopped, spend_in_threads};
+use crate::days::{Settings, Stopped, begin_day};
 use crate::shown::is_front;
 use am_alert::Moment;
-use am_provider::{Caller, NoGate, Policy, Provider, Recorded, Settled, Step, Subscription};
+use am_provider::{Caller, NoGate, Parts, Policy, Provider, Recorded, Settled, Step, Subscription};
 use am_store::LaneSet;
 use std::alloc::{AllocError, Global};
+use std::marker::Brand;
 use std::sync::Wait;
 use std::sync::atomic::{AtomicU8, Ordering};
 use std::test::Fail;
@@ -141,42 +144,68 @@ struct Race<'a> {
     turns: u32,
 }
 
-impl<'a> DayInThreads for Race<'a> {
-    type Outcome = Round;
+fn run_race<N: Recorded + Send + Sync, R: Threads + Wait + Sync>(
+    rt: &R,
+    alloc: Global,
+    provider: &Provider<N>,
+    callers: &mut [Caller<N>],
+    race: &Race<'_>,
+) -> Result<Round, Stopped> {
+    let (poster, others) = callers.split_first_mut().ok_or(Stopped::Refused)?;
+    let reader = others.first_mut().ok_or(Stopped::Refused)?;
+    let Race { bodies, turns } = *race;
+    let mut subscription = provider.subscribe(rt, reader)?;
+    let began = AtomicU8::new(0);
+    let shared = &began;
+    let lent = &mut subscription;
+    let ((placed, cuts), told) = thread::join(
+        rt,
+        move || post_all(rt, provider, poster, bodies, shared, turns),
+        move || read_all(alloc, lent, shared),
+    );
+    let end = match &told {
+        Ok(told) => told.end,
+        Err(_) => End::Nothing,
+    };
+    let stays = stays(&mut subscription, end);
+    let ended = provider.leave(rt, reader, subscription);
+    Ok(Round {
+        told: told?,
+        stays,
+        placed,
+        cuts,
+        ended_cut: ended.cut,
+    })
+}
 
-    fn spend<N: Recorded + Send + Sync, R: Threads + Wait + Sync>(
-        &self,
-        rt: &R,
-        alloc: Global,
-        provider: &Provider<N>,
-        callers: &mut [Caller<N>],
-    ) -> Result<Round, Stopped> {
-        let (poster, others) = callers.split_first_mut().ok_or(Stopped::Refused)?;
-        let reader = others.first_mut().ok_or(Stopped::Refused)?;
-        let Race { bodies, turns } = *self;
-        let mut subscription = provider.subscribe(rt, reader)?;
-        let began = AtomicU8::new(0);
-        let shared = &began;
-        let lent = &mut subscription;
-        let ((placed, cuts), told) = thread::join(
-            rt,
-            move || post_all(rt, provider, poster, bodies, shared, turns),
-            move || read_all(alloc, lent, shared),
-        );
-        let end = match &told {
-            Ok(told) => told.end,
-            Err(_) => End::Nothing,
-        };
-        let stays = stays(&mut subscription, end);
-        let ended = provider.leave(rt, reader, subscription);
-        Ok(Round {
-            told: told?,
-            stays,
-            placed,
-            cuts,
-            ended_cut: ended.cut,
-        })
-    }
+fn race_over<N: Recorded + Send + Sync, R: Threads + Wait + Sync>(
+    rt: &R,
+    alloc: Global,
+    parts: Parts,
+    settings: Settings,
+    race: &Race<'_>,
+) -> Result<(Round, Settled), Stopped>
+    requires table { parts.log.board.shared.table_id ≡ N.table }
+    requires ledger { (parts.ledger.name ≡ N.name) × (parts.ledger.parts ≡ N.parts) }
+    requires history { parts.history.board.shared.table_id ≡ N.timeline }
+    requires entries { (parts.history.ledger.name ≡ N.entries)
+        × (parts.history.ledger.parts ≡ N.holders) }
+    requires limits { (parts.log.places ≡ N.places) × (settings.policy ≡ N.policy) }
+{
+    let (provider, mut callers) = begin_day::<N>(alloc, parts, settings)?;
+    let outcome = run_race(rt, alloc, &provider, &mut callers, race);
+    let settled = provider.settle(rt, callers);
+    Ok((outcome?, settled))
+}
+
+fn race_of<R: Threads + Wait + Sync>(
+    rt: &R,
+    alloc: Global,
+    settings: Settings,
+    race: &Race<'_>,
+) -> Result<(Round, Settled), Stopped> {
+    let parts = settings.parts(alloc)?;
+    race_over::<Brand, R>(rt, alloc, parts, settings, race)
 }
 
 // Whether a round is as it has to be, with that many bodies to post.
@@ -205,7 +234,7 @@ fn is_right_round<R: Threads + Wait + Sync>(
 ) -> Result<bool, Stopped> {
     let mut settings = Settings::of(1, 2);
     settings.policy = Policy::Cut;
-    let (round, settled) = spend_in_threads(rt, alloc, settings, &Race { bodies, turns })?;
+    let (round, settled) = race_of(rt, alloc, settings, &Race { bodies, turns })?;
     Ok(is_right(&round, &settled, bodies.len()))
 }
 

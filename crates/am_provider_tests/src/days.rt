@@ -1,5 +1,6 @@
 //! A provider from its beginning to its end, with a part of a test between. Each test of this crate begins
-//! and ends its provider here: those of one thread as a [`Day`], the others as a [`DayInThreads`].
+//! and ends its provider here: those of one thread as a [`Day`], the others by
+//! `begin_day`.
 
 ghost use Rattle.std.specs.Prelude.{◌≡◌, ◌≤◌};
 
@@ -12,7 +13,6 @@ use am_provider::{
 use std::alloc::{AllocError, Global};
 use std::marker::Brand;
 use std::sync::Wait;
-use std::thread::Threads;
 use std::time::Duration;
 
 /// Why a day has no outcome.
@@ -69,20 +69,6 @@ pub trait Day {
     ) -> Result<Self::Outcome, Stopped>;
 }
 
-/// As a [`Day`], in several threads.
-pub trait DayInThreads {
-    /// What it shows.
-    type Outcome: Drop;
-
-    fn spend<N: Recorded + Send + Sync, R: Threads + Wait + Sync>(
-        &self,
-        rt: &R,
-        alloc: Global,
-        provider: &Provider<N>,
-        callers: &mut [Caller<N>],
-    ) -> Result<Self::Outcome, Stopped>;
-}
-
 /// What a provider is made of.
 #[derive(Clone, Copy, Debug, Drop)]
 pub struct Settings {
@@ -108,10 +94,26 @@ impl Settings {
         }
     }
 
-    // The parts of a provider with these places and callers.
-    fn parts(&self, alloc: Global) -> Result<Parts, AllocError> {
+    /// The parts of a provider with these places and callers.
+    pub fn parts(&self, alloc: Global) -> Result<Parts, AllocError> {
         Parts::make(alloc, self.places, self.callers)
     }
+}
+
+/// A provider that is made of these parts, and its callers.
+pub fn begin_day<N: Recorded>(
+    alloc: Global,
+    parts: Parts,
+    settings: Settings,
+) -> Result<(Provider<N>, Vec<Caller<N>>), AllocError>
+    requires table { parts.log.board.shared.table_id ≡ N.table }
+    requires ledger { (parts.ledger.name ≡ N.name) × (parts.ledger.parts ≡ N.parts) }
+    requires history { parts.history.board.shared.table_id ≡ N.timeline }
+    requires entries { (parts.history.ledger.name ≡ N.entries)
+        × (parts.history.ledger.parts ≡ N.holders) }
+    requires limits { (parts.log.places ≡ N.places) × (settings.policy ≡ N.policy) }
+{
+    Provider::<N>::begin(alloc, parts, settings.policy, settings.resolve_timeout)
 }
 
 /// What a provider's day shows, and what it leaves.
@@ -139,12 +141,7 @@ fn spend_over<N: Recorded, D: Day, R: Wait>(
         × (parts.history.ledger.parts ≡ N.holders) }
     requires limits { (parts.log.places ≡ N.places) × (settings.policy ≡ N.policy) }
 {
-    let (provider, mut callers) = Provider::<N>::begin(
-        alloc,
-        parts,
-        settings.policy,
-        settings.resolve_timeout,
-    )?;
+    let (provider, mut callers) = begin_day::<N>(alloc, parts, settings)?;
     let outcome = spend_with(rt, alloc, &provider, &mut callers, day);
     let settled = provider.settle(rt, callers);
     Ok((outcome?, settled))
@@ -165,40 +162,4 @@ fn spend_with<N: Recorded, D: Day, R: Wait>(
         provider,
     };
     day.spend(&stage, caller)
-}
-
-/// As [`spend`], in several threads.
-pub fn spend_in_threads<D: DayInThreads, R: Threads + Wait + Sync>(
-    rt: &R,
-    alloc: Global,
-    settings: Settings,
-    day: &D,
-) -> Result<(D::Outcome, Settled), Stopped> {
-    let parts = settings.parts(alloc)?;
-    in_threads_over::<Brand, D, R>(rt, alloc, parts, settings, day)
-}
-
-fn in_threads_over<N: Recorded + Send + Sync, D: DayInThreads, R: Threads + Wait + Sync>(
-    rt: &R,
-    alloc: Global,
-    parts: Parts,
-    settings: Settings,
-    day: &D,
-) -> Result<(D::Outcome, Settled), Stopped>
-    requires table { parts.log.board.shared.table_id ≡ N.table }
-    requires ledger { (parts.ledger.name ≡ N.name) × (parts.ledger.parts ≡ N.parts) }
-    requires history { parts.history.board.shared.table_id ≡ N.timeline }
-    requires entries { (parts.history.ledger.name ≡ N.entries)
-        × (parts.history.ledger.parts ≡ N.holders) }
-    requires limits { (parts.log.places ≡ N.places) × (settings.policy ≡ N.policy) }
-{
-    let (provider, mut callers) = Provider::<N>::begin(
-        alloc,
-        parts,
-        settings.policy,
-        settings.resolve_timeout,
-    )?;
-    let outcome = day.spend(rt, alloc, &provider, &mut callers);
-    let settled = provider.settle(rt, callers);
-    Ok((outcome?, settled))
 }

@@ -2,13 +2,16 @@
 //! again: what each was shown begins what was stored when it came and what became of each report since,
 //! by the journal alone.
 
+ghost use Rattle.std.specs.Prelude.{◌≡◌};
+
 use crate::bodies::{Report, moment, reports_body};
-use crate::days::{DayInThreads, Settings, Stopped, spend_in_threads};
+use crate::days::{Settings, Stopped, begin_day};
 use crate::many_threads::post_one;
 use am_alert::{Alert, Moment};
-use am_provider::{Caller, Counts, Ended, Provider, Recorded, Settled, Step, Subscription};
+use am_provider::{Caller, Counts, Ended, Parts, Provider, Recorded, Settled, Step, Subscription};
 use am_store::Call;
 use std::alloc::{AllocError, Global};
+use std::marker::Brand;
 use std::sync::atomic::{AtomicU32, Ordering};
 use std::sync::{Mutex, Wait};
 use std::test::Fail;
@@ -183,27 +186,47 @@ struct Run {
     readers: Vec<Result<Vec<Reading>, Stopped>>,
 }
 
-#[derive(Clone, Copy, Drop)]
-struct ComeAndGo;
+fn come_and_go<N: Recorded + Send + Sync, R: Threads + Wait + Sync>(
+    rt: &R,
+    alloc: Global,
+    provider: &Provider<N>,
+    callers: &mut [Caller<N>],
+) -> Result<Run, Stopped> {
+    let (posters, readers) = callers.split_at_mut_checked(4).ok_or(Stopped::Refused)?;
+    let (accepted, readers) = thread::join(
+        rt,
+        move || report_all(rt, alloc, provider, posters),
+        move || read_each(rt, alloc, provider, readers),
+    );
+    Ok(Run { accepted, readers })
+}
 
-impl DayInThreads for ComeAndGo {
-    type Outcome = Run;
+fn come_and_go_over<N: Recorded + Send + Sync, R: Threads + Wait + Sync>(
+    rt: &R,
+    alloc: Global,
+    parts: Parts,
+    settings: Settings,
+) -> Result<(Run, Settled), Stopped>
+    requires table { parts.log.board.shared.table_id ≡ N.table }
+    requires ledger { (parts.ledger.name ≡ N.name) × (parts.ledger.parts ≡ N.parts) }
+    requires history { parts.history.board.shared.table_id ≡ N.timeline }
+    requires entries { (parts.history.ledger.name ≡ N.entries)
+        × (parts.history.ledger.parts ≡ N.holders) }
+    requires limits { (parts.log.places ≡ N.places) × (settings.policy ≡ N.policy) }
+{
+    let (provider, mut callers) = begin_day::<N>(alloc, parts, settings)?;
+    let outcome = come_and_go(rt, alloc, &provider, &mut callers);
+    let settled = provider.settle(rt, callers);
+    Ok((outcome?, settled))
+}
 
-    fn spend<N: Recorded + Send + Sync, R: Threads + Wait + Sync>(
-        &self,
-        rt: &R,
-        alloc: Global,
-        provider: &Provider<N>,
-        callers: &mut [Caller<N>],
-    ) -> Result<Run, Stopped> {
-        let (posters, readers) = callers.split_at_mut_checked(4).ok_or(Stopped::Refused)?;
-        let (accepted, readers) = thread::join(
-            rt,
-            move || report_all(rt, alloc, provider, posters),
-            move || read_each(rt, alloc, provider, readers),
-        );
-        Ok(Run { accepted, readers })
-    }
+fn come_and_go_of<R: Threads + Wait + Sync>(
+    rt: &R,
+    alloc: Global,
+    settings: Settings,
+) -> Result<(Run, Settled), Stopped> {
+    let parts = settings.parts(alloc)?;
+    come_and_go_over::<Brand, R>(rt, alloc, parts, settings)
 }
 
 /// What was stored when a subscription came, and how many alerts had been sent out.
@@ -322,7 +345,7 @@ fn count_right(
 
 #[test]
 fn four_thousand_subscriptions(rt: HostRuntime) -> Result<(), Fail> {
-    let (run, settled) = spend_in_threads(&rt, rt.alloc(), Settings::of(256, 8), &ComeAndGo)?;
+    let (run, settled) = come_and_go_of(&rt, rt.alloc(), Settings::of(256, 8))?;
     assert_eq!(rt; run.accepted, 4_000);
     assert_eq!(rt; count_right(rt.alloc(), &settled, &run.readers)?, 4_000);
     assert_eq!(rt; settled.ended.len(), 4_000);

@@ -1,15 +1,18 @@
 //! A provider with four posters, four readers and a close in threads of their own: what each reader
 //! was shown begins what the journal owes it, and is all of it where it was told the end.
 
+ghost use Rattle.std.specs.Prelude.{◌≡◌};
+
 use crate::bodies::{body_of, moment};
-use crate::days::{DayInThreads, Settings, Stopped, spend_in_threads};
+use crate::days::{Settings, Stopped, begin_day};
 use crate::shown::{Shown, is_front};
 use am_alert::Moment;
 use am_provider::{
-    Caller, NoGate, PostRefused, Provider, PutFault, Recorded, Settled, Step, Subscription,
+    Caller, NoGate, Parts, PostRefused, Provider, PutFault, Recorded, Settled, Step, Subscription,
 };
 use am_store::Call;
 use std::alloc::{AllocError, Global};
+use std::marker::Brand;
 use std::sync::atomic::{AtomicU32, Ordering};
 use std::sync::{Mutex, Wait};
 use std::test::Fail;
@@ -165,29 +168,49 @@ fn read_each<N: Recorded + Send + Sync, R: Threads + Wait + Sync>(
     readings.into_inner()
 }
 
-#[derive(Clone, Copy, Drop)]
-struct FourAndFour;
+fn four_and_four<N: Recorded + Send + Sync, R: Threads + Wait + Sync>(
+    rt: &R,
+    alloc: Global,
+    provider: &Provider<N>,
+    callers: &mut [Caller<N>],
+) -> Result<Run, Stopped> {
+    let (posters, readers) = callers.split_at_mut_checked(4).ok_or(Stopped::Refused)?;
+    let arrived = AtomicU32::new(0);
+    let shared = &arrived;
+    let (posted, readings) = thread::join(
+        rt,
+        move || post_all(rt, alloc, provider, posters, shared),
+        move || read_each(rt, alloc, provider, readers, shared),
+    );
+    Ok(Run { posted, readings })
+}
 
-impl DayInThreads for FourAndFour {
-    type Outcome = Run;
+fn four_and_four_over<N: Recorded + Send + Sync, R: Threads + Wait + Sync>(
+    rt: &R,
+    alloc: Global,
+    parts: Parts,
+    settings: Settings,
+) -> Result<(Run, Settled), Stopped>
+    requires table { parts.log.board.shared.table_id ≡ N.table }
+    requires ledger { (parts.ledger.name ≡ N.name) × (parts.ledger.parts ≡ N.parts) }
+    requires history { parts.history.board.shared.table_id ≡ N.timeline }
+    requires entries { (parts.history.ledger.name ≡ N.entries)
+        × (parts.history.ledger.parts ≡ N.holders) }
+    requires limits { (parts.log.places ≡ N.places) × (settings.policy ≡ N.policy) }
+{
+    let (provider, mut callers) = begin_day::<N>(alloc, parts, settings)?;
+    let outcome = four_and_four(rt, alloc, &provider, &mut callers);
+    let settled = provider.settle(rt, callers);
+    Ok((outcome?, settled))
+}
 
-    fn spend<N: Recorded + Send + Sync, R: Threads + Wait + Sync>(
-        &self,
-        rt: &R,
-        alloc: Global,
-        provider: &Provider<N>,
-        callers: &mut [Caller<N>],
-    ) -> Result<Run, Stopped> {
-        let (posters, readers) = callers.split_at_mut_checked(4).ok_or(Stopped::Refused)?;
-        let arrived = AtomicU32::new(0);
-        let shared = &arrived;
-        let (posted, readings) = thread::join(
-            rt,
-            move || post_all(rt, alloc, provider, posters, shared),
-            move || read_each(rt, alloc, provider, readers, shared),
-        );
-        Ok(Run { posted, readings })
-    }
+fn four_and_four_of<R: Threads + Wait + Sync>(
+    rt: &R,
+    alloc: Global,
+    settings: Settings,
+) -> Result<(Run, Settled), Stopped> {
+    let parts = settings.parts(alloc)?;
+    four_and_four_over::<Brand, R>(rt, alloc, parts, settings)
 }
 
 // How many alerts the journal's posts have.
@@ -221,7 +244,7 @@ fn count_whole(settled: &Settled, readings: &[Result<Shown, Stopped>]) -> u32 {
 
 #[test]
 fn four_posters_and_four_readers(rt: HostRuntime) -> Result<(), Fail> {
-    let (run, settled) = spend_in_threads(&rt, rt.alloc(), Settings::of(16, 8), &FourAndFour)?;
+    let (run, settled) = four_and_four_of(&rt, rt.alloc(), Settings::of(16, 8))?;
     assert_eq!(rt; count_whole(&settled, &run.readings), 4);
     assert_eq!(rt; count_due(&settled), run.posted as usize);
     assert!(rt; settled.complete);

@@ -1,0 +1,17 @@
+use Rattle.am_provider_tests.proofs.locked.beside_lock_of.Given as goal
+
+abbrev pub ghosts-beside_lock_over-N-Feed : goal.ghosts-beside_lock_over-N-Feed
+ghosts-beside_lock_over-N-Feed g a = record { table = a.parts.log.board.shared.table_id }
+
+abbrev pub ghosts-beside_lock_over-N-Ledger : goal.ghosts-beside_lock_over-N-Ledger
+ghosts-beside_lock_over-N-Ledger g a = record { name = a.parts.ledger.name; parts = a.parts.ledger.parts }
+
+abbrev pub ghosts-beside_lock_over-N-Timeline : goal.ghosts-beside_lock_over-N-Timeline
+ghosts-beside_lock_over-N-Timeline g a = record {
+  timeline = a.parts.history.board.shared.table_id;
+  entries = a.parts.history.ledger.name;
+  holders = a.parts.history.ledger.parts;
+}
+
+abbrev pub ghosts-beside_lock_over-N-Recorded : goal.ghosts-beside_lock_over-N-Recorded
+ghosts-beside_lock_over-N-Recorded g a = record { places = a.parts.log.places; policy = a.settings.policy }
