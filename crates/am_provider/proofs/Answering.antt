@@ -1,38 +1,33 @@
 -- What the Book answers is what the history of its calls says.
-use Rattle.std.proofs.Common.{◌≡◌, ◌≢◌, ◌↔◌, ℕ, suc, ◌+◌, ◌-◌, ◌≤◌, ◌<◌, Bool, true, false, cond, nat_eq, IsTrue, List, [], ◌∷◌, ◌++◌, length, Option, None, Some, Ok, Err, Result, refl, sym, ap, subst, ◌∙◌, arith, slice_index_or, length-append}
+use Rattle.std.proofs.Common.{◌≡◌, ◌↔◌, ℕ, suc, ◌-◌, ◌<◌, Bool, true, false, IsTrue, List, [], ◌∷◌, ◌++◌, length, Err, refl, sym, ap, ◌∙◌, arith, slice_index_or, length-append}
 use mathlib.Core.List.{IsPrefix}
 use mathlib.Core.Logic.{dite}
 use native.Mathlib.Decide.{ℕ_discrete}
-use Rattle.std.specs.Result.{IsErrOf, IfErr, IsErr}
+use Rattle.std.specs.Result.{IsErrOf}
 use Rattle.am_alert.specs.declared.alert.Alert.{Alert}
-use Rattle.am_alert.specs.declared.post.Post.{Post}
 use Rattle.am_segment.specs.Segments.{KeyView}
 use Rattle.am_cast.specs.declared.views.Account.{Account}
 use Rattle.am_cast.specs.declared.views.Tail.{Tail}
-use Rattle.am_cast.specs.Rule.{idle, live, cut, vacated}
+use Rattle.am_cast.specs.Rule.{live}
 use Rattle.am_cast.specs.Seats.{account_of}
-use Rattle.am_cast.specs.Writers.{StaysAs, IsCutAs}
+use Rattle.am_cast.specs.Writers.{StaysAs}
 use Rattle.am_history.specs.Fronts.{FrontView, made_at}
-use Rattle.am_store.specs.LaneSets.{has_lane}
 use Rattle.am_store.specs.declared.call.Call.{Call}
-use Rattle.am_store.specs.declared.call.Call.TheVariants.{Posted}
 use Rattle.am_store.specs.declared.lanes.OpenLane.{OpenLane}
-use Rattle.am_store.specs.Journal.{JournalView, with_call, is_closed, is_open, AreAllOpen, MayFollow}
+use Rattle.am_store.specs.Journal.{JournalView, with_call, is_closed, is_open, AreAllOpen}
 use Rattle.am_provider.specs.declared.answers.Policy.{Policy}
-use Rattle.am_provider.specs.declared.answers.Policy.TheVariants.{Refuse}
-use Rattle.am_provider.specs.declared.answers.Posted as answers
 use Rattle.am_provider.specs.declared.faults.PutFault.{PutFault}
 use Rattle.am_provider.specs.declared.faults.PutFault.TheVariants as put
-use Rattle.am_provider.specs.Batches.{Batch, LogView}
-use Rattle.am_provider.specs.BookView.{BookView, batches, IsFaithful}
-use Rattle.am_provider.specs.Callers.{SeesCall, made_from}
+use Rattle.am_provider.specs.Batches.{Batch}
+use Rattle.am_provider.specs.BookView.{BookView, IsFaithful}
+use Rattle.am_provider.specs.Callers.{SeesCall}
 use Rattle.am_provider.specs.Headline.{IsPutRefusal, IsSubRefusal}
 use Rattle.am_provider.specs.declared.faults.SubFault.{SubFault}
 use Rattle.am_provider.specs.declared.faults.SubFault.TheVariants as sub
-use Rattle.am_provider.specs.Histories.{EntryView, Accepted, whole, sent_by, is_cut}
-use Rattle.am_provider.specs.Posts.{IsAsBefore, IsPutCause, IsCutBy}
+use Rattle.am_provider.specs.Histories.{EntryView, Accepted, whole, is_cut}
+use Rattle.am_provider.specs.Posts.{IsAsBefore, IsPutCause}
 use Rattle.am_provider.specs.inside.Records.{IsRecorded}
-use Rattle.am_provider.proofs.Recording.{same_closed, same_open, same_places, Tells, tells_of}
+use Rattle.am_provider.proofs.Recording.{same_closed, same_open, same_places, tells_of}
 
 -- ---- a caller that has seen its call
 

@@ -1,10 +1,9 @@
 -- Callers as they are gathered, the last first.
-use Rattle.std.proofs.Common.{◌≡◌, ◌∙◌, ℕ, zero, suc, ◌<◌, List, [], ◌∷◌, ◌++◌, length, map, get_or, refl, sym, ap, arith}
+use Rattle.std.proofs.Common.{◌≡◌, ◌∙◌, zero, suc, List, [], ◌∷◌, ◌++◌, map, refl, sym, ap, arith}
 use Rattle.std.specs.List.{All}
 use Rattle.std.proofs.lemmas.List.{append_assoc, append-nil, map-append}
 use Rattle.am_alert.specs.declared.alert.Alert.{Alert}
 use Rattle.am_history.specs.Fronts.{FrontView}
-use Rattle.am_history.specs.declared.views.Made.{Made}
 use Rattle.am_store.specs.declared.call.Call.{Call}
 use Rattle.am_cast.specs.Posters.{PassView}
 use Rattle.am_provider.specs.Histories.{EntryView}

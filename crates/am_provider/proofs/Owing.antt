@@ -5,7 +5,7 @@ use Rattle.std.proofs.Math.Seq.{take-append_seam}
 use Rattle.std.proofs.lemmas.List.{append_assoc, append-nil}
 use Rattle.am_alert.specs.declared.alert.Alert.{Alert}
 use Rattle.am_store.specs.declared.call.Call.{Call}
-use Rattle.am_store.specs.Journal.{JournalView, with_call, first_calls, closes, is_closed, MayFollow, IsLegal, new_journal}
+use Rattle.am_store.specs.Journal.{JournalView, first_calls, closes, is_closed, MayFollow, IsLegal, new_journal}
 use Rattle.am_store.specs.Broadcast.{due, IsFront}
 use Rattle.am_store.proofs.Growing.{stays_front, ended_owes_no_more}
 use Rattle.am_store.proofs.Journals.{closed_last}

@@ -1,5 +1,5 @@
 -- A history grows as the journal does.
-use Rattle.std.proofs.Common.{◌≡◌, ◌≢◌, ℕ, ◌+◌, ◌-◌, ◌≤◌, ◌<◌, Bool, true, false, ◌||◌, cond, nat_eq, nat_le, List, [], ◌∷◌, ◌++◌, length, take, drop, map, None, Some, refl, sym, ap, subst, ◌∙◌, arith, length-append, length-drop, inl, inr}
+use Rattle.std.proofs.Common.{◌≡◌, ◌≢◌, ℕ, ◌+◌, ◌-◌, ◌≤◌, ◌<◌, Bool, true, false, ◌||◌, cond, nat_eq, nat_le, List, [], ◌∷◌, ◌++◌, length, take, drop, refl, sym, ap, subst, ◌∙◌, arith, length-append, length-drop, inl, inr}
 use mathlib.Core.List.{IsPrefix}
 use mathlib.Core.Logic.{dite}
 use native.Mathlib.Decide.{ℕ_discrete}
@@ -9,25 +9,23 @@ use Rattle.std.proofs.lemmas.Bool.Decides.{eqb_tells}
 use Rattle.am_alert.specs.declared.alert.Alert.{Alert}
 use Rattle.am_segment.specs.Segments.{KeyView}
 use Rattle.am_cast.specs.declared.views.Account.{Account}
-use Rattle.am_cast.specs.declared.views.Tail.{Tail}
-use Rattle.am_cast.specs.Changes.{shut_tail}
 use Rattle.am_cast.specs.Rule.{idle, live, cut, vacated}
 use Rattle.am_cast.specs.Seats.{account_of}
 use Rattle.am_cast.specs.Writers.{StandsOn, IsCutAs}
 use Rattle.am_store.specs.LaneSets.{has_lane}
 use Rattle.am_store.specs.declared.call.Call.{Call}
-use Rattle.am_store.specs.declared.call.Call.TheVariants.{Posted, Collected, Subscribed, Left, Closed}
+use Rattle.am_store.specs.declared.call.Call.TheVariants.{Posted}
 use Rattle.am_store.specs.declared.lanes.OpenLane.{OpenLane}
-use Rattle.am_store.specs.Journal.{JournalView, with_call, first_calls, until, since, is_closed, is_open, MayFollow, IsLegal, IsKept, IsOpenSubscription, new_journal}
-use Rattle.am_store.specs.Stored.{updates, stored}
-use Rattle.am_store.specs.Broadcast.{broadcast, batches_of, due}
+use Rattle.am_store.specs.Journal.{JournalView, with_call, is_closed, is_open, MayFollow, IsLegal, IsKept, IsOpenSubscription, new_journal}
+use Rattle.am_store.specs.Stored.{updates}
+use Rattle.am_store.specs.Broadcast.{broadcast, batches_of}
 use Rattle.am_store.specs.Trims.{IsTrimmed, Drops}
 use Rattle.am_store.specs.Laws.{GiveTheSame}
-use Rattle.am_store.proofs.Journals.{get_end, get_drop, drop_front, first_stays, first_all, broadcast_last, legal_last}
+use Rattle.am_store.proofs.Journals.{get_end, get_drop, first_stays, first_all, broadcast_last, legal_last}
 use Rattle.am_store.proofs.Trims.{trimmed_gives_the_same, trimmed_grows, trimmed_twice, moved, since_same}
 use Rattle.am_provider.specs.declared.answers.Policy.{Policy}
 use Rattle.am_provider.specs.Batches.{Batch, LogView, sent_in}
-use Rattle.am_provider.specs.BookView.{BookView, batches, IsFaithful, places_of}
+use Rattle.am_provider.specs.BookView.{BookView, batches, IsFaithful}
 use Rattle.am_provider.specs.Histories.{EntryView, call_of, calls_of, whole, trimmed_by, stored_after, sent_by, cut_after, cut_from, is_cut, Accepted, Trimmed}
 use Rattle.am_provider.specs.Posts.{HasSameLimits, IsCutBy}
 use Rattle.am_provider.specs.inside.Records.{IsRecorded}

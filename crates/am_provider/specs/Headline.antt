@@ -1,14 +1,12 @@
 -- What each call of a provider answers: by the history before it, and the entries that it added.
 use Rattle.std.specs.Prelude.{◌≡◌, ℕ, ◌+◌, ◌≤◌, ◌<◌, true, false, if◌then◌else◌, nat_eq}
-use Rattle.std.specs.Prelude.{List, [], ◌∷◌, ◌++◌, length, None, Some, Result, Ok, Err}
+use Rattle.std.specs.Prelude.{List, [], ◌∷◌, length, None, Some, Result, Ok, Err}
 use Rattle.std.specs.List.{count_by}
-use Rattle.am_alert.specs.declared.alert.Alert.{Alert}
 use Rattle.am_alert.specs.declared.post.Post.{Post}
 use Rattle.am_alert.specs.Merging.{is_resolved_at}
 use Rattle.am_cast.specs.declared.faults.AlreadyClosed.{AlreadyClosed}
 use Rattle.am_cast.specs.declared.limits.TheConstants.{LANES, LONGEST_LOG}
 use Rattle.am_store.specs.LaneSets.{has_lane}
-use Rattle.am_store.specs.declared.call.Call.{Call}
 use Rattle.am_store.specs.declared.call.Call.TheVariants.{Posted, Collected, Subscribed, Left, Closed}
 use Rattle.am_store.specs.Journal.{JournalView, is_closed, is_open, AreAllOpen}
 use Rattle.am_store.specs.Journal.{IsOpenSubscription, IsLowestIdle}

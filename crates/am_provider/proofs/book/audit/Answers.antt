@@ -1,6 +1,6 @@
-use Rattle.std.proofs.Common.{◌≡◌, ◌∙◌, ℕ, true, false, length, nat_eq, Option, Some, sym, ap, subst, inl, inr, rules, arith}
+use Rattle.std.proofs.Common.{◌≡◌, ◌∙◌, ℕ, true, false, nat_eq, Some, sym, ap, subst, inl, inr, rules}
 use Rattle.std.proofs.lemmas.Bool.Decides.{eqb_tells}
-use Rattle.am_provider.specs.Settling.{IsOwn, JoinedView, own_in, parts_in}
+use Rattle.am_provider.specs.Settling.{IsOwn, own_in, parts_in}
 use Rattle.am_provider.proofs.Settling.{all_places}
 use Rattle.am_provider.proofs.book.audit.Goals as goal
 

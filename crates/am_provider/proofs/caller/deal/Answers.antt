@@ -1,4 +1,4 @@
-use Rattle.std.proofs.Common.{◌≡◌, ◌∙◌, ℕ, zero, suc, ◌+◌, ◌-◌, ◌<◌, ◌++◌, ◌∷◌, [], length, List, refl, sym, ap, subst, rules, arith, length-append}
+use Rattle.std.proofs.Common.{◌≡◌, ◌∙◌, ℕ, ◌+◌, ◌-◌, ◌∷◌, [], length, ap, rules, arith}
 use Rattle.std.specs.Vec.Iter.{into_iter_items}
 use Rattle.am_history.specs.Fronts.{FrontView}
 use Rattle.am_provider.specs.Callers.{IsNewCaller}

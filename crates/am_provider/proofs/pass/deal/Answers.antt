@@ -1,7 +1,5 @@
-use Rattle.std.proofs.Common.{◌≡◌, ℕ, zero, suc, ◌<◌, ◌++◌, ◌∷◌, [], length, List, get_or, sym, ap, subst, rules, arith, length-append}
-use Rattle.std.specs.List.{All}
+use Rattle.std.proofs.Common.{◌≡◌, ◌∷◌, [], length, ap, rules, arith, length-append}
 use Rattle.std.specs.Vec.Iter.{into_iter_items}
-use Rattle.std.proofs.lemmas.List.Elements.{All-append}
 use Rattle.am_provider.proofs.Lists.{all_head, all_last, all_tail}
 use Rattle.am_provider.proofs.pass.deal.Goals as goal
 

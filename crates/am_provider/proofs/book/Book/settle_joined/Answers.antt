@@ -1,8 +1,8 @@
-use Rattle.std.proofs.Common.{◌≡◌, ◌<◌, ℕ, length, sym, ap, subst, arith}
+use Rattle.std.proofs.Common.{◌<◌, length, sym, ap, subst, arith}
 use Rattle.am_cast.specs.Changes.{AreInLog}
 use Rattle.am_store.specs.Journal.{lefts_of}
 use Rattle.am_provider.specs.Batches.{LogView}
-use Rattle.am_provider.specs.Settling.{IsOwn, own_in}
+use Rattle.am_provider.specs.Settling.{own_in}
 use Rattle.am_provider.proofs.book.Book.settle_joined.Goals as goal
 
 pub returns-clause-settled : goal.returns-clause-settled

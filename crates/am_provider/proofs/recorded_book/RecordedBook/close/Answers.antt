@@ -1,4 +1,4 @@
-use Rattle.std.proofs.Common.{◌≡◌, ◌∙◌, [], ◌∷◌, ◌++◌, refl, sym, ap, subst}
+use Rattle.std.proofs.Common.{◌∙◌, refl, sym, ap, subst}
 use Rattle.am_store.specs.declared.call.Call.TheVariants.{Closed}
 use Rattle.am_provider.specs.Batches.{LogView}
 use Rattle.am_provider.specs.Histories.{Accepted}

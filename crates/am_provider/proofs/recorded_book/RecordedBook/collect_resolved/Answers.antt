@@ -1,4 +1,4 @@
-use Rattle.std.proofs.Common.{◌≡◌, ◌∙◌, [], ◌∷◌, ◌++◌, refl, sym, ap, subst, count_by}
+use Rattle.std.proofs.Common.{◌∙◌, refl, sym, ap, subst, count_by}
 use Rattle.am_alert.specs.Merging.{is_resolved_at}
 use Rattle.am_store.specs.declared.call.Call.TheVariants.{Collected}
 use Rattle.am_provider.specs.Batches.{LogView}

@@ -1,6 +1,5 @@
-use Rattle.std.proofs.Common.{◌≡◌, ◌≢◌, ◌↔◌, ◌∙◌, Bool, true, false, IsTrue, ℕ, [], ◌∷◌, ◌++◌, length, refl, sym, ap, subst, arith}
+use Rattle.std.proofs.Common.{◌≡◌, ◌↔◌, ◌∙◌, Bool, true, false, IsTrue, [], ◌∷◌, ◌++◌, refl, sym, ap, subst, arith}
 use Rattle.am_cast.specs.declared.views.Tail.{Tail}
-use Rattle.am_cast.specs.Rule.{cut}
 use Rattle.am_store.specs.declared.call.Call.TheVariants.{Left}
 use Rattle.am_store.specs.Broadcast.{IsFront}
 use Rattle.am_store.proofs.Opens.{lane_low}

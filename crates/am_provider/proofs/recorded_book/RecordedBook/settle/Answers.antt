@@ -1,9 +1,8 @@
-use Rattle.std.proofs.Common.{◌≡◌, ◌∙◌, ◌<◌, ℕ, [], length, map, Option, None, Some, sym, ap, subst, arith}
+use Rattle.std.proofs.Common.{◌≡◌, ◌∙◌, ◌<◌, [], length, map, sym, ap, subst, arith}
 use Rattle.std.specs.List.{All}
 use Rattle.std.proofs.lemmas.List.{length-map}
 use mathlib.Core.List.{IsPrefix}
 use Rattle.am_history.specs.Fronts.{FrontView, AreMade, AreMadeOnce, IsMade}
-use Rattle.am_store.specs.Journal.{JournalView}
 use Rattle.am_store.specs.Trims.{IsTrimmed}
 use Rattle.am_provider.specs.Histories.{EntryView, trimmed_by, whole}
 use Rattle.am_provider.specs.Settling.{IsSettled, JoinedView, made_of, own_in, own_of}

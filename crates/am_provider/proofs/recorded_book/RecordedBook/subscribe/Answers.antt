@@ -1,4 +1,4 @@
-use Rattle.std.proofs.Common.{◌≡◌, ◌∙◌, [], ◌∷◌, ◌++◌, length, refl, sym, ap, subst, arith}
+use Rattle.std.proofs.Common.{◌∙◌, [], ◌∷◌, ◌++◌, refl, sym, ap, subst, arith}
 use Rattle.am_cast.specs.declared.views.Tail.{Tail}
 use Rattle.am_store.specs.declared.call.Call.TheVariants.{Subscribed}
 use Rattle.am_provider.specs.Batches.{Batch}

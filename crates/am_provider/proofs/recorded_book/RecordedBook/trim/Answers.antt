@@ -1,7 +1,7 @@
 use Rattle.std.proofs.Common.{◌≡◌, ◌∙◌, [], ◌∷◌, ◌++◌, refl, sym, ap, subst, rules}
 use Rattle.am_provider.specs.Histories.{Trimmed}
 use Rattle.am_provider.specs.inside.Records.{IsRecorded}
-use Rattle.am_provider.proofs.Answering.{sees_added, sees_none}
+use Rattle.am_provider.proofs.Answering.{sees_none}
 use Rattle.am_provider.proofs.Recording.{recorded_trimmed}
 use Rattle.am_provider.proofs.recorded_book.RecordedBook.trim.Goals as goal
 
