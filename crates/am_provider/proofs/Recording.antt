@@ -44,22 +44,22 @@ whole_trimmed entries count = ap (λ (calls : List Call). record new_journal { c
 
 pub trimmed_more : (entries : List EntryView) (call : Call) (bits : ℕ) → trimmed_by (entries ++ Accepted call bits ∷ []) ≡ trimmed_by entries
 trimmed_more [] call bits = refl
-trimmed_more (Accepted first cut ∷ entries) call bits = trimmed_more entries call bits
+trimmed_more (Accepted first lanes ∷ entries) call bits = trimmed_more entries call bits
 trimmed_more (Trimmed count ∷ entries) call bits = ap (λ n. count + n) (trimmed_more entries call bits)
 
 pub trimmed_again : (entries : List EntryView) (count : ℕ) → trimmed_by (entries ++ Trimmed count ∷ []) ≡ trimmed_by entries + count
 trimmed_again [] count = omega arith
-trimmed_again (Accepted first cut ∷ entries) count = trimmed_again entries count
+trimmed_again (Accepted first lanes ∷ entries) count = trimmed_again entries count
 trimmed_again (Trimmed first ∷ entries) count = omega (arith, trimmed_again entries count)
 
 cut_more : (lane : ℕ) (was : Bool) (entries : List EntryView) (call : Call) (bits : ℕ) → cut_from lane was (entries ++ Accepted call bits ∷ []) ≡ cut_after lane (cut_from lane was entries) call bits
 cut_more lane was [] call bits = refl
-cut_more lane was (Accepted first cut ∷ entries) call bits = cut_more lane (cut_after lane was first cut) entries call bits
+cut_more lane was (Accepted first lanes ∷ entries) call bits = cut_more lane (cut_after lane was first lanes) entries call bits
 cut_more lane was (Trimmed count ∷ entries) call bits = cut_more lane was entries call bits
 
 cut_trimmed : (lane : ℕ) (was : Bool) (entries : List EntryView) (count : ℕ) → cut_from lane was (entries ++ Trimmed count ∷ []) ≡ cut_from lane was entries
 cut_trimmed lane was [] count = refl
-cut_trimmed lane was (Accepted first cut ∷ entries) count = cut_trimmed lane (cut_after lane was first cut) entries count
+cut_trimmed lane was (Accepted first lanes ∷ entries) count = cut_trimmed lane (cut_after lane was first lanes) entries count
 cut_trimmed lane was (Trimmed first ∷ entries) count = cut_trimmed lane was entries count
 
 -- ---- what a recorded Book and its history have in common
