@@ -77,7 +77,9 @@ module _ {policy : Policy} {places : ℕ} (book : BookView) (entries : List Entr
 pub put_refusal : {policy : Policy} {places : ℕ} (a b : BookView) (entries : List EntryView) (count : ℕ) (fault : PutFault) → IsRecorded policy places a entries → IsFaithful a
     → IsAsBefore a b → IsPutCause a b count fault → IsPutRefusal policy places count entries fault
 put_refusal a b entries count put.Closed of kept same why = same_closed a entries of ∙ why
-put_refusal a b entries count put.NoMemory of kept same why = same_closed a entries of ∙ why.0
+put_refusal a b entries count put.NoMemory of kept same why =
+    let long = same_places a entries of in
+    (same_closed a entries of ∙ why.0, λ some. let still = (why.1 some).0 in let room = still.1 in omega (arith, long, room))
 put_refusal a b entries count put.LogEnd of kept same why =
     let long = same_places a entries of in
     let most = why.2.1 in
@@ -93,7 +95,9 @@ put_refusal {policy} {places} a b entries count (put.Full lane passed) of kept s
     let limit = ap (λ (t : Tail Batch). t.places) same.tail in
     let known = refusal.2 in
     let most = behind.1 in
-    (same_closed a entries of ∙ why.0, why.1, sym of.limits.0 ∙ why.2.0, small, opened.0, opened.1, omega (arith, long, log, limit, known, most, of.limits.1))
+    let still = refusal.0 in
+    let room = still.1 in
+    (same_closed a entries of ∙ why.0, why.1, omega (arith, long, room), sym of.limits.0 ∙ why.2.0, small, opened.0, opened.1, omega (arith, long, log, limit, known, most, of.limits.1))
   where
     was_live : (was is : Account (KeyView Alert) OpenLane) → StaysAs was is → is.stand ≡ live → was.stand ≡ live
     was_live was is on lives = dite (ℕ_discrete is.stand was.stand) (λ e. sym e ∙ lives) (λ ne. let moved = on.1 ne in absurd (omega (arith, moved.1, lives)))

@@ -44,10 +44,12 @@ IsPutRefusal policy places count before put.Closed = is_closed (whole before) �
 IsPutRefusal policy places count before put.LogEnd =
     (is_closed (whole before) ≡ false) × (0 < count) × (LONGEST_LOG ≤ length (sent_by before))
 IsPutRefusal policy places count before (put.Full lane passed) =
-    (is_closed (whole before) ≡ false) × (0 < count) × (policy ≡ Refuse)
+    (is_closed (whole before) ≡ false) × (0 < count) × (length (sent_by before) < LONGEST_LOG)
+    × (policy ≡ Refuse)
     × (lane < LANES) × (is_open (whole before) lane ≡ true) × (is_cut before lane ≡ false)
     × (length (sent_by before) ≡ passed + places)
-IsPutRefusal policy places count before put.NoMemory = is_closed (whole before) ≡ false
+IsPutRefusal policy places count before put.NoMemory =
+    (is_closed (whole before) ≡ false) × (0 < count → length (sent_by before) < LONGEST_LOG)
 
 -- what a post answers
 abbrev pub AnswersPost : Policy → ℕ → ℕ → Post → Result answers.Posted PutFault → List EntryView
