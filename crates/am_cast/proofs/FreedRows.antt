@@ -1,6 +1,7 @@
 -- The rows of keys that wait, and the places that are freed.
-use Rattle.std.proofs.Common.{◌≡◌, ◌≢◌, ℕ, zero, suc, ◌<◌, inl, inr, length, sym, ap, ◌∙◌, subst, arith, Option, Some, None, Bool, true, false, refl, List, not}
+use Rattle.std.proofs.Common.{◌≡◌, ◌≢◌, ℕ, zero, suc, ◌<◌, inl, inr, length, sym, ap, ◌∙◌, subst, arith, Option, Some, None, Bool, true, false, refl, List}
 use Rattle.std.proofs.lemmas.Bool.{false≢true}
+use Rattle.am_cast.proofs.WriterSteps.{none_some}
 use Rattle.am_segment.specs.Segments.{KeyView}
 use Rattle.am_cast.specs.declared.batch_view.BatchView.{BatchView}
 use Rattle.am_cast.specs.declared.views.Account.{Account}
@@ -8,7 +9,7 @@ use Rattle.am_cast.specs.declared.views.WriterView.{WriterView}
 use Rattle.am_cast.specs.Rule.{bit}
 use Rattle.am_cast.specs.Seats.{account_of}
 use Rattle.am_cast.specs.Writers.{IsCalm, Calm}
-use Rattle.am_cast.specs.Freed.{IsOut, IsGathered, IsFreedFor}
+use Rattle.am_cast.specs.Freed.{IsOut, IsGathered, IsFreedFor, AreHome, Keeps}
 use Rattle.am_cast.specs.Keys.{key_of}
 use Rattle.am_cast.specs.inside.KeyRows.{BucketView, row_at}
 use Rattle.am_cast.specs.inside.Waiting.{is_out, outs, FitsAt, RowsFit}
@@ -56,10 +57,24 @@ module _ {T P A : Type 0} where
           let many = f.2.many in let few = f.3 in let t = one_out (λ l. is_out (account_of q l) i) 8 (omega arith) in
           freed_is_home key_of q i t.0 t.1 (gathered (length q.tail.log) q.tail.places (account_of q t.0) (calm.1 t.0 t.1)) freed (is_out_of (account_of q t.0) i t.2)
 
-  pub freed_tells : (q q' : WriterView (BatchView T P) (KeyView T) A) (rows : List (BucketView T)) (i : ℕ) (found : Bool) → q ≡ q' → Calm q' → RowsFit q rows → i < length q.tail.log → (found ≡ false → row_at rows i ≡ None) → (found ≡ true → row_at rows i ≢ None)
-      → (not found ≡ true → IsFreedFor q' i) × (IsFreedFor q' i → not found ≡ true)
-  freed_tells q q' rows i found same calm fit inside none_there some_there = subst (λ (z : WriterView (BatchView T P) (KeyView T) A). Calm z → (not found ≡ true → IsFreedFor z i) × (IsFreedFor z i → not found ≡ true)) same (λ calm. by found none_there some_there calm) calm
+  -- the keys of a row are home
+  pub row_is_home : (q : WriterView (BatchView T P) (KeyView T) A) (rows : List (BucketView T)) (i : ℕ) (keys : List (KeyView T)) → Calm q → RowsFit q rows → row_at rows i ≡ Some keys → AreHome q i keys
+  row_is_home q rows i keys calm fit there = let f = subst (FitsAt q i) there (fit i) in let x = f.0 in let g = f.2 in record {
+    batch = x;
+    there = f.1;
+    each = g.each;
+    home = λ l small no. let e = g.below l small in let z : bit (is_out (account_of q l) i) ≡ 0 = ap bit (waiting.never_out (account_of q l) i (λ o. no (of o))) in omega arith;
+    out = λ l small o. let e = g.below l small in let z : bit (is_out (account_of q l) i) ≡ 1 = ap bit (out_is (account_of q l) i o) in omega arith;
+    waits = row_is_kept q rows i calm fit (λ none_there. none_some keys (sym none_there ∙ there));
+  }
     where
-      by : (found : Bool) → (found ≡ false → row_at rows i ≡ None) → (found ≡ true → row_at rows i ≢ None) → Calm q → (not found ≡ true → IsFreedFor q i) × (IsFreedFor q i → not found ≡ true)
-      by true f g calm = (λ e. absurd (false≢true e), λ freed. absurd (row_is_kept q rows i calm fit (g refl) freed))
-      by false f g calm = (λ e. no_row_is_freed q rows i calm fit inside (f refl), λ freed. refl)
+      of : {b : Account (KeyView T) A} → waiting.IsOut b i → IsOut b i
+      of (slotted h k) = inl (h, k)
+      of (handed h k) = inr (h, k)
+
+  pub rows_keep : (q q' : WriterView (BatchView T P) (KeyView T) A) (rows : List (BucketView T)) (i : ℕ) (kept : Option (List (KeyView T))) → q ≡ q' → Calm q' → RowsFit q rows → kept ≡ row_at rows i → Keeps q' i kept
+  rows_keep q q' rows i kept same calm fit is = subst (λ (z : WriterView (BatchView T P) (KeyView T) A). Calm z → Keeps z i kept) same (λ calm. by kept is calm) calm
+    where
+      by : (o : Option (List (KeyView T))) → o ≡ row_at rows i → Calm q → Keeps q i o
+      by None e calm = λ inside. no_row_is_freed q rows i calm fit inside (sym e)
+      by (Some keys) e calm = row_is_home q rows i keys calm fit (sym e)

@@ -50,15 +50,6 @@ module _ {X : Type 0} where
       none_is : {Y : Type 0} {y : Y} → Some y ≡ None → ⊥
       none_is e = cc
 
-  -- a row that stands there is found
-  pub row_stands : (place : ℕ) (rows : List (RowView X)) (k : ℕ) → IsRowOf place rows k → find_row place rows ≢ None
-  row_stands place rows k is none_there = go rows k is.0 is.1.0 is.1.1 is.1.2 (no_row_of place rows none_there)
-    where
-      go : (rows : List (RowView X)) (k : ℕ) → k < length rows → (r : RowView X) → r ≡ get_or rows k r → r.place ≡ place → HasNoRow place rows → ⊥
-      go [] k h r at e none_of = omega arith
-      go (x ∷ xs) zero h r at e none_of = none_of.0 (ap (λ (r : RowView X). r.place) (sym at) ∙ e)
-      go (x ∷ xs) (suc k) h r at e none_of = go xs k (omega arith) r at e none_of.1
-
   pub set_here : (place : ℕ) (rows : List (RowView X)) (k : ℕ) (r new : RowView X) → k < length rows → AreApart rows → r ≡ get_or rows k r → r.place ≡ place → new.place ≡ place → find_row place (set rows k new) ≡ Some new.keys
   set_here place [] k r new h a is e f = absurd (omega arith)
   set_here place (x ∷ xs) zero r new h a is e f = find_head place new xs f
@@ -178,6 +169,13 @@ module _ {X : Type 0} where
   pub keys_are : (place : ℕ) (rows : List (RowView X)) (k : ℕ) (row : RowView X) (keys : List (KeyView X)) → AreApart rows → IsRowOf place rows k → row ≡ get_or rows k row
       → find_row place rows ≡ Some keys → keys ≡ row.keys
   keys_are place rows k row keys a h is e = some_is keys row.keys (sym e ∙ find_here place rows k row h.0 a is (row_is place rows k row h is))
+
+  -- the row that stands there is the one that is found
+  pub row_found : (place : ℕ) (rows inside : List (RowView X)) (k : ℕ) (row : RowView X) (keys : List (KeyView X)) → inside ≡ rows → AreApart rows → IsRowOf place rows k → row ≡ get_or inside k row → keys ≡ row.keys
+      → Some keys ≡ find_row place rows
+  row_found place rows inside k row keys same a h is e =
+      let at : row ≡ get_or rows k row = is ∙ ap (λ (l : List (RowView X)). get_or l k row) same in
+      ap Some e ∙ sym (find_here place rows k row h.0 a at (row_is place rows k row h at))
 
   pub not_last : (keys : List (KeyView X)) (key : KeyView X) → nat_eq (length (keys ++ key ∷ [])) 8 ≡ false → row_with keys key ≡ Some (keys ++ key ∷ [])
   not_last keys key e = ap (λ (b : Bool). cond b None (Some (keys ++ key ∷ []))) (ne-eqb (length keys) 7 (λ z. sevens z))

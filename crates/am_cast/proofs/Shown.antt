@@ -48,7 +48,7 @@ module _ {B K A : Type 0} where
         seen = long;
         held = λ h. (sd.seen.holds h).1;
         told = λ h. let e = sd.seen.told h in (e.0, ap (λ (xs : List B). length xs) e.1);
-        told_cut = λ h. let dead = sd.cuts h in eq-eqb b.stand cut (cut_by b.stand used dead);
+        told_cut = λ h. let dead = (sd.cuts h).0 in eq-eqb b.stand cut (cut_by b.stand used dead);
         in_hand = λ c h. let is : b.stand ≡ cut = cut_from b.stand used c in let k = sd.keeps is h in (ap (λ (f : Bool). if f then b.away else (b.half % 2 == 1)) c ∙ k.0, sym k.1);
       })
       (λ (fresh : v.begun ≡ false). let u = sd.seen.unbegun here fresh in let at = u.passed in let seen = u.seen in subst (IsLaneSound t.log t.closed) (sym (admitted_is b v used here fresh)) (omega arith, omega arith)))

@@ -279,7 +279,7 @@ module _ {B K A : Type 0} where
         let got : drop v.start (take (p + 1) v.front) ≡ drop v.start (take p v.front) ++ x ∷ [] = (let e : p + 1 ≡ suc p = omega arith in ap (λ (k : ℕ). drop v.start (take k v.front)) e) ∙ ap (λ (zs : List B). drop v.start zs) (more_at v.front p x x_at) ∙ dropped_end (take p v.front) v.start x (omega arith) in
         let begins = sd.seen.begins in
         let there : slice_get c.tail.log p ≡ Some x = ap (λ (zs : List B). slice_get zs p) (sym begins.1) ∙ prefix_get v.front begins.0 p x x_at in
-        let told : (n % 2 == 1) ≡ (v.cut || (b.stand == cut)) = told_by b v n used odd sd.cuts in
+        let told : (n % 2 == 1) ≡ (v.cut || (b.stand == cut)) = told_by b v n used odd (λ e. (sd.cuts e).0) in
         steps.pass (before c) (after d) l (record_behind b) (cursor_behind v) x (lane_was c l _ small (open_is b v used here begun)) held there
         (lane_only c d l w _ small to (open_is b w used here begun ∙ (λ i. Open (record_behind b) (record r { passed = v.passed + 1; held = false; told_cut = told i; got = got i }))))
       where

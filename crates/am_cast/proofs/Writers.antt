@@ -128,7 +128,8 @@ module _ {B K A : Type 0} (key : B → ℕ → K) where
       let is : account_of (longer x q') l ≡ grown (filled_as key b.stand x l b) = account_longer q' x l (omega arith) ∙ ap (λ (b : Account K A). grown b) ((f.2 l small).0 small) in
       let g = grown_fields (filled_as key b.stand x l b).stand (filled_as key b.stand x l b) in let h = filled_fields b.stand x l b in
       let loads : (account_of (longer x q') l).loads ≡ b.loads = ap (λ (b : Account K A). b.loads) is ∙ g.3 ∙ h.3 in
-      ((ap (λ (b : Account K A). b.turn) is ∙ g.0 ∙ h.0, ap (λ (b : Account K A). b.note) is ∙ g.1 ∙ h.1, ap (λ (b : Account K A). b.start) is ∙ g.2 ∙ h.2, omega arith), ap (λ (b : Account K A). b.stand) is ∙ g.4 ∙ h.4, ap (λ (b : Account K A). b.known) is ∙ g.5 ∙ h.5)
+      let known : (account_of (longer x q') l).known ≡ b.known = ap (λ (b : Account K A). b.known) is ∙ g.5 ∙ h.5 in
+      ((ap (λ (b : Account K A). b.turn) is ∙ g.0 ∙ h.0, ap (λ (b : Account K A). b.note) is ∙ g.1 ∙ h.1, ap (λ (b : Account K A). b.start) is ∙ g.2 ∙ h.2, omega arith, omega arith), ap (λ (b : Account K A). b.stand) is ∙ g.4 ∙ h.4, known)
 
 module _ {K A : Type 0} where
   pub retired_known : (b : Account K A) → (retired b).known ≡ b.known

@@ -14,4 +14,5 @@ pub mod Core
 pub mod FaultTexts
 pub mod inside
 pub mod Laws
+pub mod Runs
 pub mod Freed

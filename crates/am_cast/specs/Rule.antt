@@ -126,7 +126,8 @@ pub record Sound {B K A : Type 0} (t : Tail B) (b : Account K A) (v : LaneView B
   pub mid : b.known ≤ v.passed
   -- nor more than its word shows: half of the word, without the cut bit, only grows
   pub halves : v.here ≡ true → b.half ≤ 2 * v.passed + bit v.held
-  pub cuts : v.cut ≡ true → b.stand ≢ live
+  -- a cursor that has answered Cut is that of a lane that the writer cut
+  pub cuts : v.cut ≡ true → (b.stand ≢ live) × (b.stand ≢ vacated)
   -- the key in the hand of a cut lane is the one that the writer knows to be away
   pub keeps : b.stand ≡ cut → v.held ≡ true → (b.away ≡ true) × (v.passed ≡ b.known)
 

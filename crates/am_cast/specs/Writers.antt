@@ -18,9 +18,10 @@ pub record IsCalm {K A : Type 0} (n places : ℕ) (b : Account K A) : Type 0 whe
   pub rest_is : b.stand ≢ live → b.cleared ≡ b.stop
   pub away_is : b.away ≡ true → (b.stand ≡ cut) × (b.known < n) × (b.known < b.cleared)
 
--- the same admission of a lane, which was loaded as often or more
+-- the same admission of a lane, which was loaded as often or more, and has passed as much or more
 abbrev pub SameAdmission : {K A : Type 0} → Account K A → Account K A → Type 0
 SameAdmission b c = (c.turn ≡ b.turn) × (c.note ≡ b.note) × (c.start ≡ b.start) × (b.loads ≤ c.loads)
+    × (b.known ≤ c.known)
 
 -- a lane stands as before, except that a live one may be found vacated
 abbrev pub StandsOn : {K A : Type 0} → Account K A → Account K A → Type 0
@@ -53,10 +54,13 @@ module _ {B K A : Type 0} where
   IsBehind q l = ((account_of q l).stand ≡ live)
       × (length q.tail.log ≡ (account_of q l).known + q.tail.places)
 
-  -- of the lanes below k only what is known has changed, and each live one was looked at
+  -- of the lanes below k only what is known has changed. Each live one was looked at, and each cut one whose
+  -- key is away
   pub record Harvested (q q' : WriterView B K A) (k : ℕ) : Type 0 where
     pub tail : q'.tail ≡ q.tail
     pub each : (l : ℕ) → l < LANES → StaysAs (account_of q l) (account_of q' l)
     pub below : (l : ℕ) → l < k → (account_of q l).stand ≡ live
+        → (account_of q l).loads < (account_of q' l).loads
+    pub aways : (l : ℕ) → l < k → (account_of q l).away ≡ true
         → (account_of q l).loads < (account_of q' l).loads
     pub above : (l : ℕ) → k ≤ l → account_of q' l ≡ account_of q l

@@ -1,6 +1,6 @@
 //! The writer's keys: those that came home wait in rows, one for each place, until the eighth is
 //! there and ends the segment.
-ghost use Rattle.std.specs.Prelude.{true, false, ◌≡◌, ◌≢◌, ℕ, ◌<◌, ◌≤◌, List, ◌∷◌, ◌++◌, [], length, Some, None, IfOk, OnOk};
+ghost use Rattle.std.specs.Prelude.{true, false, ◌≡◌, ◌≢◌, ℕ, ◌<◌, ◌≤◌, List, ◌∷◌, ◌++◌, [], length, Some, None, IfOk, OnOk, option_copied};
 ghost use Rattle.am_segment.specs.Segments.{KeyView};
 ghost use Rattle.am_cast.specs.inside.KeyRows.{bucket_of, row_at, MayTake, row_with};
 
@@ -57,13 +57,12 @@ impl<T> KeyRows<T> {
         Ok(KeyRows { buckets, spare })
     }
 
-    /// Whether keys of the place wait for others.
-    pub(crate) fn has(&self, place: u64) -> bool
-        ensures none { result ≡ false → row_at self.now place ≡ None }
-        ensures some { result ≡ true → row_at self.now place ≢ None }
+    /// The keys of the place that wait for others, if there are any.
+    pub(crate) fn keys(&self, place: u64) -> Option<&[SegKey<T>]>
+        ensures { option_copied result ≡ row_at self.now place }
     {
         let at = (place % self.buckets.len() as u64) as usize;
-        self.buckets[at].has(place)
+        self.buckets[at].keys(place)
     }
 
     /// A row for the place, and room for it among the others.

@@ -11,6 +11,7 @@ ghost use Rattle.am_cast.specs.Laws.{LooksAtTheLog, TakesTheKey, PassesThePlace,
 ghost use Rattle.am_cast.specs.Laws.{LeavesWithKey, FindsTheWord, RecoversTheKey, CutsTheLane};
 ghost use Rattle.am_cast.specs.Laws.{AdmitsTheLane, RetiresTheLane, PublishesTheBatch, ClosesTheLog};
 ghost use Rattle.am_cast.specs.Laws.{ReachesASlot, LaysAKey, GathersAKey, ClearsASlot};
+ghost use Rattle.am_cast.specs.Runs.{RunsOfTheCore};
 
 use crate::limits::{LANES, LONGEST_LOG, MAX_PLACES, WORDS};
 use crate::rule::Keyed;
@@ -135,6 +136,12 @@ pub fn a_seat_taken_in_is_silent<B, K, A, R: Keyed<B, K>>()
 /// A table as it is made shows the core's first state.
 pub fn a_new_table_shows_the_first_state<B, K, A, R: Keyed<B, K>>()
     ensures { BeginsAtTheFirstState B K A R.key }
+{}
+
+/// Any sequence of steps that these laws allow, from a new table on, is a run of the core from its first
+/// state.
+pub fn a_run_of_steps_is_a_run_of_the_core<B, K, A, R: Keyed<B, K>>()
+    ensures { RunsOfTheCore B K A R.key }
 {}
 
 /// What a table shows is a sound state of the core.

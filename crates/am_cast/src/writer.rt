@@ -1,14 +1,14 @@
 //! The writer of a log: its type, and what it answers at once. Each call that takes several steps has a file
 //! in `writer/`, from the public function down to the steps of `board`. Its caller holds it under a lock.
 ghost use mathlib.Core.List.{IsPrefix};
-ghost use Rattle.std.specs.Prelude.{◌↔◌, IsTrue, ◌≡◌, ◌≢◌, ◌<◌, ◌≤◌, true, false, length, ℕ, OnOk, OnErr, IsOk};
+ghost use Rattle.std.specs.Prelude.{◌↔◌, IsTrue, ◌≡◌, ◌≢◌, ◌<◌, ◌≤◌, true, false, length, ℕ, OnOk, OnErr, IsOk, option_copied};
 ghost use Rattle.am_cast.specs.declared.limits.TheConstants.{LONGEST_LOG};
 ghost use Rattle.am_cast.specs.declared.batch_view.BatchView.{BatchView};
 ghost use Rattle.am_cast.specs.Rule.{idle, cut, Once};
 ghost use Rattle.am_cast.specs.Changes.{AreInLog, shut_tail};
 ghost use Rattle.am_cast.specs.Seats.{account_of};
 ghost use Rattle.am_cast.specs.Writers.{Calm};
-ghost use Rattle.am_cast.specs.Freed.{IsFreedFor};
+ghost use Rattle.am_cast.specs.Freed.{Keeps, IsFreedFor};
 
 mod admit;
 mod cut;
@@ -25,6 +25,7 @@ use crate::limits::LANES;
 use crate::pass::Pass;
 use crate::writer::lane_account::Stand;
 use crate::writer::state::WriterState;
+use am_segment::SegKey;
 use std::marker::Model;
 
 /// Contracts see it as what it knows of its log.
@@ -59,12 +60,20 @@ impl<T: Drop, P, A, N: Feed> Writer<T, P, A, N> {
         self.state.count
     }
 
+    /// The keys of the place that the writer keeps until the others are home. It keeps none of a place that
+    /// is freed.
+    pub fn kept(&self, place: u64) -> Option<&[SegKey<T>]>
+        ensures { Keeps self.now place (option_copied result) }
+    {
+        self.state.rows.keys(place)
+    }
+
     /// Whether the place is there and the writer keeps no key of it: all its keys came home, and its
     /// segment has ended.
     pub fn freed(&self, place: u64) -> bool
         ensures { IsTrue result ↔ IsFreedFor self.now place }
     {
-        place < self.state.count && !self.state.rows.has(place)
+        place < self.state.count && self.kept(place).is_none()
     }
 
     pub fn is_closed(&self) -> bool

@@ -9,7 +9,7 @@ use crate::log::{Log, begin_log, end_log};
 use am_cast::{
     Cast, Cursor, Feed, LANES, LONGEST_LOG, Parts, Pass, PublishFault, Refused, Step, Writer,
 };
-use am_segment::SegmentBuilder;
+use am_segment::{SegKey, SegmentBuilder};
 use am_steps::{Event, Lane, State};
 use std::alloc::{AllocError, Global};
 use std::marker::Brand;
@@ -47,6 +47,16 @@ fn count_of(name: u64) -> u64
 
 fn item_of(name: u64, at: u64) -> u64 {
     name.wrapping_mul(4).wrapping_add(at)
+}
+
+// Whether they are keys of the batch of that name: those of six lanes that nobody takes, and at most one more.
+fn are_keys_of(keys: &[SegKey<u64>], name: u64) -> bool {
+    for key in keys {
+        if key.len() as u64 != count_of(name) || key.get(0) != Some(&item_of(name, 0)) {
+            return false;
+        }
+    }
+    keys.len() == 6 || keys.len() == 7
 }
 
 fn batch_of(alloc: Global, name: u64) -> Result<SegmentBuilder<u64>, AllocError>
@@ -335,14 +345,19 @@ impl<'a, N: Feed> Both<'a, N> {
         at == reader.shown.len()
     }
 
-    // Whether both free the same places.
+    // Whether both free the same places, and the writer keeps keys of the others alone.
     fn frees_the_same(&self, writer: &Writer<u64, u64, u64, N>) -> bool {
         for place in 0..self.length {
-            if self.state.freed(place) != writer.freed(place) {
+            let freed = self.state.freed(place);
+            let kept = match writer.kept(place) {
+                Some(keys) => !freed && are_keys_of(keys, place),
+                None => freed,
+            };
+            if writer.freed(place) != freed || !kept {
                 return false;
             }
         }
-        true
+        writer.kept(self.length).is_none()
     }
 
     fn meet(

@@ -2,4 +2,5 @@ pub mod Blocks
 pub mod Crosses
 pub mod Fronts
 mod Keys
+mod Names
 pub mod Values

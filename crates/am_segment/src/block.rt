@@ -4,7 +4,7 @@
 //! a `Part` that reads its items and can be split. All parts together give the block back for the
 //! claim. Numbers, keys and what a caller sees of a segment are not here.
 
-ghost use Rattle.std.specs.Prelude.{◌≡◌, ℕ, ◌+◌, ◌-◌, ◌^◌, ◌≤◌, ◌<◌, List, [], ◌∷◌, ◌++◌, length, IfOk};
+ghost use Rattle.std.specs.Prelude.{◌≡◌, ◌≢◌, ℕ, ◌+◌, ◌-◌, ◌^◌, ◌≤◌, ◌<◌, List, [], ◌∷◌, ◌++◌, length, IfOk};
 ghost use Rattle.std.specs.Vec.Ownership.{FitsInBlock};
 ghost use base.Fml.{ftrue};
 ghost use denote.RawPtr.{Ptr};
@@ -169,6 +169,17 @@ impl<T> Part<T> {
     {
         let Part { ptr } = self;
         (Part { ptr }, Part { ptr })
+    }
+
+    /// All parts of one block, and a part of another: no two blocks have one name.
+    pub(crate) fn tell_apart(self, other: Part<T>) -> (Part<T>, Part<T>)
+        requires { (self.count ≡ 2 ^ 63) × (0 < other.count) }
+        ensures same { (result.0 ≡ self) × (result.1 ≡ other) }
+        ensures apart { self.segment ≢ other.segment }
+    {
+        let Part { ptr } = self;
+        let Part { ptr: at } = other;
+        (Part { ptr }, Part { ptr: at })
     }
 
     /// Two parts of one block as one.

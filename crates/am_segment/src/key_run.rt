@@ -1,6 +1,6 @@
 //! The keys of a new segment, handed out one by one without a list of them.
 
-ghost use Rattle.std.specs.Prelude.{◌≡◌, ◌+◌, ◌<◌, MatchOption};
+ghost use Rattle.std.specs.Prelude.{◌≡◌, ◌≢◌, ◌+◌, ◌<◌, MatchOption};
 
 use crate::block::Part;
 use crate::block_return::BlockReturn;
@@ -32,6 +32,40 @@ impl<T> Model for KeyRun<T> {
 }
 
 impl<T> KeyRun<T> {
+    /// A run whose keys are all still to come, and a key of another segment: the two have different names.
+    pub fn apart_from(self, key: SegKey<T>) -> (KeyRun<T>, SegKey<T>)
+        requires { self.number ≡ 0 }
+        ensures same { (result.0 ≡ self) × (result.1 ≡ key) }
+        ensures apart { self.segment ≢ key.segment }
+    {
+        let KeyRun {
+            rest,
+            len,
+            next,
+            last,
+            back,
+        } = self;
+        let SegKey {
+            part,
+            len: items,
+            last: end,
+        } = key;
+        let (rest, part) = rest.tell_apart(part);
+        let run = KeyRun {
+            rest,
+            len,
+            next,
+            last,
+            back,
+        };
+        let key = SegKey {
+            part,
+            len: items,
+            last: end,
+        };
+        (run, key)
+    }
+
     /// The next key, and the keys behind it.
     pub fn next(self) -> (SegKey<T>, Option<KeyRun<T>>)
         ensures key { result.0 ≡ self }

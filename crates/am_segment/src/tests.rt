@@ -145,6 +145,41 @@ fn keys_are_handed_out_one_by_one(rt: HostRuntime) -> Result<(), Fail> {
     Ok(())
 }
 
+// The one key of a segment beside the one key of another. Answers whether both show their items.
+fn beside(first: Sealed<Arc<u64>>, second: SegmentBuilder<Arc<u64>>) -> bool
+    requires { length first.keys.items ≡ 1 }
+{
+    let Sealed { mut keys } = first;
+    let Some(key) = keys.pop() else {
+        unreachable!()
+    };
+    let (run, key) = second.hand_out(1).apart_from(key);
+    let (other, rest) = run.next();
+    let None = rest else { unreachable!() };
+    let shown = shows_filled(&key) && shows_filled(&other);
+    keys.push_reserved(other);
+    reunite_all_of(&mut keys);
+    keys.push_reserved(key);
+    reunite(keys);
+    shown
+}
+
+#[test]
+fn a_key_and_a_run_of_another_segment(rt: HostRuntime) -> Result<(), Fail> {
+    let item = Arc::new(rt.alloc(), 7)?;
+    let second = filled(rt.alloc(), &item)?;
+    let first = match filled(rt.alloc(), &item).and_then(|builder| seal(builder, 1)) {
+        Ok(first) => first,
+        Err(error) => {
+            second.discard();
+            return Err(error.into());
+        }
+    };
+    assert!(rt; beside(first, second));
+    assert_eq!(rt; Arc::strong_count(&item), 1);
+    Ok(())
+}
+
 #[test]
 fn the_list_of_the_keys_stays_with_its_memory(rt: HostRuntime) -> Result<(), Fail> {
     let item = Arc::new(rt.alloc(), 7)?;

@@ -65,7 +65,7 @@ module _ {B K A : Type 0} (key : B → ℕ → K) where
           vacates = λ z. absurd (omega arith);
           mid = sd.mid;
           halves = sd.halves;
-          cuts = λ _ z. omega arith;
+          cuts = λ _. ((λ z. omega arith), (λ z. omega arith));
           keeps = λ _ _. (refl, omega arith);
         };
         word = word_now true e (omega arith);
@@ -90,7 +90,7 @@ module _ {B K A : Type 0} (key : B → ℕ → K) where
           vacates = λ z. absurd (omega arith);
           mid = sd.mid;
           halves = sd.halves;
-          cuts = λ _ z. omega arith;
+          cuts = λ _. ((λ z. omega arith), (λ z. omega arith));
           keeps = λ _ z. absurd (true≢false (sym z ∙ e));
         };
         word = word_now false e (omega arith);

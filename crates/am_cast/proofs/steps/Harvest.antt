@@ -38,7 +38,7 @@ module _ {B K A : Type 0} (key : B → ℕ → K) where
           vacates = λ _. away_from;
           mid = sd.mid;
           halves = sd.halves;
-          cuts = λ _ z. omega arith;
+          cuts = λ e. absurd ((sd.cuts e).0 alive);
           keeps = λ z. absurd (omega arith);
         };
         word = same ∙ ok.word ∙ (λ i. shown (away_from i) (4 * v.passed + 2 * bit v.held + b.stand / 2)) ∙ (λ i. shown (sym away_from i) (4 * v.passed + 2 * bit v.held + 1));

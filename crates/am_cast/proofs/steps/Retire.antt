@@ -62,7 +62,7 @@ module _ {B K A : Type 0} (key : B → ℕ → K) where
           vacates = λ _. away_from;
           mid = sd.mid;
           halves = sd.halves;
-          cuts = λ _ z. omega arith;
+          cuts = λ _. ((λ z. omega arith), (λ z. omega arith));
           keeps = λ z. absurd (omega arith);
         };
         word = ap (λ (ws : List ℕ). get_or ws at_word 0) same ∙ word ∙ (λ i. shown (sym away_from i) (4 * v.passed + 2 * bit v.held + 0));
@@ -84,7 +84,7 @@ module _ {B K A : Type 0} (key : B → ℕ → K) where
           vacates = λ _. away_from;
           mid = sd.mid;
           halves = sd.halves;
-          cuts = λ _ z. omega arith;
+          cuts = λ _. ((λ z. omega arith), (λ z. omega arith));
           keeps = λ z. absurd (omega arith);
         };
         word = ap (λ (ws : List ℕ). get_or ws at_word 0) same ∙ word ∙ (λ i. shown (sym away_from i) (4 * v.passed + 2 * bit v.held + 0));

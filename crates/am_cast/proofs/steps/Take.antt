@@ -99,7 +99,7 @@ module _ {B K A : Type 0} (key : B → ℕ → K) where
             vacates = sd.vacates;
             mid = sd.mid;
             halves = sd.halves;
-            cuts = λ _. was_cut;
+            cuts = λ _. (was_cut, (λ e. true≢false (sym here ∙ sd.vacates e)));
             keeps = sd.keeps;
           };
           word = ap (λ (l : List ℕ). get_or l at_word 0) same ∙ ok.word;

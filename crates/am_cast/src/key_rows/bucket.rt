@@ -1,5 +1,5 @@
 //! The rows of the places with one remainder: mostly one, and older ones while a key that was cut off is out.
-ghost use Rattle.std.specs.Prelude.{true, false, ◌≡◌, ◌≢◌, ℕ, ◌+◌, ◌<◌, ◌≤◌, List, [], ◌∷◌, ◌++◌, Some, None, IfSome, IfNone, OnOk, OnErr};
+ghost use Rattle.std.specs.Prelude.{true, false, ◌≡◌, ◌≢◌, ℕ, ◌+◌, ◌<◌, ◌≤◌, List, [], ◌∷◌, ◌++◌, Some, None, IfSome, IfNone, OnOk, OnErr, option_copied};
 ghost use Rattle.am_segment.specs.Segments.{KeyView};
 ghost use Rattle.am_cast.specs.inside.KeyRows.{RowView, find_row, HasNoRow, AreApart, MayTake, row_with, IsRowOf, HaveRemainder};
 
@@ -54,14 +54,14 @@ impl<T> Bucket<T> {
         None
     }
 
-    /// Whether there is a row of the place.
-    pub(crate) fn has(&self, place: u64) -> bool
-        ensures none { result ≡ false → find_row place self.now.rows ≡ None }
-        ensures some { result ≡ true → find_row place self.now.rows ≢ None }
+    /// The keys of the place's row, if there is one.
+    pub(crate) fn keys(&self, place: u64) -> Option<&[SegKey<T>]>
+        requires { AreApart self.now.rows }
+        ensures { option_copied result ≡ find_row place self.now.rows }
     {
         match self.find(place) {
-            Some(_) => true,
-            None => false,
+            Some(index) => Some(self.rows[index].keys()),
+            None => None,
         }
     }
 

@@ -70,6 +70,12 @@ impl<T> Row<T> {
         self.keys.len() == LANES
     }
 
+    pub(crate) fn keys(&self) -> &[SegKey<T>]
+        ensures { result.now ≡ self.now.keys }
+    {
+        self.keys.as_slice()
+    }
+
     pub(crate) fn add(&mut self, key: SegKey<T>)
         requires { length self.old.keys < LANES }
         ensures { self.new ≡ record self.old { keys = self.old.keys ++ key ∷ [] } }

@@ -46,6 +46,8 @@ impl<T: Drop, P, A, N: Feed> Writer<T, P, A, N> {
             → SameAdmission (account_of self.old l) (account_of self.new l) }
         ensures loads { (l : ℕ) → l < LANES → (account_of self.old l).stand ≡ live
             → (account_of self.old l).loads < (account_of self.new l).loads }
+        ensures aways { (l : ℕ) → l < LANES → (account_of self.old l).away ≡ true
+            → (account_of self.old l).loads < (account_of self.new l).loads }
 
         ensures err { OnErr result ((self.new.tail ≡ self.old.tail) × (pass.new ≡ pass.old)
             × ((l : ℕ) → l < LANES → StaysAs (account_of self.old l) (account_of self.new l))) }

@@ -16,8 +16,8 @@ use crate::writer::lane_account::Stand;
 use crate::writer::state::WriterState;
 
 impl<T: Drop, P, A, N: Feed> Writer<T, P, A, N> {
-    /// Loads each live lane's word, and ends the segments that all lanes have passed. Answers the
-    /// lane that a publish would name as full.
+    /// Loads the word of each live lane and of each cut lane whose key is away, and ends the segments that
+    /// all lanes have passed. Answers the lane that a publish would name as full.
     pub fn harvest(&mut self, cast: &Cast<T, P, A, N>) -> Option<(usize, u64)>
         ensures harvested { Harvested self.old self.new LANES }
 
@@ -54,7 +54,7 @@ impl<T: Drop, P, A, N: Feed> WriterState<T, P, A, N> {
             (account_of self.new.known lane) }
         ensures account { let b = account_of self.old.known lane in
             let c = account_of self.new.known lane in StaysAs b c × (b.stand ≡ live
-            → b.loads < c.loads) }
+            → b.loads < c.loads) × (b.away ≡ true → b.loads < c.loads) }
     {
         if self.is_live(lane) {
             return self.harvest_live(cast, lane);
@@ -119,7 +119,8 @@ impl<T: Drop, P, A, N: Feed> WriterState<T, P, A, N> {
         ensures calm { IsCalm (length self.old.known.tail.log) self.old.known.tail.places
             (account_of self.new.known lane) }
         ensures account { let b = account_of self.old.known lane in
-            let c = account_of self.new.known lane in SameAdmission b c × (c.stand ≡ b.stand) }
+            let c = account_of self.new.known lane in SameAdmission b c × (c.stand ≡ b.stand)
+            × (b.loads < c.loads) }
     {
         let place = self.known_of(lane);
         if self.recover(cast, lane) {

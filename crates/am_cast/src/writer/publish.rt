@@ -1,7 +1,7 @@
 //! Publishing, from the call down to the steps: each live lane gets its key of the next place, the
 //! other keys wait in its row, and then the place is there.
 ghost use mathlib.Core.List.{IsPrefix};
-ghost use Rattle.std.specs.Prelude.{◌≡◌, ◌≢◌, ◌+◌, ◌<◌, ◌≤◌, false, length, None, Some, [], ℕ, IfOk, ◌++◌, ◌∷◌, IfErr, OnOk, OnErr};
+ghost use Rattle.std.specs.Prelude.{◌≡◌, ◌≢◌, ◌+◌, ◌<◌, ◌≤◌, true, false, length, None, Some, [], ℕ, IfOk, ◌++◌, ◌∷◌, IfErr, OnOk, OnErr};
 ghost use Rattle.am_cast.specs.declared.batch_view.BatchView.{BatchView};
 ghost use Rattle.am_cast.specs.Rule.{live};
 ghost use Rattle.am_cast.specs.Changes.{longer_tail, back, laying, longer, both_of, AreInLog, own_at};
@@ -33,7 +33,8 @@ use std::snapshot::Snapshot;
 
 impl<T: Drop, P, A, N: Feed> Writer<T, P, A, N> {
     /// A new place, with the batch. Its number is the length before, and the pass owns it. Whatever it
-    /// answers, it loads each live lane's word first, and ends the segments that all lanes have passed.
+    /// answers, it loads the word of each live lane and of each cut lane whose key is away first, and ends
+    /// the segments that all lanes have passed.
     pub fn publish(
         &mut self,
         cast: &Cast<T, P, A, N>,
@@ -50,6 +51,8 @@ impl<T: Drop, P, A, N: Feed> Writer<T, P, A, N> {
             × IsPrefix pass.old.noted pass.new.noted) }
         ensures lanes { (l : ℕ) → l < LANES → StaysAs (account_of self.old l) (account_of self.new l) }
         ensures loads { (l : ℕ) → l < LANES → (account_of self.old l).stand ≡ live
+            → (account_of self.old l).loads < (account_of self.new l).loads }
+        ensures aways { (l : ℕ) → l < LANES → (account_of self.old l).away ≡ true
             → (account_of self.old l).loads < (account_of self.new l).loads }
 
         ensures err { OnErr result ((self.new.tail ≡ self.old.tail) × (pass.new ≡ pass.old)) }

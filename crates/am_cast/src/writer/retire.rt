@@ -1,8 +1,8 @@
 //! Retiring, from the call down to the steps: a lane's seat comes home, and its keys with it.
 ghost use mathlib.Core.List.{IsPrefix};
-ghost use Rattle.std.specs.Prelude.{◌≡◌, ◌≢◌, ◌+◌, ◌<◌, false, length, None, Some, [], ℕ, drop};
+ghost use Rattle.std.specs.Prelude.{◌≡◌, ◌≢◌, ◌+◌, ◌<◌, true, false, length, None, Some, [], ℕ, drop};
 ghost use Rattle.am_cast.specs.declared.limits.TheConstants.{LANES};
-ghost use Rattle.am_cast.specs.Rule.{idle, live, Sound};
+ghost use Rattle.am_cast.specs.Rule.{idle, live, cut, Sound};
 ghost use Rattle.am_cast.specs.Changes.{retired, left};
 ghost use Rattle.am_cast.specs.Seats.{account_of, lane_of};
 ghost use Rattle.am_cast.specs.Cursors.{shown_items, HasEnded};
@@ -27,6 +27,8 @@ impl<T: Drop, P, A, N: Feed> Writer<T, P, A, N> {
         ensures others { (m : ℕ) → m ≢ cursor.entry.lane.number
             → account_of self.new m ≡ account_of self.old m }
         ensures given { (account_of self.old cursor.entry.lane.number).stand ≢ idle }
+        ensures cut { cursor.entry.lane.cut ≡ true
+            → (account_of self.old cursor.entry.lane.number).stand ≡ cut }
         ensures sound { Sound self.old.tail (account_of self.old cursor.entry.lane.number)
             (left cursor.entry.lane) cursor.entry.lane.number }
         ensures taken { IsPrefix (shown_items cursor.entry) (all_items

@@ -1,0 +1,32 @@
+-- Steps from a new table are a run of the core from its first state.
+use Rattle.std.proofs.Common.{ℕ, List, [], ◌++◌, sym, refl, subst}
+use Rattle.am_steps.specs.declared.event.Event as event
+use Rattle.am_steps.specs.States.{Core, first_state}
+use Rattle.am_steps.specs.Runs.{LeadsTo}
+use Rattle.am_steps.specs.Runs as runs
+use Rattle.am_cast.specs.Core.{state_of}
+use Rattle.am_cast.specs.Runs.{RunsOfTheCore}
+use Rattle.am_cast.specs.Runs as comes
+
+module _ {X : Type 0} where
+  then_also : (c d f : Core X) (es fs : List (event.Event X)) → LeadsTo c es d → LeadsTo d fs f → LeadsTo c (es ++ fs) f
+  then_also _ _ f _ fs (runs.none c) more = more
+  then_also _ _ f _ fs (runs.then c d g e es one rest) more = runs.then c d f e (es ++ fs) one (then_also d g f es fs rest more)
+
+  then_none : (c d f : Core X) (es : List (event.Event X)) → LeadsTo c es d → LeadsTo d [] f → LeadsTo c es f
+  then_none c _ _ es run (runs.none d) = run
+
+module _ (B K A : Type 0) (key : B → ℕ → K) where
+  pub runs_as : RunsOfTheCore B K A key
+  runs_as places posters seat_of _ _ _ (comes.begins words slots r first) = subst (LeadsTo (first_state places 8 posters) []) (sym first) (runs.none (first_state places 8 posters))
+  runs_as places posters seat_of _ _ _ (comes.steps es s r so_far slots id me i f found allowed deep at fits) =
+      let it = allowed s r deep at fits in
+      then_also (first_state places 8 posters) (state_of posters seat_of r) (state_of posters seat_of it.3.0) es _ (runs_as places posters seat_of es s r so_far) (it.3.1 posters seat_of)
+  runs_as places posters seat_of _ _ _ (comes.notes es s r so_far slots id me allowed deep at fits p small seat only) =
+      let it = allowed s r deep at fits in
+      then_also (first_state places 8 posters) (state_of posters seat_of r) (state_of posters seat_of it.3.0) es _ (runs_as places posters seat_of es s r so_far) (it.3.1 posters seat_of p small seat only)
+  runs_as places posters seat_of _ _ _ (comes.hears es s r so_far slots id me allowed deep at fits other) =
+      let it = allowed s r deep at fits in
+      then_none (first_state places 8 posters) (state_of posters seat_of r) (state_of posters seat_of it.3.0) es (runs_as places posters seat_of es s r so_far) (it.3.2 posters seat_of other)
+  runs_as places posters seat_of _ _ _ (comes.seats es s r so_far views stays) =
+      then_none (first_state places 8 posters) (state_of posters seat_of r) (state_of posters seat_of stays.0) es (runs_as places posters seat_of es s r so_far) (stays.1 posters seat_of (λ k. (k, refl)))
