@@ -5,3 +5,4 @@ pub mod Arrays
 pub mod ValidAlerts
 pub mod MergingRules
 pub mod Printing
+pub mod FromParts

@@ -122,7 +122,7 @@ some_of zero e = cc
 some_of (suc n) e = omega arith
 
 -- an alert with no fault has a label, its names, and an end that isn't before its start
-no_fault : (alert : Alert) → fault_of alert ≡ None → (values : (n : List ℕ) → get alert.labels n ≢ Some []) → IsWellFormed alert
+pub no_fault : (alert : Alert) → fault_of alert ≡ None → (values : (n : List ℕ) → get alert.labels n ≢ Some []) → IsWellFormed alert
 no_fault alert none values =
     let tests = passed (nat_eq (len alert.labels) 0) (nat_lt alert.end alert.start) (contains_key alert.labels []) (contains_key alert.annotations []) none in
     record {
@@ -168,7 +168,7 @@ pub record AreTold (now i : ℕ) (ds : Items) (entries : Entries) : Type 0 where
   pub within : All (λ index. (i ≤ index) × (index < i + count ds)) (indices_of entries.1)
   pub counted : length entries.0 + length entries.1 ≡ count ds
 
-rises_more : (i : ℕ) (indices : List ℕ) → Rises indices → All (λ index. i + 1 ≤ index) indices → Rises (i ∷ indices)
+pub rises_more : (i : ℕ) (indices : List ℕ) → Rises indices → All (λ index. i + 1 ≤ index) indices → Rises (i ∷ indices)
 rises_more i indices rising above zero short = let first = above 0 0 (omega arith) in omega arith
 rises_more i indices rising above (suc k) short =
     let next = rising k (omega arith) in rw (add-one (suc k)) (rw (add-one k) at next)

@@ -10,4 +10,5 @@ pub mod TimeTexts
 pub mod Postables
 pub mod Posts
 pub mod ValidAlerts
+pub mod FromParts
 pub mod Laws

@@ -4,6 +4,8 @@ use Rattle.std.specs.Fmt.{decimal}
 use Rattle.am_labels.specs.Printing.{labels_text}
 use Rattle.am_alert.specs.Calendar.{parts_of}
 use Rattle.am_alert.specs.declared.alert.Alert.{Alert}
+use Rattle.am_alert.specs.declared.alert_parts.PartsFault.{PartsFault}
+use Rattle.am_alert.specs.declared.alert_parts.PartsFault.TheVariants as parts_fault
 use Rattle.am_alert.specs.declared.civil_time.CivilTime.{CivilTime}
 use Rattle.am_alert.specs.declared.post.AlertFault.{AlertFault}
 use Rattle.am_alert.specs.declared.post.AlertFault.TheVariants as alert_fault
@@ -40,6 +42,11 @@ abbrev pub alert_fault_text : AlertFault → List ℕ
 alert_fault_text alert_fault.NoLabels = codes "E10 NoLabels"
 alert_fault_text alert_fault.EndBeforeStart = codes "E11 EndBeforeStart"
 alert_fault_text alert_fault.EmptyName = codes "E12 EmptyName"
+
+-- why parts make no alert
+abbrev pub parts_fault_text : PartsFault → List ℕ
+parts_fault_text parts_fault.NoMemory = codes "E0 NoMemory"
+parts_fault_text (parts_fault.Invalid f) = alert_fault_text f
 
 -- why a post was refused as a whole
 abbrev pub post_fault_text : PostFault → List ℕ

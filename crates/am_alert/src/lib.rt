@@ -3,7 +3,8 @@
 //!
 //! `read_post` reads a request's body: its valid alerts, and the faults of the others with their
 //! indices, or one refusal of the whole. `absorb` says what a label set holds once a report of it
-//! came. Each moment is handed in: no clock is read.
+//! came. Each moment is handed in: no clock is read. Who has no JSON makes a post by
+//! `Post::from_parts`.
 //!
 //! ```text
 //! let post = read_post(alloc, body, now, Duration::from_secs(300))?;
@@ -17,6 +18,7 @@
 #![tactic(auto)]
 
 mod alert;
+mod alert_parts;
 mod alerts;
 mod civil_time;
 mod laws;
@@ -28,6 +30,7 @@ mod postable;
 mod time_text;
 
 pub use alert::Alert;
+pub use alert_parts::{AlertParts, PartsFault};
 pub use alerts::Alerts;
 pub use civil_time::CivilTime;
 pub use laws::{merging_laws, post_laws};

@@ -141,7 +141,8 @@ fn with_defaults(postable: Postable, now: Moment, resolve_timeout: Duration) -> 
     })
 }
 
-fn fault_of(alert: &Alert) -> Option<AlertFault>
+// Why an alert is invalid.
+pub(crate) fn fault_of(alert: &Alert) -> Option<AlertFault>
     ensures { result ≡ fault_of alert.now }
 {
     if alert.labels.is_empty() {

@@ -1,10 +1,11 @@
 //! Reading the members of a postable alert.
 
-ghost use Rattle.std.specs.Prelude.{◌≡◌, [], List, ℕ, option_and_then, option_map};
+ghost use Rattle.std.specs.Prelude.{◌≡◌, [], List, ℕ, IfOk, filter, option_and_then, option_map};
 ghost use Rattle.std.specs.FinMap.{empty};
 ghost use Rattle.serde_json.specs.Data.{object};
 ghost use Rattle.serde_json.specs.View.{view, members_view};
 ghost use Rattle.serde_json.specs.Find.{as_str, get_member};
+ghost use Rattle.am_labels.specs.LabelSets.{last_holds};
 ghost use Rattle.am_alert.specs.Postables.{annotations_of, given, has_value, if_given, labels_of, pairs_of, postable_of, texts_of, time_at, Reads};
 
 use crate::moment::Moment;
@@ -121,12 +122,22 @@ fn labels_of(alloc: Global, value: Option<Value>) -> Result<LabelSet, MemberFaul
     let Some(value) = value else {
         return Err(MemberFault::Bad);
     };
-    let mut pairs = pairs_from(alloc, value)?;
+    Ok(labels_with_values(alloc, pairs_from(alloc, value)?)?)
+}
+
+// The labels of those pairs that have a value.
+pub(crate) fn labels_with_values(
+    alloc: Global,
+    pairs: Vec<(Text, Text)>,
+) -> Result<LabelSet, AllocError>
+    ensures { IfOk result (λ labels. labels ≡ last_holds (filter has_value pairs.items)) }
+{
+    let mut kept = pairs;
     let has_value = |pair: &(Text, Text)| -> bool
         ensures { result ≡ has_value pair.now }
     { !pair.1.is_empty() };
-    pairs.retain(has_value);
-    Ok(LabelSet::from_texts(alloc, pairs)?)
+    kept.retain(has_value);
+    LabelSet::from_texts(alloc, kept)
 }
 
 fn annotations_of(alloc: Global, value: Option<Value>) -> Result<LabelSet, MemberFault>

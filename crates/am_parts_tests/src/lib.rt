@@ -5,6 +5,8 @@
 #![tactic(auto)]
 
 #[cfg(test)]
+mod alert_parts;
+#[cfg(test)]
 mod alerts;
 #[cfg(test)]
 mod configurations;
