@@ -13,6 +13,7 @@ pub mod Stored
 pub mod Broadcast
 pub mod Trims
 pub mod AlertList
+pub mod Judging
 pub mod PlainBook
 pub mod Lanes
 pub mod LogLimits

@@ -2,10 +2,13 @@
 
 ghost use Rattle.std.specs.Prelude.{◌≡◌, IfOk, filter, not, count_by};
 ghost use Rattle.std.specs.Arc.{arc_value};
+ghost use Rattle.std.specs.Option.{option_map};
 ghost use Rattle.am_alert.specs.Merging.{is_resolved_at};
+ghost use Rattle.am_store.specs.AlertList.{lookup};
 ghost use Rattle.am_store.specs.AlertMaps.{stored_in, AreKeptByLabels};
 
 pub mod absorb;
+pub mod judge;
 
 use crate::shared_alerts::{SharedAlert, StoredAlerts};
 use am_alert::Moment;
@@ -28,6 +31,34 @@ pub fn share_all(alerts: &AlertMap) -> Result<StoredAlerts, AllocError>
         shared.push(Arc::try_clone(alert)?)?;
     }
     StoredAlerts::new(alloc, shared)
+}
+
+/// The alert of a label set. It isn't copied: this takes no memory, and fails only if the alert has
+/// 2^63 owners already.
+pub fn share_of(alerts: &AlertMap, labels: &LabelSet) -> Result<Option<SharedAlert>, AllocError>
+    requires { AreKeptByLabels alerts.now.entries }
+    ensures { IfOk result (λ found.
+        option_map arc_value found ≡ lookup labels.now (stored_in alerts.now.entries)) }
+{
+    match alerts.get(labels) {
+        Some(alert) => Ok(Some(Arc::try_clone(alert)?)),
+        None => Ok(None),
+    }
+}
+
+/// The alerts that are resolved, in order. None is copied.
+pub fn share_resolved(alerts: &AlertMap, now: Moment) -> Result<StoredAlerts, AllocError>
+    ensures { IfOk result (λ resolved.
+        resolved ≡ filter (is_resolved_at now) (stored_in alerts.now.entries)) }
+{
+    let alloc = *alerts.allocator();
+    let mut resolved = Vec::new(alloc);
+    for alert in alerts.values() {
+        if alert.resolved_at(now) {
+            resolved.push(Arc::try_clone(alert)?)?;
+        }
+    }
+    StoredAlerts::new(alloc, resolved)
 }
 
 /// Removes what is resolved, and answers how many alerts that were.

@@ -78,7 +78,7 @@ pub fn absorb_each(
 }
 
 // Absorbs one report. Answers what it became, and what it changed.
-fn absorb_one(
+pub(crate) fn absorb_one(
     alerts: &mut AlertMap,
     new: &Alert,
     now: Moment,
@@ -130,7 +130,7 @@ pub fn take_back(alerts: &mut AlertMap, changes: Vec<Change>)
 }
 
 // Takes the last change back.
-fn take_one_back(alerts: &mut AlertMap, change: Change)
+pub(crate) fn take_one_back(alerts: &mut AlertMap, change: Change)
     ensures { alerts.new.entries ≡ taken_back change alerts.old.entries }
 {
     match change {

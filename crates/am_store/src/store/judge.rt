@@ -1,0 +1,94 @@
+//! Judging the reports of a post by a filter, before any of them is stored.
+
+ghost use Rattle.std.specs.Prelude.{◌≡◌, ◌≤◌, [], IfOk, is_none, length, vec_capacity};
+ghost use Rattle.am_alert.specs.declared.post.TheConstants.{MAX_ALERTS};
+ghost use Rattle.am_store.specs.AlertList.{lookup};
+ghost use Rattle.am_store.specs.AlertMaps.{stored_in, all_taken_back, AreKeptByLabels};
+ghost use Rattle.am_store.specs.Judging.{AreJudged};
+
+use crate::store::AlertMap;
+use crate::store::absorb::{Change, absorb_one, take_back, take_one_back};
+use am_alert::{Alert, Alerts, Moment};
+use am_labels::LabelSet;
+use std::alloc::AllocError;
+
+/// What a filter said of some reports.
+#[derive(Debug, Drop)]
+pub struct Judged {
+    /// Those that it accepted, as they were reported.
+    pub accepted: Alerts,
+    /// The indices of those that it refused, in order.
+    pub refused: Vec<u32>,
+}
+
+/// Asks a filter of each report, in order. It is shown the alert as it would be stored, over what those
+/// before it that were accepted left, and told whether no alert of its label set was there. Nothing is
+/// stored.
+pub fn judge_each<F: FnMut(&Alert, bool) -> bool>(
+    alerts: &mut AlertMap,
+    news: Alerts,
+    now: Moment,
+    accepts: F,
+) -> Result<Judged, AllocError>
+    requires kept { AreKeptByLabels alerts.old.entries }
+    requires few { length news ≤ MAX_ALERTS }
+    requires callable { F.IsAlwaysCallable accepts }
+    ensures judged { IfOk result (λ done. (last : F) × AreJudged F.FnMut now last accepts 0
+        (stored_in alerts.old.entries) news done.accepted done.refused.items) }
+    ensures same { alerts.new.entries ≡ alerts.old.entries }
+{
+    let alloc = *alerts.allocator();
+    let mut changes = Vec::with_capacity(alloc, news.as_slice().len())?;
+    let judged = judge_over(alerts, &mut changes, news, now, accepts);
+    take_back(alerts, changes);
+    judged
+}
+
+// The same, which stores those that were accepted, and notes how to take them back.
+fn judge_over<F: FnMut(&Alert, bool) -> bool>(
+    alerts: &mut AlertMap,
+    changes: &mut Vec<Change>,
+    news: Alerts,
+    now: Moment,
+    mut accepts: F,
+) -> Result<Judged, AllocError>
+    requires kept { AreKeptByLabels alerts.old.entries }
+    requires few { length news ≤ MAX_ALERTS }
+    requires callable { F.IsAlwaysCallable accepts }
+    requires empty { changes.old.items ≡ [] }
+    requires room { length news ≤ vec_capacity changes.old }
+    ensures judged { IfOk result (λ done. (last : F) × AreJudged F.FnMut now last accepts 0
+        (stored_in alerts.old.entries) news done.accepted done.refused.items) }
+    ensures back { all_taken_back changes.new.items alerts.new.entries ≡ alerts.old.entries }
+{
+    let alloc = *alerts.allocator();
+    let Alerts { alerts: reports } = news;
+    let mut accepted = Vec::with_capacity(alloc, reports.len())?;
+    let mut refused = Vec::with_capacity(alloc, reports.len())?;
+    for new in reports {
+        // Each report before this one was accepted or refused.
+        let index = (accepted.len() + refused.len()) as u32;
+        let first = is_first(alerts, &new.labels);
+        let (became, change) = absorb_one(alerts, &new, now)?;
+        let keeps = accepts(&*became, first);
+        if keeps {
+            accepted.push_reserved(new);
+            changes.push_reserved(change);
+        } else {
+            refused.push_reserved(index);
+            take_one_back(alerts, change);
+        }
+    }
+    Ok(Judged {
+        accepted: Alerts { alerts: accepted },
+        refused,
+    })
+}
+
+// Whether no alert has the label set.
+fn is_first(alerts: &AlertMap, labels: &LabelSet) -> bool
+    requires { AreKeptByLabels alerts.now.entries }
+    ensures { result ≡ is_none (lookup labels.now (stored_in alerts.now.entries)) }
+{
+    alerts.get(labels).is_none()
+}
