@@ -1,10 +1,13 @@
 -- What the Book answers is what the history of its calls says.
-use Rattle.std.proofs.Common.{◌≡◌, ◌↔◌, ℕ, suc, ◌-◌, ◌<◌, Bool, true, false, IsTrue, List, [], ◌∷◌, ◌++◌, length, Err, refl, sym, ap, ◌∙◌, arith, slice_index_or, length-append}
+use Rattle.std.proofs.Common.{◌≡◌, ◌↔◌, ◌⊎◌, inl, inr, ℕ, suc, ◌-◌, ◌<◌, Bool, true, false, IsTrue, List, [], ◌∷◌, ◌++◌, length, filter, Option, None, Ok, Err, refl, sym, ap, subst, ◌∙◌, arith, slice_index_or, length-append}
 use mathlib.Core.List.{IsPrefix}
 use mathlib.Core.Logic.{dite}
 use native.Mathlib.Decide.{ℕ_discrete}
 use Rattle.std.specs.Result.{IsErrOf}
+use Rattle.std.proofs.lemmas.List.{append-nil, append_cancel_right}
+use Rattle.am_alert.specs.Merging.{is_resolved_at}
 use Rattle.am_alert.specs.declared.alert.Alert.{Alert}
+use Rattle.am_alert.specs.declared.post.Post.{Post}
 use Rattle.am_segment.specs.Segments.{KeyView}
 use Rattle.am_cast.specs.declared.views.Account.{Account}
 use Rattle.am_cast.specs.declared.views.Tail.{Tail}
@@ -13,18 +16,22 @@ use Rattle.am_cast.specs.Seats.{account_of}
 use Rattle.am_cast.specs.Writers.{StaysAs}
 use Rattle.am_history.specs.Fronts.{FrontView, made_at}
 use Rattle.am_store.specs.declared.call.Call.{Call}
+use Rattle.am_store.specs.declared.call.Call.TheVariants.{Collected, Posted}
 use Rattle.am_store.specs.declared.lanes.OpenLane.{OpenLane}
+use Rattle.am_store.specs.Judging.{Filter, AreJudged}
 use Rattle.am_store.specs.Journal.{JournalView, with_call, is_closed, is_open, AreAllOpen}
+use Rattle.am_provider.specs.declared.answers.Ended.{Ended}
 use Rattle.am_provider.specs.declared.answers.Policy.{Policy}
+use Rattle.am_provider.specs.declared.answers.PostedIf.{PostedIf}
 use Rattle.am_provider.specs.declared.faults.PutFault.{PutFault}
 use Rattle.am_provider.specs.declared.faults.PutFault.TheVariants as put
 use Rattle.am_provider.specs.Batches.{Batch}
 use Rattle.am_provider.specs.BookView.{BookView, IsFaithful}
 use Rattle.am_provider.specs.Callers.{SeesCall}
-use Rattle.am_provider.specs.Headline.{IsPutRefusal, IsSubRefusal}
+use Rattle.am_provider.specs.Headline.{AnswersCollect, AnswersPost, AnswersTake, IsPutRefusal, IsSubRefusal}
 use Rattle.am_provider.specs.declared.faults.SubFault.{SubFault}
 use Rattle.am_provider.specs.declared.faults.SubFault.TheVariants as sub
-use Rattle.am_provider.specs.Histories.{EntryView, Accepted, whole, is_cut}
+use Rattle.am_provider.specs.Histories.{EntryView, Accepted, whole, stored_after, is_cut}
 use Rattle.am_provider.specs.Posts.{IsAsBefore, IsPutCause}
 use Rattle.am_provider.specs.inside.Records.{IsRecorded}
 use Rattle.am_provider.proofs.Recording.{same_closed, same_open, same_places, tells_of}
@@ -37,12 +44,12 @@ sees_added was is before after entry Answers longer known seen made it =
     record { before = before; added = entry ∷ []; known = known; seen = seen ∙ longer; made = made; answers = it }
 
 -- the same of an entry whose call is known by another name
-pub sees_called : (was is : FrontView EntryView) (before after : List EntryView) (given call : Call) (bits : ℕ) (Answers : List EntryView → List EntryView → Type 0) → given ≡ call
-    → after ≡ before ++ Accepted given bits ∷ [] → IsPrefix was.seen before → is.seen ≡ after → is.made ≡ was.made ++ made_at (length before) (Accepted given bits) ∷ []
-    → Answers before (Accepted call bits ∷ []) → SeesCall was is Answers
-sees_called was is before after given call bits Answers same longer known seen made it =
-    sees_added was is before after (Accepted call bits) Answers (longer ∙ ap (λ c. before ++ Accepted c bits ∷ []) same) known seen
-    (made ∙ ap (λ c. was.made ++ made_at (length before) (Accepted c bits) ∷ []) same) it
+pub sees_called : (was is : FrontView EntryView) (before after : List EntryView) (given call : Call) (bits : ℕ) (ended : Option Ended) (Answers : List EntryView → List EntryView → Type 0) → given ≡ call
+    → after ≡ before ++ Accepted given bits ended ∷ [] → IsPrefix was.seen before → is.seen ≡ after → is.made ≡ was.made ++ made_at (length before) (Accepted given bits ended) ∷ []
+    → Answers before (Accepted call bits ended ∷ []) → SeesCall was is Answers
+sees_called was is before after given call bits ended Answers same longer known seen made it =
+    sees_added was is before after (Accepted call bits ended) Answers (longer ∙ ap (λ c. before ++ Accepted c bits ended ∷ []) same) known seen
+    (made ∙ ap (λ c. was.made ++ made_at (length before) (Accepted c bits ended) ∷ []) same) it
 
 pub sees_none : (was is : FrontView EntryView) (before : List EntryView) (Answers : List EntryView → List EntryView → Type 0) → IsPrefix was.seen before → is ≡ record was { seen = before } → Answers before [] → SeesCall was is Answers
 sees_none was is before Answers known same it = record {
@@ -53,6 +60,72 @@ sees_none was is before Answers known same it = record {
   made = ap (λ (f : FrontView EntryView). f.made) same ∙ sym (Rattle.std.proofs.lemmas.List.append-nil was.made);
   answers = it;
 }
+
+-- a collection that shared what it removed before it made the entry of one that counts
+pub sees_taken : (E : Type 0) (now removed : ℕ) (resolved : List Alert) (was is : FrontView EntryView) (entries : List EntryView) (olds : List Alert) → olds ≡ stored_after entries
+    → resolved ≡ filter (is_resolved_at now) olds → is.seen ≡ entries ++ Accepted (Collected now) 0 None ∷ []
+    → SeesCall was is (AnswersCollect {E = E} now (Ok removed)) → SeesCall was is (AnswersTake {E = E} now (Ok resolved))
+sees_taken E now removed resolved was is entries olds whole all seen sees =
+    let entry = Accepted (Collected now) 0 None ∷ [] in
+    let same : sees.before ≡ entries =
+    append_cancel_right sees.before entries entry (sym (ap (λ (added : List EntryView). sees.before ++ added) sees.answers.1) ∙ (sym sees.seen ∙ seen)) in
+    record {
+      before = sees.before;
+      added = sees.added;
+      known = sees.known;
+      seen = sees.seen;
+      made = sees.made;
+      answers = (all ∙ ap (filter (is_resolved_at now)) (whole ∙ ap stored_after (sym same)), sees.answers.1);
+    }
+
+-- a post of those alerts that a filter accepts
+pub sees_put_if : {F : Type 0} (judges : Filter F) (accepts last : F) (policy : Policy) (places now : ℕ) (post kept : Post) (done : PostedIf) (was is : FrontView EntryView) (entries : List EntryView) (olds : List Alert)
+    → olds ≡ stored_after entries → AreJudged judges now last accepts 0 olds post.valid kept.valid done.refused.items
+    → is.seen ≡ entries ++ Accepted (Posted now kept.valid) done.posted.cut None ∷ []
+    → SeesCall was is (AnswersPost policy places now kept (Ok done.posted))
+    → SeesCall was is (λ before added.
+    ((last : F) × AreJudged judges now last accepts 0 (stored_after before) post.valid kept.valid done.refused.items)
+    × AnswersPost policy places now kept (Ok done.posted) before added)
+sees_put_if judges accepts last policy places now post kept done was is entries olds stored judged seen sees =
+    let entry = Accepted (Posted now kept.valid) done.posted.cut None ∷ [] in
+    let same : sees.before ≡ entries =
+    append_cancel_right sees.before entries entry (sym (ap (λ (added : List EntryView). sees.before ++ added) sees.answers.entry) ∙ (sym sees.seen ∙ seen)) in
+    record {
+      before = sees.before;
+      added = sees.added;
+      known = sees.known;
+      seen = sees.seen;
+      made = sees.made;
+      answers = (
+        (last, subst (λ (olds : List Alert). AreJudged judges now last accepts 0 olds post.valid kept.valid done.refused.items) (stored ∙ ap stored_after (sym same)) judged),
+        sees.answers,
+      );
+    }
+
+-- why it is refused, once the filter was asked of all
+pub sees_put_if_refused : {F : Type 0} (judges : Filter F) (accepts last : F) (policy : Policy) (places now : ℕ) (post kept : Post) (refused : List ℕ) (fault : PutFault) (was is : FrontView EntryView) (entries : List EntryView) (olds : List Alert)
+    → olds ≡ stored_after entries → AreJudged judges now last accepts 0 olds post.valid kept.valid refused → is.seen ≡ entries
+    → SeesCall was is (AnswersPost policy places now kept (Err fault))
+    → SeesCall was is (λ before added.
+    (IsPutRefusal policy places 0 before fault
+    ⊎ ((alerts : List Alert) × (others : List ℕ) × (final : F)
+    × AreJudged judges now final accepts 0 (stored_after before) post.valid alerts others
+    × IsPutRefusal policy places (length alerts) before fault))
+    × (added ≡ []))
+sees_put_if_refused judges accepts last policy places now post kept refused fault was is entries olds stored judged seen sees =
+    let same : sees.before ≡ entries =
+    sym (append-nil sees.before) ∙ (sym (ap (λ (added : List EntryView). sees.before ++ added) sees.answers.1) ∙ (sym sees.seen ∙ seen)) in
+    record {
+      before = sees.before;
+      added = sees.added;
+      known = sees.known;
+      seen = sees.seen;
+      made = sees.made;
+      answers = (
+        inr (kept.valid, refused, last, subst (λ (olds : List Alert). AreJudged judges now last accepts 0 olds post.valid kept.valid refused) (stored ∙ ap stored_after (sym same)) judged, sees.answers.0),
+        sees.answers.1,
+      );
+    }
 
 -- ---- lanes
 
@@ -101,6 +174,14 @@ put_refusal {policy} {places} a b entries count (put.Full lane passed) of kept s
   where
     was_live : (was is : Account (KeyView Alert) OpenLane) → StaysAs was is → is.stand ≡ live → was.stand ≡ live
     was_live was is on lives = dite (ℕ_discrete is.stand was.stand) (λ e. sym e ∙ lives) (λ ne. let moved = on.1 ne in absurd (omega (arith, moved.1, lives)))
+
+-- a refusal before the filter was asked of all
+pub judge_refusal : {policy : Policy} {places : ℕ} (a : BookView) (entries : List EntryView) (fault : PutFault) → IsRecorded policy places a entries
+    → IsPutCause a a 0 fault → IsPutRefusal policy places 0 entries fault
+judge_refusal a entries put.Closed of why = same_closed a entries of ∙ why
+judge_refusal a entries put.NoMemory of why = (same_closed a entries of ∙ why.0, λ some. absurd (omega arith))
+judge_refusal a entries put.LogEnd of why = absurd (let none = why.1 in omega arith)
+judge_refusal a entries (put.Full lane passed) of why = absurd (let none = why.1 in omega arith)
 
 -- ---- why a subscription is refused
 

@@ -1,11 +1,13 @@
 -- A history grows as the journal does.
-use Rattle.std.proofs.Common.{◌≡◌, ◌≢◌, ℕ, ◌+◌, ◌-◌, ◌≤◌, ◌<◌, Bool, true, false, ◌||◌, cond, nat_eq, nat_le, List, [], ◌∷◌, ◌++◌, length, take, drop, refl, sym, ap, subst, ◌∙◌, arith, length-append, length-drop, inl, inr}
+use Rattle.std.proofs.Common.{◌≡◌, ◌≢◌, ℕ, ◌+◌, ◌-◌, ◌≤◌, ◌<◌, Bool, true, false, ◌||◌, cond, nat_eq, nat_le, List, [], ◌∷◌, ◌++◌, Option, Some, None, length, get_or, take, drop, filter, refl, sym, ap, subst, ◌∙◌, arith, length-append, length-drop, inl, inr}
 use mathlib.Core.List.{IsPrefix}
 use mathlib.Core.Logic.{dite}
 use native.Mathlib.Decide.{ℕ_discrete}
-use Rattle.std.specs.List.{slice_get, flat_map}
+use Rattle.std.specs.List.{All, slice_get, flat_map}
 use Rattle.std.proofs.lemmas.List.{append_assoc, append-nil, take-append-drop, length-map, map-append, take-append-le}
+use Rattle.std.proofs.lemmas.Bool.{le-leb, leb-true}
 use Rattle.std.proofs.lemmas.Bool.Decides.{eqb_tells}
+use Rattle.std.proofs.lemmas.List.Elements.{filter-append}
 use Rattle.am_alert.specs.declared.alert.Alert.{Alert}
 use Rattle.am_segment.specs.Segments.{KeyView}
 use Rattle.am_cast.specs.declared.views.Account.{Account}
@@ -18,15 +20,17 @@ use Rattle.am_store.specs.declared.call.Call.TheVariants.{Posted}
 use Rattle.am_store.specs.declared.lanes.OpenLane.{OpenLane}
 use Rattle.am_store.specs.Journal.{JournalView, with_call, is_closed, is_open, MayFollow, IsLegal, IsKept, IsOpenSubscription, new_journal}
 use Rattle.am_store.specs.Stored.{updates}
-use Rattle.am_store.specs.Broadcast.{broadcast, batches_of}
+use Rattle.am_store.specs.Broadcast.{broadcast, batches_of, due}
 use Rattle.am_store.specs.Trims.{IsTrimmed, Drops}
 use Rattle.am_store.specs.Laws.{GiveTheSame}
 use Rattle.am_store.proofs.Journals.{get_end, get_drop, first_stays, first_all, broadcast_last, legal_last}
 use Rattle.am_store.proofs.Trims.{trimmed_gives_the_same, trimmed_grows, trimmed_twice, moved, since_same}
 use Rattle.am_provider.specs.declared.answers.Policy.{Policy}
 use Rattle.am_provider.specs.Batches.{Batch, LogView, sent_in}
-use Rattle.am_provider.specs.BookView.{BookView, batches, IsFaithful}
-use Rattle.am_provider.specs.Histories.{EntryView, call_of, calls_of, whole, trimmed_by, stored_after, sent_by, cut_after, cut_from, is_cut, Accepted, Trimmed}
+use Rattle.am_provider.specs.BookView.{BookView, batches, IsEndingOf, IsFaithful}
+use Rattle.am_provider.specs.declared.answers.Ended.{Ended}
+use Rattle.am_provider.specs.Histories.{EntryView, call_of, calls_of, whole, trimmed_by, stored_after, sent_by, cut_after, cut_from, is_cut, ending_of, endings_of, kept_endings, Accepted, Trimmed}
+use Rattle.am_provider.specs.Ending.{IsOwed}
 use Rattle.am_provider.specs.Posts.{HasSameLimits, IsCutBy}
 use Rattle.am_provider.specs.inside.Records.{IsRecorded}
 
@@ -36,30 +40,30 @@ pub calls_more : (entries more : List EntryView) → calls_of (entries ++ more) 
 calls_more [] more = refl
 calls_more (entry ∷ entries) more = ap (λ calls. call_of entry ++ calls) (calls_more entries more) ∙ sym (append_assoc (call_of entry) (calls_of entries) (calls_of more))
 
-pub whole_more : (entries : List EntryView) (call : Call) (bits : ℕ) → whole (entries ++ Accepted call bits ∷ []) ≡ with_call (whole entries) call
-whole_more entries call bits = ap (λ (calls : List Call). record new_journal { calls = calls }) (calls_more entries (Accepted call bits ∷ []))
+pub whole_more : (entries : List EntryView) (call : Call) (bits : ℕ) (ended : Option Ended) → whole (entries ++ Accepted call bits ended ∷ []) ≡ with_call (whole entries) call
+whole_more entries call bits ended = ap (λ (calls : List Call). record new_journal { calls = calls }) (calls_more entries (Accepted call bits ended ∷ []))
 
 pub whole_trimmed : (entries : List EntryView) (count : ℕ) → whole (entries ++ Trimmed count ∷ []) ≡ whole entries
 whole_trimmed entries count = ap (λ (calls : List Call). record new_journal { calls = calls }) (calls_more entries (Trimmed count ∷ []) ∙ append-nil (calls_of entries))
 
-pub trimmed_more : (entries : List EntryView) (call : Call) (bits : ℕ) → trimmed_by (entries ++ Accepted call bits ∷ []) ≡ trimmed_by entries
-trimmed_more [] call bits = refl
-trimmed_more (Accepted first lanes ∷ entries) call bits = trimmed_more entries call bits
-trimmed_more (Trimmed count ∷ entries) call bits = ap (λ n. count + n) (trimmed_more entries call bits)
+pub trimmed_more : (entries : List EntryView) (call : Call) (bits : ℕ) (ended : Option Ended) → trimmed_by (entries ++ Accepted call bits ended ∷ []) ≡ trimmed_by entries
+trimmed_more [] call bits ended = refl
+trimmed_more (Accepted first lanes other ∷ entries) call bits ended = trimmed_more entries call bits ended
+trimmed_more (Trimmed count ∷ entries) call bits ended = ap (λ n. count + n) (trimmed_more entries call bits ended)
 
 pub trimmed_again : (entries : List EntryView) (count : ℕ) → trimmed_by (entries ++ Trimmed count ∷ []) ≡ trimmed_by entries + count
 trimmed_again [] count = omega arith
-trimmed_again (Accepted first lanes ∷ entries) count = trimmed_again entries count
+trimmed_again (Accepted first lanes other ∷ entries) count = trimmed_again entries count
 trimmed_again (Trimmed first ∷ entries) count = omega (arith, trimmed_again entries count)
 
-cut_more : (lane : ℕ) (was : Bool) (entries : List EntryView) (call : Call) (bits : ℕ) → cut_from lane was (entries ++ Accepted call bits ∷ []) ≡ cut_after lane (cut_from lane was entries) call bits
-cut_more lane was [] call bits = refl
-cut_more lane was (Accepted first lanes ∷ entries) call bits = cut_more lane (cut_after lane was first lanes) entries call bits
-cut_more lane was (Trimmed count ∷ entries) call bits = cut_more lane was entries call bits
+cut_more : (lane : ℕ) (was : Bool) (entries : List EntryView) (call : Call) (bits : ℕ) (ended : Option Ended) → cut_from lane was (entries ++ Accepted call bits ended ∷ []) ≡ cut_after lane (cut_from lane was entries) call bits
+cut_more lane was [] call bits ended = refl
+cut_more lane was (Accepted first lanes other ∷ entries) call bits ended = cut_more lane (cut_after lane was first lanes) entries call bits ended
+cut_more lane was (Trimmed count ∷ entries) call bits ended = cut_more lane was entries call bits ended
 
 cut_trimmed : (lane : ℕ) (was : Bool) (entries : List EntryView) (count : ℕ) → cut_from lane was (entries ++ Trimmed count ∷ []) ≡ cut_from lane was entries
 cut_trimmed lane was [] count = refl
-cut_trimmed lane was (Accepted first lanes ∷ entries) count = cut_trimmed lane (cut_after lane was first lanes) entries count
+cut_trimmed lane was (Accepted first lanes other ∷ entries) count = cut_trimmed lane (cut_after lane was first lanes) entries count
 cut_trimmed lane was (Trimmed first ∷ entries) count = cut_trimmed lane was entries count
 
 -- ---- what a recorded Book and its history have in common
@@ -98,6 +102,22 @@ module _ {policy : Policy} {places : ℕ} (book : BookView) (entries : List Entr
   -- what is stored is what the whole history gives
   pub stored_whole : IsFaithful book → book.stored ≡ stored_after entries
   stored_whole kept = kept.journal.stored ∙ same.stored
+
+  -- what a subscription came to is what the whole history owes it
+  pub ending_whole : (ended : Ended) → IsEndingOf book.journal ended → IsOwed entries ended
+  ending_whole ended it =
+      let owed : due book.journal ended.at ≡ due (whole entries) ended.at = same.due ended.at it.low in
+      let long = ap length owed in
+      let number = call_number in
+      let high = it.high in record {
+        at = omega (arith, high, number);
+        within = omega (arith, it.within, long);
+        complete = λ told. it.complete told ∙ long;
+        closed = λ told. same_closed ∙ it.closed told;
+      }
+
+  pub owed_whole : IsFaithful book → All (IsOwed entries) book.endings
+  owed_whole kept k ended inside = ending_whole (get_or book.endings k ended) (kept.endings k ended inside)
 
 -- ---- the log
 
@@ -153,6 +173,42 @@ tells_on flag was is on it = record {
 abbrev pub CutsAs : BookView → BookView → Call → ℕ → Type 0
 CutsAs a b call bits = (lane : ℕ) → lane < 8 → (was : Bool) → Tells was (account_of a.log lane) → Tells (cut_after lane was call bits) (account_of b.log lane)
 
+-- ---- the endings
+
+-- the endings are the same, or there is one more
+abbrev pub EndsAs : BookView → BookView → Option Ended → Type 0
+EndsAs a b None = (b.endings ≡ a.endings) × (b.early ≡ a.early)
+EndsAs a b (Some ended) = (b.endings ≡ a.endings ++ ended ∷ []) × (b.early ≡ a.early) × (a.journal.before ≤ ended.at)
+
+endings_more : (entries more : List EntryView) → endings_of (entries ++ more) ≡ endings_of entries ++ endings_of more
+endings_more [] more = refl
+endings_more (entry ∷ entries) more = ap (λ endings. ending_of entry ++ endings) (endings_more entries more) ∙ sym (append_assoc (ending_of entry) (endings_of entries) (endings_of more))
+
+-- which endings are kept after so many trimmed calls
+abbrev pub is_kept_at : ℕ → Ended → Bool
+is_kept_at count ended = nat_le count ended.at
+
+ends_more : {policy : Policy} {places : ℕ} (a b : BookView) (entries : List EntryView) (call : Call) (bits : ℕ) (ended : Option Ended) → IsRecorded policy places a entries → EndsAs a b ended
+    → (b.endings ≡ kept_endings (entries ++ Accepted call bits ended ∷ [])) × (b.early + length b.endings ≡ length (endings_of (entries ++ Accepted call bits ended ∷ [])))
+ends_more a b entries call bits None of ends =
+    let all : endings_of (entries ++ Accepted call bits None ∷ []) ≡ endings_of entries = endings_more entries (Accepted call bits None ∷ []) ∙ append-nil (endings_of entries) in
+    let same = ap length ends.0 in (
+      ends.0 ∙ (of.endings ∙ (ap (λ n. filter (is_kept_at n) (endings_of entries)) (sym (trimmed_more entries call bits None)) ∙ ap (filter (is_kept_at (trimmed_by (entries ++ Accepted call bits None ∷ [])))) (sym all))),
+      omega (arith, of.early, ends.1, same, ap length all),
+    )
+ends_more a b entries call bits (Some ended) of ends =
+    let all : endings_of (entries ++ Accepted call bits (Some ended) ∷ []) ≡ endings_of entries ++ ended ∷ [] = endings_more entries (Accepted call bits (Some ended) ∷ []) in
+    let same = ap length ends.0 in
+    let long = length-append a.endings (ended ∷ []) in
+    let more = length-append (endings_of entries) (ended ∷ []) in
+    let low : trimmed_by entries ≤ ended.at = omega (arith, of.journal.before, ends.2) in
+    let one : filter (is_kept_at (trimmed_by entries)) (ended ∷ []) ≡ ended ∷ [] = ap (λ (b : Bool). cond b (ended ∷ []) []) (le-leb (trimmed_by entries) ended.at low) in
+    let kept : filter (is_kept_at (trimmed_by entries)) (endings_of entries ++ ended ∷ []) ≡ a.endings ++ ended ∷ [] =
+    filter-append (is_kept_at (trimmed_by entries)) (endings_of entries) (ended ∷ []) ∙ (ap (λ xs. xs ++ filter (is_kept_at (trimmed_by entries)) (ended ∷ [])) (sym of.endings) ∙ ap (λ xs. a.endings ++ xs) one) in (
+      ends.0 ∙ (sym kept ∙ (ap (λ n. filter (is_kept_at n) (endings_of entries ++ ended ∷ [])) (sym (trimmed_more entries call bits (Some ended))) ∙ ap (filter (is_kept_at (trimmed_by (entries ++ Accepted call bits (Some ended) ∷ [])))) (sym all))),
+      omega (arith, of.early, ends.1, same, long, more, ap length all),
+    )
+
 -- ---- a call more
 
 -- a call that was added may follow
@@ -162,25 +218,27 @@ may_whole a b entries call of new journal =
     let legal : IsLegal (with_call a.journal call) = subst IsLegal journal new.journal.legal in
     may a entries of call (subst (λ j. MayFollow j call) (first_stays a.journal call (length a.journal.calls) (omega arith) ∙ first_all a.journal) (legal (length a.journal.calls) call (get_end a.journal.calls call)))
 
-pub recorded_more : {policy : Policy} {places : ℕ} (a b : BookView) (entries : List EntryView) (call : Call) (bits : ℕ) → IsRecorded policy places a entries → IsFaithful a → IsFaithful b
-    → b.journal ≡ with_call a.journal call → IsPrefix (batches a) (batches b) → HasSameLimits a b → CutsAs a b call bits → IsRecorded policy places b (entries ++ Accepted call bits ∷ [])
-recorded_more {policy} {places} a b entries call bits of old new journal longer limits cuts =
-    let is = whole_more entries call bits in
+pub recorded_more : {policy : Policy} {places : ℕ} (a b : BookView) (entries : List EntryView) (call : Call) (bits : ℕ) (ended : Option Ended) → IsRecorded policy places a entries → IsFaithful a → IsFaithful b
+    → b.journal ≡ with_call a.journal call → IsPrefix (batches a) (batches b) → HasSameLimits a b → CutsAs a b call bits → EndsAs a b ended → IsRecorded policy places b (entries ++ Accepted call bits ended ∷ [])
+recorded_more {policy} {places} a b entries call bits ended of old new journal longer limits cuts ends =
+    let is = whole_more entries call bits ended in
     let count = trimmed_by entries in
     let trimmed : IsTrimmed (with_call (whole entries) call) count (with_call a.journal call) = trimmed_grows (whole entries) a.journal count call of.few of.journal in
-    let long : length (calls_of (entries ++ Accepted call bits ∷ [])) ≡ length (calls_of entries) + 1 = ap length (calls_more entries (Accepted call bits ∷ [])) ∙ length-append (calls_of entries) (call ∷ []) in
+    let long : length (calls_of (entries ++ Accepted call bits ended ∷ [])) ≡ length (calls_of entries) + 1 = ap length (calls_more entries (Accepted call bits ended ∷ [])) ∙ length-append (calls_of entries) (call ∷ []) in
     let fits : count ≤ length (calls_of entries ++ call ∷ []) = omega (arith, of.few, length-append (calls_of entries) (call ∷ [])) in
     let grown = trimmed_gives_the_same (with_call (whole entries) call) (with_call a.journal call) count fits trimmed in
-    let tells : (lane : ℕ) → lane < 8 → Tells (is_cut (entries ++ Accepted call bits ∷ []) lane) (account_of b.log lane) =
-    λ lane small. subst (λ flag. Tells flag (account_of b.log lane)) (sym (cut_more lane false entries call bits)) (cuts lane small (is_cut entries lane) (tells_of a entries of lane small)) in
+    let tells : (lane : ℕ) → lane < 8 → Tells (is_cut (entries ++ Accepted call bits ended ∷ []) lane) (account_of b.log lane) =
+    λ lane small. subst (λ flag. Tells flag (account_of b.log lane)) (sym (cut_more lane false entries call bits ended)) (cuts lane small (is_cut entries lane) (tells_of a entries of lane small)) in
     record {
       legal = subst IsLegal (sym is) (legal_last (whole entries) call of.legal (may_whole a b entries call of new journal));
-      few = omega (arith, of.few, long, trimmed_more entries call bits);
-      journal = subst (λ n. IsTrimmed (whole (entries ++ Accepted call bits ∷ [])) n b.journal) (sym (trimmed_more entries call bits))
+      few = omega (arith, of.few, long, trimmed_more entries call bits ended);
+      journal = subst (λ n. IsTrimmed (whole (entries ++ Accepted call bits ended ∷ [])) n b.journal) (sym (trimmed_more entries call bits ended))
           (subst (λ j. IsTrimmed j count b.journal) (sym is) (subst (IsTrimmed (with_call (whole entries) call) count) (sym journal) trimmed));
       sent = sent_more a b entries call count of.sent old new journal longer grown ∙ ap broadcast (sym is);
       cuts = λ lane small. (tells lane small).yes;
       spares = λ lane small. (tells lane small).no;
+      endings = (ends_more a b entries call bits ended of ends).0;
+      early = (ends_more a b entries call bits ended of ends).1;
       limits = (limits.0 ∙ of.limits.0, limits.1 ∙ of.limits.1);
     }
 
@@ -214,13 +272,32 @@ cuts_one a b call bits number tells_so uncut others lane small was tells =
 
 -- ---- a trim
 
+-- of what was kept after some trims, what is kept after more
+kept_twice : (few many : ℕ) → few ≤ many → (endings : List Ended) → filter (is_kept_at many) (filter (is_kept_at few) endings) ≡ filter (is_kept_at many) endings
+kept_twice few many low [] = refl
+kept_twice few many low (ended ∷ endings) = by_test (kept_twice few many low endings) (is_kept_at few ended) (is_kept_at many ended) refl refl
+  where
+    by_test : filter (is_kept_at many) (filter (is_kept_at few) endings) ≡ filter (is_kept_at many) endings → (first other : Bool) → is_kept_at few ended ≡ first → is_kept_at many ended ≡ other
+        → filter (is_kept_at many) (filter (is_kept_at few) (ended ∷ endings)) ≡ filter (is_kept_at many) (ended ∷ endings)
+    by_test rest true other e d =
+        ap (λ (b : Bool). filter (is_kept_at many) (cond b (ended ∷ filter (is_kept_at few) endings) (filter (is_kept_at few) endings))) e
+        ∙ ap (λ xs. cond (is_kept_at many ended) (ended ∷ xs) xs) rest
+    by_test rest false false e d =
+        ap (λ (b : Bool). filter (is_kept_at many) (cond b (ended ∷ filter (is_kept_at few) endings) (filter (is_kept_at few) endings))) e
+        ∙ (rest ∙ ap (λ (b : Bool). cond b (ended ∷ filter (is_kept_at many) endings) (filter (is_kept_at many) endings)) (sym d))
+    by_test rest false true e d = absurd (let above = leb-true many ended.at d in let fails : is_kept_at few ended ≡ true = le-leb few ended.at (omega (arith, low, above)) in let no : false ≡ true = sym e ∙ fails in cc)
+
 pub recorded_trimmed : {policy : Policy} {places : ℕ} (a b : BookView) (entries : List EntryView) (count : ℕ) → IsRecorded policy places a entries
-    → Drops a.journal count → IsTrimmed a.journal count b.journal → b.log ≡ a.log → HasSameLimits a b → IsRecorded policy places b (entries ++ Trimmed count ∷ [])
-recorded_trimmed {policy} {places} a b entries count of drops trimmed log limits =
+    → Drops a.journal count → IsTrimmed a.journal count b.journal → b.log ≡ a.log → HasSameLimits a b → b.endings ≡ filter (is_kept_at b.journal.before) a.endings → b.early + length b.endings ≡ a.early + length a.endings
+    → IsRecorded policy places b (entries ++ Trimmed count ∷ [])
+recorded_trimmed {policy} {places} a b entries count of drops trimmed log limits kept gone =
     let is = whole_trimmed entries count in
     let within : count ≤ length a.journal.calls = at_most (nat_le (a.journal.before + drops.0) _) drops.2 drops.1.within in
     let long = length-drop (trimmed_by entries) (calls_of entries) in
     let all = call_number a entries of in
+    let ends : endings_of (entries ++ Trimmed count ∷ []) ≡ endings_of entries = endings_more entries (Trimmed count ∷ []) ∙ append-nil (endings_of entries) in
+    let further : trimmed_by entries ≤ b.journal.before = omega (arith, trimmed.before, of.journal.before) in
+    let now : b.journal.before ≡ trimmed_by (entries ++ Trimmed count ∷ []) = omega (arith, trimmed.before, of.journal.before, trimmed_again entries count) in
     record {
       legal = subst IsLegal (sym is) of.legal;
       few = omega (arith, trimmed_again entries count, ap (λ (j : JournalView). length j.calls) is, within, of.few, ap length of.journal.calls, long);
@@ -230,6 +307,9 @@ recorded_trimmed {policy} {places} a b entries count of drops trimmed log limits
       sent = ap (λ (q : LogView). sent_in q.tail.log) log ∙ (of.sent ∙ ap broadcast (sym is));
       cuts = λ lane small yes. ap (λ (q : LogView). (account_of q lane).stand) log ∙ of.cuts lane small (sym (cut_trimmed lane false entries count) ∙ yes);
       spares = λ lane small no c. of.spares lane small (sym (cut_trimmed lane false entries count) ∙ no) (ap (λ (q : LogView). (account_of q lane).stand) (sym log) ∙ c);
+      endings = kept ∙ (ap (filter (is_kept_at b.journal.before)) of.endings ∙ (kept_twice (trimmed_by entries) b.journal.before further (endings_of entries)
+          ∙ (ap (λ n. filter (is_kept_at n) (endings_of entries)) now ∙ ap (filter (is_kept_at (trimmed_by (entries ++ Trimmed count ∷ [])))) (sym ends))));
+      early = omega (arith, gone, of.early, ap length ends);
       limits = (limits.0 ∙ of.limits.0, limits.1 ∙ of.limits.1);
     }
   where

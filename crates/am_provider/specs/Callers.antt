@@ -1,5 +1,5 @@
 -- How much of the history a caller has seen, and what it added.
-use Rattle.std.specs.Prelude.{◌≡◌, ℕ, ◌+◌, List, [], ◌∷◌, ◌++◌, length, Result, Ok, Err}
+use Rattle.std.specs.Prelude.{◌≡◌, ℕ, ◌+◌, ◌⊎◌, List, [], ◌∷◌, ◌++◌, length, Result, Ok, Err}
 use mathlib.Core.List.{IsPrefix}
 use Rattle.am_alert.specs.declared.alert.Alert.{Alert}
 use Rattle.am_alert.specs.declared.post.Post.{Post}
@@ -7,14 +7,17 @@ use Rattle.am_alert.specs.Posts.{IsPostOf}
 use Rattle.am_history.specs.Fronts.{FrontView, made_at}
 use Rattle.am_history.specs.declared.views.Made.{Made}
 use Rattle.am_store.specs.declared.call.Call.{Call}
+use Rattle.am_store.specs.Judging.{Filter, AreJudged}
 use Rattle.am_cast.specs.Posters.{PassView}
 use Rattle.am_provider.specs.declared.answers.Policy.{Policy}
 use Rattle.am_provider.specs.declared.answers.Posted.{Posted}
+use Rattle.am_provider.specs.declared.answers.PostedIf.{PostedIf}
 use Rattle.am_provider.specs.declared.faults.PostRefused.{PostRefused}
 use Rattle.am_provider.specs.declared.faults.PostRefused.TheVariants as refused
-use Rattle.am_provider.specs.Headline.{AnswersPost}
+use Rattle.am_provider.specs.declared.faults.PutFault.{PutFault}
+use Rattle.am_provider.specs.Headline.{AnswersPost, IsPutRefusal}
 use Rattle.am_provider.specs.Posts.{AddsOwn}
-use Rattle.am_provider.specs.Histories.{EntryView}
+use Rattle.am_provider.specs.Histories.{EntryView, stored_after}
 
 -- entries that were made one after another, with their numbers
 abbrev pub made_from : ℕ → List EntryView → List (Made EntryView)
@@ -45,6 +48,27 @@ AnswersBody policy places now timeout body was is saw sees (Err (refused.Put fau
     × SeesCall saw sees (AnswersPost policy places now post (Err fault)) × (is ≡ was)
 AnswersBody policy places now timeout body was is saw sees (Err (refused.Unread fault)) =
     IsPostOf now timeout body (Err fault) × (is ≡ was) × (sees ≡ saw)
+
+-- what a post of those alerts that a filter accepts comes to: each is judged as it would be stored after the
+-- history (Alertmanager's `AlertStoreCallback`'s PreStore). It is refused before the filter was asked of all,
+-- or as a post of those that it accepted
+abbrev pub AnswersPostIf : {F : Type 0} → Filter F → F → Policy → ℕ → ℕ → Post → PassView Alert Call
+    → PassView Alert Call → FrontView EntryView → FrontView EntryView → Result PostedIf PutFault → Type 0
+AnswersPostIf {F} filter accepts policy places now post was is saw sees (Ok done) =
+    (kept : Post) × (kept.faults ≡ post.faults)
+    × SeesCall saw sees (λ before added.
+    ((last : F) × AreJudged filter now last accepts 0 (stored_after before) post.valid kept.valid
+    done.refused.items)
+    × AnswersPost policy places now kept (Ok done.posted) before added)
+    × AddsOwn was now kept.valid done.posted.place is
+AnswersPostIf {F} filter accepts policy places now post was is saw sees (Err fault) =
+    SeesCall saw sees (λ before added.
+    (IsPutRefusal policy places 0 before fault
+    ⊎ ((kept : List Alert) × (refused : List ℕ) × (last : F)
+    × AreJudged filter now last accepts 0 (stored_after before) post.valid kept refused
+    × IsPutRefusal policy places (length kept) before fault))
+    × (added ≡ []))
+    × (is ≡ was)
 
 -- a caller that has posted nothing, seen nothing and added nothing
 abbrev pub IsNewCaller : PassView Alert Call → FrontView EntryView → Type 0

@@ -1,11 +1,19 @@
 -- What each call of a provider answers: by the history before it, and the entries that it added.
 use Rattle.std.specs.Prelude.{◌≡◌, ℕ, ◌+◌, ◌≤◌, ◌<◌, true, false, if◌then◌else◌, nat_eq}
-use Rattle.std.specs.Prelude.{List, [], ◌∷◌, length, None, Some, Result, Ok, Err}
+use Rattle.std.specs.Prelude.{List, [], ◌∷◌, length, filter, Option, None, Some, Result, Ok, Err, IfOk}
+use Rattle.std.specs.Arc.{arc_value}
 use Rattle.std.specs.List.{count_by}
+use Rattle.std.specs.Option.{option_map}
+use Rattle.std.specs.declared.alloc.Global.{Global}
+use Rattle.std.specs.declared.sync.Arc.{Arc}
+use Rattle.am_labels.specs.LabelSets.{Labels}
+use Rattle.am_alert.specs.declared.alert.Alert.{Alert}
 use Rattle.am_alert.specs.declared.post.Post.{Post}
 use Rattle.am_alert.specs.Merging.{is_resolved_at}
 use Rattle.am_cast.specs.declared.faults.AlreadyClosed.{AlreadyClosed}
 use Rattle.am_cast.specs.declared.limits.TheConstants.{LANES, LONGEST_LOG}
+use Rattle.am_cast.specs.Cursors.{HasCut}
+use Rattle.am_store.specs.AlertList.{lookup}
 use Rattle.am_store.specs.LaneSets.{has_lane}
 use Rattle.am_store.specs.declared.call.Call.TheVariants.{Posted, Collected, Subscribed, Left, Closed}
 use Rattle.am_store.specs.Journal.{JournalView, is_closed, is_open, AreAllOpen}
@@ -20,7 +28,7 @@ use Rattle.am_provider.specs.declared.faults.PutFault.{PutFault}
 use Rattle.am_provider.specs.declared.faults.PutFault.TheVariants as put
 use Rattle.am_provider.specs.declared.faults.SubFault.{SubFault}
 use Rattle.am_provider.specs.declared.faults.SubFault.TheVariants as sub
-use Rattle.am_provider.specs.Histories.{EntryView, Accepted, Trimmed, calls_of, whole, trimmed_by}
+use Rattle.am_provider.specs.Histories.{EntryView, Accepted, Trimmed, only_call, calls_of, whole, trimmed_by}
 use Rattle.am_provider.specs.Histories.{stored_after, sent_by, is_cut}
 use Rattle.am_provider.specs.Subscriptions.{SubscriptionView, taken}
 
@@ -35,7 +43,7 @@ pub record IsPosted (policy : Policy) (now : ℕ) (post : Post) (posted : answer
   pub cuts : (lane : ℕ) → lane < LANES → has_lane posted.cut lane ≡ true
       → (is_open (whole before) lane ≡ true) × (is_cut before lane ≡ false)
   pub refuses : policy ≡ Refuse → posted.cut ≡ 0
-  pub entry : added ≡ Accepted (Posted now post.valid) posted.cut ∷ []
+  pub entry : added ≡ Accepted (Posted now post.valid) posted.cut None ∷ []
 
 -- why a post of so many valid alerts is refused: the first cause in this order. A full log names an open lane
 -- whose subscriber lags by as many batches as there are places
@@ -67,7 +75,7 @@ pub record IsSubscribed (made : SubscriptionView) (before added : List EntryView
   pub lane : IsLowestIdle (whole before) made.cursor.lane.number
   pub start : made.cursor.lane.start ≡ length (sent_by before)
   pub fresh : (taken made ≡ []) × (made.closed_told ≡ false)
-  pub entry : added ≡ Accepted (Subscribed made.cursor.lane.number) 0 ∷ []
+  pub entry : added ≡ only_call (Subscribed made.cursor.lane.number) ∷ []
 
 -- why a subscription is refused: the first cause in this order
 abbrev pub IsSubRefusal : List EntryView → SubFault → Type 0
@@ -81,7 +89,7 @@ AnswersSubscribe (Ok made) before added = IsSubscribed made before added
 AnswersSubscribe (Err fault) before added = IsSubRefusal before fault × (added ≡ [])
 
 -- a subscription that is given back: what it has taken begins what was due to it, and is all of it if it was
--- told that no more would come
+-- told that no more would come. One that was told Cut was cut
 pub record AnswersLeave (subscription : SubscriptionView) (ended : Ended) (before added : List EntryView)
     : Type 0 where
   pub lane : IsOpenSubscription (whole before) subscription.cursor.lane.number subscription.at
@@ -89,21 +97,30 @@ pub record AnswersLeave (subscription : SubscriptionView) (ended : Ended) (befor
   pub count : ended.taken ≡ length (taken subscription)
   pub closed : ended.closed ≡ subscription.closed_told
   pub cut : ended.cut ≡ is_cut before subscription.cursor.lane.number
+  pub told_cut : HasCut subscription.cursor → ended.cut ≡ true
   pub front : IsFront (taken subscription) (due (whole before) subscription.at)
   pub complete : subscription.closed_told ≡ true → taken subscription ≡ due (whole before) subscription.at
-  pub entry : added ≡ Accepted (Left subscription.cursor.lane.number) 0 ∷ []
+  pub entry : added ≡ Accepted (Left subscription.cursor.lane.number) 0 (Some ended) ∷ []
 
 -- a collection counts the stored alerts that are resolved (`provider/mem`'s garbage collection)
 abbrev pub AnswersCollect : {E : Type 0} → ℕ → Result ℕ E → List EntryView → List EntryView → Type 0
 AnswersCollect now (Ok removed) before added =
     (removed ≡ count_by (is_resolved_at now) (stored_after before))
-    × (added ≡ Accepted (Collected now) 0 ∷ [])
+    × (added ≡ only_call (Collected now) ∷ [])
 AnswersCollect now (Err fault) before added = added ≡ []
+
+-- a collection that hands back what it removed: the resolved ones of the stored alerts, in their order (what
+-- `provider/mem`'s garbage collection hands to its callbacks)
+abbrev pub AnswersTake : {E : Type 0} → ℕ → Result (List Alert) E → List EntryView → List EntryView → Type 0
+AnswersTake now (Ok removed) before added =
+    (removed ≡ filter (is_resolved_at now) (stored_after before))
+    × (added ≡ only_call (Collected now) ∷ [])
+AnswersTake now (Err fault) before added = added ≡ []
 
 -- the log is ended once
 abbrev pub AnswersClose : {U : Type 0} → Result U AlreadyClosed → List EntryView → List EntryView → Type 0
 AnswersClose (Ok done) before added =
-    (is_closed (whole before) ≡ false) × (added ≡ Accepted Closed 0 ∷ [])
+    (is_closed (whole before) ≡ false) × (added ≡ only_call Closed ∷ [])
 AnswersClose (Err fault) before added = (is_closed (whole before) ≡ true) × (added ≡ [])
 
 -- a trim discards what the journal that earlier trims left needs no more, and nothing of the history
@@ -112,3 +129,14 @@ AnswersTrim (Ok dropped) before added =
     ((journal : JournalView) × IsTrimmed (whole before) (trimmed_by before) journal × Drops journal dropped)
     × (added ≡ Trimmed dropped ∷ [])
 AnswersTrim (Err fault) before added = added ≡ []
+
+-- a read of the store answers what is stored after the history, in its order, and adds no entry
+-- (`provider/mem`'s GetPending)
+abbrev pub AnswersStored : {E : Type 0} → Result (List Alert) E → List EntryView → List EntryView → Type 0
+AnswersStored result before added = IfOk result (λ alerts. alerts ≡ stored_after before) × (added ≡ [])
+
+-- the same of the one alert of a label set, if there is one (`provider/mem`'s Get)
+abbrev pub AnswersGet : {E : Type 0} → Labels → Result (Option (Arc Alert Global)) E → List EntryView
+    → List EntryView → Type 0
+AnswersGet labels result before added =
+    IfOk result (λ found. option_map arc_value found ≡ lookup labels (stored_after before)) × (added ≡ [])

@@ -1,6 +1,6 @@
 -- The history of a provider: its accepted calls and its trims, in one order.
-use Rattle.std.specs.Prelude.{ℕ, ◌+◌, Bool, false, ◌||◌, if◌then◌else◌, nat_eq, List, [], ◌∷◌}
-use Rattle.std.specs.Prelude.{Option, None, Some}
+use Rattle.std.specs.Prelude.{ℕ, ◌+◌, Bool, false, ◌||◌, if◌then◌else◌, nat_eq, nat_le, List, [], ◌∷◌}
+use Rattle.std.specs.Prelude.{Option, None, Some, filter}
 use Rattle.std.specs.List.{flat_map}
 use Rattle.am_alert.specs.declared.alert.Alert.{Alert}
 use Rattle.am_store.specs.LaneSets.{has_lane}
@@ -9,21 +9,26 @@ use Rattle.am_store.specs.declared.call.Call.TheVariants.{Posted, Collected, Sub
 use Rattle.am_store.specs.Journal.{JournalView, new_journal}
 use Rattle.am_store.specs.Stored.{updates, stored}
 use Rattle.am_store.specs.Broadcast.{broadcast}
+use Rattle.am_provider.specs.declared.answers.Ended.{Ended}
 
--- an entry of the history: an accepted call and the lanes that it cut (lane l in bit l), or a trim that
--- discarded so many calls of the journal
+-- an entry of the history: an accepted call, the lanes that it cut (lane l in bit l), and what it answered of
+-- a subscription that it took back; or a trim that discarded so many calls of the journal
 pub data EntryView : Type 0 where
-  Accepted : (call : Call) (cut : ℕ) → EntryView
+  Accepted : (call : Call) (cut : ℕ) (ended : Option Ended) → EntryView
   Trimmed : (count : ℕ) → EntryView
 
 -- an entry with a call, or without one
-abbrev pub entry_of : Option Call → ℕ → ℕ → EntryView
-entry_of (Some call) cut count = Accepted call cut
-entry_of None cut count = Trimmed count
+abbrev pub entry_of : Option Call → ℕ → Option Ended → ℕ → EntryView
+entry_of (Some call) cut ended count = Accepted call cut ended
+entry_of None cut ended count = Trimmed count
+
+-- the entry of a call that cut no lane and took no subscription back
+abbrev pub only_call : Call → EntryView
+only_call call = Accepted call 0 None
 
 -- the call of an entry, if it is one of the journal
 abbrev pub call_of : EntryView → List Call
-call_of (Accepted call cut) = call ∷ []
+call_of (Accepted call cut ended) = call ∷ []
 call_of (Trimmed count) = []
 
 -- the calls of a history, in order
@@ -37,7 +42,7 @@ whole entries = record new_journal { calls = calls_of entries }
 -- how many calls the trims of a history discarded
 abbrev pub trimmed_by : List EntryView → ℕ
 trimmed_by [] = 0
-trimmed_by (Accepted call cut ∷ entries) = trimmed_by entries
+trimmed_by (Accepted call cut ended ∷ entries) = trimmed_by entries
 trimmed_by (Trimmed count ∷ entries) = count + trimmed_by entries
 
 -- what is stored after a history
@@ -59,9 +64,23 @@ cut_after lane was Closed cut = was
 -- whether a lane is cut after some entries more
 abbrev pub cut_from : ℕ → Bool → List EntryView → Bool
 cut_from lane was [] = was
-cut_from lane was (Accepted call cut ∷ entries) = cut_from lane (cut_after lane was call cut) entries
+cut_from lane was (Accepted call cut ended ∷ entries) = cut_from lane (cut_after lane was call cut) entries
 cut_from lane was (Trimmed count ∷ entries) = cut_from lane was entries
 
 -- whether a post cut the lane since it was given out
 abbrev pub is_cut : List EntryView → ℕ → Bool
 is_cut entries lane = cut_from lane false entries
+
+-- what an entry answered of a subscription that it took back
+abbrev pub ending_of : EntryView → List Ended
+ending_of (Accepted call cut None) = []
+ending_of (Accepted call cut (Some ended)) = ended ∷ []
+ending_of (Trimmed count) = []
+
+-- what was answered of each subscription that was taken back, in order
+abbrev pub endings_of : List EntryView → List Ended
+endings_of entries = flat_map ending_of entries
+
+-- those of them whose Subscribed no trim discarded
+abbrev pub kept_endings : List EntryView → List Ended
+kept_endings entries = filter (λ (ended : Ended). nat_le (trimmed_by entries) ended.at) (endings_of entries)

@@ -13,4 +13,5 @@ pub mod Owing
 pub mod Callers
 pub mod Rising
 pub mod Settling
+pub mod Ending
 pub mod inside

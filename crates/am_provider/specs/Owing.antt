@@ -1,5 +1,5 @@
 -- What is due to a subscription as the history goes on.
-use Rattle.std.specs.Prelude.{◌≡◌, ℕ, ◌≤◌, true, List, length}
+use Rattle.std.specs.Prelude.{◌≡◌, ℕ, ◌≤◌, true, List, length, take}
 use mathlib.Core.List.{IsPrefix}
 use Rattle.am_alert.specs.declared.alert.Alert.{Alert}
 use Rattle.am_store.specs.Journal.{is_closed, IsLegal}
@@ -12,6 +12,14 @@ StaysFrontOfDue =
     (first later : List EntryView) (at : ℕ) (front : List Alert) → IsPrefix first later
     → at ≤ length (calls_of first) → IsFront front (due (whole first) at)
     → IsFront front (due (whole later) at)
+
+-- and such a list is as many alerts of it as the list has: what a subscription took that was given back is
+-- known by the history and its ending's numbers
+abbrev pub BeginningIsKnown : Type 0
+BeginningIsKnown =
+    (first later : List EntryView) (at : ℕ) (front : List Alert) → IsPrefix first later
+    → at ≤ length (calls_of first) → IsFront front (due (whole first) at)
+    → front ≡ take (length front) (due (whole later) at)
 
 -- once the log was ended, a legal history owes nothing more
 abbrev pub ClosedOwesNoMore : Type 0

@@ -1,6 +1,6 @@
 -- What a post does to its pass, to the lanes and to the log, and why it is refused.
 use Rattle.std.specs.Prelude.{◌≡◌, ℕ, ◌<◌, Bool, true, false, List, [], ◌∷◌, ◌++◌, Option, None, Some, length}
-use Rattle.std.specs.Prelude.{slice_index_or}
+use Rattle.std.specs.Prelude.{slice_index_or, if◌then◌else◌, nat_eq, ◌⊎◌}
 use mathlib.Core.Option.{some}
 use mathlib.Core.List.{IsPrefix}
 use lib.ListN.{get_elem?}
@@ -8,7 +8,9 @@ use Rattle.am_alert.specs.declared.alert.Alert.{Alert}
 use Rattle.am_store.specs.declared.call.Call.{Call}
 use Rattle.am_store.specs.declared.call.Call.TheVariants.{Posted}
 use Rattle.am_store.specs.LaneSets.{has_lane}
-use Rattle.am_store.specs.Journal.{is_closed}
+use Rattle.am_alert.specs.declared.post.Post.{Post}
+use Rattle.am_store.specs.Journal.{is_closed, with_call}
+use Rattle.am_store.specs.Judging.{Filter, AreJudged}
 use Rattle.am_cast.specs.declared.views.Own.{Own}
 use Rattle.am_cast.specs.Rule.{live}
 use Rattle.am_cast.specs.Changes.{AreInLog, own_at}
@@ -16,6 +18,8 @@ use Rattle.am_cast.specs.Seats.{account_of}
 use Rattle.am_cast.specs.Posters.{PassView}
 use Rattle.am_cast.specs.Writers.{StaysAs, SameAdmission, IsCutAs}
 use Rattle.am_provider.specs.declared.answers.Policy.TheVariants.{Refuse}
+use Rattle.am_provider.specs.declared.answers.Posted as answers
+use Rattle.am_provider.specs.declared.answers.PostedIf.{PostedIf}
 use Rattle.am_provider.specs.declared.faults.PutFault.{PutFault}
 use Rattle.am_provider.specs.declared.faults.PutFault.TheVariants as put_fault
 use Rattle.am_provider.specs.Batches.{Batch, LogView}
@@ -53,6 +57,24 @@ pub record IsCutTo (old new : BookView) (flags : List Bool) : Type 0 where
       (account_of old.log lane) (account_of new.log lane) (slice_index_or flags lane false)
   pub none : old.policy ≡ Refuse → (lane : ℕ) → slice_index_or flags lane false ≡ false
 
+-- a post of these valid alerts was accepted: its entry, its place, its pass and the lanes that it cut
+pub record Puts (old new : BookView) (was is : PassView Alert Call) (now : ℕ) (post : Post)
+    (posted : answers.Posted) : Type 0 where
+  pub journal : new.journal ≡ with_call old.journal (Posted now post.valid)
+  pub valid : posted.valid ≡ length post.valid
+  pub faults : posted.faults ≡ post.faults
+  pub place : posted.place ≡ (if nat_eq (length post.valid) 0 then None else Some (length (batches old)))
+  pub own : AddsOwn was now post.valid posted.place is
+  pub cut : IsCutBy old new posted.cut
+
+-- a post of those alerts that a filter accepted, each judged as it would be stored
+abbrev pub PutsIf : {F : Type 0} → Filter F → F → BookView → BookView → PassView Alert Call
+    → PassView Alert Call → ℕ → Post → PostedIf → Type 0
+PutsIf {F} filter accepts old new was is now post done =
+    (kept : Post) × (last : F)
+    × AreJudged filter now last accepts 0 old.stored post.valid kept.valid done.refused.items
+    × (kept.faults ≡ post.faults) × Puts old new was is now kept done.posted
+
 -- each live lane's word was loaded
 abbrev pub Loads : LogView → LogView → Type 0
 Loads old new = (lane : ℕ) → lane < 8 → (account_of old lane).stand ≡ live
@@ -81,3 +103,12 @@ IsPutCause old new count put_fault.NoMemory =
     × (0 < count → IsLogCause old.policy old.log new.log put_fault.NoMemory)
 IsPutCause old new count fault =
     (is_closed old.journal ≡ false) × (0 < count) × IsLogCause old.policy old.log new.log fault
+
+-- why a post of those alerts that a filter accepts is refused: before the filter was asked of all, or as a
+-- post of those that it accepted
+abbrev pub IsPutIfCause : {F : Type 0} → Filter F → F → BookView → BookView → ℕ → Post → PutFault → Type 0
+IsPutIfCause {F} filter accepts old new now post fault =
+    IsPutCause old new 0 fault
+    ⊎ ((kept : List Alert) × (refused : List ℕ) × (last : F)
+    × AreJudged filter now last accepts 0 old.stored post.valid kept refused
+    × IsPutCause old new (length kept) fault)

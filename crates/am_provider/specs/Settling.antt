@@ -1,24 +1,21 @@
--- What the end of a provider shows.
+-- What the end of a Book shows.
 use Rattle.std.specs.Prelude.{◌≡◌, ℕ, ◌+◌, ◌<◌, true, List, [], ◌∷◌, ◌++◌, length, Option, None, Some}
-use Rattle.std.specs.List.{All}
 use mathlib.Core.Option.{some}
-use mathlib.Core.List.{IsPrefix}
 use lib.ListN.{get_elem?}
 use Rattle.am_alert.specs.declared.alert.Alert.{Alert}
 use Rattle.am_store.specs.declared.call.Call.{Call}
-use Rattle.am_history.specs.Fronts.{FrontView, AreMade, AreMadeOnce, IsMade}
+use Rattle.am_history.specs.Fronts.{FrontView}
 use Rattle.am_history.specs.declared.views.Made.{Made}
-use Rattle.am_store.specs.Journal.{lefts_of, journal_of, IsLegal}
-use Rattle.am_store.specs.Trims.{IsTrimmed}
+use Rattle.am_store.specs.Journal.{lefts_of, journal_of}
 use Rattle.am_store.specs.AlertMaps.{stored_in}
 use Rattle.am_cast.specs.declared.views.Own.{Own}
 use Rattle.am_cast.specs.Rule.{Once}
 use Rattle.am_cast.specs.Changes.{AreInLog}
 use Rattle.am_cast.specs.Posters.{PassView}
 use Rattle.am_provider.specs.declared.settled.Settled.{Settled}
-use Rattle.am_provider.specs.Batches.{Batch, sent_in}
+use Rattle.am_provider.specs.Batches.{Batch}
 use Rattle.am_provider.specs.BookView.{BookView, batches, IsFaithful}
-use Rattle.am_provider.specs.Histories.{EntryView, whole, trimmed_by, stored_after, sent_by}
+use Rattle.am_provider.specs.Histories.{EntryView}
 
 -- the own posts of some passes, each pass's in its order
 abbrev pub own_of : List (PassView Alert Call) → List (Own Batch)
@@ -61,20 +58,3 @@ pub record IsSettled (book : BookView) (own : List (Own Batch)) (settled : Settl
 abbrev pub made_of : List (FrontView EntryView) → List (Made EntryView)
 made_of [] = []
 made_of (front ∷ fronts) = made_of fronts ++ front.made
-
--- a provider for threads ended: there is one history of its calls and trims, which is legal. Each caller's
--- front begins it. The journal is what its trims left of it, and the store and the log are what it gives.
--- What the callers added is in it, no entry twice; if all callers are there, it is all of it
-pub record IsSettledFrom (passes : List (PassView Alert Call)) (fronts : List (FrontView EntryView))
-    (end : Settled) : Type 0 where
-  pub entries : List EntryView
-  pub book : BookView
-  pub settled : IsSettled book (own_of passes) end
-  pub legal : IsLegal (whole entries)
-  pub journal : IsTrimmed (whole entries) (trimmed_by entries) (journal_of end.journal)
-  pub stored : stored_in end.store.entries ≡ stored_after entries
-  pub sent : sent_in (batches book) ≡ sent_by entries
-  pub seen : All (λ (front : FrontView EntryView). IsPrefix front.seen entries) fronts
-  pub made : AreMade (made_of fronts) entries
-  pub once : AreMadeOnce (made_of fronts)
-  pub all : end.complete ≡ true → (index : ℕ) → index < length entries → IsMade (made_of fronts) index

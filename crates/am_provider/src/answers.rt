@@ -25,6 +25,15 @@ pub struct Posted {
     pub faults: Faults,
 }
 
+/// The answer of an accepted post whose alerts a filter judged.
+#[derive(Debug, Drop)]
+pub struct PostedIf {
+    /// The answer of a post of those valid alerts that the filter accepted.
+    pub posted: Posted,
+    /// The valid alerts that it refused, each by its index among the valid ones, in order.
+    pub refused: Vec<u32>,
+}
+
 /// What a subscription shows next.
 #[derive(Clone, Copy, Debug)]
 pub enum Step<'a> {

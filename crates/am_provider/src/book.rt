@@ -8,27 +8,35 @@
 
 ghost use Rattle.std.specs.Prelude.{◌≡◌, ◌≢◌, ◌↔◌, ◌≤◌, ◌<◌, ◌+◌, ◌++◌, ◌∷◌, IsTrue, IfOk, IfErr, OnOk, OnErr, IsErr, IsErrOf};
 ghost use Rattle.std.specs.Prelude.{ℕ, ◌-◌, None, Some, true, false, [], length, nat_eq, if◌then◌else◌, not, filter, count_by, nat_le, slice_index_or, vec_capacity};
+ghost use Rattle.std.specs.Arc.{arc_value};
 ghost use Rattle.std.specs.List.{All};
+ghost use Rattle.std.specs.Option.{option_map};
 ghost use mathlib.Core.List.{IsPrefix};
 ghost use Rattle.am_alert.specs.Merging.{is_resolved_at};
 ghost use Rattle.am_alert.specs.declared.post.TheConstants.{MAX_ALERTS};
 ghost use Rattle.std.specs.VecDeque.{deque_capacity};
 ghost use Rattle.am_cast.specs.Rule.{Once, cut, idle, live};
 ghost use Rattle.am_cast.specs.Changes.{AreInLog, shut_tail};
+ghost use Rattle.am_cast.specs.Cursors.{HasCut};
 ghost use Rattle.am_cast.specs.Seats.{account_of};
 ghost use Rattle.am_store.specs.Journal.{with_call, call_count, first_calls, is_closed};
-ghost use Rattle.am_store.specs.Journal.{posts_of, AreAllOpen, IsOpenSubscription, new_journal, journal_of};
+ghost use Rattle.am_store.specs.Journal.{posts_of, AreAllIdle, AreAllOpen, IsOpenSubscription};
+ghost use Rattle.am_store.specs.Journal.{new_journal, journal_of};
+ghost use Rattle.am_store.specs.AlertList.{lookup};
 ghost use Rattle.am_store.specs.AlertMaps.{stored_in};
 ghost use Rattle.am_store.specs.Broadcast.{due, IsFront};
+ghost use Rattle.am_store.specs.Judging.{AreJudged};
 ghost use Rattle.am_store.specs.Trims.{AreBeforeOpen, Drops, IsTrimmed};
 ghost use Rattle.am_store.specs.Stored.{updates, stored};
 ghost use Rattle.am_provider.specs.BookView.{IsFaithful, batches};
 ghost use Rattle.am_provider.specs.Subscriptions.{taken};
 ghost use Rattle.am_provider.specs.Rising.{IsRising};
 ghost use Rattle.am_provider.specs.Settling.{IsOwn, IsSettled, own_in, own_of, parts_in};
-ghost use Rattle.am_provider.specs.Posts.{AddsOwn, IsCutBy, IsCutTo, IsPutCause, IsAsBefore, Loads, HasSameLimits};
+ghost use Rattle.am_provider.specs.Posts.{AddsOwn, IsCutBy, IsCutTo, PutsIf, IsPutCause, IsPutIfCause};
+ghost use Rattle.am_provider.specs.Posts.{IsAsBefore, Loads};
+ghost use Rattle.am_provider.specs.Posts.{HasSameLimits};
 
-use crate::answers::{Counts, Ended, Policy, Posted};
+use crate::answers::{Counts, Ended, Policy, Posted, PostedIf};
 use crate::faults::{PutFault, SubFault};
 use crate::feed::{Cast, Origin, Writer};
 use crate::item::Item;
@@ -37,12 +45,14 @@ use crate::pass::{Joined, Pass, deal, join_all};
 use crate::sending::send_batch;
 use crate::settled::Settled;
 use crate::subscription::Subscription;
-use am_alert::{Alerts, Moment, Post};
+use am_alert::{Alert, Alerts, Moment, Post};
 use am_cast::{AlreadyClosed, LONGEST_LOG, Published};
+use am_labels::LabelSet;
 use am_store::lanes::{LANES, Lanes, OpenLane, earliest, idle_lane};
 use am_store::store::absorb::{Absorbed, absorb_each, take_back};
-use am_store::store::{AlertMap, remove_resolved, share_all};
-use am_store::{Call, Journal, LaneSet, MAX_BEFORE, StoredAlerts};
+use am_store::store::judge::{Judged, judge_each};
+use am_store::store::{AlertMap, remove_resolved, share_all, share_of, share_resolved};
+use am_store::{Call, Journal, LaneSet, MAX_BEFORE, SharedAlert, StoredAlerts};
 use std::alloc::{AllocError, Global};
 use std::marker::Model;
 use std::snapshot::Snapshot;
@@ -306,6 +316,64 @@ impl<N: Origin> Book<N> {
         })
     }
 
+    /// Posts those valid alerts that a filter accepts (what `provider/mem`'s Put does by its callback's
+    /// PreStore). The filter is shown each alert as it would be stored, over what those before it that it
+    /// accepted left, and told whether no alert of its label set is stored. One that it refuses is as if it
+    /// hadn't been posted. The filter is asked once the log is known to be open.
+    pub fn post_if<F: FnMut(&Alert, bool) -> bool>(
+        &mut self,
+        cast: &Cast<N>,
+        pass: &mut Pass<N>,
+        post: Post,
+        now: Moment,
+        accepts: F,
+    ) -> Result<PostedIf, PutFault>
+        requires { F.IsAlwaysCallable accepts }
+        ensures posted { IfOk result
+            (PutsIf F.FnMut accepts self.old self.new pass.old pass.new now post) }
+        ensures log { IsPrefix (batches self.old) (batches self.new) }
+        ensures endings { (self.new.endings ≡ self.old.endings) × (self.new.early ≡ self.old.early) }
+        ensures limits { HasSameLimits self.old self.new }
+
+        ensures closed { IsErrOf result PutFault.Closed ↔ IsTrue (is_closed self.old.journal) }
+        ensures refused { IfErr result
+            (IsPutIfCause F.FnMut accepts self.old self.new now post) }
+        ensures err { OnErr result (IsAsBefore self.old self.new × (pass.new ≡ pass.old)) }
+    {
+        let (accepted, refused) = self.judge(post, now, accepts)?;
+        match self.post(cast, pass, accepted, now) {
+            Ok(posted) => Ok(PostedIf { posted, refused }),
+            Err(fault) => Err(fault),
+        }
+    }
+
+    // What a filter accepts of a post, and the indices of what it refuses.
+    pub(crate) fn judge<F: FnMut(&Alert, bool) -> bool>(
+        &mut self,
+        post: Post,
+        now: Moment,
+        accepts: F,
+    ) -> Result<(Post, Vec<u32>), PutFault>
+        requires { F.IsAlwaysCallable accepts }
+        ensures judged { IfOk result (λ done. (last : F) × AreJudged F.FnMut now last accepts 0
+            self.old.stored post.valid done.0.valid done.1.items) }
+        ensures faults { IfOk result (λ done. done.0.faults ≡ post.faults) }
+        ensures same { self.new ≡ self.old }
+        ensures open { OnOk result (is_closed self.old.journal ≡ false) }
+        ensures refused { IfErr result (IsPutCause self.old self.old 0) }
+    {
+        if self.log.is_closed() {
+            return Err(PutFault::Closed);
+        }
+        let Post { valid, faults } = post;
+        let Judged { accepted, refused } = judge_each(&mut self.stored, valid, now, accepts)?;
+        let accepted = Post {
+            valid: accepted,
+            faults,
+        };
+        Ok((accepted, refused))
+    }
+
     // Takes a post with no valid alert.
     fn post_nothing(&mut self, none: Alerts, now: Moment) -> Result<(), AllocError>
         requires open { is_closed self.old.journal ≡ false }
@@ -440,6 +508,7 @@ impl<N: Origin> Book<N> {
         ensures closed { result.closed ≡ subscription.entry.closed_told }
         ensures cut { IsTrue result.cut
             ↔ ((account_of self.old.log subscription.entry.cursor.lane.number).stand ≡ cut) }
+        ensures told_cut { HasCut subscription.entry.cursor → IsTrue result.cut }
         ensures open { IsOpenSubscription self.old.journal subscription.entry.cursor.lane.number
             subscription.entry.at }
 
@@ -516,6 +585,32 @@ impl<N: Origin> Book<N> {
         Ok(removed)
     }
 
+    /// The same collection, which answers the alerts that it removed, in the order in which they were
+    /// stored. They are shared before anything is removed.
+    pub fn take_resolved(&mut self, now: Moment) -> Result<StoredAlerts, AllocError>
+        ensures journal { OnOk result
+            (self.new.journal ≡ with_call self.old.journal (Call.Collected now)) }
+        ensures removed { IfOk result
+            (λ removed. removed ≡ filter (is_resolved_at now) self.old.stored) }
+        ensures stored { OnOk result
+            (self.new.stored ≡ filter (λ alert. not (is_resolved_at now alert)) self.old.stored) }
+        ensures log { self.new.log ≡ self.old.log }
+        ensures endings { (self.new.endings ≡ self.old.endings) × (self.new.early ≡ self.old.early) }
+        ensures limits { HasSameLimits self.old self.new }
+        ensures err { OnErr result (self.new ≡ self.old) }
+    {
+        let resolved = self.resolved(now)?;
+        self.collect_resolved(now)?;
+        Ok(resolved)
+    }
+
+    // The stored alerts that are resolved.
+    pub(crate) fn resolved(&self, now: Moment) -> Result<StoredAlerts, AllocError>
+        ensures { IfOk result (λ resolved. resolved ≡ filter (is_resolved_at now) self.now.stored) }
+    {
+        share_resolved(&self.stored, now)
+    }
+
     /// Discards the calls before the earliest open subscription from the journal, or all if none is
     /// open, and answers how many. The endings of the subscriptions among them go too, and are
     /// counted. Nothing else changes. It is no call of the journal, and is allowed after the log's
@@ -568,6 +663,23 @@ impl<N: Origin> Book<N> {
         }
     }
 
+    /// What is stored, in order (`provider.Alerts`' GetPending). It is no call of the journal and takes
+    /// no lane.
+    pub fn stored(&self) -> Result<StoredAlerts, AllocError>
+        ensures { IfOk result (λ alerts. alerts ≡ self.now.stored) }
+    {
+        share_all(&self.stored)
+    }
+
+    /// The stored alert of a label set (`provider.Alerts`' Get). It is no call of the journal, takes no
+    /// memory, and fails only if the alert has 2^63 owners already.
+    pub fn get(&self, labels: &LabelSet) -> Result<Option<SharedAlert>, AllocError>
+        ensures { IfOk result (λ found.
+            option_map arc_value found ≡ lookup labels.now self.now.stored) }
+    {
+        share_of(&self.stored, labels)
+    }
+
     /// What is stored, what was sent out and what its subscriptions came to are what its journal
     /// gives, whatever was called before. It does nothing.
     pub fn kept(&self)
@@ -614,6 +726,27 @@ impl<N: Origin> Book<N> {
         self.settle_joined(rt, cast, all, count)
     }
 
+    /// Whether every subscription was given back. `end` takes such a Book.
+    pub fn is_idle(&self) -> bool
+        ensures { IsTrue result ↔ AreAllIdle self.now.journal }
+    {
+        self.log.is_idle()
+    }
+
+    /// Ends a Book whose subscriptions were all given back, and with it its log. It answers what
+    /// `settle` does, and needs no handle since there is nothing to wait for.
+    pub fn end(self, cast: Cast<N>, passes: Vec<Pass<N>>) -> Settled
+        requires { AreAllIdle self.journal }
+        ensures settled { IsSettled self (own_of passes.items) result }
+        ensures rising { All (λ pass. IsRising pass.own) passes.items }
+        ensures complete { IsTrue result.complete ↔ (length passes.items ≡ N.parts) }
+    {
+        self.kept();
+        let given = passes.len();
+        let joined = join_all(&cast, passes);
+        self.end_joined(cast, joined, given)
+    }
+
     /// The same with so many passes, joined.
     pub(crate) fn settle_joined<R: Wait>(
         self,
@@ -626,6 +759,19 @@ impl<N: Origin> Book<N> {
         ensures settled { IsSettled self (own_in all) result }
         ensures complete { IsTrue result.complete ↔ (count ≡ N.parts) }
     {
+        if !self.log.is_idle() {
+            for _ in rt.forever() {}
+        }
+        self.end_joined(cast, all, count)
+    }
+
+    // The same of a Book that has no subscription.
+    fn end_joined(self, cast: Cast<N>, all: Option<Joined<N>>, count: usize) -> Settled
+        requires parts { parts_in all ≡ count }
+        requires idle { (lane : ℕ) → lane < 8 → (account_of self.log lane).stand ≡ idle }
+        ensures settled { IsSettled self (own_in all) result }
+        ensures complete { IsTrue result.complete ↔ (count ≡ N.parts) }
+    {
         let Counts {
             places,
             posts,
@@ -633,9 +779,6 @@ impl<N: Origin> Book<N> {
         } = self.counts();
         let (journal, store, ended, early, posters, mut log, mut tally) = self.into_parts();
         let complete = audit(&cast, &mut log, &mut tally, all, count, posters);
-        if !log.is_idle() {
-            for _ in rt.forever() {}
-        }
         am_cast::end(cast, log);
         Settled {
             journal,

@@ -1,10 +1,12 @@
 //! Laws over histories that callers may cite.
 
-ghost use Rattle.am_provider.specs.Owing.{ClosedOwesNoMore, StaysFrontOfDue};
+ghost use Rattle.am_provider.specs.Owing.{BeginningIsKnown, ClosedOwesNoMore, StaysFrontOfDue};
 
 /// What a subscription has taken begins what was due to it when it was given back; so it begins what is
-/// due to it after the whole history. If it was told that the log is closed, it has taken all of that.
+/// due to it after the whole history, as the first alerts of it: how many, its ending says. If it was told that
+/// the log is closed, it has taken all of that.
 pub fn history_laws()
     ensures front { StaysFrontOfDue }
+    ensures known { BeginningIsKnown }
     ensures closed { ClosedOwesNoMore }
 {}

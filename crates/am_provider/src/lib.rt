@@ -61,7 +61,7 @@ mod settled;
 mod subscription;
 
 pub use am_cast::{AlreadyClosed, MAX_PLACES};
-pub use answers::{Counts, Ended, Policy, Posted, Step};
+pub use answers::{Counts, Ended, Policy, Posted, PostedIf, Step};
 pub use book::Book;
 pub use caller::Caller;
 pub use entry::Entry;

@@ -1,25 +1,25 @@
 //! The provider: a Book under a lock, with subscriptions that read without it.
 //!
 //! What each call holds the lock for: a post, for the merge of its alerts and their batch (its body is
-//! read before); a subscription, for a share of each stored alert; a collection, for a look at each; a
-//! trim, for the calls that it drops; a leave, for its places. Nothing is printed, parsed or waited for
-//! under it.
+//! read before); a subscription or a read of the store, for a share of each stored alert; a collection,
+//! for a look at each; a trim, for the calls that it drops; a leave, for its places. Nothing is printed,
+//! parsed or waited for under it.
 
-ghost use Rattle.std.specs.Prelude.{◌≡◌, ◌↔◌, IsTrue, IfOk, length, map};
+ghost use Rattle.std.specs.Prelude.{◌≡◌, ◌↔◌, IsTrue, IfOk, OnErr, length, map};
 ghost use Rattle.std.specs.List.{All};
 ghost use Rattle.std.specs.Duration.{as_nanos};
-ghost use Rattle.am_provider.specs.Callers.{AnswersBody, IsNewCaller, SeesCall};
-ghost use Rattle.am_provider.specs.Headline.{AnswersSubscribe, AnswersLeave, AnswersCollect};
-ghost use Rattle.am_provider.specs.Headline.{AnswersClose, AnswersTrim};
-ghost use Rattle.am_provider.specs.Posts.{HasMet};
+ghost use Rattle.am_provider.specs.Callers.{AnswersBody, AnswersPostIf, IsNewCaller, SeesCall};
+ghost use Rattle.am_provider.specs.Headline.{AnswersPost, AnswersSubscribe, AnswersLeave, AnswersCollect};
+ghost use Rattle.am_provider.specs.Headline.{AnswersClose, AnswersTrim, AnswersStored, AnswersGet, AnswersTake};
+ghost use Rattle.am_provider.specs.Posts.{AddsOwn, HasMet};
 ghost use Rattle.am_provider.specs.Rising.{IsRising};
-ghost use Rattle.am_provider.specs.Settling.{IsSettledFrom};
+ghost use Rattle.am_provider.specs.Ending.{IsSettledFrom};
 
-use crate::answers::{Ended, Policy, Posted};
+use crate::answers::{Ended, Policy, Posted, PostedIf};
 use crate::book::Book;
 use crate::caller::{Caller, deal};
 use crate::entry::Entry;
-use crate::faults::{PostRefused, SubFault};
+use crate::faults::{PostRefused, PutFault, SubFault};
 use crate::feed::{Cast, Recorded};
 use crate::gate::Gate;
 use crate::parts::{Begun, Parts};
@@ -27,9 +27,11 @@ use crate::pass::Pass;
 use crate::recorded_book::RecordedBook;
 use crate::settled::Settled;
 use crate::subscription::Subscription;
-use am_alert::{Moment, read_post};
+use am_alert::{Alert, Moment, Post, read_post};
 use am_cast::AlreadyClosed;
 use am_history::{HistoryTable, Opened, open};
+use am_labels::LabelSet;
+use am_store::{SharedAlert, StoredAlerts};
 use std::alloc::{AllocError, Global};
 use std::sync::{Mutex, Wait};
 use std::time::Duration;
@@ -109,12 +111,52 @@ impl<N: Recorded> Provider<N> {
             Ok(post) => post,
             Err(fault) => return Err(PostRefused::Unread(fault)),
         };
-        let mut book = self.book.lock(rt);
-        gate.held(rt);
-        match book.post(&self.cast, &self.table, caller, post, now) {
+        match self.put(rt, caller, gate, post, now) {
             Ok(posted) => Ok(posted),
             Err(fault) => Err(PostRefused::Put(fault)),
         }
+    }
+
+    /// Posts the valid alerts of a post that was read or made before (`provider.Alerts`' Put).
+    pub fn put<R: Wait, G: Gate>(
+        &self,
+        rt: &R,
+        caller: &mut Caller<N>,
+        gate: &G,
+        post: Post,
+        now: Moment,
+    ) -> Result<Posted, PutFault>
+        ensures sees { SeesCall caller.old.front caller.new.front
+            (AnswersPost N.policy N.places now post result) }
+        ensures own { IfOk result (λ posted.
+            AddsOwn caller.old.pass now post.valid posted.place caller.new.pass) }
+        ensures err { OnErr result (caller.new.pass ≡ caller.old.pass) }
+    {
+        let mut book = self.book.lock(rt);
+        gate.held(rt);
+        book.post(&self.cast, &self.table, caller, post, now)
+    }
+
+    /// Posts those valid alerts that a filter accepts (what `provider/mem`'s Put does by its callback's
+    /// PreStore). The filter is asked under the lock: it is shown each alert as it would be stored, over
+    /// what those before it that it accepted left, and told whether no alert of its label set is stored.
+    /// One that it refuses is as if it hadn't been posted.
+    pub fn put_if<R: Wait, G: Gate, F: FnMut(&Alert, bool) -> bool>(
+        &self,
+        rt: &R,
+        caller: &mut Caller<N>,
+        gate: &G,
+        post: Post,
+        now: Moment,
+        accepts: F,
+    ) -> Result<PostedIf, PutFault>
+        requires { F.IsAlwaysCallable accepts }
+        ensures { AnswersPostIf F.FnMut accepts N.policy N.places now post
+            caller.old.pass caller.new.pass caller.old.front caller.new.front result }
+    {
+        let mut book = self.book.lock(rt);
+        gate.held(rt);
+        book.post_if(&self.cast, &self.table, caller, post, now, accepts)
     }
 
     /// A subscription to what is stored and to what comes from now on. It reads without the lock.
@@ -170,6 +212,20 @@ impl<N: Recorded> Provider<N> {
             .collect_resolved(&self.table, caller, now)
     }
 
+    /// Removes the stored alerts that are resolved, and answers them, in the order in which they were
+    /// stored.
+    pub fn take_resolved<R: Wait>(
+        &self,
+        rt: &R,
+        caller: &mut Caller<N>,
+        now: Moment,
+    ) -> Result<StoredAlerts, AllocError>
+        ensures sees { SeesCall caller.old.front caller.new.front (AnswersTake now result) }
+        ensures pass { caller.new.pass ≡ caller.old.pass }
+    {
+        self.book.lock(rt).take_resolved(&self.table, caller, now)
+    }
+
     /// Ends the log: no post and no subscription is accepted from now on.
     pub fn close<R: Wait>(&self, rt: &R, caller: &mut Caller<N>) -> Result<(), AlreadyClosed>
         ensures sees { SeesCall caller.old.front caller.new.front (AnswersClose result) }
@@ -184,6 +240,33 @@ impl<N: Recorded> Provider<N> {
         ensures pass { caller.new.pass ≡ caller.old.pass }
     {
         self.book.lock(rt).trim(&self.table, caller)
+    }
+
+    /// What is stored, in order (`provider.Alerts`' GetPending). It adds nothing to the history and
+    /// takes no lane.
+    pub fn stored<R: Wait>(
+        &self,
+        rt: &R,
+        caller: &mut Caller<N>,
+    ) -> Result<StoredAlerts, AllocError>
+        ensures sees { SeesCall caller.old.front caller.new.front (AnswersStored result) }
+        ensures pass { caller.new.pass ≡ caller.old.pass }
+    {
+        self.book.lock(rt).stored(&self.table, caller)
+    }
+
+    /// The stored alert of a label set (`provider.Alerts`' Get). It adds nothing to the history, takes
+    /// no memory, and fails only if the alert has 2^63 owners already.
+    pub fn get<R: Wait>(
+        &self,
+        rt: &R,
+        caller: &mut Caller<N>,
+        labels: &LabelSet,
+    ) -> Result<Option<SharedAlert>, AllocError>
+        ensures sees { SeesCall caller.old.front caller.new.front (AnswersGet labels.now result) }
+        ensures pass { caller.new.pass ≡ caller.old.pass }
+    {
+        self.book.lock(rt).get(&self.table, caller, labels)
     }
 
     /// Ends the provider. Each pass's posts stand at rising places, in the order in which it posted

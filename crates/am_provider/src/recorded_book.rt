@@ -3,19 +3,19 @@
 //! Each call is made on the Book. If it was accepted, an entry is added to the history, and the caller's
 //! front sees all of it; if it was refused, the front sees what there is.
 
-ghost use Rattle.std.specs.Prelude.{◌≡◌, ◌↔◌, ◌++◌, ◌∷◌, IsTrue, OnErr, IfOk, [], length, map};
+ghost use Rattle.std.specs.Prelude.{◌≡◌, ◌↔◌, ◌++◌, ◌∷◌, IsTrue, OnOk, OnErr, IfOk, None, [], length, map};
 ghost use Rattle.std.specs.List.{All};
 ghost use mathlib.Core.List.{IsPrefix};
 ghost use Rattle.am_history.specs.Fronts.{made_at};
-ghost use Rattle.am_provider.specs.Callers.{SeesCall};
+ghost use Rattle.am_provider.specs.Callers.{AnswersPostIf, SeesCall};
 ghost use Rattle.am_provider.specs.Headline.{AnswersPost, AnswersSubscribe, AnswersLeave, AnswersCollect};
-ghost use Rattle.am_provider.specs.Headline.{AnswersClose, AnswersTrim};
+ghost use Rattle.am_provider.specs.Headline.{AnswersClose, AnswersTrim, AnswersStored, AnswersGet, AnswersTake};
 ghost use Rattle.am_provider.specs.Histories.{Accepted};
 ghost use Rattle.am_provider.specs.Posts.{AddsOwn};
 ghost use Rattle.am_provider.specs.Rising.{IsRising};
-ghost use Rattle.am_provider.specs.Settling.{IsSettledFrom};
+ghost use Rattle.am_provider.specs.Ending.{IsSettledFrom};
 
-use crate::answers::{Ended, Posted};
+use crate::answers::{Ended, Posted, PostedIf};
 use crate::book::Book;
 use crate::caller::{Caller, gather};
 use crate::entry::Entry;
@@ -23,10 +23,11 @@ use crate::faults::{PutFault, SubFault};
 use crate::feed::{Cast, Recorded};
 use crate::settled::Settled;
 use crate::subscription::Subscription;
-use am_alert::{Moment, Post};
+use am_alert::{Alert, Moment, Post};
 use am_cast::AlreadyClosed;
 use am_history::{History, HistoryTable};
-use am_store::{Call, LaneSet};
+use am_labels::LabelSet;
+use am_store::{Call, LaneSet, SharedAlert, StoredAlerts};
 use std::alloc::AllocError;
 use std::marker::Model;
 use std::snapshot::Snapshot;
@@ -68,6 +69,9 @@ impl<N: Recorded> RecordedBook<N> {
     ) -> Result<Posted, PutFault>
         ensures sees { SeesCall caller.old.front caller.new.front
             (AnswersPost N.policy N.places now post result) }
+        ensures seen { IfOk result (λ posted. caller.new.front.seen
+            ≡ self.old.entries ++ Accepted (Call.Posted now post.valid) posted.cut None ∷ []) }
+        ensures unseen { OnErr result (caller.new.front.seen ≡ self.old.entries) }
         ensures own { IfOk result (λ posted.
             AddsOwn caller.old.pass now post.valid posted.place caller.new.pass) }
         ensures err { OnErr result (caller.new.pass ≡ caller.old.pass) }
@@ -86,9 +90,38 @@ impl<N: Recorded> RecordedBook<N> {
             table,
             self.book.last_call(),
             posted.cut,
+            None,
             caller,
         );
         Ok(posted)
+    }
+
+    /// A post of those alerts that a filter accepts.
+    pub(crate) fn post_if<F: FnMut(&Alert, bool) -> bool>(
+        &mut self,
+        cast: &Cast<N>,
+        table: &HistoryTable<Entry, N>,
+        caller: &mut Caller<N>,
+        post: Post,
+        now: Moment,
+        accepts: F,
+    ) -> Result<PostedIf, PutFault>
+        requires { F.IsAlwaysCallable accepts }
+        ensures { AnswersPostIf F.FnMut accepts N.policy N.places now post
+            caller.old.pass caller.new.pass caller.old.front caller.new.front result }
+    {
+        self.book.kept();
+        let (accepted, refused) = match self.book.judge(post, now, accepts) {
+            Ok(judged) => judged,
+            Err(fault) => {
+                self.history.show(table, &mut caller.front);
+                return Err(fault);
+            }
+        };
+        match self.post(cast, table, caller, accepted, now) {
+            Ok(posted) => Ok(PostedIf { posted, refused }),
+            Err(fault) => Err(fault),
+        }
     }
 
     /// A new subscription.
@@ -111,7 +144,14 @@ impl<N: Recorded> RecordedBook<N> {
         };
         self.book.kept();
         let call = Call::Subscribed(made.lane());
-        record(&mut self.history, table, &call, LaneSet::EMPTY, caller);
+        record(
+            &mut self.history,
+            table,
+            &call,
+            LaneSet::EMPTY,
+            None,
+            caller,
+        );
         Ok(made)
     }
 
@@ -131,7 +171,14 @@ impl<N: Recorded> RecordedBook<N> {
         let call = Call::Left(subscription.lane());
         let ended = self.book.leave(cast, subscription);
         self.book.kept();
-        record(&mut self.history, table, &call, LaneSet::EMPTY, caller);
+        record(
+            &mut self.history,
+            table,
+            &call,
+            LaneSet::EMPTY,
+            Some(ended),
+            caller,
+        );
         ended
     }
 
@@ -143,6 +190,8 @@ impl<N: Recorded> RecordedBook<N> {
         now: Moment,
     ) -> Result<u64, AllocError>
         ensures sees { SeesCall caller.old.front caller.new.front (AnswersCollect now result) }
+        ensures seen { OnOk result
+            (caller.new.front.seen ≡ self.old.entries ++ Accepted (Call.Collected now) 0 None ∷ []) }
         ensures pass { caller.new.pass ≡ caller.old.pass }
     {
         self.book.kept();
@@ -159,9 +208,34 @@ impl<N: Recorded> RecordedBook<N> {
             table,
             &Call::Collected(now),
             LaneSet::EMPTY,
+            None,
             caller,
         );
         Ok(removed)
+    }
+
+    /// The same, which answers what it removed.
+    pub(crate) fn take_resolved(
+        &mut self,
+        table: &HistoryTable<Entry, N>,
+        caller: &mut Caller<N>,
+        now: Moment,
+    ) -> Result<StoredAlerts, AllocError>
+        ensures sees { SeesCall caller.old.front caller.new.front (AnswersTake now result) }
+        ensures pass { caller.new.pass ≡ caller.old.pass }
+    {
+        self.book.kept();
+        let resolved = match self.book.resolved(now) {
+            Ok(resolved) => resolved,
+            Err(error) => {
+                self.history.show(table, &mut caller.front);
+                return Err(error);
+            }
+        };
+        match self.collect_resolved(table, caller, now) {
+            Ok(_) => Ok(resolved),
+            Err(error) => Err(error),
+        }
     }
 
     /// Ends the log.
@@ -185,6 +259,7 @@ impl<N: Recorded> RecordedBook<N> {
             table,
             &Call::Closed,
             LaneSet::EMPTY,
+            None,
             caller,
         );
         Ok(())
@@ -211,6 +286,35 @@ impl<N: Recorded> RecordedBook<N> {
         self.history
             .push(table, &Snapshot::of(&entry), &mut caller.front);
         Ok(count)
+    }
+
+    /// What is stored.
+    pub(crate) fn stored(
+        &mut self,
+        table: &HistoryTable<Entry, N>,
+        caller: &mut Caller<N>,
+    ) -> Result<StoredAlerts, AllocError>
+        ensures sees { SeesCall caller.old.front caller.new.front (AnswersStored result) }
+        ensures pass { caller.new.pass ≡ caller.old.pass }
+    {
+        self.book.kept();
+        self.history.show(table, &mut caller.front);
+        self.book.stored()
+    }
+
+    /// The stored alert of a label set.
+    pub(crate) fn get(
+        &mut self,
+        table: &HistoryTable<Entry, N>,
+        caller: &mut Caller<N>,
+        labels: &LabelSet,
+    ) -> Result<Option<SharedAlert>, AllocError>
+        ensures sees { SeesCall caller.old.front caller.new.front (AnswersGet labels.now result) }
+        ensures pass { caller.new.pass ≡ caller.old.pass }
+    {
+        self.book.kept();
+        self.history.show(table, &mut caller.front);
+        self.book.get(labels)
     }
 
     /// Ends the Book, and with it its log.
@@ -246,15 +350,16 @@ fn record<N: Recorded>(
     table: &HistoryTable<Entry, N>,
     call: &Call,
     cut: LaneSet,
+    ended: Option<Ended>,
     caller: &mut Caller<N>,
 )
-    ensures longer { history.new ≡ history.old ++ Accepted call.now cut ∷ [] }
+    ensures longer { history.new ≡ history.old ++ Accepted call.now cut ended ∷ [] }
     ensures known { IsPrefix caller.old.front.seen history.old }
     ensures seen { caller.new.front.seen ≡ history.new }
     ensures made { caller.new.front.made ≡ caller.old.front.made
-        ++ made_at (length history.old) (Accepted call.now cut) ∷ [] }
+        ++ made_at (length history.old) (Accepted call.now cut ended) ∷ [] }
     ensures pass { caller.new.pass ≡ caller.old.pass }
 {
-    let entry = Entry::accepted(call, cut);
+    let entry = Entry::accepted(call, cut, ended);
     history.push(table, &Snapshot::of(&entry), &mut caller.front);
 }

@@ -5,6 +5,8 @@
 #[cfg(test)]
 mod bodies;
 #[cfg(test)]
+mod books;
+#[cfg(test)]
 mod call_numbers;
 #[cfg(test)]
 mod comparison;
@@ -12,6 +14,8 @@ mod comparison;
 mod cut_races;
 #[cfg(test)]
 mod days;
+#[cfg(test)]
+mod filters;
 #[cfg(test)]
 mod greatest;
 #[cfg(test)]
@@ -24,6 +28,8 @@ mod many_threads;
 mod one_thread;
 #[cfg(test)]
 mod plain_store;
+#[cfg(test)]
+mod reads;
 #[cfg(test)]
 mod reports;
 #[cfg(test)]

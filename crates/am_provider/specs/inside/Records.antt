@@ -1,5 +1,5 @@
 -- A Book with its history.
-use Rattle.std.specs.Prelude.{◌≡◌, ◌≢◌, ℕ, ◌≤◌, ◌<◌, true, false, List, length}
+use Rattle.std.specs.Prelude.{◌≡◌, ◌≢◌, ℕ, ◌+◌, ◌≤◌, ◌<◌, true, false, List, length}
 use Rattle.am_cast.specs.declared.limits.TheConstants.{LANES}
 use Rattle.am_cast.specs.Rule.{cut}
 use Rattle.am_cast.specs.Seats.{account_of}
@@ -9,14 +9,15 @@ use Rattle.am_provider.specs.declared.answers.Policy.{Policy}
 use Rattle.am_provider.specs.Batches.{sent_in}
 use Rattle.am_provider.specs.BookView.{BookView, batches}
 use Rattle.am_provider.specs.Histories.{EntryView, calls_of, whole, trimmed_by, sent_by, is_cut}
+use Rattle.am_provider.specs.Histories.{endings_of, kept_endings}
 
 -- a Book, and the history of its calls and trims
 pub record RecordedView : Type 0 where
   pub book : BookView
   pub entries : List EntryView
 
--- the history is legal, the journal is what its trims left of it, its posts sent out what the log has, and a
--- lane's account is cut exactly if a post cut the lane
+-- the history is legal, the journal and the endings are what its trims left of it, its posts sent out what
+-- the log has, and a lane's account is cut exactly if a post cut the lane
 pub record IsRecorded (policy : Policy) (places : ℕ) (book : BookView) (entries : List EntryView)
     : Type 0 where
   pub legal : IsLegal (whole entries)
@@ -26,4 +27,6 @@ pub record IsRecorded (policy : Policy) (places : ℕ) (book : BookView) (entrie
   pub cuts : (lane : ℕ) → lane < LANES → is_cut entries lane ≡ true → (account_of book.log lane).stand ≡ cut
   pub spares : (lane : ℕ) → lane < LANES → is_cut entries lane ≡ false
       → (account_of book.log lane).stand ≢ cut
+  pub endings : book.endings ≡ kept_endings entries
+  pub early : book.early + length book.endings ≡ length (endings_of entries)
   pub limits : (book.policy ≡ policy) × (book.log.tail.places ≡ places)

@@ -1,4 +1,4 @@
-use Rattle.std.proofs.Common.{◌≡◌, ◌<◌, ◌++◌, ◌∷◌, [], List, None, length, set, refl, ap, subst, ◌∙◌, ℕ, rules, arith, vec_len}
+use Rattle.std.proofs.Common.{◌≡◌, ◌<◌, ◌++◌, ◌∷◌, [], List, None, length, set, refl, ap, subst, ◌∙◌, ℕ, rules, arith, vec_len, Bool, true, false}
 use Rattle.am_store.specs.declared.call.Call.{Call}
 use Rattle.am_store.specs.declared.call.Call.TheVariants.{Left}
 use Rattle.am_store.specs.Journal.{with_call}
@@ -7,10 +7,16 @@ use Rattle.am_store.specs.Journal.{journal_of}
 use Rattle.am_alert.specs.declared.alert.Alert.{Alert}
 use Rattle.am_store.specs.declared.lanes.OpenLane.{OpenLane}
 use Rattle.am_cast.specs.Cursors.{CursorView}
+use Rattle.am_cast.specs.Seats.{account_of}
 use Rattle.am_provider.specs.BookView.{BookView}
 use Rattle.am_provider.specs.Subscriptions.{taken}
 use Rattle.am_provider.proofs.Calls.{leaving_by, all_counted, room_for_left, room_for_ending, kept_left}
 use Rattle.am_provider.proofs.book.Book.leave.Goals as goal
+
+-- what isn't false is true
+cut_told : (b : Bool) → (b ≡ false → ⊥) → b ≡ true
+cut_told true fails = refl
+cut_told false fails = absurd (fails refl)
 
 pub push_back_reserved-requires : goal.push_back_reserved-requires
 push_back_reserved-requires g c =
@@ -67,3 +73,9 @@ returns-clause-complete g c = λ told.
     let r = c.retire.ensures in
     let by = leaving_by _ _ _ c.into_parts-at.result.1 c.args.subscription c.into_parts-at.result.3 c.self.invariant.1 c.into_parts-at.ensures.kept c.into_parts-at.ensures.parts.2 r.lane.0 r.given r.sound r.taken r.ended in
     by.1.complete told ∙ ap (λ (b : BookView). due b.journal c.args.subscription.at) c.self.view_is
+
+pub returns-clause-told_cut : goal.returns-clause-told_cut
+returns-clause-told_cut g c = λ told.
+    let same = c.into_parts-at.ensures.parts.2 in
+    let was = c.retire.ensures.cut (ap (λ (k : CursorView Alert Call OpenLane). k.lane.cut) same ∙ told.0) in
+    cut_told c.is_cut.result (λ no. c.is_cut.ensures.no no (ap (λ n. (account_of c.self.inside.log n).stand) (c.lane-lane.ensures.0) ∙ was))

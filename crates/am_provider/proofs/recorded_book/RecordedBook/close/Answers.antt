@@ -1,4 +1,4 @@
-use Rattle.std.proofs.Common.{◌∙◌, refl, sym, ap, subst}
+use Rattle.std.proofs.Common.{◌∙◌, None, refl, sym, ap, subst}
 use Rattle.am_store.specs.declared.call.Call.TheVariants.{Closed}
 use Rattle.am_provider.specs.Batches.{LogView}
 use Rattle.am_provider.specs.Histories.{Accepted}
@@ -13,15 +13,15 @@ invariant_of-self-2 g c =
     let new = c.close.new.self in
     let log = c.in-Ok.ensures.log in (
       subst (IsRecorded g.N.Recorded.policy g.N.Recorded.places new) (sym c.record.ensures.longer)
-          (recorded_more old new c.self.inside.history Closed 0 c.self.invariant.0 c.kept.ensures c.kept-2.ensures c.in-Ok.ensures.journal
+          (recorded_more old new c.self.inside.history Closed 0 None c.self.invariant.0 c.kept.ensures c.kept-2.ensures c.in-Ok.ensures.journal
           (prefix_same _ _ (ap (λ (q : LogView). q.tail.log) log)) c.in-Ok.ensures.limits
-          (cuts_same old new Closed 0 (λ lane was. refl) (ap (λ (q : LogView). q.accounts) log))),
+          (cuts_same old new Closed 0 (λ lane was. refl) (ap (λ (q : LogView). q.accounts) log)) c.in-Ok.ensures.endings),
       c.self.invariant.1,
     )
 
 pub returns-clause-sees : goal.returns-clause-sees
 returns-clause-sees g c =
-    sees_added c.args.caller.now.front c.record.new.caller.front c.self.inside.history c.record.new.history (Accepted Closed 0) _
+    sees_added c.args.caller.now.front c.record.new.caller.front c.self.inside.history c.record.new.history (Accepted Closed 0 None) _
     c.record.ensures.longer c.record.ensures.known c.record.ensures.seen c.record.ensures.made
     (may_whole c.self.inside.book c.close.new.self c.self.inside.history Closed c.self.invariant.0 c.kept-2.ensures c.in-Ok.ensures.journal, refl)
 

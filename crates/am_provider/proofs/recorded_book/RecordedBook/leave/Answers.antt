@@ -1,4 +1,4 @@
-use Rattle.std.proofs.Common.{◌≡◌, ◌↔◌, ◌∙◌, Bool, true, false, IsTrue, [], ◌∷◌, ◌++◌, refl, sym, ap, subst, arith}
+use Rattle.std.proofs.Common.{◌≡◌, ◌↔◌, ◌∙◌, Bool, true, false, IsTrue, [], ◌∷◌, ◌++◌, ◌≤◌, Some, refl, sym, ap, subst, arith}
 use Rattle.am_cast.specs.declared.views.Tail.{Tail}
 use Rattle.am_store.specs.declared.call.Call.TheVariants.{Left}
 use Rattle.am_store.specs.Broadcast.{IsFront}
@@ -18,11 +18,13 @@ invariant_of-self g c =
     let entries = c.self.inside.history in
     let left = c.leave-ended.ensures in
     let number = c.args.subscription.cursor.lane.number in
-    let idles = left.lane in (
-      subst (IsRecorded g.N.Recorded.policy g.N.Recorded.places new) (sym (c.record.ensures.longer ∙ ap (λ lane. entries ++ Accepted (Left lane) 0 ∷ []) c.lane.ensures))
-          (recorded_more old new entries (Left number) 0 c.self.invariant.0 c.kept.ensures c.kept-2.ensures left.journal
+    let idles = left.lane in
+    let begun = left.open.begun in
+    let low : old.journal.before ≤ c.leave-ended.result.at = omega (arith, begun, left.at) in (
+      subst (IsRecorded g.N.Recorded.policy g.N.Recorded.places new) (sym (c.record.ensures.longer ∙ ap (λ lane. entries ++ Accepted (Left lane) 0 (Some c.leave-ended.result) ∷ []) c.lane.ensures))
+          (recorded_more old new entries (Left number) 0 (Some c.leave-ended.result) c.self.invariant.0 c.kept.ensures c.kept-2.ensures left.journal
           (prefix_same _ _ (ap (λ (t : Tail Batch). t.log) left.log)) left.limits
-          (cuts_one old new (Left number) 0 number (λ lane was. refl) (λ stands. omega (arith, idles, stands)) left.others)),
+          (cuts_one old new (Left number) 0 number (λ lane was. refl) (λ stands. omega (arith, idles, stands)) left.others) (left.endings.0, left.endings.1, low)),
       c.self.invariant.1,
     )
 
@@ -44,7 +46,7 @@ returns-clause-sees g c =
     let begun = left.open.begun in
     let owed = (same old entries c.self.invariant.0).due s.at begun in
     let tells = tells_of old entries c.self.invariant.0 number (lane_low old.journal number s.at c.kept.ensures.journal.legal left.open) in
-    sees_called c.args.caller.now.front c.record.new.caller.front entries c.record.new.history (Left c.lane.result) (Left number) 0 _
+    sees_called c.args.caller.now.front c.record.new.caller.front entries c.record.new.history (Left c.lane.result) (Left number) 0 (Some c.leave-ended.result) _
     (ap Left c.lane.ensures) c.record.ensures.longer c.record.ensures.known c.record.ensures.seen c.record.ensures.made
     (record {
       lane = lane;
@@ -52,6 +54,7 @@ returns-clause-sees g c =
       count = left.taken;
       closed = left.closed;
       cut = one_flag c.leave-ended.result.cut (is_cut entries number) left.cut tells.yes tells.no;
+      told_cut = λ told. left.told_cut told;
       front = subst (IsFront (taken s)) owed left.front;
       complete = λ told. left.complete told ∙ owed;
       entry = refl;

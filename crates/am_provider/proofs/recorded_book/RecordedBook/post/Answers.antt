@@ -18,9 +18,9 @@ invariant_of-self-2 g c =
     let call = Posted c.args.now c.args.post.valid in
     let bits = c.in-Ok.posted.cut in
     let last : c.last_call.result.now ≡ call = last_is old.journal new.journal call c.last_call.result.now posted.journal c.last_call.ensures in (
-      subst (IsRecorded g.N.Recorded.policy g.N.Recorded.places new) (sym (c.record.ensures.longer ∙ ap (λ one. entries ++ Accepted one bits ∷ []) last))
-          (recorded_more old new entries call bits c.self.invariant.0 c.kept.ensures c.kept-2.ensures posted.journal
-          posted.log posted.limits (cuts_posted old new c.args.now c.args.post.valid bits posted.cut)),
+      subst (IsRecorded g.N.Recorded.policy g.N.Recorded.places new) (sym (c.record.ensures.longer ∙ ap (λ one. entries ++ Accepted one bits None ∷ []) last))
+          (recorded_more old new entries call bits None c.self.invariant.0 c.kept.ensures c.kept-2.ensures posted.journal
+          posted.log posted.limits (cuts_posted old new c.args.now c.args.post.valid bits posted.cut) posted.endings),
       c.self.invariant.1,
     )
 
@@ -33,7 +33,7 @@ returns-clause-sees g c =
     let call = Posted c.args.now c.args.post.valid in
     let bits = c.in-Ok.posted.cut in
     let last : c.last_call.result.now ≡ call = last_is old.journal new.journal call c.last_call.result.now posted.journal c.last_call.ensures in
-    sees_called c.args.caller.now.front c.record.new.caller.front entries c.record.new.history c.last_call.result.now call bits _
+    sees_called c.args.caller.now.front c.record.new.caller.front entries c.record.new.history c.last_call.result.now call bits None _
     last c.record.ensures.longer c.record.ensures.known c.record.ensures.seen c.record.ensures.made
     (record {
       still_open = may_whole old new entries call c.self.invariant.0 c.kept-2.ensures posted.journal;

@@ -1,12 +1,18 @@
-use Rattle.std.proofs.Common.{◌≡◌, ◌∙◌, ◌<◌, [], length, map, sym, ap, subst, arith}
+use Rattle.std.proofs.Common.{◌≡◌, ◌∙◌, ◌+◌, ◌<◌, [], length, drop, filter, map, sym, ap, subst, arith}
 use Rattle.std.specs.List.{All}
 use Rattle.std.proofs.lemmas.List.{length-map}
 use mathlib.Core.List.{IsPrefix}
 use Rattle.am_history.specs.Fronts.{FrontView, AreMade, AreMadeOnce, IsMade}
+use Rattle.am_store.specs.Journal.{JournalView, journal_of, lefts_of}
 use Rattle.am_store.specs.Trims.{IsTrimmed}
-use Rattle.am_provider.specs.Histories.{EntryView, trimmed_by, whole}
-use Rattle.am_provider.specs.Settling.{IsSettled, JoinedView, made_of, own_in, own_of}
-use Rattle.am_provider.proofs.Recording.{stored_whole}
+use Rattle.am_provider.specs.Batches.{posts_in}
+use Rattle.am_cast.specs.Changes.{AreInLog}
+use Rattle.am_cast.specs.Rule.{Once}
+use Rattle.am_provider.specs.BookView.{batches, sends}
+use Rattle.am_provider.specs.Ending.{IsLeftOf, IsOwed}
+use Rattle.am_provider.specs.Histories.{EntryView, endings_of, trimmed_by, whole}
+use Rattle.am_provider.specs.Settling.{IsOwn, JoinedView, made_of, own_in, own_of}
+use Rattle.am_provider.proofs.Recording.{owed_whole, stored_whole}
 use Rattle.am_provider.proofs.recorded_book.RecordedBook.settle.Goals.{in-None, in-Some}
 use Rattle.am_provider.proofs.recorded_book.RecordedBook.settle.Goals as goal
 
@@ -20,8 +26,22 @@ returns-clause-settled g c =
     let passes = map (λ caller. caller.pass) c.args.callers.items in
     let fronts = map (λ caller. caller.front) c.args.callers.items in
     let journal = subst (IsTrimmed (whole entries) (trimmed_by entries)) (sym settled.journal) of.journal in
+    let ends = ap length settled.ended in
+    let early : end.early + length end.ended.items ≡ length (endings_of entries) = omega (arith, of.early, settled.early, ends) in
+    let lefts : length (endings_of entries) ≡ lefts_of (journal_of end.journal) = omega (arith, early, settled.ends) in
+    let owed = subst (All (IsOwed entries)) (sym settled.ended) (owed_whole book entries of c.kept.ensures) in
     let stored = settled.store ∙ stored_whole book entries of c.kept.ensures in
     let complete = c.settle_joined.ensures.complete in
+    let left : IsLeftOf entries end = record {
+      legal = of.legal;
+      journal = journal;
+      stored = stored;
+      endings = settled.ended ∙ of.endings;
+      early = early;
+      lefts = lefts;
+      owed = owed;
+    } in
+    let senders = subst (λ (j : JournalView). drop j.places (posts_in (batches book)) ≡ filter sends j.calls) (sym settled.journal) c.kept.ensures.posts in
     let long : c.len-count.result ≡ length c.args.callers.items = omega (arith, c.len-count.ensures, c.args.callers.ok.0) in
     elim c.match-gather.branch [
       | in-Some w ↦
@@ -34,18 +54,23 @@ returns-clause-settled g c =
           let many = length-map c.args.callers.items (λ caller. caller.front) in
           record {
             entries = entries;
-            book = book;
-            settled = subst (λ own. IsSettled book own end) own settled;
-            legal = of.legal;
-            journal = journal;
-            stored = stored;
-            sent = of.sent;
-            seen = gathered.2;
-            made = subst (λ list. AreMade list entries) made (subst (AreMade front.made) same audit.made);
-            once = subst AreMadeOnce made audit.once;
-            all = λ yes index inside.
-                let parts : front.parts ≡ g.N.Timeline.holders = ap (λ (f : FrontView EntryView). f.parts) gathered.1 ∙ (many ∙ (sym long ∙ (complete.0 yes ∙ sym c.self.invariant.1.0))) in
-                subst (λ list. IsMade list index) made (audit.all parts index (subst (λ list. index < length list) (sym same) inside));
+            log = batches book;
+            left = left;
+            sent = record {
+              sent = of.sent;
+              senders = senders;
+              own = subst (λ own. AreInLog own (batches book)) own settled.posts;
+              once = subst Once own settled.once;
+              all = λ yes place inside. subst (λ own. IsOwn own place) own (settled.all yes place inside);
+            };
+            made = record {
+              seen = gathered.2;
+              made = subst (λ list. AreMade list entries) made (subst (AreMade front.made) same audit.made);
+              once = subst AreMadeOnce made audit.once;
+              all = λ yes index inside.
+                  let parts : front.parts ≡ g.N.Timeline.holders = ap (λ (f : FrontView EntryView). f.parts) gathered.1 ∙ (many ∙ (sym long ∙ (complete.0 yes ∙ sym c.self.invariant.1.0))) in
+                  subst (λ list. IsMade list index) made (audit.all parts index (subst (λ list. index < length list) (sym same) inside));
+            };
           }
       | in-None w ↦
           let gathered = w.in-None.ensures.gathered in
@@ -54,15 +79,20 @@ returns-clause-settled g c =
           let own : own_in c.match-gather.passes ≡ own_of passes = ap own_in w.passes-is ∙ ap own_of (sym gathered.0) in
           record {
             entries = entries;
-            book = book;
-            settled = subst (λ own. IsSettled book own end) own settled;
-            legal = of.legal;
-            journal = journal;
-            stored = stored;
-            sent = of.sent;
-            seen = subst (All (λ (front : FrontView EntryView). IsPrefix front.seen entries)) (sym none) (λ k d h. absurd (omega arith));
-            made = subst (λ list. AreMade (made_of list) entries) (sym none) (λ k m e. absurd (cc));
-            once = subst (λ list. AreMadeOnce (made_of list)) (sym none) tt;
-            all = λ yes index inside. absurd (let some = complete.0 yes in let one = c.self.invariant.1.1 in omega (arith, long, nobody, some, one));
+            log = batches book;
+            left = left;
+            sent = record {
+              sent = of.sent;
+              senders = senders;
+              own = subst (λ own. AreInLog own (batches book)) own settled.posts;
+              once = subst Once own settled.once;
+              all = λ yes place inside. subst (λ own. IsOwn own place) own (settled.all yes place inside);
+            };
+            made = record {
+              seen = subst (All (λ (front : FrontView EntryView). IsPrefix front.seen entries)) (sym none) (λ k d h. absurd (omega arith));
+              made = subst (λ list. AreMade (made_of list) entries) (sym none) (λ k m e. absurd (cc));
+              once = subst (λ list. AreMadeOnce (made_of list)) (sym none) tt;
+              all = λ yes index inside. absurd (let some = complete.0 yes in let one = c.self.invariant.1.1 in omega (arith, long, nobody, some, one));
+            };
           }
     ]

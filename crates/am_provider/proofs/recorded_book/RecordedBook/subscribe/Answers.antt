@@ -1,4 +1,4 @@
-use Rattle.std.proofs.Common.{◌∙◌, [], ◌∷◌, ◌++◌, refl, sym, ap, subst, arith}
+use Rattle.std.proofs.Common.{◌∙◌, [], ◌∷◌, ◌++◌, None, refl, sym, ap, subst, arith}
 use Rattle.am_cast.specs.declared.views.Tail.{Tail}
 use Rattle.am_store.specs.declared.call.Call.TheVariants.{Subscribed}
 use Rattle.am_provider.specs.Batches.{Batch}
@@ -16,10 +16,10 @@ invariant_of-self-2 g c =
     let made = c.in-Ok.ensures in
     let number = c.in-Ok.made.cursor.lane.number in
     let lives = made.lane in (
-      subst (IsRecorded g.N.Recorded.policy g.N.Recorded.places new) (sym (c.record.ensures.longer ∙ ap (λ lane. entries ++ Accepted (Subscribed lane) 0 ∷ []) c.lane.ensures))
-          (recorded_more old new entries (Subscribed number) 0 c.self.invariant.0 c.kept.ensures c.kept-2.ensures made.journal
+      subst (IsRecorded g.N.Recorded.policy g.N.Recorded.places new) (sym (c.record.ensures.longer ∙ ap (λ lane. entries ++ Accepted (Subscribed lane) 0 None ∷ []) c.lane.ensures))
+          (recorded_more old new entries (Subscribed number) 0 None c.self.invariant.0 c.kept.ensures c.kept-2.ensures made.journal
           (prefix_same _ _ (ap (λ (t : Tail Batch). t.log) made.log)) made.limits
-          (cuts_one old new (Subscribed number) 0 number (λ lane was. refl) (λ stands. omega (arith, lives, stands)) made.others)),
+          (cuts_one old new (Subscribed number) 0 number (λ lane was. refl) (λ stands. omega (arith, lives, stands)) made.others) made.endings),
       c.self.invariant.1,
     )
 
@@ -30,7 +30,7 @@ returns-clause-sees g c =
     let made = c.in-Ok.ensures in
     let number = c.in-Ok.made.cursor.lane.number in
     let may = may_whole old c.subscribe.new.self entries (Subscribed number) c.self.invariant.0 c.kept-2.ensures made.journal in
-    sees_called c.args.caller.now.front c.record.new.caller.front entries c.record.new.history (Subscribed c.lane.result) (Subscribed number) 0 _
+    sees_called c.args.caller.now.front c.record.new.caller.front entries c.record.new.history (Subscribed c.lane.result) (Subscribed number) 0 None _
     (ap Subscribed c.lane.ensures) c.record.ensures.longer c.record.ensures.known c.record.ensures.seen c.record.ensures.made
     (record {
       still_open = may.0;

@@ -3,7 +3,7 @@ use Rattle.am_cast.specs.Changes.{AreInLog}
 use Rattle.am_store.specs.Journal.{lefts_of}
 use Rattle.am_provider.specs.Batches.{LogView}
 use Rattle.am_provider.specs.Settling.{own_in}
-use Rattle.am_provider.proofs.book.Book.settle_joined.Goals as goal
+use Rattle.am_provider.proofs.book.Book.end_joined.Goals as goal
 
 pub returns-clause-settled : goal.returns-clause-settled
 returns-clause-settled g c =

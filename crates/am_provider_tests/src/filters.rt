@@ -1,0 +1,184 @@
+//! Posts whose alerts a filter judges before they are stored: of as many alerts as a post may have.
+
+use crate::bodies::{Report, moment, reports_body};
+use crate::days::{Day, Settings, Stopped, spend};
+use crate::stage::Stage;
+use am_alert::{Alert, MAX_ALERTS, Moment, Post, read_post};
+use am_provider::{Caller, Counts, NoGate, PostedIf, PutFault, Recorded};
+use std::alloc::{AllocError, Global};
+use std::sync::Wait;
+use std::test::Fail;
+use std::time::Duration;
+
+// How many label sets the first filter lets in.
+const LIMIT: u32 = 1_000;
+
+fn read(alloc: Global, reports: &[Report], at: u32) -> Result<Post, Stopped> {
+    let body = reports_body(alloc, reports)?;
+    match read_post(alloc, body.as_bytes(), moment(at), Duration::from_secs(300)) {
+        Ok(post) => Ok(post),
+        Err(_) => Err(Stopped::Refused),
+    }
+}
+
+// As many reports as a post may have, each of its own label set.
+fn most_reports(alloc: Global) -> Result<Vec<Report>, AllocError> {
+    let mut reports = Vec::with_capacity(alloc, MAX_ALERTS)?;
+    for number in 0..MAX_ALERTS as u32 {
+        reports.push(Report::new(number, 10, 20))?;
+    }
+    Ok(reports)
+}
+
+/// How many alerts were posted, their place, and how many were refused from which index on.
+type Judged = (u32, Option<u64>, usize, Option<u32>);
+
+fn judged(answer: Result<PostedIf, PutFault>) -> Result<Judged, Stopped> {
+    match answer {
+        Ok(PostedIf { posted, refused }) => Ok((
+            posted.valid,
+            posted.place,
+            refused.len(),
+            refused.first().copied(),
+        )),
+        Err(_) => Err(Stopped::Refused),
+    }
+}
+
+// Posts the most reports through a filter that lets so many new label sets in.
+fn post_most<N: Recorded, R: Wait>(
+    stage: &Stage<'_, N, R>,
+    caller: &mut Caller<N>,
+) -> Result<Judged, Stopped> {
+    let reports = most_reports(stage.alloc)?;
+    let post = read(stage.alloc, reports.as_slice(), 10)?;
+    let mut left = LIMIT;
+    judged(
+        stage.provider.put_if(
+            stage.rt,
+            caller,
+            &NoGate,
+            post,
+            moment(10),
+            |_alert: &Alert, first: bool| -> bool {
+                let accepts = !first || left > 0;
+                left = left.saturating_sub(1);
+                accepts
+            },
+        ),
+    )
+}
+
+// Whether a filter is shown an alert of these times, which isn't new.
+fn sees_merged(alert: &Alert, first: bool, start: Moment, end: Moment) -> bool {
+    !first && alert.start == start && alert.end == end
+}
+
+// Posts a report of a label set that is stored from 10 to 20, through a filter that lets it in only if it is
+// shown what becomes of both.
+fn post_longer<N: Recorded, R: Wait>(
+    stage: &Stage<'_, N, R>,
+    caller: &mut Caller<N>,
+) -> Result<Judged, Stopped> {
+    let post = read(stage.alloc, &[Report::new(0, 15, 40)], 15)?;
+    let (start, end) = (moment(10), moment(40));
+    judged(
+        stage.provider.put_if(
+            stage.rt,
+            caller,
+            &NoGate,
+            post,
+            moment(15),
+            |alert: &Alert, first: bool| -> bool { sees_merged(alert, first, start, end) },
+        ),
+    )
+}
+
+// Posts a report of a new label set twice, through a filter that lets nothing in.
+fn post_none<N: Recorded, R: Wait>(
+    stage: &Stage<'_, N, R>,
+    caller: &mut Caller<N>,
+) -> Result<Judged, Stopped> {
+    let post = read(
+        stage.alloc,
+        &[Report::new(5_000, 15, 40), Report::new(5_000, 16, 41)],
+        16,
+    )?;
+    judged(
+        stage.provider.put_if(
+            stage.rt,
+            caller,
+            &NoGate,
+            post,
+            moment(16),
+            |_alert: &Alert, _first: bool| -> bool { false },
+        ),
+    )
+}
+
+// Posts a report of a new label set through no filter.
+fn put_one<N: Recorded, R: Wait>(
+    stage: &Stage<'_, N, R>,
+    caller: &mut Caller<N>,
+) -> Result<(u32, Option<u64>), Stopped> {
+    let post = read(stage.alloc, &[Report::new(6_000, 15, 40)], 17)?;
+    match stage
+        .provider
+        .put(stage.rt, caller, &NoGate, post, moment(17))
+    {
+        Ok(posted) => Ok((posted.valid, posted.place)),
+        Err(_) => Err(Stopped::Refused),
+    }
+}
+
+/// What each post answered.
+#[derive(Clone, Copy, Debug, PartialEq, Eq, Drop)]
+struct Answers {
+    most: Judged,
+    longer: Judged,
+    none: Judged,
+    one: (u32, Option<u64>),
+}
+
+#[derive(Clone, Copy, Drop)]
+struct Filtering;
+
+impl Day for Filtering {
+    type Outcome = Answers;
+
+    fn spend<N: Recorded, R: Wait>(
+        &self,
+        stage: &Stage<'_, N, R>,
+        caller: &mut Caller<N>,
+    ) -> Result<Answers, Stopped> {
+        Ok(Answers {
+            most: post_most(stage, caller)?,
+            longer: post_longer(stage, caller)?,
+            none: post_none(stage, caller)?,
+            one: put_one(stage, caller)?,
+        })
+    }
+}
+
+#[test]
+fn a_filter_judges_what_would_be_stored(rt: HostRuntime) -> Result<(), Fail> {
+    let (answers, settled) = spend(&rt, rt.alloc(), Settings::of(4, 1), &Filtering)?;
+    assert_eq!(rt;
+        answers,
+        Answers {
+            most: (1_000, Some(0), 24, Some(1_000)),
+            longer: (1, Some(1), 0, None),
+            none: (0, None, 2, Some(0)),
+            one: (1, Some(2)),
+        }
+    );
+    assert_eq!(rt;
+        settled.counts(),
+        Counts {
+            places: 3,
+            posts: 4,
+            stored: 1_001
+        }
+    );
+    Ok(())
+}
