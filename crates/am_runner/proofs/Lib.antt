@@ -1,4 +1,5 @@
 pub mod Lines
 pub mod Named
+pub mod Owed
 pub mod Results
 pub mod Taking

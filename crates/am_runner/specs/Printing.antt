@@ -1,5 +1,6 @@
 -- How answers are printed.
-use Rattle.std.specs.Prelude.{ℕ, Bool, List, [], ◌∷◌, ◌++◌, codes, Option, Some, None, if◌then◌else◌}
+use Rattle.std.specs.Prelude.{ℕ, Bool, List, [], ◌∷◌, ◌++◌, codes, flat_map, Option, Some, None}
+use Rattle.std.specs.Prelude.{if◌then◌else◌}
 use Rattle.std.specs.Fmt.{decimal}
 use Rattle.am_alert.specs.Printing.{alert_text, alert_fault_text}
 use Rattle.am_labels.specs.LabelSets.{Labels}
@@ -68,5 +69,17 @@ answer_text (answer.Member alert) = codes "member " ++ alert_text alert
 answer_text (answer.Swept swept) = swept_text swept
 answer_text (answer.Muted rule by) = muted_text rule by
 answer_text answer.NotMuted = codes "not muted"
+answer_text (answer.StoredCount count) = codes "stored " ++ decimal count
+answer_text (answer.StoredAlert alert) = codes "alert " ++ alert_text alert
+answer_text answer.NotStored = codes "no alert"
+answer_text (answer.StoredRefused word) = verb_text word ++ codes " refused E0 NoMemory"
 answer_text answer.MutesRefused = codes "mutes refused E0 NoMemory"
 answer_text (answer.NotOpen word) = verb_text word ++ codes " none"
+
+-- an answer, after the number of its line
+abbrev pub answer_line : ℕ → Answer → List ℕ
+answer_line number one = decimal number ++ 32 ∷ (answer_text one ++ 10 ∷ [])
+
+-- the lines of the answers to one line of input
+abbrev pub answers_text : ℕ → List Answer → List ℕ
+answers_text number given = flat_map (answer_line number) given

@@ -1,9 +1,12 @@
 -- A thread's pass and its open subscriptions, and what each command of its lines does to them.
 use Rattle.std.specs.Prelude.{◌≡◌, ℕ, zero, suc, List, [], ◌∷◌, ◌++◌, map, length, position, slice_get}
 use Rattle.std.specs.Prelude.{slice_set, remove, Option, Some, None, Ok, Err, if◌then◌else◌}
-use Rattle.std.specs.Option.{option_and_then}
+use Rattle.std.specs.Option.{option_and_then, option_map}
 use Rattle.std.specs.Str.{bytes_eq}
+use Rattle.std.specs.Arc.{arc_value}
 use Rattle.std.specs.Duration.{as_nanos}
+use Rattle.std.specs.declared.alloc.Global.{Global}
+use Rattle.std.specs.declared.sync.Arc.{Arc}
 use Rattle.std.specs.declared.time.Duration.{Duration}
 use Rattle.am_alert.specs.declared.alert.Alert.{Alert}
 use Rattle.am_store.specs.declared.call.Call.{Call}
@@ -15,7 +18,7 @@ use Rattle.am_history.specs.Fronts.{FrontView}
 use Rattle.am_provider.specs.Posts.{HasMet}
 use Rattle.am_provider.specs.Callers.{AnswersBody, SeesCall}
 use Rattle.am_provider.specs.Headline.{AnswersSubscribe, AnswersLeave, AnswersCollect, AnswersClose}
-use Rattle.am_provider.specs.Headline.{AnswersTrim}
+use Rattle.am_provider.specs.Headline.{AnswersGet, AnswersStored, AnswersTrim}
 use Rattle.am_provider.specs.Histories.{EntryView}
 use Rattle.am_provider.specs.declared.answers.Policy.{Policy}
 use Rattle.am_provider.specs.declared.answers.Ended.{Ended}
@@ -27,7 +30,7 @@ use Rattle.am_script.specs.declared.kind.Kind.{Kind}
 use Rattle.am_config.specs.declared.config.Config.{Config}
 use Rattle.am_script.specs.declared.command.Command.{Command}
 use Rattle.am_script.specs.declared.command.Command.TheVariants.{Post, Subscribe, Read, Leave, Collect, Close}
-use Rattle.am_script.specs.declared.command.Command.TheVariants.{Trim, Groups, Sweep, Mutes}
+use Rattle.am_script.specs.declared.command.Command.TheVariants.{Trim, Groups, Sweep, Mutes, Stored, Get}
 use Rattle.am_script.specs.declared.command.Verb.{Verb}
 use Rattle.am_script.specs.declared.command.Verb.TheVariants as verb
 use Rattle.am_runner.specs.Consuming.{fresh_consumer, IsAsked, IsSwept}
@@ -78,6 +81,15 @@ abbrev pub posted_answers : Posted → List Answer
 posted_answers posted = (answer.Posted posted.valid posted.place
     ∷ map (λ fault. answer.Invalid fault.0 fault.1) posted.faults)
     ++ map answer.CutLane (cut_below posted.cut 8)
+
+-- what is answered of the stored alerts: how many there are, and each in their order
+abbrev pub stored_answers : List Alert → List Answer
+stored_answers alerts = answer.StoredCount (length alerts) ∷ map answer.StoredAlert alerts
+
+-- what is answered of the stored alert of a label set, if there is one
+abbrev pub found_answer : Option Alert → Answer
+found_answer None = answer.NotStored
+found_answer (Some alert) = answer.StoredAlert alert
 
 -- what a command on the subscription of a name does to that one, and answers; where no subscription has
 -- the name, nothing is done and that is answered
@@ -195,3 +207,17 @@ pub data Does (config : Config) (setting : Setting) (old : SessionView)
   mutes : {name : List ℕ} {at : ℕ} {labels : Labels} {answers : List Answer} {opened : List OpenView}
       → AsksNamed name labels at old.opened answers opened
       → Does config setting old (Mutes name at labels) answers (record old { opened = opened })
+  stored : {alerts : List Alert} {front : FrontView EntryView}
+      → SeesCall old.front front (AnswersStored {E = AllocError} (Ok alerts))
+      → Does config setting old Stored (stored_answers alerts) (record old { front = front })
+  stored_refused : {error : AllocError} {front : FrontView EntryView}
+      → SeesCall old.front front (AnswersStored (Err error))
+      → Does config setting old Stored (answer.StoredRefused verb.Stored ∷ []) (record old { front = front })
+  got : {labels : Labels} {front : FrontView EntryView} (found : Option (Arc Alert Global))
+      → SeesCall old.front front (AnswersGet {E = AllocError} labels (Ok found))
+      → Does config setting old (Get labels) (found_answer (option_map arc_value found) ∷ [])
+      (record old { front = front })
+  get_refused : {labels : Labels} {error : AllocError} {front : FrontView EntryView}
+      → SeesCall old.front front (AnswersGet labels (Err error))
+      → Does config setting old (Get labels) (answer.StoredRefused verb.Get ∷ [])
+      (record old { front = front })

@@ -1,9 +1,9 @@
 //! What the calls of a script answered, and how an answer is printed.
 
-ghost use Rattle.std.specs.Prelude.{◌≡◌, ◌∷◌, [], IfOk, Some};
+ghost use Rattle.std.specs.Prelude.{◌≡◌, ◌++◌, ◌∷◌, [], IfOk, OnOk, Some, string_bytes};
 ghost use Rattle.std.specs.Fmt.{DisplaysOnOk};
 ghost use Rattle.am_runner.specs.Answers.{is_item, is_out_of_memory};
-ghost use Rattle.am_runner.specs.Printing.{answer_text, group_text, left_text};
+ghost use Rattle.am_runner.specs.Printing.{answer_text, answers_text, group_text, left_text};
 ghost use Rattle.am_runner.specs.Printing.{posted_text, swept_text};
 
 use am_alert::{Alert, AlertFault, PostFault};
@@ -72,6 +72,14 @@ pub enum Answer {
     },
     NotMuted,
     MutesRefused,
+    /// So many alerts are stored; they follow.
+    StoredCount(u64),
+    /// A stored alert.
+    StoredAlert(Alert),
+    /// No alert of the label set is stored.
+    NotStored,
+    /// A read of the store was out of memory.
+    StoredRefused(Verb),
     /// The command's subscription isn't open, since its subscribe was refused.
     NotOpen(Verb),
 }
@@ -94,7 +102,8 @@ impl Answer {
             | Answer::CollectRefused
             | Answer::TrimRefused
             | Answer::TakeRefused
-            | Answer::MutesRefused => true,
+            | Answer::MutesRefused
+            | Answer::StoredRefused(_) => true,
             _ => false,
         }
     }
@@ -135,6 +144,10 @@ impl fmt::Display for Answer {
             Answer::Swept(swept) => write_swept(*swept, f),
             Answer::Muted { rule, by } => write!(f, "muted rule {rule} by {by}"),
             Answer::NotMuted => f.write_str("not muted"),
+            Answer::StoredCount(count) => write!(f, "stored {count}"),
+            Answer::StoredAlert(alert) => write!(f, "alert {alert}"),
+            Answer::NotStored => f.write_str("no alert"),
+            Answer::StoredRefused(verb) => write!(f, "{verb} refused E0 NoMemory"),
             Answer::MutesRefused => f.write_str("mutes refused E0 NoMemory"),
             Answer::NotOpen(verb) => write!(f, "{verb} none"),
         }
@@ -202,4 +215,15 @@ pub(crate) fn one(alloc: Global, answer: Answer) -> Result<Vec<Answer>, AllocErr
     let mut answers = Vec::new(alloc);
     answers.push(answer)?;
     Ok(answers)
+}
+
+/// Writes a line for each answer to the line of input with this number.
+pub fn write_answers(text: &mut String, number: u64, given: &[Answer]) -> Result<(), AllocError>
+    ensures { OnOk result
+        (string_bytes text.new ≡ string_bytes text.old ++ answers_text number given.now) }
+{
+    for answer in given {
+        write!(text, "{number} {answer}\n")?;
+    }
+    Ok(())
 }

@@ -20,6 +20,7 @@
 mod answer;
 mod consumer;
 mod context;
+mod laws;
 mod open_subscription;
 mod session;
 mod start;
@@ -27,9 +28,10 @@ mod threads;
 mod turns;
 mod work;
 
-pub use answer::Answer;
+pub use answer::{Answer, write_answers};
 pub use consumer::Consumer;
 pub use context::Context;
+pub use laws::reading_laws;
 pub use open_subscription::OpenSubscription;
 pub use session::Session;
 pub use threads::{ThreadOutcome, run_threads};

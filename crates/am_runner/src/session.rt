@@ -1,11 +1,13 @@
 //! What a thread of a script has: its right to call the provider, and the subscriptions that its lines
 //! opened.
 
-ghost use Rattle.std.specs.Prelude.{◌≡◌, ◌<◌, ◌++◌, ◌∷◌, [], IfOk, OnOk, length, map};
+ghost use Rattle.std.specs.Prelude.{◌≡◌, ◌<◌, ◌++◌, ◌∷◌, [], IfOk, OnOk, is_some, length, map, option_map};
+ghost use Rattle.std.specs.Arc.{arc_value};
+ghost use Rattle.am_store.specs.Shared.{alerts_in};
 ghost use Rattle.am_config.specs.declared.config.Config.{Config};
 ghost use Rattle.am_runner.specs.Sessions.{AsksNamed, Does, LeavesAll, LeavesAt, ReadsNamed, Setting};
 ghost use Rattle.am_runner.specs.Sessions.{SweepsNamed, cut_below, groups_told, named_in, setting_of};
-ghost use Rattle.am_runner.specs.Sessions.{index_named, posted_answers};
+ghost use Rattle.am_runner.specs.Sessions.{found_answer, index_named, posted_answers, stored_answers};
 
 use crate::answer::{Answer, one};
 use crate::consumer::Consumer;
@@ -15,7 +17,7 @@ use am_alert::{AlertFault, Moment};
 use am_labels::{LabelSet, Text};
 use am_provider::{Caller, Ended, Gate, Posted, Recorded};
 use am_script::{Command, Kind, Verb};
-use am_store::LaneSet;
+use am_store::{LaneSet, SharedAlert};
 use std::alloc::{AllocError, Global};
 use std::marker::Model;
 use std::sync::Wait;
@@ -59,6 +61,13 @@ impl<'p, 'c, N: Recorded> Session<'p, 'c, N> {
         }
     }
 
+    /// Whether a subscription of that name is open.
+    pub fn has_name(&self, name: &Text) -> bool
+        ensures { result ≡ is_some (index_named name.now self.now.opened) }
+    {
+        index_named(&self.opened, name).is_some()
+    }
+
     /// Does what a command asks for, and answers it. If the memory for the answers runs out, the command
     /// may have been done.
     pub fn run<R: Wait, G: Gate>(
@@ -82,6 +91,8 @@ impl<'p, 'c, N: Recorded> Session<'p, 'c, N> {
             Command::Groups { name } => self.groups(alloc, name),
             Command::Sweep { name, at } => self.sweep(alloc, name, *at),
             Command::Mutes { name, at, labels } => self.mutes(alloc, name, labels, *at),
+            Command::Stored => self.stored(context),
+            Command::Get { labels } => one(alloc, self.get(context, labels)?),
         }
     }
 
@@ -222,6 +233,37 @@ impl<'p, 'c, N: Recorded> Session<'p, 'c, N> {
         Answer::Trimmed(dropped)
     }
 
+    fn stored<R: Wait, G>(
+        &mut self,
+        context: &Context<'p, 'c, N, R, G>,
+    ) -> Result<Vec<Answer>, AllocError>
+        ensures { IfOk result (λ answers. (config : Config) (setting : Setting) → Does config setting
+            self.old Command.Stored answers.items self.new) }
+    {
+        let provider = context.provider;
+        let stored = match provider.stored(context.rt, &mut self.caller) {
+            Ok(stored) => stored,
+            Err(_) => return one(context.alloc, Answer::StoredRefused(Verb::Stored)),
+        };
+        stored_answers(context.alloc, stored.as_slice())
+    }
+
+    fn get<R: Wait, G>(
+        &mut self,
+        context: &Context<'p, 'c, N, R, G>,
+        labels: &LabelSet,
+    ) -> Result<Answer, AllocError>
+        ensures { IfOk result (λ answer. (config : Config) (setting : Setting) → Does config setting
+            self.old (Command.Get labels.now) (answer ∷ []) self.new) }
+    {
+        let provider = context.provider;
+        let found = match provider.get(context.rt, &mut self.caller, labels) {
+            Ok(found) => found,
+            Err(_) => return Ok(Answer::StoredRefused(Verb::Get)),
+        };
+        found_answer(&found)
+    }
+
     /// Leaves the open subscriptions in the order in which they were opened, and gives the caller back.
     pub fn end<R: Wait, G>(mut self, context: &Context<'p, 'c, N, R, G>) -> Caller<N>
         ensures { LeavesAll self.entry
@@ -359,4 +401,33 @@ fn add_cut(answers: &mut Vec<Answer>, lanes: LaneSet) -> Result<(), AllocError>
         }
     }
     Ok(())
+}
+
+// How many alerts are stored, and each of them.
+fn stored_answers(alloc: Global, stored: &[SharedAlert]) -> Result<Vec<Answer>, AllocError>
+    ensures { IfOk result (λ answers. answers.items ≡ stored_answers (alerts_in stored.now)) }
+{
+    let mut answers = one(alloc, Answer::StoredCount(stored.len() as u64))?;
+    add_stored(&mut answers, stored)?;
+    Ok(answers)
+}
+
+fn add_stored(answers: &mut Vec<Answer>, stored: &[SharedAlert]) -> Result<(), AllocError>
+    ensures { OnOk result
+        (answers.new.items ≡ answers.old.items ++ map Answer.StoredAlert (alerts_in stored.now)) }
+{
+    for alert in stored {
+        answers.push(Answer::StoredAlert(alert.copy()?))?;
+    }
+    Ok(())
+}
+
+// The stored alert that was found, if one was.
+fn found_answer(found: &Option<SharedAlert>) -> Result<Answer, AllocError>
+    ensures { IfOk result (λ answer. answer ≡ found_answer (option_map arc_value found.now)) }
+{
+    match found {
+        Some(alert) => Ok(Answer::StoredAlert(alert.copy()?)),
+        None => Ok(Answer::NotStored),
+    }
 }

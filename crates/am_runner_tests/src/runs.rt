@@ -3,7 +3,7 @@
 ghost use Rattle.std.specs.Prelude.{◌≡◌, ◌≤◌};
 
 use am_provider::{Caller, Counts, Ended, Parts, Policy, Provider, Recorded, Settled};
-use am_runner::{Answer, Freely, InOrder, ThreadOutcome, Turns, run_threads};
+use am_runner::{Answer, Freely, InOrder, ThreadOutcome, Turns, run_threads, write_answers};
 use am_script::{Line, ScriptFault, THREADS, config_line, read_script};
 use am_store::Call;
 use std::alloc::{AllocError, AllocFailed, Global};
@@ -85,19 +85,12 @@ impl Run {
         let mut text = String::new(alloc);
         for (at, line) in self.lines.iter().enumerate() {
             if let Some(answers) = self.answers(at) {
-                write_answers(&mut text, line.number, answers)?;
+                write_answers(&mut text, u64::from(line.number), answers)?;
             }
         }
         write_settled(&mut text, &self.settled)?;
         Ok(text)
     }
-}
-
-fn write_answers(text: &mut String, number: u32, answers: &[Answer]) -> Result<(), AllocError> {
-    for answer in answers {
-        writeln!(text, "{number} {answer}")?;
-    }
-    Ok(())
 }
 
 fn write_settled(text: &mut String, settled: &Settled) -> Result<(), AllocError> {

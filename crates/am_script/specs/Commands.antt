@@ -12,7 +12,7 @@ use Rattle.am_alert.specs.Postables.{labels_of}
 use Rattle.am_alert.specs.TimeTexts.{time_of}
 use Rattle.am_script.specs.declared.command.Command.{Command}
 use Rattle.am_script.specs.declared.command.Command.TheVariants.{Post, Subscribe, Read, Leave, Collect, Close}
-use Rattle.am_script.specs.declared.command.Command.TheVariants.{Trim, Groups, Sweep, Mutes}
+use Rattle.am_script.specs.declared.command.Command.TheVariants.{Trim, Groups, Sweep, Mutes, Stored, Get}
 use Rattle.am_script.specs.declared.command.Line.{Line}
 use Rattle.am_script.specs.declared.command.LineFault.{LineFault}
 use Rattle.am_script.specs.declared.command.LineFault.TheVariants.{BadLine, NoMemory}
@@ -89,7 +89,9 @@ verb_of text =
     else (if bytes_eq text (codes "groups") then Some verb.Groups
     else (if bytes_eq text (codes "sweep") then Some verb.Sweep
     else (if bytes_eq text (codes "mutes") then Some verb.Mutes
-    else None)))))))))
+    else (if bytes_eq text (codes "stored") then Some verb.Stored
+    else (if bytes_eq text (codes "get") then Some verb.Get
+    else None)))))))))))
 
 -- the word in `do`
 abbrev pub verb_at : Data → Option Verb
@@ -123,6 +125,8 @@ command_for body d verb.Mutes = do
   at ← moment_of d
   labels ← labels_at d
   Some (Mutes name at labels)
+command_for body d verb.Stored = Some Stored
+command_for body d verb.Get = option_map Get (labels_at d)
 
 -- the line of this number, where a post's body is posted as this text
 unfoldable pub line_of : ℕ → List ℕ → Data → Option Line
@@ -154,6 +158,8 @@ body_text Trim = []
 body_text (Groups name) = []
 body_text (Sweep name at) = []
 body_text (Mutes name at labels) = []
+body_text Stored = []
+body_text (Get labels) = []
 
 -- a post's text is that of the line's body
 abbrev pub HasItsBody : Data → Command → Type 0
@@ -167,6 +173,8 @@ HasItsBody d Trim = ⊤
 HasItsBody d (Groups name) = ⊤
 HasItsBody d (Sweep name at) = ⊤
 HasItsBody d (Mutes name at labels) = ⊤
+HasItsBody d Stored = ⊤
+HasItsBody d (Get labels) = ⊤
 
 -- what a reader returned is what the definition gives, unless memory ran out
 abbrev pub IsReadAs : {X : Type 0} → Result X LineFault → Option X → Type 0
@@ -195,3 +203,17 @@ IsLineOf number bytes (Ok line) =
 IsLineOf number bytes (Err BadLine) = (IsUtf8 bytes → read bytes ≡ None) ⊎ ((d : Data)
     × (read bytes ≡ Some d) × IsLineFrom number d (Err BadLine))
 IsLineOf number bytes (Err NoMemory) = ⊤
+
+-- the command of a line whose thread isn't looked at, where a post's body is posted as this text
+unfoldable pub command_of : List ℕ → Data → Option Command
+command_of body d = do
+  word ← verb_at d
+  command_for body d word
+
+-- what reading such a line answers: the command of its JSON, or that it has none
+abbrev pub IsCommandOf : List ℕ → Result Command LineFault → Type 0
+IsCommandOf bytes (Ok command) = IsUtf8 bytes
+    × ((d : Data) × (read bytes ≡ Some d) × ReadsCommand d (Ok command) (λ body. command_of body d))
+IsCommandOf bytes (Err BadLine) = (IsUtf8 bytes → read bytes ≡ None) ⊎ ((d : Data)
+    × (read bytes ≡ Some d) × ReadsCommand d (Err BadLine) (λ body. command_of body d))
+IsCommandOf bytes (Err NoMemory) = ⊤

@@ -11,7 +11,7 @@ use Rattle.std.specs.Str.{bytes_eq}
 use Rattle.am_script.specs.Commands.{IsLineOf}
 use Rattle.am_script.specs.declared.command.Command.{Command}
 use Rattle.am_script.specs.declared.command.Command.TheVariants.{Post, Subscribe, Read, Leave, Collect, Close}
-use Rattle.am_script.specs.declared.command.Command.TheVariants.{Trim, Groups, Sweep, Mutes}
+use Rattle.am_script.specs.declared.command.Command.TheVariants.{Trim, Groups, Sweep, Mutes, Stored, Get}
 use Rattle.am_script.specs.declared.command.Line.{Line}
 use Rattle.am_script.specs.declared.command.LineFault.TheVariants as line_fault
 use Rattle.am_script.specs.declared.script.Fault.TheVariants.{BadLine, BadName, TooLarge}
@@ -44,6 +44,8 @@ subscribed_after here name before Trim = before
 subscribed_after here name before (Groups other) = before
 subscribed_after here name before (Sweep other at) = before
 subscribed_after here name before (Mutes other at labels) = before
+subscribed_after here name before Stored = before
+subscribed_after here name before (Get labels) = before
 
 -- as what kind a name is subscribed in a thread by some lines, and not left again
 abbrev pub subscribed_as : List Line → ℕ → List ℕ → Option Kind
@@ -63,6 +65,8 @@ is_named_well subscribed (Post at body) = true
 is_named_well subscribed (Collect at) = true
 is_named_well subscribed Close = true
 is_named_well subscribed Trim = true
+is_named_well subscribed Stored = true
+is_named_well subscribed (Get labels) = true
 
 -- whether a line's name is the right one after the lines before it
 abbrev pub is_well_named : List Line → Line → Bool

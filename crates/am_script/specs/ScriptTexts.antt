@@ -19,6 +19,8 @@ verb_text verb.Trim = codes "trim"
 verb_text verb.Groups = codes "groups"
 verb_text verb.Sweep = codes "sweep"
 verb_text verb.Mutes = codes "mutes"
+verb_text verb.Stored = codes "stored"
+verb_text verb.Get = codes "get"
 
 -- what is wrong with a line of a script
 abbrev pub fault_text : Fault → List ℕ

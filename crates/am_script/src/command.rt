@@ -51,6 +51,12 @@ pub enum Command {
         at: Moment,
         labels: LabelSet,
     },
+    /// All stored alerts.
+    Stored,
+    /// The stored alert of a label set, which is made as that of `Mutes` is.
+    Get {
+        labels: LabelSet,
+    },
 }
 
 /// A command, with the thread that gives it and the number of its line.
@@ -101,6 +107,8 @@ pub enum Verb {
     Groups,
     Sweep,
     Mutes,
+    Stored,
+    Get,
 }
 
 impl fmt::Display for Verb {
@@ -118,6 +126,8 @@ impl fmt::Display for Verb {
             Verb::Groups => "groups",
             Verb::Sweep => "sweep",
             Verb::Mutes => "mutes",
+            Verb::Stored => "stored",
+            Verb::Get => "get",
         })
     }
 }

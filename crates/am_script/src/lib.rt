@@ -40,7 +40,7 @@ pub use failure::Failure;
 pub use input::read_input;
 pub use kind::Kind;
 pub use limits::{LONGEST_LINE, MOST_LINES};
-pub use line_reader::read_line;
+pub use line_reader::{read_command, read_line};
 pub use output::write_text;
 pub use script::{Fault, Refusal, ScriptFault, config_line, read_script};
 pub use thread::{THREADS, Thread};

@@ -2,8 +2,8 @@
 
 ghost use Rattle.std.specs.Prelude.{IfOk};
 ghost use Rattle.serde_json.specs.View.{view};
-ghost use Rattle.am_script.specs.Commands.{command_for};
-ghost use Rattle.am_script.specs.Commands.{IsLineFrom, IsLineOf, IsBodyText, ReadsCommand};
+ghost use Rattle.am_script.specs.Commands.{command_for, command_of};
+ghost use Rattle.am_script.specs.Commands.{IsBodyText, IsCommandOf, IsLineFrom, IsLineOf, ReadsCommand};
 
 use crate::command::{Command, Line, LineFault, Verb};
 use crate::members::{kind_at, labels_at, max_at, moment_at, name_at, thread_at, verb_at};
@@ -36,6 +36,25 @@ fn line_of(alloc: Global, number: u32, value: &Value) -> Result<Line, LineFault>
     })
 }
 
+/// The command of a line, whichever thread it names or none.
+pub fn read_command(alloc: Global, bytes: &[u8]) -> Result<Command, LineFault>
+    ensures { IsCommandOf bytes.now result }
+{
+    match Value::from_slice(alloc, bytes) {
+        Ok(value) => command_of(alloc, &value),
+        Err(error) if error.is_memory() => Err(LineFault::NoMemory),
+        Err(_) => Err(LineFault::BadLine),
+    }
+}
+
+#[tactic(auto, unfolding(crate::specs::Commands::command_of))]
+fn command_of(alloc: Global, value: &Value) -> Result<Command, LineFault>
+    ensures { ReadsCommand (view value.now) result (λ body. command_of body (view value.now)) }
+{
+    let verb = verb_at(value)?;
+    command_for(alloc, value, verb)
+}
+
 fn command_for(alloc: Global, value: &Value, verb: Verb) -> Result<Command, LineFault>
     ensures { ReadsCommand (view value.now) result
         (λ body. command_for body (view value.now) verb) }
@@ -51,6 +70,8 @@ fn command_for(alloc: Global, value: &Value, verb: Verb) -> Result<Command, Line
         Verb::Groups => groups_of(alloc, value),
         Verb::Sweep => sweep_of(alloc, value),
         Verb::Mutes => mutes_of(alloc, value),
+        Verb::Stored => Ok(Command::Stored),
+        Verb::Get => get_of(alloc, value),
     }
 }
 
@@ -144,4 +165,13 @@ fn mutes_of(alloc: Global, value: &Value) -> Result<Command, LineFault>
     let at = moment_at(value)?;
     let labels = labels_at(alloc, value)?;
     Ok(Command::Mutes { name, at, labels })
+}
+
+#[tactic(auto, unfolding(crate::specs::Commands::command_for))]
+fn get_of(alloc: Global, value: &Value) -> Result<Command, LineFault>
+    ensures { ReadsCommand (view value.now) result
+        (λ body. command_for body (view value.now) Verb.Get) }
+{
+    let labels = labels_at(alloc, value)?;
+    Ok(Command::Get { labels })
 }

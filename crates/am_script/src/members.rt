@@ -65,6 +65,10 @@ fn verb_of(text: &str) -> Option<Verb>
         Some(Verb::Sweep)
     } else if text == "mutes" {
         Some(Verb::Mutes)
+    } else if text == "stored" {
+        Some(Verb::Stored)
+    } else if text == "get" {
+        Some(Verb::Get)
     } else {
         None
     }

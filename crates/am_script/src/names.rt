@@ -34,7 +34,12 @@ pub(crate) fn follow(names: &mut Names, line: &Line) -> Result<bool, AllocError>
             Ok(has_dispatcher(names, &(thread, name.copy()?)))
         }
         Command::Mutes { name, .. } => Ok(has_inhibitor(names, &(thread, name.copy()?))),
-        Command::Post { .. } | Command::Collect { .. } | Command::Close | Command::Trim => Ok(true),
+        Command::Post { .. }
+        | Command::Collect { .. }
+        | Command::Close
+        | Command::Trim
+        | Command::Stored
+        | Command::Get { .. } => Ok(true),
     }
 }
 

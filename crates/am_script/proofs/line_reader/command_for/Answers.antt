@@ -10,3 +10,7 @@ returns-in-Close c = (tt, ap (λ v. command_for [] (view c.args.value.now) v) c.
 pub returns-in-Trim : goal.returns-in-Trim
 unfolding command_for
 returns-in-Trim c = (tt, ap (λ v. command_for [] (view c.args.value.now) v) c.in-Trim.is)
+
+pub returns-in-Stored : goal.returns-in-Stored
+unfolding command_for
+returns-in-Stored c = (tt, ap (λ v. command_for [] (view c.args.value.now) v) c.in-Stored.is)

@@ -1,0 +1,15 @@
+//! Laws over a thread's work that callers may cite.
+
+ghost use Rattle.am_runner.specs.Owed.{ReadIsDue, ReadsContinue};
+
+use am_provider::history_laws;
+
+/// What a line's read prints continues what its subscription had taken before, and nothing else is
+/// taken. All that a thread's reads have taken begins what the provider's whole history owes the
+/// subscription, if the thread ran to its end.
+pub fn reading_laws()
+    ensures items { ReadsContinue }
+    ensures due { ReadIsDue }
+{
+    history_laws();
+}
