@@ -11,7 +11,7 @@ import functools
 import json
 import re
 
-COMMANDS = ("post", "subscribe", "read", "leave", "collect", "close", "trim")
+COMMANDS = ("post", "subscribe", "read", "leave", "collect", "close", "trim", "stored", "get")
 SECOND = 1_000_000_000
 RESOLVE_TIMEOUT = 300 * SECOND
 LANES = 8
@@ -358,6 +358,16 @@ class Run:
 
     def trim(self, _command):
         yield f"trim dropped {self.provider.trim()}"
+
+    def stored(self, _command):
+        yield f"stored {len(self.provider.stored)}"
+        for alert in self.provider.stored.values():
+            yield "alert " + alert.text
+
+    def get(self, command):
+        key = frozenset((name, value) for name, value in command["labels"].items() if value)
+        alert = self.provider.stored.get(key)
+        yield "no alert" if alert is None else "alert " + alert.text
 
 
 def commands(script):

@@ -1,3 +1,4 @@
 pub mod GivenArguments
 pub mod Options
 pub mod Replays
+pub mod Lives

@@ -9,7 +9,7 @@ use Rattle.am_store.specs.declared.call.Call.{Call}
 use Rattle.am_cast.specs.Posters.{PassView}
 use Rattle.am_history.specs.Fronts.{FrontView}
 use Rattle.am_provider.specs.Histories.{EntryView}
-use Rattle.am_provider.specs.Settling.{IsSettledFrom}
+use Rattle.am_provider.specs.Ending.{IsSettledFrom}
 use Rattle.am_provider.specs.declared.settled.Settled.{Settled}
 use Rattle.am_runner.specs.Sessions.{Setting, setting_of}
 use Rattle.am_runner.specs.Working.{AreWork, Outcome, none, one_more_thread}

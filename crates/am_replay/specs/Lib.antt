@@ -1,8 +1,10 @@
 pub mod Arguments
 pub mod ArgumentsFaults
 pub mod FirstLines
+pub mod Live
 pub mod Options
 pub mod Printing
+pub mod Programs
 pub mod Replays
 pub mod Runs
 pub mod Statuses

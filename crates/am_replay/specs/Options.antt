@@ -18,12 +18,13 @@ use Rattle.am_provider.specs.declared.answers.Policy.{Policy}
 use Rattle.am_provider.specs.declared.answers.Policy.TheVariants.{Refuse, Cut}
 use Rattle.am_cast.specs.declared.limits.TheConstants.{MAX_PLACES}
 use Rattle.am_replay.specs.declared.arguments.Mode.{Mode}
-use Rattle.am_replay.specs.declared.arguments.Mode.TheVariants.{Ordered, Free}
+use Rattle.am_replay.specs.declared.arguments.Mode.TheVariants.{Ordered, Free, Live}
 
 -- the name of a mode
 abbrev pub mode_name : Mode → Text
 mode_name Ordered = codes "ordered"
 mode_name Free = codes "free"
+mode_name Live = codes "live"
 
 -- the name of a policy
 abbrev pub policy_name : Policy → Text
@@ -36,7 +37,7 @@ Choices = Bor (List (Bor Text))
 
 -- the names of the modes
 abbrev pub AreModes : Choices → Type 0
-AreModes names = texts names.now ≡ mode_name Ordered ∷ mode_name Free ∷ []
+AreModes names = texts names.now ≡ mode_name Ordered ∷ mode_name Free ∷ mode_name Live ∷ []
 
 -- the names of the policies
 abbrev pub ArePolicies : Choices → Type 0
@@ -61,7 +62,7 @@ options_of modes policies =
     (option_rule (codes "places") (codes "256") (value.Unsigned 1 MAX_PLACES)))
     (option_rule (codes "full") (policy_name Refuse) (value.Names policies))
 
--- the program's options: `--mode` ordered or free, `--places` 1 to the most, `--full` refuse or cut
+-- the program's options: `--mode` ordered, free or live, `--places` 1 to the most, `--full` refuse or cut
 pub record AreOptions (options : App) : Type 0 where
   pub modes : Choices
   pub policies : Choices

@@ -1,5 +1,5 @@
 -- How a run is printed: one line for each answer, by the number of the script's line, and a last one.
-use Rattle.std.specs.Prelude.{ℕ, ◌+◌, Bool, List, [], ◌∷◌, ◌++◌, codes, flat_map, slice_get, Option, Some}
+use Rattle.std.specs.Prelude.{ℕ, ◌+◌, Bool, List, [], ◌∷◌, ◌++◌, codes, slice_get, Option, Some}
 use Rattle.std.specs.Prelude.{None}
 use Rattle.std.specs.Global.{Vec}
 use Rattle.std.specs.Option.{option_and_then}
@@ -7,7 +7,7 @@ use Rattle.std.specs.List.{list_any}
 use Rattle.std.specs.Fmt.{decimal}
 use Rattle.am_provider.specs.declared.answers.Counts.{Counts}
 use Rattle.am_runner.specs.Answers.{is_out_of_memory}
-use Rattle.am_runner.specs.Printing.{answer_text}
+use Rattle.am_runner.specs.Printing.{answers_text}
 use Rattle.am_runner.specs.declared.answer.Answer.{Answer}
 use Rattle.am_script.specs.declared.command.Line.{Line}
 
@@ -20,14 +20,6 @@ answers_in (Some given) = given.items
 abbrev pub given_at : List (Vec (Vec Answer)) → ℕ → ℕ → List Answer
 given_at answers thread index =
     answers_in (option_and_then (λ all. slice_get all.items index) (slice_get answers thread))
-
--- an answer, behind the number of its line
-abbrev pub answer_line : ℕ → Answer → List ℕ
-answer_line number one = decimal number ++ 32 ∷ (answer_text one ++ 10 ∷ [])
-
--- the lines of the answers to one line of the script
-abbrev pub answers_text : ℕ → List Answer → List ℕ
-answers_text number given = flat_map (answer_line number) given
 
 -- what each line, from the one at an index on, was answered by its thread
 abbrev pub lines_text : List (Vec (Vec Answer)) → ℕ → List Line → List ℕ

@@ -79,23 +79,3 @@ IsReplay arguments input old OutOfMemory new = Keeps old new
 IsReplay arguments input old ReadFailed new = Keeps old new
 IsReplay arguments input old WriteFailed new = IsCutShort arguments input old new
 IsReplay arguments input old BadArguments new = ⊥
-
--- what clap has to say of arguments is printed, or a beginning of it where a write failed
-abbrev pub IsTelling : List ℕ → Option (List ℕ) → Status → Option (List ℕ) → Type 0
-IsTelling text old BadArguments new = Appends old new text
-IsTelling text old WriteFailed new = AppendsBeginning old new text
-IsTelling text old Done new = ⊥
-IsTelling text old Refused new = ⊥
-IsTelling text old CallOutOfMemory new = ⊥
-IsTelling text old OutOfMemory new = ⊥
-IsTelling text old ReadFailed new = ⊥
-
--- What the program comes to under its arguments: a replay, or what is told of arguments that are refused
--- or that ask for help. It may be out of memory before.
-pub data IsProgram (given : List (List ℕ)) (input old : Option (List ℕ))
-    : Status → Option (List ℕ) → Type 0 where
-  replayed : {status : Status} {new : Option (List ℕ)} (arguments : Arguments) → AreRead given arguments
-      → IsReplay arguments input old status new → IsProgram given input old status new
-  told : {status : Status} {new : Option (List ℕ)} (text : List ℕ) → AreRefused given
-      → IsTelling text old status new → IsProgram given input old status new
-  no_memory : {new : Option (List ℕ)} → Keeps old new → IsProgram given input old OutOfMemory new

@@ -4,7 +4,7 @@ use Rattle.std.specs.declared.alloc.AllocError.{AllocError}
 use Rattle.am_store.specs.Journal.{posts_of}
 use Rattle.am_store.specs.Journal.{journal_of}
 use Rattle.am_provider.specs.BookView.{places_of}
-use Rattle.am_provider.specs.Settling.{IsSettledFrom}
+use Rattle.am_provider.specs.Ending.{IsSettledFrom}
 use Rattle.am_provider.specs.declared.answers.Counts.{Counts}
 use Rattle.am_provider.specs.declared.settled.Settled.{Settled}
 use Rattle.am_runner.specs.Sessions.{Setting}

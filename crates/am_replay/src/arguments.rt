@@ -20,6 +20,8 @@ pub enum Mode {
     Ordered,
     /// Each thread runs its own in their order, beside the others.
     Free,
+    /// Each line is run and answered before the next one is read, in one thread.
+    Live,
 }
 
 /// What the command line asks for.
@@ -51,7 +53,7 @@ impl From<AllocError> for ArgumentsFault {
     }
 }
 
-static MODES: [&str; 2] = ["ordered", "free"];
+static MODES: [&str; 3] = ["ordered", "free", "live"];
 
 static POLICIES: [&str; 2] = ["refuse", "cut"];
 
@@ -78,6 +80,7 @@ impl Arguments {
         Arguments {
             mode: match matches.get_str("mode") {
                 Some("free") => Mode::Free,
+                Some("live") => Mode::Live,
                 _ => Mode::Ordered,
             },
             places: matches
@@ -96,7 +99,8 @@ const USAGE: &str = "./replay [OPTIONS] < SCRIPT";
 const ABOUT: &str =
     "Runs a script of calls on an in-memory alert provider, and prints each answer.";
 
-const MODE_HELP: &str = "Run the lines in script order, or all threads at the same time";
+const MODE_HELP: &str =
+    "Run the lines in script order, all threads at the same time, or each line as it comes";
 
 const PLACES_HELP: &str = "How many batches the log holds, from 1 to 256";
 
@@ -119,7 +123,12 @@ with a command as `do`, a `thread` from 0 to 7, and the command's own members:
   trim                         discards the calls that no subscription needs any more
   groups     sub               prints the dispatcher's groups
   sweep      sub, at           removes from the groups what is resolved by then
-  mutes      sub, at, labels   asks the inhibitor whether it mutes such an alert";
+  mutes      sub, at, labels   asks the inhibitor whether it mutes such an alert
+  stored                       prints all stored alerts
+  get        labels            prints the stored alert of these labels
+
+With --mode live the lines are answered one by one as they come, `thread` isn't
+needed, and a line that can't be read is answered by its fault.";
 
 // The command with the program's options.
 fn command<'a>(

@@ -6,6 +6,7 @@
 
 mod arguments;
 mod first_line;
+mod live;
 mod program;
 mod script_run;
 mod status;

@@ -4,10 +4,12 @@ ghost use Rattle.std.specs.Prelude.{◌≡◌, [], Ok, IfOk, IfErr, map, string_
 ghost use Rattle.am_script.specs.Script.{Checks, IsRefused, config_line, lines_of};
 ghost use Rattle.am_replay.specs.FirstLines.{IsFirstLine};
 ghost use Rattle.am_replay.specs.Printing.{ran_out_of_memory, transcript_text};
-ghost use Rattle.am_replay.specs.Replays.{ComesTo, IsProgram, IsReplay, IsTelling, status_of};
+ghost use Rattle.am_replay.specs.Programs.{IsProgram, IsRunAs, IsTelling};
+ghost use Rattle.am_replay.specs.Replays.{ComesTo, IsReplay, status_of};
 
-use crate::arguments::{Arguments, ArgumentsFault};
+use crate::arguments::{Arguments, ArgumentsFault, Mode};
 use crate::first_line::FirstLine;
+use crate::live::live;
 use crate::script_run::{Ran, Settings, run_script};
 use crate::status::Status;
 use am_config::Config;
@@ -15,7 +17,7 @@ use am_script::{
     Failure, Fault, Line, Refusal, ScriptFault, config_line, read_input, read_script, write_text,
 };
 use std::alloc::{AllocError, Global};
-use std::io::{Read, Write};
+use std::io::{BufReader, Read, Write};
 use std::sync::Wait;
 use std::thread::Threads;
 
@@ -30,9 +32,28 @@ pub fn run<R: AllocGlobal + Threads + Wait + Sync, I: Read, O: Write>(
         (O.contents out.old) result (O.contents out.new) }
 {
     match Arguments::read(rt.alloc(), arguments) {
-        Ok(arguments) => replay(rt, rt.alloc(), arguments, input, out),
+        Ok(arguments) => obey(rt, rt.alloc(), arguments, input, out),
         Err(ArgumentsFault::Refused(text)) => tell(out, &text),
         Err(ArgumentsFault::NoMemory) => Status::OutOfMemory,
+    }
+}
+
+// Runs the whole script, or each line as it comes.
+fn obey<R: Threads + Wait + Sync, I: Read, O: Write>(
+    rt: &R,
+    alloc: Global,
+    arguments: Arguments,
+    input: &mut I,
+    out: &mut O,
+) -> Status
+    ensures { IsRunAs arguments (I.remaining input.old) (O.contents out.old) result (O.contents out.new) }
+{
+    if arguments.mode != Mode::Live {
+        return replay(rt, alloc, arguments, input, out);
+    }
+    match BufReader::new(alloc, input) {
+        Ok(mut input) => live(rt, alloc, arguments, &mut input, out),
+        Err(_) => Status::OutOfMemory,
     }
 }
 
@@ -100,7 +121,7 @@ fn printout_of<R: Threads + Wait + Sync>(
     }
 }
 
-const FIRST_LINE_TOO_LARGE: Refusal = Refusal {
+pub(crate) const FIRST_LINE_TOO_LARGE: Refusal = Refusal {
     number: 1,
     fault: Fault::TooLarge,
 };

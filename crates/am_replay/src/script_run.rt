@@ -47,7 +47,7 @@ pub fn run_script<R: Threads + Wait + Sync>(
             let turns = InOrder::new(settings.alloc, &lines)?;
             run_in(settings, lines, &turns)
         }
-        Mode::Free => run_in(settings, lines, &Freely),
+        Mode::Free | Mode::Live => run_in(settings, lines, &Freely),
     }
 }
 

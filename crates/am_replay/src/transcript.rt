@@ -1,13 +1,13 @@
 //! What each line of a script answered, and how that is printed.
 
-ghost use Rattle.std.specs.Prelude.{◌≡◌, ◌++◌, IfOk, OnOk, Some, string_bytes};
+ghost use Rattle.std.specs.Prelude.{◌≡◌, ◌++◌, ◌∷◌, [], IfOk, OnOk, Some, string_bytes};
 ghost use Rattle.std.specs.List.{list_any};
 ghost use Rattle.am_runner.specs.Answers.{is_out_of_memory};
-ghost use Rattle.am_replay.specs.Printing.{answers_text, counts_text, given_at, lines_text};
+ghost use Rattle.am_replay.specs.Printing.{counts_text, given_at, lines_text};
 ghost use Rattle.am_replay.specs.Printing.{ran_out_of_memory, transcript_text};
 
 use am_provider::Counts;
-use am_runner::Answer;
+use am_runner::{Answer, write_answers};
 use am_script::{Line, Thread};
 use std::alloc::{AllocError, Global};
 use std::fmt;
@@ -42,6 +42,14 @@ impl Transcript {
     }
 }
 
+/// The last line of the output.
+pub fn counts_line(alloc: Global, counts: Counts) -> Result<String, AllocError>
+    ensures { IfOk result (λ text. string_bytes text ≡ counts_text counts ++ 10 ∷ []) }
+{
+    let counts = End(counts);
+    format!(in alloc; "{counts}\n")
+}
+
 fn has_one_run_out(all: &[Vec<Answer>]) -> bool
     ensures { result ≡ list_any (λ given. list_any is_out_of_memory given.items) all.now }
 {
@@ -63,17 +71,11 @@ fn write_lines(
         ≡ string_bytes text.old ++ lines_text answers.now 0 lines.now) }
 {
     for (index, line) in lines.iter().enumerate() {
-        write_answers(text, line.number, given_at(answers, line.thread, index))?;
-    }
-    Ok(())
-}
-
-fn write_answers(text: &mut String, number: u32, given: &[Answer]) -> Result<(), AllocError>
-    ensures { OnOk result
-        (string_bytes text.new ≡ string_bytes text.old ++ answers_text number given.now) }
-{
-    for answer in given {
-        write!(text, "{number} {answer}\n")?;
+        write_answers(
+            text,
+            u64::from(line.number),
+            given_at(answers, line.thread, index),
+        )?;
     }
     Ok(())
 }

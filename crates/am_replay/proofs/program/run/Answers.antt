@@ -1,9 +1,9 @@
-use Rattle.am_replay.specs.Replays.{no_memory, replayed, told}
+use Rattle.am_replay.specs.Programs.{no_memory, obeyed, told}
 use Rattle.am_replay.proofs.Replays.{keeps_same}
 use Rattle.am_replay.proofs.program.run.Goals as goal
 
 pub returns-in-Ok : goal.returns-in-Ok
-returns-in-Ok g c = replayed c.in-Ok.arguments c.in-Ok.ensures.read c.replay.ensures
+returns-in-Ok g c = obeyed c.in-Ok.arguments c.in-Ok.ensures.read c.obey.ensures
 
 pub returns-in-Err-Refused : goal.returns-in-Err-Refused
 returns-in-Err-Refused g c = told c.deref.result.now (rw c.in-Err-Refused.field-0-is at c.in-Err-Refused.ensures.refused) c.tell.ensures

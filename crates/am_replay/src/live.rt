@@ -1,0 +1,170 @@
+//! A live run: each line of the input is answered before the next one is read.
+
+ghost use Rattle.std.specs.Prelude.{◌≡◌, ◌++◌, ◌∷◌, [], IfOk, option_map, string_bytes};
+ghost use Rattle.am_replay.specs.FirstLines.{config_refusal_text};
+ghost use Rattle.am_replay.specs.Live.{IsEnd, IsFailure, IsLive, IsTold, LivesUnder, line_or_empty};
+ghost use Rattle.am_replay.specs.Replays.{first_line_too_large};
+ghost use Rattle.am_runner.specs.Sessions.{setting_of};
+ghost use Rattle.am_script.specs.ScriptTexts.{refusal_text};
+
+use crate::arguments::Arguments;
+use crate::first_line::FirstLine;
+use crate::program::FIRST_LINE_TOO_LARGE;
+use crate::status::Status;
+use crate::transcript::counts_line;
+use am_config::{Config, ConfigFault};
+use am_provider::{Counts, Parts, Provider, Recorded};
+use am_runner::{Context, Freely, Session};
+use am_script::{Failure, write_text};
+use am_serve::{next_line, serve};
+use std::alloc::{AllocError, Global};
+use std::io::{BufRead, Write};
+use std::marker::Brand;
+use std::sync::Wait;
+
+/// Reads the configuration, serves each line after it, and prints the counts at the input's end.
+pub fn live<R: Wait, I: BufRead, O: Write>(
+    rt: &R,
+    alloc: Global,
+    arguments: Arguments,
+    input: &mut I,
+    out: &mut O,
+) -> Status
+    ensures { IsLive arguments (I.remaining input.old) (O.contents out.old) result (O.contents out.new) }
+{
+    let line = match next_line(alloc, input) {
+        Ok(line) => line,
+        Err(failure) => return status_of(failure),
+    };
+    match FirstLine::read(alloc, bytes_of(&line)) {
+        Ok(FirstLine::Read(config)) => live_under(rt, alloc, arguments, &config, input, out),
+        Ok(FirstLine::Refused(fault)) => refuse(refused_config(alloc, fault), out),
+        Ok(FirstLine::TooLong) => refuse(too_long(alloc), out),
+        Err(_) => Status::OutOfMemory,
+    }
+}
+
+// The bytes of the line that was read; none at the input's end.
+fn bytes_of(line: &Option<Vec<u8>>) -> &[u8]
+    ensures { result.now ≡ line_or_empty (option_map (λ bytes. bytes.items) line.now) }
+{
+    match line {
+        Some(bytes) => bytes.as_slice(),
+        None => &[],
+    }
+}
+
+// What is told of a first line above the limit.
+fn too_long(alloc: Global) -> Result<String, AllocError>
+    ensures { IfOk result (λ text. string_bytes text ≡ refusal_text first_line_too_large ++ 10 ∷ []) }
+{
+    let refusal = FIRST_LINE_TOO_LARGE;
+    format!(in alloc; "{refusal}\n")
+}
+
+// What is told of a configuration that is refused.
+fn refused_config(alloc: Global, fault: ConfigFault) -> Result<String, AllocError>
+    ensures { IfOk result (λ text. string_bytes text ≡ config_refusal_text fault ++ 10 ∷ []) }
+{
+    format!(in alloc; "config {fault}\n")
+}
+
+// How a failure of the program's own work ends it.
+fn status_of(failure: Failure) -> Status
+    ensures { IsFailure result }
+{
+    match failure {
+        Failure::Read => Status::ReadFailed,
+        Failure::Write => Status::WriteFailed,
+        Failure::OutOfMemory => Status::OutOfMemory,
+    }
+}
+
+// Prints why the first line is no configuration.
+fn refuse<O: Write>(text: Result<String, AllocError>, out: &mut O) -> Status
+    ensures { IsTold text (O.contents out.old) result (O.contents out.new) }
+{
+    match text {
+        Ok(text) => match write_text(out, text.as_bytes()) {
+            Ok(()) => Status::Refused,
+            Err(_) => Status::WriteFailed,
+        },
+        Err(_) => Status::OutOfMemory,
+    }
+}
+
+// Serves the lines after the configuration on a new provider. Its `Brand` keeps it from being mixed up
+// with another.
+fn live_under<R: Wait, I: BufRead, O: Write>(
+    rt: &R,
+    alloc: Global,
+    arguments: Arguments,
+    config: &Config,
+    input: &mut I,
+    out: &mut O,
+) -> Status
+    ensures { LivesUnder (setting_of arguments.places arguments.full config.now.resolve_timeout) config.now
+        (I.remaining input.old) (O.contents out.old) result (O.contents out.new) }
+{
+    match Parts::make(alloc, arguments.places, 1) {
+        Ok(parts) => { live_on::<Brand, R, I, O>(rt, alloc, arguments, config, input, out, parts) }
+        Err(_) => Status::OutOfMemory,
+    }
+}
+
+fn live_on<N: Recorded, R: Wait, I: BufRead, O: Write>(
+    rt: &R,
+    alloc: Global,
+    arguments: Arguments,
+    config: &Config,
+    input: &mut I,
+    out: &mut O,
+    parts: Parts,
+) -> Status
+    requires table { parts.log.board.shared.table_id ≡ N.table }
+    requires ledger { (parts.ledger.name ≡ N.name) × (parts.ledger.parts ≡ N.parts) }
+    requires history { parts.history.board.shared.table_id ≡ N.timeline }
+    requires entries { (parts.history.ledger.name ≡ N.entries)
+        × (parts.history.ledger.parts ≡ N.holders) }
+    requires limits { (parts.log.places ≡ N.places)
+        × (arguments.places ≡ N.places) × (arguments.full ≡ N.policy) }
+    requires posters { (parts.posters ≡ 1) × (N.parts ≡ 1) }
+    ensures { LivesUnder (setting_of arguments.places arguments.full config.now.resolve_timeout) config.now
+        (I.remaining input.old) (O.contents out.old) result (O.contents out.new) }
+{
+    let begun = Provider::<N>::begin(alloc, parts, arguments.full, config.resolve_timeout);
+    let Ok((provider, mut callers)) = begun else {
+        return Status::OutOfMemory;
+    };
+    let Some(caller) = callers.pop() else {
+        unreachable!()
+    };
+    let context = Context {
+        rt,
+        alloc,
+        provider: &provider,
+        config,
+        turns: &Freely,
+    };
+    let mut session = Session::begin(alloc, caller);
+    let served = serve(&context, &mut session, 2, input, out);
+    callers.push_reserved(session.end(&context));
+    let settled = provider.settle(rt, callers);
+    match served {
+        Ok(()) => print_counts(alloc, settled.counts(), out),
+        Err(failure) => status_of(failure),
+    }
+}
+
+// Prints the last line.
+fn print_counts<O: Write>(alloc: Global, counts: Counts, out: &mut O) -> Status
+    ensures { IsEnd counts (O.contents out.old) result (O.contents out.new) }
+{
+    match counts_line(alloc, counts) {
+        Ok(text) => match write_text(out, text.as_bytes()) {
+            Ok(()) => Status::Done,
+            Err(_) => Status::WriteFailed,
+        },
+        Err(_) => Status::OutOfMemory,
+    }
+}

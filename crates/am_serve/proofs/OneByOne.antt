@@ -1,0 +1,108 @@
+-- One line served after another.
+use Rattle.std.proofs.Common.{◌≡◌, ◌≢◌, ◌⊎◌, inl, inr, ℕ, ◌+◌, List, [], ◌∷◌, ◌++◌, length, Option, Some, None, IfSome, Result, Ok, Err, OnErr, refl, sym, ap, subst, ◌∙◌, arith, length-append, append_assoc, append-nil}
+use Rattle.std.specs.Io.KnownBytes.{Appends}
+use Rattle.std.specs.Io.BufRead.{drop_through, first_piece}
+use Rattle.am_config.specs.declared.config.Config.{Config}
+use Rattle.am_script.specs.declared.command.Command.TheVariants.{Trim}
+use Rattle.am_script.proofs.Outputs.{appends_more, appends_none}
+use Rattle.am_runner.specs.Sessions.{Setting, SessionView, Does}
+use Rattle.am_runner.specs.declared.answer.Answer.{Answer}
+use Rattle.am_serve.specs.Answering.{Answers}
+use Rattle.am_serve.specs.Reading.{Begins, IsNext, no_lines}
+use Rattle.am_serve.specs.Reading as reading
+use Rattle.am_serve.specs.Serving.{Serves, nothing, one_more, trimmed, AreRead, IsBeginning, IsServed, IsServedInPart}
+
+-- a list of no length has nothing
+pub none_of : {A : Type 0} (xs : List A) → length xs ≡ 0 → xs ≡ []
+none_of [] none = refl
+none_of (x ∷ xs) none = absurd (omega (arith, none))
+
+-- what holds holds where there is an error
+pub on_err_of : {T E P : Type 0} (r : Result T E) → P → OnErr r P
+on_err_of (Ok x) holds = tt
+on_err_of (Err e) holds = holds
+
+-- what was served before the line of a number
+pub record SoFar (config : Config) (setting : Setting) (first : ℕ) (begun : SessionView) (input out : Option (List ℕ)) (number : ℕ) (now : SessionView) (rest written : Option (List ℕ)) : Type 0 where
+  pub lines : List (List ℕ)
+  pub printed : List ℕ
+  pub serves : Serves config setting first begun lines printed now
+  pub read : AreRead input lines rest
+  pub counted : first + length lines ≡ number
+  pub written_is : Appends out written printed
+
+none_read : (input : Option (List ℕ)) → AreRead input [] input
+none_read None = tt
+none_read (Some text) = (text, no_lines, refl)
+
+one_more_read : (input rest new : Option (List ℕ)) (lines : List (List ℕ)) (bytes : List ℕ) → AreRead input lines rest → IsNext rest (Some bytes) new → AreRead input (lines ++ bytes ∷ []) new
+one_more_read None rest new lines bytes read next = tt
+one_more_read (Some text) rest new lines bytes read next =
+    let it : IsNext (Some read.0) (Some bytes) new = subst (λ (o : Option (List ℕ)). IsNext o (Some bytes) new) read.2 next in
+    (drop_through 10 read.0, subst (λ (b : List ℕ). Begins text (lines ++ b ∷ []) (drop_through 10 read.0)) (sym it.1) (reading.one_more read.1 it.0), it.2)
+
+begins_of : (input rest : Option (List ℕ)) (lines : List (List ℕ)) → AreRead input lines rest → IfSome input (λ text. (left : List ℕ) × Begins text lines left)
+begins_of None rest lines read = tt
+begins_of (Some text) rest lines read = (read.0, read.1)
+
+at_end : (input rest new : Option (List ℕ)) (lines : List (List ℕ)) → AreRead input lines rest → IsNext rest None new → AreRead input lines new × IfSome input (λ text. IfSome new (λ left. left ≡ []))
+at_end None rest new lines read next = (tt, tt)
+at_end (Some text) rest new lines read next =
+    let it : IsNext (Some read.0) None new = subst (λ (o : Option (List ℕ)). IsNext o None new) read.2 next in
+    let gone : read.0 ≡ [] = it.0 in
+    ((read.0, read.1, it.1 ∙ ap (λ (l : List ℕ). Some l) (sym gone)), subst (λ (o : Option (List ℕ)). IfSome o (λ left. left ≡ [])) (sym it.1) refl)
+
+module _ (config : Config) (setting : Setting) (first : ℕ) (begun : SessionView) (input out : Option (List ℕ)) where
+  pub so_far_none : SoFar config setting first begun input out first begun input out
+  so_far_none = record { lines = []; printed = []; serves = nothing; read = none_read input; counted = omega arith; written_is = appends_none out }
+
+  pub so_far_more : (number : ℕ) (old new : SessionView) (rest left written now : Option (List ℕ)) (bytes more : List ℕ) → SoFar config setting first begun input out number old rest written
+      → IsNext rest (Some bytes) left → Answers config setting number bytes old more new → Appends written now more → SoFar config setting first begun input out (number + 1) new left now
+  so_far_more number old new rest left written now bytes more so next answers added = record {
+    lines = so.lines ++ bytes ∷ [];
+    printed = so.printed ++ more;
+    serves = one_more bytes so.serves (subst (λ (n : ℕ). Answers config setting n bytes old more new) (sym so.counted) answers);
+    read = one_more_read input rest left so.lines bytes so.read next;
+    counted = let long = length-append so.lines (bytes ∷ []) in let before = so.counted in omega (arith, long, before);
+    written_is = appends_more out written now so.printed more so.written_is added;
+  }
+
+  pub so_far_trimmed : (number : ℕ) (old new : SessionView) (rest written : Option (List ℕ)) (given : List Answer) → SoFar config setting first begun input out number old rest written
+      → Does config setting old Trim given new → SoFar config setting first begun input out number new rest written
+  so_far_trimmed number old new rest written given so does = record {
+    lines = so.lines;
+    printed = so.printed;
+    serves = trimmed so.serves does;
+    read = so.read;
+    counted = so.counted;
+    written_is = so.written_is;
+  }
+
+  pub served : (number : ℕ) (now : SessionView) (rest left written : Option (List ℕ)) → SoFar config setting first begun input out number now rest written
+      → IsNext rest None left → IsServed config setting first begun input left out written now
+  served number now rest left written so next =
+      let ended = at_end input rest left so.lines so.read next in record {
+        lines = so.lines;
+        printed = so.printed;
+        serves = so.serves;
+        read = ended.0;
+        all = ended.1;
+        written_is = so.written_is;
+      }
+
+  pub in_part : (number : ℕ) (now : SessionView) (rest written after : Option (List ℕ)) (beginning : List ℕ) → SoFar config setting first begun input out number now rest written
+      → IsBeginning config setting number now beginning → Appends written after beginning → IsServedInPart config setting first begun input out after
+  in_part number now rest written after beginning so next added = record {
+    lines = so.lines;
+    printed = so.printed;
+    beginning = beginning;
+    last = now;
+    serves = so.serves;
+    read = begins_of input rest so.lines so.read;
+    next = subst (λ (n : ℕ). IsBeginning config setting n now beginning) (sym so.counted) next;
+    written_is = appends_more out written after so.printed beginning so.written_is added;
+  }
+
+  -- nothing more was written
+  pub in_part_so : (number : ℕ) (now : SessionView) (rest written : Option (List ℕ)) → SoFar config setting first begun input out number now rest written → IsServedInPart config setting first begun input out written
+  in_part_so number now rest written so = in_part number now rest written written [] so (inl refl) (appends_none written)

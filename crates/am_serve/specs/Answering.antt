@@ -1,0 +1,51 @@
+-- What a line does and prints.
+use Rattle.std.specs.Prelude.{◌≡◌, ◌<◌, ◌≤◌, ℕ, Bool, true, false, is_none, List, [], ◌∷◌, ◌++◌, length}
+use Rattle.std.specs.Prelude.{Ok, Err}
+use Rattle.std.specs.Fmt.{decimal}
+use Rattle.am_config.specs.declared.config.Config.{Config}
+use Rattle.am_script.specs.Commands.{IsCommandOf}
+use Rattle.am_script.specs.ScriptTexts.{fault_text}
+use Rattle.am_script.specs.declared.command.Command.{Command}
+use Rattle.am_script.specs.declared.command.Command.TheVariants.{Subscribe}
+use Rattle.am_script.specs.declared.command.LineFault.TheVariants as line_fault
+use Rattle.am_script.specs.declared.limits.TheConstants.{LONGEST_LINE}
+use Rattle.am_script.specs.declared.script.Fault.{Fault}
+use Rattle.am_script.specs.declared.script.Fault.TheVariants.{BadLine, BadName, TooLarge}
+use Rattle.am_runner.specs.Printing.{answers_text}
+use Rattle.am_runner.specs.Reading.{OpenView}
+use Rattle.am_runner.specs.Sessions.{Setting, SessionView, Does, index_named}
+use Rattle.am_runner.specs.declared.answer.Answer.{Answer}
+
+-- a refused line: its number and its fault
+abbrev pub refused_text : ℕ → Fault → List ℕ
+refused_text number fault = decimal number ++ 32 ∷ (fault_text fault ++ 10 ∷ [])
+
+-- whether a command subscribes no name that an open subscription has
+abbrev pub has_free_name : Command → List OpenView → Bool
+has_free_name (Subscribe name kind) opened = is_none (index_named name opened)
+has_free_name _ opened = true
+
+-- what a command of the line of this number prints, and what it does to a session: nothing, if it
+-- subscribes a name that is open; else what it answers
+pub data Obeys (config : Config) (setting : Setting) (number : ℕ) (command : Command) (old : SessionView)
+    : List ℕ → SessionView → Type 0 where
+  bad_name : has_free_name command old.opened ≡ false
+      → Obeys config setting number command old (refused_text number BadName) old
+  ran : {given : List Answer} {new : SessionView} → has_free_name command old.opened ≡ true
+      → Does config setting old command given new
+      → Obeys config setting number command old (answers_text number given) new
+
+-- What the line of this number prints, and what it does to a session: nothing, if it is empty; a refusal,
+-- if it is too long or isn't a command; else what its command does.
+pub data Answers (config : Config) (setting : Setting) (number : ℕ) (bytes : List ℕ) (old : SessionView)
+    : List ℕ → SessionView → Type 0 where
+  nothing_asked : bytes ≡ [] → Answers config setting number bytes old [] old
+  too_large : LONGEST_LINE < length bytes
+      → Answers config setting number bytes old (refused_text number TooLarge) old
+  bad_line : 0 < length bytes → length bytes ≤ LONGEST_LINE
+      → IsCommandOf bytes (Err line_fault.BadLine)
+      → Answers config setting number bytes old (refused_text number BadLine) old
+  obeyed : {command : Command} {printed : List ℕ} {new : SessionView}
+      → 0 < length bytes → length bytes ≤ LONGEST_LINE → IsCommandOf bytes (Ok command)
+      → Obeys config setting number command old printed new
+      → Answers config setting number bytes old printed new

@@ -1,0 +1,74 @@
+//! Answering one line.
+
+ghost use Rattle.std.specs.Prelude.{◌≡◌, IfOk, string_bytes};
+ghost use Rattle.am_runner.specs.Sessions.{setting_of};
+ghost use Rattle.am_serve.specs.Answering.{Answers, Obeys, has_free_name, refused_text};
+
+use am_provider::{Gate, Recorded};
+use am_runner::{Context, Session, write_answers};
+use am_script::{Command, Fault, LONGEST_LINE, LineFault, read_command};
+use std::alloc::{AllocError, Global};
+use std::sync::Wait;
+
+/// Does what a line asks for, and returns what is to be printed of it. If memory runs out, the line may
+/// have been done.
+pub fn answer_line<'p, 'c, N: Recorded, R: Wait, G: Gate>(
+    context: &Context<'p, 'c, N, R, G>,
+    session: &mut Session<'p, 'c, N>,
+    number: u64,
+    bytes: &[u8],
+) -> Result<String, AllocError>
+    ensures { IfOk result (λ text. Answers context.now.config.now
+        (setting_of N.places N.policy context.now.provider.now.resolve_timeout) number bytes.now
+        session.old (string_bytes text) session.new) }
+{
+    let alloc = context.alloc;
+    if bytes.is_empty() {
+        return Ok(String::new(alloc));
+    }
+    if bytes.len() > LONGEST_LINE {
+        return refused(alloc, number, Fault::TooLarge);
+    }
+    match read_command(alloc, bytes) {
+        Ok(command) => obey(context, session, number, &command),
+        Err(LineFault::BadLine) => refused(alloc, number, Fault::BadLine),
+        Err(LineFault::NoMemory) => Err(AllocError),
+    }
+}
+
+// Does what a command asks for, unless its name is taken.
+fn obey<'p, 'c, N: Recorded, R: Wait, G: Gate>(
+    context: &Context<'p, 'c, N, R, G>,
+    session: &mut Session<'p, 'c, N>,
+    number: u64,
+    command: &Command,
+) -> Result<String, AllocError>
+    ensures { IfOk result (λ text. Obeys context.now.config.now
+        (setting_of N.places N.policy context.now.provider.now.resolve_timeout) number command.now
+        session.old (string_bytes text) session.new) }
+{
+    if !has_free_name(session, command) {
+        return refused(context.alloc, number, Fault::BadName);
+    }
+    let given = session.run(context, command)?;
+    let mut text = String::new(context.alloc);
+    write_answers(&mut text, number, &given)?;
+    Ok(text)
+}
+
+// Whether the command subscribes no name that an open subscription has.
+fn has_free_name<N: Recorded>(session: &Session<'_, '_, N>, command: &Command) -> bool
+    ensures { result ≡ has_free_name command.now session.now.opened }
+{
+    match command {
+        Command::Subscribe { name, kind: _ } => !session.has_name(name),
+        _ => true,
+    }
+}
+
+// What is printed of a line that is refused.
+fn refused(alloc: Global, number: u64, fault: Fault) -> Result<String, AllocError>
+    ensures { IfOk result (λ text. string_bytes text ≡ refused_text number fault) }
+{
+    format!(in alloc; "{number} {fault}\n")
+}

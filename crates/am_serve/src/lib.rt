@@ -1,0 +1,24 @@
+//! An alert provider that is driven line by line: each line of the input is run and answered before the
+//! next one is read, in one thread, with no end but the end of the input.
+//!
+//! A line is one JSON object, a command as in a script (docs/FORMATS.md); its `thread` isn't looked at. A
+//! line that isn't one is refused, with its number and its fault, and the run goes on. Memory doesn't grow
+//! with the lines: the journal is trimmed from time to time.
+//!
+//! ```text
+//! let (provider, mut callers) = Provider::<N>::begin(alloc, parts, policy, timeout)?;   // for one caller
+//! let context = Context { rt, alloc, provider: &provider, config: &config, turns: &Freely };
+//! let mut session = Session::begin(alloc, caller);
+//! serve(&context, &mut session, &mut input, &mut output)?;
+//! ```
+//!
+//! Who has lines of its own, and no reader, calls `answer_line` for each.
+#![tactic(auto)]
+
+mod answering;
+mod reading;
+mod serving;
+
+pub use answering::answer_line;
+pub use reading::next_line;
+pub use serving::serve;
