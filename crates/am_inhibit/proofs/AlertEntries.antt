@@ -1,5 +1,5 @@
 -- The map of the last alerts, seen as their list.
-use Rattle.std.proofs.Common.{◌≡◌, ℕ, Bool, true, false, ◌||◌, cond, List, [], ◌∷◌, Some, is_some, refl, sym, ap, ◌∙◌}
+use Rattle.std.proofs.Common.{◌≡◌, ℕ, Bool, true, false, ◌||◌, cond, List, [], ◌∷◌, filter, Some, is_some, refl, sym, ap, ◌∙◌}
 use Rattle.std.specs.List.{position}
 use Rattle.std.specs.Map.{keys_of, values_of, lookup}
 use Rattle.indexmap.specs.IndexMap.{insert_entry, set_value_at}
@@ -61,3 +61,17 @@ looked_up labels (entry ∷ entries) kept =
 -- a label set has an alert where its position is known
 pub has-position : (labels : Labels) (entries : List (Labels × Alert)) → IsKept entries → has labels (values_of entries) ≡ is_some (position (same_labels labels) (keys_of entries))
 has-position labels entries kept = sym (looked_up labels entries kept) ∙ sym (some_index (same_labels labels) entries)
+
+-- what a test of the alerts leaves
+pub values-filtered : (test : Alert → Bool) (entries : List (Labels × Alert)) → values_of (filter (λ (entry : Labels × Alert). test entry.1) entries) ≡ filter test (values_of entries)
+values-filtered test [] = refl
+values-filtered test (entry ∷ entries) =
+    let rest = filter (λ (other : Labels × Alert). test other.1) entries in
+    elim (test entry.1) as (λ b. values_of (cond b (entry ∷ rest) rest) ≡ cond b (entry.1 ∷ filter test (values_of entries)) (filter test (values_of entries))) [ true ↦ ap (λ l. entry.1 ∷ l) (values-filtered test entries) | false ↦ values-filtered test entries ]
+
+pub keys-filtered : (test : Alert → Bool) (entries : List (Labels × Alert)) → IsKept entries → IsKept (filter (λ (entry : Labels × Alert). test entry.1) entries)
+keys-filtered test [] kept = kept
+keys-filtered test (entry ∷ entries) kept =
+    let rest = filter (λ (other : Labels × Alert). test other.1) entries in
+    let left = keys-filtered test entries (tail_kept entry entries kept) in
+    elim (test entry.1) as (λ b. IsKept (cond b (entry ∷ rest) rest)) [ true ↦ record { keys = ap (λ l. l ∷ keys_of rest) (head_kept entry entries kept) ∙ ap (λ l. entry.1.labels ∷ l) left.keys } | false ↦ left ]

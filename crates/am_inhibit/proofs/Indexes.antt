@@ -1,19 +1,21 @@
 -- The sources of rules by their values, as label sets are added and additions undone.
-use Rattle.std.proofs.Common.{◌≡◌, ℕ, zero, suc, ◌+◌, ◌-◌, ◌<◌, cond, List, [], ◌∷◌, ◌++◌, map, length, take, drop, set, get_or, Some, None, refl, sym, ap, ◌∙◌, arith, append_assoc, length-append}
-use Rattle.std.specs.List.{slice_get, position}
+use Rattle.std.proofs.Common.{◌≡◌, ℕ, zero, suc, ◌+◌, ◌-◌, ◌<◌, Bool, true, false, ◌&&◌, cond, List, [], ◌∷◌, ◌++◌, map, length, take, drop, set, get_or, Some, None, refl, sym, ap, subst, ◌∙◌, arith, append_assoc, append-nil, length-append}
+use Rattle.std.specs.Cmp.{unsigned_Decides}
+use Rattle.std.specs.Cmp.Lexicographic.{pointwise_decides}
+use Rattle.std.specs.List.{slice_get, position, AllByRecursion, IsDistinct}
+use Rattle.std.specs.Option.{unwrap_or}
 use Rattle.std.specs.Map.{keys_of, values_of, lookup}
 use Rattle.std.proofs.lemmas.List.{length-map, length-take-le, drop_more, take_more, set_at, get_or_at, map-append}
 use Rattle.std.proofs.Math.Seq.{take-append_seam}
 use Rattle.indexmap.specs.IndexMap.{insert_entry, set_value_at}
 use Rattle.indexmap.proofs.MapLemmas.{Found-position, insert_entry-first}
 use Rattle.am_labels.specs.LabelSets.{Labels}
-use Rattle.am_alert.specs.declared.alert.Alert.{Alert}
+use Rattle.am_labels.specs.Matchers.{all_admitted}
 use Rattle.am_config.specs.declared.inhibit_rule.InhibitRule.{InhibitRule}
 use Rattle.am_inhibit.specs.declared.source.Source.{Source}
 use Rattle.am_inhibit.specs.declared.source_index.SourceChange.{SourceChange}
-use Rattle.am_inhibit.specs.LastAlerts.{label_sets}
-use Rattle.am_inhibit.specs.inside.Sources.{same_values}
-use Rattle.am_inhibit.specs.inside.Indexes.{SourceEntries, IndexView, with_source, with_labels, with_all_labels, index_of, indexes_of, index_with, left_back, index_before, indexes_before}
+use Rattle.am_inhibit.specs.inside.Sources.{same_values, values_equiv}
+use Rattle.am_inhibit.specs.inside.Indexes.{SourceEntries, IndexView, values_of as values_for, source_of, with_source, with_labels, listed, sources_from, IsIndexOf, AreIndexesOf, empty_indexes, rules_indexed, index_with, left_back, index_before, indexes_before}
 use Rattle.am_inhibit.proofs.Cases.{by_bool}
 
 pub take_last : {A : Type 0} (xs : List A) (x : A) → take (length (xs ++ x ∷ []) - 1) (xs ++ x ∷ []) ≡ xs
@@ -106,32 +108,118 @@ map_more f olds now at x early are is =
     ∙ (sym (append_assoc front (f next ∷ []) (drop (at + 1) olds))
     ∙ ap (λ l. l ++ drop (at + 1) olds) (sym (ap (map f) (take_more olds at x early) ∙ map-append f (take at olds) (next ∷ []))))))
 
+-- ---- what is listed
+
+pub same_are : (a b : List (List ℕ)) → same_values a b ≡ true → a ≡ b
+same_are a b e = (pointwise_decides (pointwise_decides unsigned_Decides) a b).0 e
+
+pub listed-with : (wanted values : List (List ℕ)) (source : Source) (entries : SourceEntries) → listed wanted (with_source values source entries) ≡ listed wanted entries ++ cond (same_values wanted values) (source ∷ []) []
+listed-with wanted values source [] =
+    elim (same_values wanted values) as (λ b. unwrap_or (cond b (Some (source ∷ [])) None) [] ≡ cond b (source ∷ []) []) [ true ↦ refl | false ↦ refl ]
+listed-with wanted values source (entry ∷ entries) =
+    by_bool {P = listed wanted (with_source values source (entry ∷ entries)) ≡ listed wanted (entry ∷ entries) ++ cond (same_values wanted values) (source ∷ []) []} (same_values values entry.0)
+    (λ t.
+    let own : same_values wanted values ≡ same_values wanted entry.0 = ap (same_values wanted) (same_are values entry.0 t) in
+    ap (λ b. listed wanted (cond b ((entry.0, entry.1 ++ source ∷ []) ∷ entries) (entry ∷ with_source values source entries))) t
+    ∙ (elim (same_values wanted entry.0) as (λ b. unwrap_or (cond b (Some (entry.1 ++ source ∷ [])) (lookup (same_values wanted) entries)) [] ≡ unwrap_or (cond b (Some entry.1) (lookup (same_values wanted) entries)) [] ++ cond b (source ∷ []) []) [ true ↦ refl | false ↦ sym (append-nil (listed wanted entries)) ]
+    ∙ ap (λ b. listed wanted (entry ∷ entries) ++ cond b (source ∷ []) []) (sym own)))
+    (λ f.
+    ap (λ b. listed wanted (cond b ((entry.0, entry.1 ++ source ∷ []) ∷ entries) (entry ∷ with_source values source entries))) f
+    ∙ by_bool {P = listed wanted (entry ∷ with_source values source entries) ≡ listed wanted (entry ∷ entries) ++ cond (same_values wanted values) (source ∷ []) []} (same_values wanted entry.0)
+    (λ here.
+    let other : same_values wanted values ≡ false = ap (λ l. same_values l values) (same_are wanted entry.0 here) ∙ (values_equiv.symm entry.0 values ∙ f) in
+    ap (λ b. unwrap_or (cond b (Some entry.1) (lookup (same_values wanted) (with_source values source entries))) []) here
+    ∙ (sym (append-nil entry.1)
+    ∙ (ap (λ b. entry.1 ++ cond b (source ∷ []) []) (sym other)
+    ∙ ap (λ b. unwrap_or (cond b (Some entry.1) (lookup (same_values wanted) entries)) [] ++ cond (same_values wanted values) (source ∷ []) []) (sym here))))
+    (λ away.
+    ap (λ b. unwrap_or (cond b (Some entry.1) (lookup (same_values wanted) (with_source values source entries))) []) away
+    ∙ (listed-with wanted values source entries
+    ∙ ap (λ b. unwrap_or (cond b (Some entry.1) (lookup (same_values wanted) entries)) [] ++ cond (same_values wanted values) (source ∷ []) []) (sym away))))
+
+listed-labels : (rule : InhibitRule) (values : List (List ℕ)) (at : ℕ) (labels : Labels) (entries : SourceEntries)
+    → listed values (with_labels rule at labels entries) ≡ listed values entries ++ cond (all_admitted rule.source labels && same_values values (values_for rule.equal labels)) (source_of rule at labels ∷ []) []
+listed-labels rule values at labels entries =
+    let source = source_of rule at labels in
+    let own = values_for rule.equal labels in
+    let more = λ (b : Bool). listed values entries ++ cond (b && same_values values own) (source ∷ []) [] in
+    by_bool {P = listed values (with_labels rule at labels entries) ≡ more (all_admitted rule.source labels)} (all_admitted rule.source labels)
+    (λ t. ap (λ b. listed values (cond b (with_source own source entries) entries)) t ∙ (listed-with values own source entries ∙ ap more (sym t)))
+    (λ f. ap (λ b. listed values (cond b (with_source own source entries) entries)) f ∙ (sym (append-nil (listed values entries)) ∙ ap more (sym f)))
+
+sources_from-push : (rule : InhibitRule) (values : List (List ℕ)) (at : ℕ) (sets : List Labels) (labels : Labels)
+    → sources_from rule values at (sets ++ labels ∷ []) ≡ sources_from rule values at sets ++ cond (all_admitted rule.source labels && same_values values (values_for rule.equal labels)) (source_of rule (at + length sets) labels ∷ []) []
+sources_from-push rule values at [] labels =
+    let here : at ≡ at + 0 = omega arith in
+    ap (λ n. cond (all_admitted rule.source labels && same_values values (values_for rule.equal labels)) (source_of rule n labels ∷ []) []) here
+sources_from-push rule values at (first ∷ sets) labels =
+    let last = λ (n : ℕ). cond (all_admitted rule.source labels && same_values values (values_for rule.equal labels)) (source_of rule n labels ∷ []) [] in
+    let along : at + 1 + length sets ≡ at + length (first ∷ sets) = omega arith in
+    let rest : sources_from rule values (at + 1) (sets ++ labels ∷ []) ≡ sources_from rule values (at + 1) sets ++ last (at + length (first ∷ sets)) =
+    sources_from-push rule values (at + 1) sets labels ∙ ap (λ n. sources_from rule values (at + 1) sets ++ last n) along in
+    let source = source_of rule at first in
+    elim (all_admitted rule.source first && same_values values (values_for rule.equal first)) as (λ b. cond b (source ∷ sources_from rule values (at + 1) (sets ++ labels ∷ [])) (sources_from rule values (at + 1) (sets ++ labels ∷ [])) ≡ cond b (source ∷ sources_from rule values (at + 1) sets) (sources_from rule values (at + 1) sets) ++ last (at + length (first ∷ sets))) [ true ↦ ap (λ l. source ∷ l) rest | false ↦ rest ]
+
+-- ---- no values stand twice
+
+none-with : (wanted values : List (List ℕ)) (source : Source) (entries : SourceEntries) → same_values wanted values ≡ false → AllByRecursion (λ other. same_values wanted other ≡ false) (keys_of entries)
+    → AllByRecursion (λ other. same_values wanted other ≡ false) (keys_of (with_source values source entries))
+none-with wanted values source [] unlike none = (unlike, tt)
+none-with wanted values source (entry ∷ entries) unlike none =
+    let rest = none-with wanted values source entries unlike none.1 in
+    elim (same_values values entry.0) as (λ b. AllByRecursion (λ other. same_values wanted other ≡ false) (keys_of (cond b ((entry.0, entry.1 ++ source ∷ []) ∷ entries) (entry ∷ with_source values source entries)))) [ true ↦ none | false ↦ (none.0, rest) ]
+
+distinct-with : (values : List (List ℕ)) (source : Source) (entries : SourceEntries) → IsDistinct same_values (keys_of entries) → IsDistinct same_values (keys_of (with_source values source entries))
+unfolding IsDistinct
+distinct-with values source [] distinct = (tt, tt)
+distinct-with values source (entry ∷ entries) distinct =
+    let after = λ (b : Bool). cond b ((entry.0, entry.1 ++ source ∷ []) ∷ entries) (entry ∷ with_source values source entries) in
+    by_bool {P = IsDistinct same_values (keys_of (after (same_values values entry.0)))} (same_values values entry.0)
+    (λ t. subst (λ b. IsDistinct same_values (keys_of (after b))) (sym t) distinct)
+    (λ f. subst (λ b. IsDistinct same_values (keys_of (after b))) (sym f) (none-with entry.0 values source entries (values_equiv.symm entry.0 values ∙ f) distinct.0, distinct-with values source entries distinct.1))
+
 -- ---- one alert more
 
-with_all_labels-push : (rule : InhibitRule) (at : ℕ) (sets : List Labels) (labels : Labels) (entries : SourceEntries)
-    → with_all_labels rule at (sets ++ labels ∷ []) entries ≡ with_labels rule (at + length sets) labels (with_all_labels rule at sets entries)
-with_all_labels-push rule at [] labels entries = ap (λ n. with_labels rule n labels entries) (omega arith)
-with_all_labels-push rule at (first ∷ sets) labels entries =
-    let along : at + 1 + length sets ≡ at + length (first ∷ sets) = omega arith in
-    with_all_labels-push rule (at + 1) sets labels (with_labels rule at first entries)
-    ∙ ap (λ n. with_labels rule n labels (with_all_labels rule (at + 1) sets (with_labels rule at first entries))) along
+is_index-with : (sets : List Labels) (labels : Labels) (index : IndexView) → IsIndexOf sets index → IsIndexOf (sets ++ labels ∷ []) (index_with (length sets) labels index)
+is_index-with sets labels index is =
+    let rule = index.rule in
+    let own = values_for rule.equal labels in
+    let source = source_of rule (length sets) labels in (
+      elim (all_admitted rule.source labels) as (λ b. IsDistinct same_values (keys_of (cond b (with_source own source index.entries) index.entries))) [ true ↦ distinct-with own source index.entries is.0 | false ↦ is.0 ],
+      λ values.
+          let last = λ (n : ℕ). cond (all_admitted rule.source labels && same_values values own) (source_of rule n labels ∷ []) [] in
+          let here : length sets ≡ 0 + length sets = omega arith in
+          listed-labels rule values (length sets) labels index.entries
+          ∙ (ap (λ l. l ++ last (length sets)) (is.1 values)
+          ∙ (ap (λ n. sources_from rule values 0 sets ++ last n) here
+          ∙ sym (sources_from-push rule values 0 sets labels))),
+    )
 
-index_of-push : (alerts : List Alert) (next : Alert) (rule : InhibitRule) → index_of (alerts ++ next ∷ []) rule ≡ index_with (length alerts) next.labels (index_of alerts rule)
-index_of-push alerts next rule =
-    let sets : label_sets (alerts ++ next ∷ []) ≡ label_sets alerts ++ next.labels ∷ [] = map-append (λ (alert : Alert). alert.labels) alerts (next ∷ []) in
-    let long : 0 + length (label_sets alerts) ≡ length alerts = omega (arith, length-map alerts (λ (alert : Alert). alert.labels)) in
-    let own : IndexView = index_of alerts rule in
-    ap (λ l. record own { entries = with_all_labels rule 0 l [] }) sets
-    ∙ (ap (λ l. record own { entries = l }) (with_all_labels-push rule 0 (label_sets alerts) next.labels [])
-    ∙ ap (λ n. index_with n next.labels own) long)
+rules_indexed-map : (f : IndexView → IndexView) (indexes : List IndexView) → ((index : IndexView) → (f index).rule ≡ index.rule) → rules_indexed (map f indexes) ≡ rules_indexed indexes
+rules_indexed-map f [] same = refl
+rules_indexed-map f (index ∷ indexes) same = ap (λ r. r ∷ rules_indexed (map f indexes)) (same index) ∙ ap (λ l. index.rule ∷ l) (rules_indexed-map f indexes same)
 
-pub indexes_of-push : (rules : List InhibitRule) (alerts : List Alert) (next : Alert) → indexes_of rules (alerts ++ next ∷ []) ≡ map (index_with (length alerts) next.labels) (indexes_of rules alerts)
-indexes_of-push [] alerts next = refl
-indexes_of-push (rule ∷ rules) alerts next =
-    ap (λ i. i ∷ indexes_of rules (alerts ++ next ∷ [])) (index_of-push alerts next rule)
-    ∙ ap (λ l. index_with (length alerts) next.labels (index_of alerts rule) ∷ l) (indexes_of-push rules alerts next)
+all_mapped : (f : IndexView → IndexView) (olds news : List Labels) (indexes : List IndexView) → ((index : IndexView) → IsIndexOf olds index → IsIndexOf news (f index)) → AllByRecursion (IsIndexOf olds) indexes → AllByRecursion (IsIndexOf news) (map f indexes)
+all_mapped f olds news [] each all = tt
+all_mapped f olds news (index ∷ indexes) each all = (each index all.0, all_mapped f olds news indexes each all.1)
 
--- the indexes go by the label sets alone
-pub indexes_of-labels : (rules : List InhibitRule) (alerts others : List Alert) → label_sets alerts ≡ label_sets others → indexes_of rules alerts ≡ indexes_of rules others
-indexes_of-labels rules alerts others same =
-    ap (λ sets. map (λ rule. let own : IndexView = record { rule = rule; entries = with_all_labels rule 0 sets [] } in own) rules) same
+-- the indexes of rules, each changed to that of other label sets
+pub are_mapped : (rules : List InhibitRule) (f : IndexView → IndexView) (olds news : List Labels) (indexes : List IndexView) → ((index : IndexView) → (f index).rule ≡ index.rule) → ((index : IndexView) → IsIndexOf olds index → IsIndexOf news (f index))
+    → AreIndexesOf rules olds indexes → AreIndexesOf rules news (map f indexes)
+are_mapped rules f olds news indexes same each are = (rules_indexed-map f indexes same ∙ are.0, all_mapped f olds news indexes each are.1)
+
+pub are_indexes-with : (rules : List InhibitRule) (sets : List Labels) (labels : Labels) (indexes : List IndexView) → AreIndexesOf rules sets indexes → AreIndexesOf rules (sets ++ labels ∷ []) (map (index_with (length sets) labels) indexes)
+are_indexes-with rules sets labels indexes are =
+    are_mapped rules (index_with (length sets) labels) sets (sets ++ labels ∷ []) indexes (λ index. refl) (is_index-with sets labels) are
+
+rules_indexed-empty : (rules : List InhibitRule) → rules_indexed (empty_indexes rules) ≡ rules
+rules_indexed-empty [] = refl
+rules_indexed-empty (rule ∷ rules) = ap (λ l. rule ∷ l) (rules_indexed-empty rules)
+
+all_empty : (rules : List InhibitRule) → AllByRecursion (IsIndexOf []) (empty_indexes rules)
+unfolding IsDistinct
+all_empty [] = tt
+all_empty (rule ∷ rules) = ((tt, λ values. refl), all_empty rules)
+
+pub are_empty : (rules : List InhibitRule) → AreIndexesOf rules [] (empty_indexes rules)
+are_empty rules = (rules_indexed-empty rules, all_empty rules)

@@ -22,10 +22,10 @@ abbrev pub AreApart : List Alert → Type 0
 AreApart [] = Unit {0}
 AreApart (alert ∷ alerts) = (has alert.labels alerts ≡ false) × AreApart alerts
 
-same_turned : (a b : Labels) → same_labels a b ≡ same_labels b a
+pub same_turned : (a b : Labels) → same_labels a b ≡ same_labels b a
 same_turned a b = labels_equiv.symm a b
 
-same_along : (a b c : Labels) → same_labels a b ≡ true → same_labels a c ≡ same_labels b c
+pub same_along : (a b c : Labels) → same_labels a b ≡ true → same_labels a c ≡ same_labels b c
 same_along a b c e = ap (λ l. same_labels l c) ((labels_decide a b).0 e)
 
 -- ---- the last alert of a label set
@@ -50,7 +50,7 @@ last_of-push alerts next alert =
 
 -- ---- the first alerts
 
-has_none : (labels : Labels) (alerts : List Alert) → has labels (filter (λ other. not (same_labels labels other.labels)) alerts) ≡ false
+pub has_none : (labels : Labels) (alerts : List Alert) → has labels (filter (λ other. not (same_labels labels other.labels)) alerts) ≡ false
 has_none labels [] = refl
 has_none labels (alert ∷ alerts) =
     by_bool {P = has labels (filter (λ other. not (same_labels labels other.labels)) (alert ∷ alerts)) ≡ false} (same_labels labels alert.labels)
@@ -71,7 +71,7 @@ has_less labels test (alert ∷ alerts) none =
     (λ yes. ap (λ b. has labels (cond b (alert ∷ filter test alerts) (filter test alerts))) yes ∙ (ap (λ b. b || has labels (filter test alerts)) f ∙ left))
     (λ no. ap (λ b. has labels (cond b (alert ∷ filter test alerts) (filter test alerts))) no ∙ left))
 
-apart_less : (test : Alert → Bool) (alerts : List Alert) → AreApart alerts → AreApart (filter test alerts)
+pub apart_less : (test : Alert → Bool) (alerts : List Alert) → AreApart alerts → AreApart (filter test alerts)
 apart_less test [] apart = tt
 apart_less test (alert ∷ alerts) apart =
     by_bool {P = AreApart (filter test (alert ∷ alerts))} (test alert)
@@ -170,7 +170,7 @@ has_kept labels one (alert ∷ alerts) keeps =
     ap (λ l. same_labels labels l || has labels (map one alerts)) (keeps.labels alert)
     ∙ ap (λ b. same_labels labels alert.labels || b) (has_kept labels one alerts keeps)
 
-map_more : {A B : Type 0} (f : A → B) (xs : List A) (x : A) → map f (xs ++ x ∷ []) ≡ map f xs ++ f x ∷ []
+pub map_more : {A B : Type 0} (f : A → B) (xs : List A) (x : A) → map f (xs ++ x ∷ []) ≡ map f xs ++ f x ∷ []
 map_more f [] x = refl
 map_more f (y ∷ xs) x = ap (λ l. f y ∷ l) (map_more f xs x)
 

@@ -1,8 +1,11 @@
 pub mod Cases
 pub mod LastAlerts
+pub mod KeptAlerts
 pub mod AlertEntries
 pub mod Counting
 pub mod Indexes
 pub mod Searching
+pub mod Places
 pub mod Muting
 pub mod RuleSearch
+pub mod Sweeping

@@ -1,5 +1,5 @@
 -- A search through the rules finds the first candidate that mutes the target.
-use Rattle.std.proofs.Common.{◌≡◌, ℕ, zero, suc, ◌+◌, ◌<◌, Bool, true, false, cond, List, [], ◌∷◌, ◌++◌, map, filter, length, get_or, Option, Some, None, refl, sym, ap, ◌∙◌, arith}
+use Rattle.std.proofs.Common.{◌≡◌, ℕ, zero, suc, ◌+◌, ◌<◌, Bool, true, false, cond, List, [], ◌∷◌, ◌++◌, map, filter, length, Option, Some, None, refl, sym, ap, ◌∙◌, arith}
 use Rattle.std.specs.List.{find, slice_get}
 use Rattle.std.specs.Option.{option_map, option_and_then, option_or}
 use Rattle.std.proofs.lemmas.List.Folds.{find-append}
@@ -9,7 +9,6 @@ use Rattle.am_labels.specs.LabelSets.{Labels}
 use Rattle.am_config.specs.declared.inhibit_rule.InhibitRule.{InhibitRule}
 use Rattle.am_inhibit.specs.LastAlerts.{label_sets}
 use Rattle.am_inhibit.specs.Muting.{is_candidate, inhibits, Candidate, rule_candidates, candidate_inhibits, count_to}
-use Rattle.am_inhibit.specs.inside.Indexes.{IndexView, index_of, indexes_of, rules_indexed}
 use Rattle.am_inhibit.proofs.Cases.{by_bool}
 use Rattle.am_inhibit.proofs.Counting.{count_to-yes, count_to-no}
 
@@ -62,24 +61,3 @@ got_within (x ∷ xs) (suc at) early = got_within xs at (omega arith)
 
 pub label_set_at : (alerts : List Alert) (at : ℕ) (alert : Alert) → slice_get alerts at ≡ Some alert → slice_get (label_sets alerts) at ≡ Some alert.labels
 label_set_at alerts at alert got = slice_get-map (λ (a : Alert). a.labels) alerts at ∙ ap (option_map (λ (a : Alert). a.labels)) got
-
--- ---- indexes and their rules
-
-pub rules_indexed-indexes : (rules : List InhibitRule) (alerts : List Alert) → rules_indexed (indexes_of rules alerts) ≡ rules
-rules_indexed-indexes [] alerts = refl
-rules_indexed-indexes (rule ∷ rules) alerts = ap (λ l. rule ∷ l) (rules_indexed-indexes rules alerts)
-
--- each index is the one of its rule
-pub record AreIndexed (indexes : List IndexView) (alerts : List Alert) : Type 0 where
-  pub are : indexes ≡ indexes_of (rules_indexed indexes) alerts
-
-pub indexed_at : (indexes : List IndexView) (alerts : List Alert) (at : ℕ) (index : IndexView) → AreIndexed indexes alerts → at < length indexes → index ≡ get_or indexes at index → index ≡ index_of alerts index.rule
-indexed_at [] alerts at index indexed early is = absurd (omega arith)
-indexed_at (first ∷ indexes) alerts zero index indexed early is =
-    let are = indexed.are in
-    let own : first ≡ index_of alerts first.rule = (cc) in
-    is ∙ (own ∙ ap (λ (i : IndexView). index_of alerts i.rule) (sym is))
-indexed_at (first ∷ indexes) alerts (suc at) index indexed early is =
-    let are = indexed.are in
-    let rest : indexes ≡ indexes_of (rules_indexed indexes) alerts = (cc) in
-    indexed_at indexes alerts at index (record { are = rest }) (omega arith) is

@@ -1,10 +1,7 @@
 -- The sources that an index lists for a target are those that come into question.
-use Rattle.std.proofs.Common.{◌≡◌, ℕ, zero, suc, ◌+◌, ◌<◌, ◌≤◌, Bool, true, false, not, ◌&&◌, cond, List, [], ◌∷◌, ◌++◌, map, filter, length, drop, Some, None, refl, sym, ap, ◌∙◌, arith, append_assoc, append-nil}
+use Rattle.std.proofs.Common.{◌≡◌, ℕ, zero, suc, ◌+◌, ◌<◌, ◌≤◌, Bool, true, false, not, ◌&&◌, cond, List, [], ◌∷◌, map, filter, length, drop, Some, refl, sym, ap, ◌∙◌, arith}
 use Rattle.std.specs.List.{slice_get, find, All, AllByRecursion}
-use Rattle.std.specs.Map.{lookup}
-use Rattle.std.specs.Option.{unwrap_or, option_map, option_map_or, option_and_then}
-use Rattle.std.specs.Cmp.{unsigned_Decides}
-use Rattle.std.specs.Cmp.Lexicographic.{pointwise_decides}
+use Rattle.std.specs.Option.{option_map, option_map_or, option_and_then}
 use Rattle.std.proofs.lemmas.List.Elements.{All-from_recursion}
 use Rattle.am_labels.specs.LabelSets.{Labels, value_of}
 use Rattle.am_labels.specs.Matchers.{all_admitted}
@@ -15,75 +12,16 @@ use Rattle.am_config.specs.declared.inhibit_rule.InhibitRule.{InhibitRule}
 use Rattle.am_inhibit.specs.declared.source.Source.{Source}
 use Rattle.am_inhibit.specs.LastAlerts.{label_sets}
 use Rattle.am_inhibit.specs.Muting.{agree_on, is_on_both_sides, is_candidate, inhibits, count_to}
-use Rattle.am_inhibit.specs.inside.Sources.{same_values, values_equiv}
-use Rattle.am_inhibit.specs.inside.Indexes.{SourceEntries, values_of as values_for, source_of, with_source, with_labels, with_all_labels, source_inhibits}
+use Rattle.am_inhibit.specs.inside.Sources.{same_values}
+use Rattle.am_inhibit.specs.inside.Indexes.{IndexView, values_of as values_for, source_of, listed, sources_from, IsIndexOf, source_inhibits}
 use Rattle.am_inhibit.proofs.Cases.{by_bool}
 use Rattle.am_inhibit.proofs.Counting.{count_to-yes, count_to-no, find-yes, find-no}
 
--- the sources that entries list for values
-abbrev pub listed : List (List ℕ) → SourceEntries → List Source
-listed values entries = unwrap_or (lookup (same_values values) entries) []
-
--- those of some label sets, counted from a number
-abbrev pub sources_from : InhibitRule → List (List ℕ) → ℕ → List Labels → List Source
-sources_from rule values at [] = []
-sources_from rule values at (labels ∷ rest) =
-    cond (all_admitted rule.source labels && same_values values (values_for rule.equal labels)) (source_of rule at labels ∷ sources_from rule values (at + 1) rest)
-    (sources_from rule values (at + 1) rest)
-
-same_are : (a b : List (List ℕ)) → same_values a b ≡ true → a ≡ b
-same_are a b e = (pointwise_decides (pointwise_decides unsigned_Decides) a b).0 e
-
-pub listed-with : (wanted values : List (List ℕ)) (source : Source) (entries : SourceEntries) → listed wanted (with_source values source entries) ≡ listed wanted entries ++ cond (same_values wanted values) (source ∷ []) []
-listed-with wanted values source [] =
-    elim (same_values wanted values) as (λ b. unwrap_or (cond b (Some (source ∷ [])) None) [] ≡ cond b (source ∷ []) []) [ true ↦ refl | false ↦ refl ]
-listed-with wanted values source (entry ∷ entries) =
-    by_bool {P = listed wanted (with_source values source (entry ∷ entries)) ≡ listed wanted (entry ∷ entries) ++ cond (same_values wanted values) (source ∷ []) []} (same_values values entry.0)
-    (λ t.
-    let own : same_values wanted values ≡ same_values wanted entry.0 = ap (same_values wanted) (same_are values entry.0 t) in
-    ap (λ b. listed wanted (cond b ((entry.0, entry.1 ++ source ∷ []) ∷ entries) (entry ∷ with_source values source entries))) t
-    ∙ (elim (same_values wanted entry.0) as (λ b. unwrap_or (cond b (Some (entry.1 ++ source ∷ [])) (lookup (same_values wanted) entries)) [] ≡ unwrap_or (cond b (Some entry.1) (lookup (same_values wanted) entries)) [] ++ cond b (source ∷ []) []) [ true ↦ refl | false ↦ sym (append-nil (listed wanted entries)) ]
-    ∙ ap (λ b. listed wanted (entry ∷ entries) ++ cond b (source ∷ []) []) (sym own)))
-    (λ f.
-    ap (λ b. listed wanted (cond b ((entry.0, entry.1 ++ source ∷ []) ∷ entries) (entry ∷ with_source values source entries))) f
-    ∙ by_bool {P = listed wanted (entry ∷ with_source values source entries) ≡ listed wanted (entry ∷ entries) ++ cond (same_values wanted values) (source ∷ []) []} (same_values wanted entry.0)
-    (λ here.
-    let other : same_values wanted values ≡ false = ap (λ l. same_values l values) (same_are wanted entry.0 here) ∙ (values_equiv.symm entry.0 values ∙ f) in
-    ap (λ b. unwrap_or (cond b (Some entry.1) (lookup (same_values wanted) (with_source values source entries))) []) here
-    ∙ (sym (append-nil entry.1)
-    ∙ (ap (λ b. entry.1 ++ cond b (source ∷ []) []) (sym other)
-    ∙ ap (λ b. unwrap_or (cond b (Some entry.1) (lookup (same_values wanted) entries)) [] ++ cond (same_values wanted values) (source ∷ []) []) (sym here))))
-    (λ away.
-    ap (λ b. unwrap_or (cond b (Some entry.1) (lookup (same_values wanted) (with_source values source entries))) []) away
-    ∙ (listed-with wanted values source entries
-    ∙ ap (λ b. unwrap_or (cond b (Some entry.1) (lookup (same_values wanted) entries)) [] ++ cond (same_values wanted values) (source ∷ []) []) (sym away))))
-
-pub listed-all : (rule : InhibitRule) (wanted : List (List ℕ)) (at : ℕ) (sets : List Labels) (entries : SourceEntries)
-    → listed wanted (with_all_labels rule at sets entries) ≡ listed wanted entries ++ sources_from rule wanted at sets
-listed-all rule wanted at [] entries = sym (append-nil (listed wanted entries))
-listed-all rule wanted at (labels ∷ sets) entries =
-    let source = source_of rule at labels in
-    let values = values_for rule.equal labels in
-    let rest = sources_from rule wanted (at + 1) sets in
-    listed-all rule wanted (at + 1) sets (with_labels rule at labels entries)
-    ∙ by_bool {P = listed wanted (with_labels rule at labels entries) ++ rest ≡ listed wanted entries ++ sources_from rule wanted at (labels ∷ sets)} (all_admitted rule.source labels)
-    (λ t.
-    ap (λ b. listed wanted (cond b (with_source values source entries) entries) ++ rest) t
-    ∙ (ap (λ l. l ++ rest) (listed-with wanted values source entries)
-    ∙ (append_assoc (listed wanted entries) (cond (same_values wanted values) (source ∷ []) []) rest
-    ∙ (ap (λ l. listed wanted entries ++ l) (elim (same_values wanted values) as (λ b. cond b (source ∷ []) [] ++ rest ≡ cond b (source ∷ rest) rest) [ true ↦ refl | false ↦ refl ])
-    ∙ ap (λ b. listed wanted entries ++ cond (b && same_values wanted values) (source ∷ rest) rest) (sym t)))))
-    (λ f.
-    ap (λ b. listed wanted (cond b (with_source values source entries) entries) ++ rest) f
-    ∙ ap (λ b. listed wanted entries ++ cond (b && same_values wanted values) (source ∷ rest) rest) (sym f))
-
--- what is listed for a target's values are the sources among the alerts that agree with it
-pub listed_are : (rule : InhibitRule) (labels : Labels) (alerts : List Alert) (entries : SourceEntries) (names values : List (List ℕ)) → entries ≡ with_all_labels rule 0 (label_sets alerts) [] → names ≡ rule.equal → values ≡ map (value_of labels) names
-    → listed values entries ≡ sources_from rule (values_for rule.equal labels) 0 (label_sets alerts)
-listed_are rule labels alerts entries names values indexed named have =
-    ap (λ v. listed v entries) (have ∙ ap (map (value_of labels)) named)
-    ∙ (ap (listed (values_for rule.equal labels)) indexed
-    ∙ listed-all rule (values_for rule.equal labels) 0 (label_sets alerts) [])
+-- what is listed for a target's values are the sources among the label sets that agree with it
+pub listed_are : (index : IndexView) (labels : Labels) (sets : List Labels) (names values : List (List ℕ)) → IsIndexOf sets index → names ≡ index.rule.equal → values ≡ map (value_of labels) names
+    → listed values index.entries ≡ sources_from index.rule (values_for index.rule.equal labels) 0 sets
+listed_are index labels sets names values is named have =
+    is.1 values ∙ ap (λ v. sources_from index.rule v 0 sets) (have ∙ ap (map (value_of labels)) named)
 
 -- ---- a target
 
@@ -97,7 +35,7 @@ drop_suc [] (suc at) x rest e = absurd (cc)
 drop_suc (y ∷ xs) zero x rest e = ((let same : y ≡ x = (cc) in ap Some same), (let same : xs ≡ rest = (cc) in same))
 drop_suc (y ∷ xs) (suc at) x rest e = drop_suc xs at x rest e
 
-drop_next : {X : Type 0} (xs : List X) (at : ℕ) (x : X) (rest : List X) → drop at xs ≡ x ∷ rest → (slice_get xs at ≡ Some x) × (drop (at + 1) xs ≡ rest)
+pub drop_next : {X : Type 0} (xs : List X) (at : ℕ) (x : X) (rest : List X) → drop at xs ≡ x ∷ rest → (slice_get xs at ≡ Some x) × (drop (at + 1) xs ≡ rest)
 drop_next xs at x rest e =
     let next = drop_suc xs at x rest e in
     let more : at + 1 ≡ suc at = omega arith in (next.0, ap (λ n. drop n xs) more ∙ next.1)

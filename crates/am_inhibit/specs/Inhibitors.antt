@@ -5,7 +5,7 @@ use Rattle.am_alert.specs.declared.alert.Alert.{Alert}
 use Rattle.am_alert.specs.Alerts.{coded_alert}
 use Rattle.am_config.specs.declared.inhibit_rule.InhibitRule.{InhibitRule}
 
--- its rules, the last alert of each label set, and how many candidates it examined for its last answer
+-- its rules, the alerts that it keeps, and how many candidates it examined for its last answer
 pub record InhibitorView : Type 0 where
   pub rules : List InhibitRule
   pub alerts : List Alert

@@ -3,6 +3,7 @@ pub use Rattle.am_labels.specs.Matchers
 pub use Rattle.am_alert.specs.Alerts
 pub use Rattle.am_alert.specs.Merging
 pub mod LastAlerts
+pub mod KeptAlerts
 pub mod Muting
 pub mod Inhibitors
 pub mod InhibitionLaws

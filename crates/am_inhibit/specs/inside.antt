@@ -1,4 +1,5 @@
 -- Definitions that only code of this crate cites.
 pub mod Sources
 pub mod Indexes
+pub mod Places
 pub mod Searches

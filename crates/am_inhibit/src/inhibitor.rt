@@ -1,8 +1,13 @@
 //! The inhibitor: which targets the alerts that it was given mute.
 
-ghost use Rattle.std.specs.Prelude.{◌≡◌, ◌<◌, ◌≤◌, [], ◌∷◌, ◌++◌, None, Some, map, min, length, position, IfOk, OnOk, OnErr};
+ghost use Rattle.std.specs.Prelude.{◌≡◌, ◌<◌, ◌≤◌, [], ◌∷◌, ◌++◌, None, Some, All, map, min, length, position};
+ghost use Rattle.std.specs.Prelude.{IfOk, OnOk, OnErr, vec_capacity};
 ghost use Rattle.am_inhibit.specs.Muting.{candidate_inhibits, count_to};
-ghost use Rattle.am_inhibit.specs.inside.Indexes.{index_with, indexes_before, indexes_of, rules_indexed};
+ghost use Rattle.am_inhibit.specs.KeptAlerts.{unresolved};
+ghost use Rattle.am_inhibit.specs.LastAlerts.{label_sets};
+ghost use Rattle.am_inhibit.specs.inside.Indexes.{IsIndexOf, index_with, indexes_before};
+ghost use Rattle.am_inhibit.specs.inside.Indexes.{empty_indexes, rules_indexed};
+ghost use Rattle.am_inhibit.specs.inside.Places.{index_swept, places_from};
 ghost use Rattle.am_inhibit.specs.inside.Searches.{candidates_from, first_muted, StandsFor};
 
 use crate::last_alerts::LastAlerts;
@@ -30,13 +35,15 @@ pub(crate) struct MutingSearch {
     looked: u64,
 }
 
-/// The last alert of each label set, and the rules by which they mute others.
+/// The last alert of each label set, until a sweep drops it, and the rules by which they mute others.
 #[derive(Drop)]
 pub struct Inhibitor<'r> {
     rules: &'r InhibitRules,
     // One for each rule, in their order.
     indexes: Vec<SourceIndex<'r>>,
     alerts: LastAlerts,
+    // The new index of each alert in a sweep. It has room for all, so that a sweep takes no memory.
+    places: Vec<Option<usize>>,
     looked: u64,
 }
 
@@ -49,17 +56,20 @@ impl<'r> Model for Inhibitor<'r> {
 
     ghost coded = { coded_inhibitor inhibit_rule.the_row.coded };
 
-    ghost use Rattle.am_inhibit.specs.inside.Indexes.{indexes_of};
+    ghost use Rattle.std.specs.Prelude.{vec_capacity};
+    ghost use Rattle.am_inhibit.specs.inside.Places.{IsIndexed};
 
     ghost view = { λ i. record { rules = i.rules.now; alerts = i.alerts; looked = i.looked } };
 
-    ghost invariant = { λ i. i.indexes.items ≡ indexes_of i.rules.now i.alerts };
+    ghost invariant = { λ i. IsIndexed i.rules.now i.alerts i.indexes.items (vec_capacity i.places) };
 }
 
 impl<'r> Inhibitor<'r> {
     ghost use Rattle.std.specs.Prelude.{⊤, slice_get};
     ghost use Rattle.std.specs.Borrow.{sem};
+    ghost use Rattle.std.specs.List.{count_by};
     ghost use Rattle.std.specs.Option.{option_map};
+    ghost use Rattle.am_alert.specs.Merging.{is_resolved_at};
     ghost use Rattle.am_inhibit.specs.contracts.inhibitor.Inhibitor.{the_row};
     ghost use mathlib.Core.Option.{none};
     ghost use mir.Syntax.{named};
@@ -79,6 +89,7 @@ impl<'r> Inhibitor<'r> {
             rules,
             indexes: prepare_each(alloc, rules)?,
             alerts: LastAlerts::new(alloc),
+            places: Vec::new(alloc),
             looked: 0,
         })
     }
@@ -97,8 +108,8 @@ impl<'r> Inhibitor<'r> {
     }
 
     /// Whether a target is muted: by which rule, and by the alert of which label set. The lowest rule
-    /// answers, and of its sources the one whose label set was taken first. If memory runs out,
-    /// nothing changes.
+    /// answers, and of its sources the one whose label set was taken first since it was last absent. If
+    /// memory runs out, nothing changes.
     pub fn mutes(
         &mut self,
         labels: &LabelSet,
@@ -116,6 +127,19 @@ impl<'r> Inhibitor<'r> {
             return Ok(None);
         };
         Ok(Some((muting.rule as u64, self.label_set(muting.at))))
+    }
+
+    /// Drops each alert that is resolved at a moment, and returns how many they were. It takes no
+    /// memory.
+    pub fn sweep(&mut self, now: Moment) -> u64
+        ensures swept { self.new
+            ≡ record self.old { alerts = unresolved now self.old.alerts } }
+        ensures dropped { result ≡ count_by (is_resolved_at now) self.old.alerts }
+    {
+        note_places(&mut self.places, self.alerts.as_slice(), now);
+        sweep_all(&mut self.indexes, &self.places);
+        self.places.clear();
+        self.alerts.sweep(now)
     }
 
     /// How many sources the last `mutes` examined: those that the rules name for the target and that
@@ -157,6 +181,7 @@ impl<'r> Inhibitor<'r> {
     {
         let alloc = self.alerts.allocator();
         let at = self.alerts.as_slice().len();
+        self.places.reserve(at + 1)?;
         let changes = add_to_all(alloc, &mut self.indexes, &alert.labels, at)?;
         match self.alerts.push(alert) {
             Ok(()) => Ok(()),
@@ -173,7 +198,7 @@ fn prepare_each<'r>(
     alloc: Global,
     rules: &'r InhibitRules,
 ) -> Result<Vec<SourceIndex<'r>>, AllocError>
-    ensures { IfOk result (λ indexes. indexes.items ≡ indexes_of rules.now []) }
+    ensures { IfOk result (λ indexes. indexes.items ≡ empty_indexes rules.now) }
 {
     let mut indexes = Vec::with_capacity(alloc, rules.as_slice().len())?;
     for rule in rules.as_slice() {
@@ -189,7 +214,7 @@ fn search_all(
     labels: &LabelSet,
     now: Moment,
 ) -> Result<MutingSearch, AllocError>
-    requires { indexes.old ≡ indexes_of (rules_indexed indexes.old) alerts.now }
+    requires { All (IsIndexOf (label_sets alerts.now)) indexes.old }
     ensures muting { IfOk result (λ search. StandsFor alerts.now search.muting
         (first_muted labels.now now (candidates_from 0 labels.now alerts.now (rules_indexed indexes.old)))) }
     ensures looked { IfOk result (λ search. search.looked ≡ min (count_to
@@ -236,6 +261,33 @@ fn add_to_all(
         }
     }
     Ok(changes)
+}
+
+// The new index of each alert in a sweep: that of an unresolved one after those before it.
+fn note_places(places: &mut Vec<Option<usize>>, alerts: &[Alert], now: Moment)
+    requires { length alerts.now ≤ vec_capacity places.old }
+    ensures places { places.new.items ≡ places_from 0 now alerts.now }
+    ensures room { vec_capacity places.new ≡ vec_capacity places.old }
+{
+    places.clear();
+    let mut place = 0usize;
+    for alert in alerts {
+        if alert.resolved_at(now) {
+            places.push_reserved(None);
+        } else {
+            places.push_reserved(Some(place));
+            place += 1;
+        }
+    }
+}
+
+// Moves the sources of each rule to the new indexes of their alerts.
+fn sweep_all(indexes: &mut [SourceIndex<'_>], places: &[Option<usize>])
+    ensures { indexes.new ≡ map (index_swept places.now) indexes.old }
+{
+    for index in 0..indexes.len() {
+        indexes[index].sweep(places);
+    }
 }
 
 // Undoes the changes of the first indexes.

@@ -1,18 +1,21 @@
 //! The alerts that an inhibitor knows.
 
-ghost use Rattle.std.specs.Prelude.{◌≡◌, [], ◌∷◌, ◌++◌, None, Some, IfOk, OnOk, OnErr, length, position};
+ghost use Rattle.std.specs.Prelude.{◌≡◌, [], ◌∷◌, ◌++◌, None, Some, IfOk, OnOk, OnErr, length, position, not};
+ghost use Rattle.std.specs.List.{count_by};
+ghost use Rattle.am_alert.specs.Merging.{is_resolved_at};
 ghost use Rattle.am_labels.specs.LabelSets.{same_labels};
 ghost use Rattle.am_inhibit.specs.LastAlerts.{label_sets, last_alerts};
+ghost use Rattle.am_inhibit.specs.KeptAlerts.{unresolved};
 
-use am_alert::Alert;
+use am_alert::{Alert, Moment};
 use am_labels::LabelSet;
 use indexmap::IndexMap;
 use std::alloc::{AllocError, Global};
 use std::marker::Model;
 use std::mem;
 
-/// Of each label set its last alert, in the order in which the label sets were first taken, seen by
-/// contracts as their list.
+/// Of each label set its last alert, in the order in which the label sets began, seen by contracts as
+/// their list.
 #[derive(Drop)]
 pub(crate) struct LastAlerts {
     alerts: IndexMap<LabelSet, Alert>,
@@ -87,5 +90,19 @@ impl LastAlerts {
         let labels = alert.labels.copy()?;
         self.alerts.insert(labels, alert.copy()?)?;
         Ok(())
+    }
+
+    /// Drops the resolved alerts, and returns how many they were.
+    pub(crate) fn sweep(&mut self, now: Moment) -> u64
+        ensures kept { self.new ≡ unresolved now self.old }
+        ensures dropped { result ≡ count_by (is_resolved_at now) self.old }
+    {
+        let before = self.alerts.len();
+        self.alerts.retain(
+            |_labels: &LabelSet, alert: &mut Alert| -> bool
+                ensures { (result ≡ not (is_resolved_at now alert.old)) × (alert.new ≡ alert.old) }
+            { !alert.resolved_at(now) },
+        );
+        (before - self.alerts.len()) as u64
     }
 }

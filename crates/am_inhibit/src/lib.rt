@@ -1,10 +1,10 @@
 //! Who is muted: an alert of which another one tells already, by the inhibition rules of the
 //! configuration.
 //!
-//! An [`Inhibitor`] takes alerts and keeps the last one of each label set. While an alert that a
-//! rule names as a source fires, the targets that the rule names and that have the same values as
-//! the source are muted. A label set that matches both sides of a rule is never muted by it because
-//! of an alert that does so too, so no alert mutes itself.
+//! An [`Inhibitor`] takes alerts and keeps the last one of each label set, until a sweep finds it
+//! resolved. While an alert that a rule names as a source fires, the targets that the rule names and
+//! that have the same values as the source are muted. A label set that matches both sides of a rule
+//! is never muted by it because of an alert that does so too, so no alert mutes itself.
 //!
 //! ```text
 //! let mut inhibitor = Inhibitor::new(alloc, &config.rules)?;
@@ -12,7 +12,12 @@
 //! if let Some(muting) = inhibitor.mutes(&labels, now)? {
 //!     println!(rt; "rule {} by {}", muting.0, muting.1)?;     // rule 0 by {alertname="Down"}
 //! }
+//! let dropped = inhibitor.sweep(now);                 // resolved alerts are dropped
 //! ```
+//!
+//! Without sweeps an inhibitor grows with the label sets that it takes, and an answer examines the
+//! resolved sources too. A sweep at a moment changes no answer at that moment or later, but for which
+//! source is named: a label set that was dropped and is taken again comes after the others.
 //!
 //! This crate knows of no provider: it is handed alerts and labels, and each moment too.
 #![tactic(auto)]
@@ -25,4 +30,4 @@ mod source;
 mod source_index;
 
 pub use inhibitor::Inhibitor;
-pub use laws::inhibition_laws;
+pub use laws::{inhibition_laws, kept_laws, sweep_laws};

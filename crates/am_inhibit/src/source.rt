@@ -1,6 +1,7 @@
 //! The sources of a rule that have the same values.
 
 ghost use Rattle.std.specs.Prelude.{◌≡◌, [], ◌∷◌, ◌++◌, ◌-◌, IfOk, OnOk, OnErr, length, take};
+ghost use Rattle.am_inhibit.specs.inside.Places.{moved, moved_sources};
 
 use std::alloc::{AllocError, Global};
 use std::marker::Model;
@@ -59,4 +60,28 @@ impl Sources {
     {
         let _last = self.sources.pop();
     }
+
+    /// Moves each source to the new index of its alert, and drops those whose alert is dropped.
+    pub(crate) fn sweep(&mut self, places: &[Option<usize>])
+        ensures { self.new ≡ moved_sources places.now self.old }
+    {
+        self.sources.retain_mut(|source: &mut Source| match moved(*source, places) {
+            Some(at_place) => {
+                *source = at_place;
+                true
+            }
+            None => false,
+        });
+    }
+}
+
+// A source at the new index of its alert, unless that is dropped.
+fn moved(source: Source, places: &[Option<usize>]) -> Option<Source>
+    ensures { result ≡ moved places.now source }
+{
+    let place = places.get(source.at).copied().unwrap_or(None)?;
+    Some(Source {
+        at: place,
+        is_target: source.is_target,
+    })
 }

@@ -5,8 +5,10 @@ ghost use Rattle.am_alert.specs.Merging.{is_resolved_at};
 ghost use Rattle.std.specs.List.{find, slice_get};
 ghost use Rattle.std.specs.Option.{option_and_then, option_map};
 ghost use Rattle.am_inhibit.specs.Muting.{count_to, inhibits, is_candidate};
-ghost use Rattle.am_inhibit.specs.inside.Indexes.{index_of, index_with, index_before};
+ghost use Rattle.am_inhibit.specs.LastAlerts.{label_sets};
+ghost use Rattle.am_inhibit.specs.inside.Indexes.{IsIndexOf, empty_index, index_with, index_before};
 ghost use Rattle.am_inhibit.specs.inside.Indexes.{entries_before, source_inhibits, with_source};
+ghost use Rattle.am_inhibit.specs.inside.Places.{has_none, index_swept, moved_sources};
 
 use crate::equal_values::EqualValues;
 use crate::source::{Source, Sources};
@@ -62,7 +64,7 @@ impl<'r> Model for SourceIndex<'r> {
 
 impl<'r> SourceIndex<'r> {
     pub(crate) fn new(alloc: Global, rule: &'r InhibitRule) -> Result<SourceIndex<'r>, AllocError>
-        ensures { IfOk result (λ index. index ≡ index_of [] rule.now) }
+        ensures { IfOk result (λ index. index ≡ empty_index rule.now) }
     {
         Ok(SourceIndex {
             source: rule.source.prepare(alloc)?,
@@ -94,6 +96,22 @@ impl<'r> SourceIndex<'r> {
         leave_out(&mut self.sources, change);
     }
 
+    /// Moves each source to the new index of its alert, and drops those whose alert is dropped, and
+    /// then the values that have no source.
+    pub(crate) fn sweep(&mut self, places: &[Option<usize>])
+        ensures { self.new ≡ index_swept places.now self.old }
+    {
+        self.sources.retain(
+            |_values: &EqualValues, sources: &mut Sources| -> bool
+                ensures { (sources.new ≡ moved_sources places.entry.now sources.old)
+                    × (result ≡ not (has_none sources.new)) }
+            {
+                sources.sweep(places);
+                !sources.as_slice().is_empty()
+            },
+        );
+    }
+
     /// Looks for the first of the rule's sources that mutes a target.
     pub(crate) fn find(
         &mut self,
@@ -101,7 +119,7 @@ impl<'r> SourceIndex<'r> {
         alerts: &[Alert],
         now: Moment,
     ) -> Result<Found, AllocError>
-        requires { self.old ≡ index_of alerts.now self.old.rule }
+        requires { IsIndexOf (label_sets alerts.now) self.old }
         ensures at { IfOk result (λ found. option_and_then (slice_get alerts.now) found.at
             ≡ find (inhibits self.old.rule labels.now now)
             (filter (is_candidate self.old.rule labels.now) alerts.now)) }

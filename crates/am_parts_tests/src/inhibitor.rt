@@ -46,6 +46,13 @@ enum Turn {
     Take(Pairs, u32, u32),
     // It takes a source of each of a thousand other values.
     TakeOthers,
+    // It takes this many alerts of other names with the values of S, which fire from one minute of the
+    // day to another.
+    TakeMany(u32, u32, u32),
+    // A sweep at a minute drops this many.
+    Sweep(u32, u64),
+    // One a nanosecond before.
+    SweepBefore(u32, u64),
     // At a minute a target is muted by the rule of this number and the alert of these labels, or not
     // at all, and the answer came to so many sources.
     Ask(Pairs, u32, Option<(u64, Pairs)>, u64),
@@ -53,11 +60,14 @@ enum Turn {
 
 // So many minutes after the beginning of 2024.
 fn moment(minutes: u32) -> Moment {
+    moment_before(minutes, 0)
+}
+
+// So many nanoseconds before that.
+fn moment_before(minutes: u32, nanoseconds: u8) -> Moment {
     let since_year_1 = YEAR_2024 + u64::from(minutes);
-    match Moment::try_new(u128::from(since_year_1) * NANOSECONDS_A_MINUTE) {
-        Some(moment) => moment,
-        None => Moment::MAX,
-    }
+    let at = u128::from(since_year_1) * NANOSECONDS_A_MINUTE;
+    Moment::try_new(at.saturating_sub(u128::from(nanoseconds))).unwrap_or(Moment::MAX)
 }
 
 fn labels_once(alloc: Global, pairs: &[(&str, &str)]) -> Result<LabelSet, AllocError> {
@@ -121,6 +131,21 @@ fn take_others(alloc: Global, inhibitor: &mut Inhibitor<'_>) -> Result<(), Alloc
     Ok(())
 }
 
+fn take_many(
+    alloc: Global,
+    inhibitor: &mut Inhibitor<'_>,
+    count: u32,
+    start: u32,
+    end: u32,
+) -> Result<(), AllocError> {
+    for number in 0..count {
+        let name = number_of(alloc, number)?;
+        let pairs = [("alertname", name.as_str()), ("dc", "1"), ("sev", "down")];
+        take(alloc, inhibitor, &pairs, start, end)?;
+    }
+    Ok(())
+}
+
 fn answers(
     inhibitor: &mut Inhibitor<'_>,
     target: &LabelSet,
@@ -174,6 +199,14 @@ fn goes(alloc: Global, inhibitor: &mut Inhibitor<'_>, turn: Turn) -> Result<bool
         Turn::TakeOthers => {
             take_others(alloc, inhibitor)?;
             Ok(true)
+        }
+        Turn::TakeMany(count, start, end) => {
+            take_many(alloc, inhibitor, count, start, end)?;
+            Ok(true)
+        }
+        Turn::Sweep(minute, dropped) => Ok(inhibitor.sweep(moment(minute)) == dropped),
+        Turn::SweepBefore(minute, dropped) => {
+            Ok(inhibitor.sweep(moment_before(minute, 1)) == dropped)
         }
         Turn::Ask(target, minute, want, looked) => {
             let is_so = is_answer(alloc, inhibitor, target, moment(minute), want)?;
@@ -371,5 +404,91 @@ fn five_hundred_rules(rt: HostRuntime) -> Result<(), Fail> {
         Turn::Ask(W, AT_10_01, Some((499, source)), 1),
     ];
     assert_eq!(rt; wrong(alloc, rules.as_str(), &turns)?, None);
+    Ok(())
+}
+
+// A sweep drops a source from the moment of its end on. Taken again, it comes after the others.
+#[test]
+fn sweep_between(rt: HostRuntime) -> Result<(), Fail> {
+    let turns = [
+        Turn::Sweep(AT_10_00, 0),
+        Turn::Take(S, AT_10_00, AT_10_20),
+        Turn::Take(Z, AT_10_01, AT_10_30),
+        Turn::SweepBefore(AT_10_20, 0),
+        Turn::Ask(W, AT_10_20, Some((0, Z)), 2),
+        Turn::Sweep(AT_10_20, 1),
+        Turn::Ask(W, AT_10_20, Some((0, Z)), 1),
+        Turn::Take(S, AT_10_20, AT_10_30),
+        Turn::Ask(W, AT_10_20, Some((0, Z)), 1),
+        Turn::Take(Z, AT_10_01, AT_10_20),
+        Turn::Ask(W, AT_10_20, Some((0, S)), 2),
+        Turn::Sweep(AT_10_20, 1),
+        Turn::Ask(W, AT_10_20, Some((0, S)), 1),
+    ];
+    assert_eq!(rt; wrong(rt.alloc(), ONE_RULE, &turns)?, None);
+    Ok(())
+}
+
+// All are dropped, also one that is no source of the rule, and then taken once more.
+#[test]
+fn all_dropped_and_taken_again(rt: HostRuntime) -> Result<(), Fail> {
+    let turns = [
+        Turn::Take(T, AT_10_00, AT_10_05),
+        Turn::Take(W, AT_10_00, AT_10_05),
+        Turn::TakeOthers,
+        Turn::Take(S, AT_10_02, AT_10_20),
+        Turn::Sweep(AT_10_20, 1_003),
+        Turn::Ask(W, AT_10_03, None, 0),
+        Turn::Sweep(AT_10_20, 0),
+        Turn::Take(S, AT_10_02, AT_10_30),
+        Turn::Take(T, AT_10_02, AT_10_30),
+        Turn::TakeOthers,
+        Turn::Ask(W, AT_10_03, Some((0, S)), 1),
+        Turn::Ask(
+            &[("alertname", "W"), ("dc", "1001"), ("sev", "warn")],
+            AT_10_03,
+            Some((0, &[("alertname", "S"), ("dc", "1001"), ("sev", "down")])),
+            1,
+        ),
+    ];
+    assert_eq!(rt; wrong(rt.alloc(), ONE_RULE, &turns)?, None);
+    Ok(())
+}
+
+// The sources of two rules are dropped from both, and the index of a kept one leads to its new place.
+#[test]
+fn sweep_of_two_rules(rt: HostRuntime) -> Result<(), Fail> {
+    let rules =
+        "{\"source_matchers\":[\"sev=crit\"],\"target_matchers\":[\"sev=warn\"],\"equal\":[\"dc\"]},{\"source_matchers\":[\"sev=~\\\"crit|down\\\"\"],\"target_matchers\":[\"sev=warn\"]}";
+    let turns = [
+        Turn::Take(Z, AT_10_00, AT_10_01),
+        Turn::Take(T, AT_10_00, AT_10_05),
+        Turn::Take(S, AT_10_00, AT_10_20),
+        Turn::Sweep(AT_10_01, 1),
+        Turn::Ask(W, AT_10_02, Some((0, T)), 1),
+        Turn::Ask(W, AT_10_05, Some((1, S)), 3),
+        Turn::Sweep(AT_10_05, 1),
+        Turn::Ask(W, AT_10_05, Some((1, S)), 1),
+    ];
+    assert_eq!(rt; wrong(rt.alloc(), rules, &turns)?, None);
+    Ok(())
+}
+
+// Of fifty thousand resolved sources before the one that fires, none is examined after a sweep.
+#[test]
+fn fifty_thousand_resolved(rt: HostRuntime) -> Result<(), Fail> {
+    let turns = [
+        Turn::TakeMany(50_000, AT_10_00, AT_10_05),
+        Turn::Take(S, AT_10_02, AT_10_30),
+        Turn::Ask(W, AT_10_05, Some((0, S)), 50_001),
+        Turn::Sweep(AT_10_05, 50_000),
+        Turn::Ask(W, AT_10_05, Some((0, S)), 1),
+        Turn::TakeMany(50_000, AT_10_05, AT_10_20),
+        Turn::Ask(W, AT_10_05, Some((0, S)), 1),
+        Turn::Sweep(AT_10_20, 50_000),
+        Turn::Sweep(AT_10_30, 1),
+        Turn::Ask(W, AT_10_20, None, 0),
+    ];
+    assert_eq!(rt; wrong(rt.alloc(), ONE_RULE, &turns)?, None);
     Ok(())
 }

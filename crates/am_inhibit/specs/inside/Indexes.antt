@@ -1,9 +1,10 @@
 -- How an inhibitor finds the sources of a target: for each rule, by the values that source and target have in
 -- common. Only code of this crate cites it.
-use Rattle.std.specs.Prelude.{◌-◌, ◌+◌, ℕ, zero, suc, Bool, false, not, ◌&&◌, if◌then◌else◌, List, [], ◌∷◌}
-use Rattle.std.specs.Prelude.{◌++◌, map, take, length}
-use Rattle.std.specs.List.{slice_get}
-use Rattle.std.specs.Option.{option_map_or}
+use Rattle.std.specs.Prelude.{◌≡◌, ◌-◌, ◌+◌, ℕ, zero, suc, Bool, false, not, ◌&&◌, if◌then◌else◌, List, []}
+use Rattle.std.specs.Prelude.{◌∷◌, ◌++◌, map, take, length}
+use Rattle.std.specs.List.{slice_get, AllByRecursion, IsDistinct}
+use Rattle.std.specs.Map.{keys_of, lookup}
+use Rattle.std.specs.Option.{option_map_or, unwrap_or}
 use Rattle.am_alert.specs.declared.alert.Alert.{Alert}
 use Rattle.am_alert.specs.Merging.{is_resolved_at}
 use Rattle.am_labels.specs.LabelSets.{Labels, value_of}
@@ -12,7 +13,6 @@ use Rattle.am_config.specs.declared.inhibit_rule.InhibitRule.{InhibitRule}
 use Rattle.am_inhibit.specs.declared.source.Source.{Source}
 use Rattle.am_inhibit.specs.declared.source_index.SourceChange.{SourceChange}
 use Rattle.am_inhibit.specs.declared.source_index.SourceChange.TheVariants.{Nothing, Begun, Joined}
-use Rattle.am_inhibit.specs.LastAlerts.{label_sets}
 use Rattle.am_inhibit.specs.inside.Sources.{same_values}
 
 -- values, each with its sources
@@ -45,23 +45,40 @@ with_labels rule at labels entries =
     if all_admitted rule.source labels
     then with_source (values_of rule.equal labels) (source_of rule at labels) entries else entries
 
--- with several, counted from a number
-abbrev pub with_all_labels : InhibitRule → ℕ → List Labels → SourceEntries → SourceEntries
-with_all_labels rule at [] entries = entries
-with_all_labels rule at (labels ∷ rest) entries =
-    with_all_labels rule (at + 1) rest (with_labels rule at labels entries)
+-- the sources that entries list for values
+abbrev pub listed : List (List ℕ) → SourceEntries → List Source
+listed values entries = unwrap_or (lookup (same_values values) entries) []
 
--- a rule's sources among some alerts
-abbrev pub index_of : List Alert → InhibitRule → IndexView
-index_of alerts rule = record { rule = rule; entries = with_all_labels rule 0 (label_sets alerts) [] }
+-- a rule's sources among some label sets that have the values, the label sets counted from a number
+abbrev pub sources_from : InhibitRule → List (List ℕ) → ℕ → List Labels → List Source
+sources_from rule values at [] = []
+sources_from rule values at (labels ∷ rest) =
+    if all_admitted rule.source labels && same_values values (values_of rule.equal labels)
+    then source_of rule at labels ∷ sources_from rule values (at + 1) rest
+    else sources_from rule values (at + 1) rest
 
--- the sources of each rule among some alerts
-abbrev pub indexes_of : List InhibitRule → List Alert → List IndexView
-indexes_of rules alerts = map (index_of alerts) rules
+-- an index lists for each values its rule's sources among some label sets that have them
+abbrev pub IsIndexOf : List Labels → IndexView → Type 0
+IsIndexOf sets index = IsDistinct same_values (keys_of index.entries)
+    × ((values : List (List ℕ))
+    → listed values index.entries ≡ sources_from index.rule values 0 sets)
+
+-- an index without a source
+abbrev pub empty_index : InhibitRule → IndexView
+empty_index rule = record { rule = rule; entries = [] }
+
+-- one for each rule
+abbrev pub empty_indexes : List InhibitRule → List IndexView
+empty_indexes rules = map empty_index rules
 
 -- the rules of indexes
 abbrev pub rules_indexed : List IndexView → List InhibitRule
 rules_indexed indexes = map (λ index. index.rule) indexes
+
+-- the indexes of rules among some label sets
+abbrev pub AreIndexesOf : List InhibitRule → List Labels → List IndexView → Type 0
+AreIndexesOf rules sets indexes =
+    (rules_indexed indexes ≡ rules) × AllByRecursion (IsIndexOf sets) indexes
 
 -- an index, with one label set more
 abbrev pub index_with : ℕ → Labels → IndexView → IndexView

@@ -1,6 +1,6 @@
 use Rattle.std.proofs.Common.{◌≡◌, take, ◌+◌, ◌++◌, ◌∷◌, [], sym, ap, ◌∙◌}
 use Rattle.std.proofs.lemmas.List.{map-append, take_more, take_all}
-use Rattle.am_inhibit.specs.inside.Indexes.{index_of, indexes_of}
+use Rattle.am_inhibit.specs.inside.Indexes.{empty_index, empty_indexes}
 use Rattle.am_inhibit.proofs.inhibitor.prepare_each.Goals as goal
 
 pub loop-rule-preserved : goal.loop-rule-preserved
@@ -12,11 +12,11 @@ loop-rule-preserved c =
     take_more rules at rule c.loop-rule-test.true ∙ ap (λ r. take at rules ++ r ∷ []) (sym c.rule-item.is) in
     c.in_ok-push.ensures.items
     ∙ (ap (λ l. l ++ c.in_ok-new.field-0 ∷ []) c.loop-rule.invariant
-    ∙ (ap (λ i. indexes_of (take at rules) [] ++ i ∷ []) c.in_ok-new.ensures
-    ∙ sym (ap (λ l. indexes_of l []) more ∙ map-append (index_of []) (take at rules) (rule ∷ []))))
+    ∙ (ap (λ i. empty_indexes (take at rules) ++ i ∷ []) c.in_ok-new.ensures
+    ∙ sym (ap empty_indexes more ∙ map-append empty_index (take at rules) (rule ∷ []))))
 
 pub returns : goal.returns
 returns c =
     c.loop-rule.invariant
-    ∙ (ap (λ l. indexes_of l []) (take_all c.loop-rule.rule-index c.as_slice-rule-items.result.now c.loop-rule-test.false)
-    ∙ ap (λ l. indexes_of l []) c.as_slice-rule-items.ensures)
+    ∙ (ap empty_indexes (take_all c.loop-rule.rule-index c.as_slice-rule-items.result.now c.loop-rule-test.false)
+    ∙ ap empty_indexes c.as_slice-rule-items.ensures)

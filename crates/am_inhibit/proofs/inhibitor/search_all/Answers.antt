@@ -5,20 +5,19 @@ use Rattle.std.specs.Option.{option_map, option_and_then}
 use Rattle.std.proofs.lemmas.List.{drop_more, drop_all, set-get_or}
 use Rattle.am_alert.specs.declared.alert.Alert.{Alert}
 use Rattle.am_labels.specs.LabelSets.{Labels}
+use Rattle.am_inhibit.specs.LastAlerts.{label_sets}
 use Rattle.am_inhibit.specs.Muting.{Candidate, candidate_inhibits, count_to, rule_candidates}
-use Rattle.am_inhibit.specs.inside.Indexes.{IndexView, index_of, rules_indexed}
+use Rattle.am_inhibit.specs.inside.Indexes.{IndexView, IsIndexOf, rules_indexed}
 use Rattle.am_inhibit.specs.inside.Searches.{candidates_from}
 use Rattle.am_inhibit.proofs.Counting.{count_to-found, count_to-past}
-use Rattle.am_inhibit.proofs.RuleSearch.{IsFound, candidate_of, rule-none, rule-some, rule-count, find-first, find-later, got_within, label_set_at, indexed_at}
+use Rattle.am_inhibit.proofs.RuleSearch.{IsFound, candidate_of, rule-none, rule-some, rule-count, find-first, find-later, got_within, label_set_at}
 use Rattle.am_inhibit.proofs.inhibitor.search_all.Goals as goal
 
 pub find-requires : goal.find-requires
 find-requires c =
-    let olds = c.args.indexes.now in
     let index = c.index-indexes-rule.result in
-    let is : index ≡ get_or olds c.loop-rule.rule index = c.index-indexes-rule.is ∙ ap (λ l. get_or l c.loop-rule.rule index) c.loop-rule.invariant.same in
-    let own = indexed_at olds c.args.alerts.now c.loop-rule.rule index (record { are = c.requires }) c.loop-rule-test.true is in
-    sym c.index-indexes-rule.is ∙ (own ∙ ap (λ (i : IndexView). index_of c.args.alerts.now i.rule) c.index-indexes-rule.is)
+    let is = ap (λ (l : List IndexView). get_or l c.loop-rule.rule index) (sym c.loop-rule.invariant.same) in
+    subst (IsIndexOf (label_sets c.args.alerts.now)) is (c.requires c.loop-rule.rule index c.loop-rule-test.true)
 
 same_set : (olds indexes : List IndexView) (at : ℕ) (index new : IndexView) → indexes ≡ olds → new ≡ get_or indexes at index → set indexes at new ≡ olds
 same_set olds indexes at index new same is = ap (set indexes at) is ∙ (set-get_or indexes at index ∙ same)

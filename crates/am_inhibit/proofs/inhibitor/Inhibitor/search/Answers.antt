@@ -1,28 +1,26 @@
 use Rattle.std.proofs.Common.{◌≡◌, min, List, sym, ap, subst, ◌∙◌}
+use Rattle.std.specs.List.{All}
+use Rattle.std.proofs.lemmas.List.Elements.{All-from_recursion}
 use Rattle.am_alert.specs.declared.alert.Alert.{Alert}
 use Rattle.am_config.specs.declared.inhibit_rule.InhibitRule.{InhibitRule}
 use Rattle.am_inhibit.specs.Inhibitors.{InhibitorView}
-use Rattle.am_inhibit.specs.LastAlerts.{last_alerts}
+use Rattle.am_inhibit.specs.LastAlerts.{label_sets, last_alerts}
 use Rattle.am_inhibit.specs.Muting.{candidate_inhibits, count_to}
-use Rattle.am_inhibit.specs.inside.Indexes.{indexes_of, rules_indexed}
+use Rattle.am_inhibit.specs.inside.Indexes.{IsIndexOf, rules_indexed}
 use Rattle.am_inhibit.specs.inside.Searches.{candidates_from, first_muted, StandsFor}
-use Rattle.am_inhibit.proofs.RuleSearch.{rules_indexed-indexes}
 use Rattle.am_inhibit.proofs.inhibitor.Inhibitor.search.Goals as goal
 
 pub search_all-requires : goal.search_all-requires
 search_all-requires c =
-    let rules_now = c.self.inside.rules.now in
-    let alerts = c.self.inside.alerts in
-    let are : c.deref_mut.result.now ≡ indexes_of rules_now alerts = c.deref_mut.ensures.value ∙ c.self.invariant in
-    are
-    ∙ (ap (λ l. indexes_of l alerts) (sym (rules_indexed-indexes rules_now alerts) ∙ ap rules_indexed (sym are))
-    ∙ ap (indexes_of (rules_indexed c.deref_mut.result.now)) (sym c.as_slice.ensures.alerts))
+    let sets = label_sets c.self.inside.alerts in
+    let all = All-from_recursion (IsIndexOf sets) c.self.inside.indexes.items c.self.invariant.0.1 in
+    subst (λ (l : List Alert). All (IsIndexOf (label_sets l)) c.deref_mut.result.now) (sym c.as_slice.ensures.alerts)
+    (subst (All (IsIndexOf sets)) (sym c.deref_mut.ensures.value) all)
 
 -- the rules that are searched
 rules_are : (c : goal.After-self-2-1) → rules_indexed c.deref_mut.result.now ≡ c.args.self.now.rules
 rules_are c =
-    ap rules_indexed (c.deref_mut.ensures.value ∙ c.self.invariant)
-    ∙ (rules_indexed-indexes c.self.inside.rules.now c.self.inside.alerts ∙ ap (λ (i : InhibitorView). i.rules) c.self.view_is)
+    ap rules_indexed c.deref_mut.ensures.value ∙ (c.self.invariant.0.0 ∙ ap (λ (i : InhibitorView). i.rules) c.self.view_is)
 
 -- and the alerts
 alerts_are : (c : goal.After-self-2-1) → c.as_slice.result.now ≡ c.args.self.now.alerts

@@ -9,8 +9,8 @@ use Rattle.am_inhibit.specs.declared.source.Source.{Source}
 use Rattle.am_inhibit.specs.LastAlerts.{label_sets}
 use Rattle.am_inhibit.specs.Muting.{count_to, inhibits, is_candidate}
 use Rattle.am_inhibit.specs.inside.Sources.{same_values}
-use Rattle.am_inhibit.specs.inside.Indexes.{IndexView, values_of, source_inhibits}
-use Rattle.am_inhibit.proofs.Searching.{listed_are, sources_from, Target, none_candidates, found-first, looked-count, all_within}
+use Rattle.am_inhibit.specs.inside.Indexes.{IndexView, values_of, listed, sources_from, source_inhibits}
+use Rattle.am_inhibit.proofs.Searching.{listed_are, Target, none_candidates, found-first, looked-count, all_within}
 use Rattle.am_inhibit.proofs.source_index.SourceIndex.find.Goals as goal
 
 no_target : (c : goal.Then-not-admits) → filter (is_candidate c.args.self.now.rule c.args.labels.now) c.args.alerts.now ≡ []
@@ -28,8 +28,8 @@ returns-then-not-admits-clause-looked c = sym (ap (count_to (inhibits c.args.sel
 sources_are : (c : goal.After-as_slice-in-Some) → c.as_slice-in-Some.result.now ≡ sources_from c.args.self.now.rule (values_of c.args.self.now.rule.equal c.args.labels.now) 0 (label_sets c.args.alerts.now)
 sources_are c =
     let entries = c.self.inside.sources.entries in
-    let known = listed_are c.args.self.now.rule c.args.labels.now c.args.alerts.now entries c.as_slice.result.now c.in_ok-values.values
-    (ap (λ (i : IndexView). i.entries) (c.self.view_is ∙ c.requires)) (c.as_slice.ensures ∙ ap (λ (i : IndexView). i.rule.equal) c.self.view_is) c.in_ok-values.ensures in
+    let known = ap (λ (i : IndexView). listed c.in_ok-values.values i.entries) c.self.view_is
+    ∙ listed_are c.args.self.now c.args.labels.now (label_sets c.args.alerts.now) c.as_slice.result.now c.in_ok-values.values c.requires (c.as_slice.ensures ∙ ap (λ (i : IndexView). i.rule.equal) c.self.view_is) c.in_ok-values.ensures in
     let got : Some c.in-Some.sources.now ≡ lookup (same_values c.in_ok-values.values) entries = c.in-Some.ensures.value in
     c.as_slice-in-Some.ensures ∙ (ap (λ o. unwrap_or o []) got ∙ known)
 
@@ -44,8 +44,8 @@ first_muting-requires c =
 sources_found : (c : goal.After-drop-values-inside) → c.as_slice-in-Some.result.now ≡ sources_from c.args.self.now.rule (values_of c.args.self.now.rule.equal c.args.labels.now) 0 (label_sets c.args.alerts.now)
 sources_found c =
     let entries = c.self.inside.sources.entries in
-    let known = listed_are c.args.self.now.rule c.args.labels.now c.args.alerts.now entries c.as_slice.result.now c.in_ok-values.values
-    (ap (λ (i : IndexView). i.entries) (c.self.view_is ∙ c.requires)) (c.as_slice.ensures ∙ ap (λ (i : IndexView). i.rule.equal) c.self.view_is) c.in_ok-values.ensures in
+    let known = ap (λ (i : IndexView). listed c.in_ok-values.values i.entries) c.self.view_is
+    ∙ listed_are c.args.self.now c.args.labels.now (label_sets c.args.alerts.now) c.as_slice.result.now c.in_ok-values.values c.requires (c.as_slice.ensures ∙ ap (λ (i : IndexView). i.rule.equal) c.self.view_is) c.in_ok-values.ensures in
     let got : Some c.in-Some.sources.now ≡ lookup (same_values c.in_ok-values.values) entries = c.in-Some.ensures.value in
     c.as_slice-in-Some.ensures ∙ (ap (λ o. unwrap_or o []) got ∙ known)
 
@@ -73,8 +73,8 @@ returns-in-Some-clause-looked c =
 sources_missing : (c : goal.After-drop-values-inside-2) → [] ≡ sources_from c.args.self.now.rule (values_of c.args.self.now.rule.equal c.args.labels.now) 0 (label_sets c.args.alerts.now)
 sources_missing c =
     let entries = c.self.inside.sources.entries in
-    let known = listed_are c.args.self.now.rule c.args.labels.now c.args.alerts.now entries c.as_slice.result.now c.in_ok-values.values
-    (ap (λ (i : IndexView). i.entries) (c.self.view_is ∙ c.requires)) (c.as_slice.ensures ∙ ap (λ (i : IndexView). i.rule.equal) c.self.view_is) c.in_ok-values.ensures in
+    let known = ap (λ (i : IndexView). listed c.in_ok-values.values i.entries) c.self.view_is
+    ∙ listed_are c.args.self.now c.args.labels.now (label_sets c.args.alerts.now) c.as_slice.result.now c.in_ok-values.values c.requires (c.as_slice.ensures ∙ ap (λ (i : IndexView). i.rule.equal) c.self.view_is) c.in_ok-values.ensures in
     let got : None ≡ lookup (same_values c.in_ok-values.values) entries = c.in-None.ensures.value in
     ap (λ o. unwrap_or o []) got ∙ known
 

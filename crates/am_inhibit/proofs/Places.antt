@@ -1,0 +1,160 @@
+-- What a sweep leaves of the indexes: those of the alerts that stay.
+use Rattle.std.proofs.Common.{◌≡◌, ℕ, ◌+◌, Bool, true, false, not, ◌&&◌, cond, List, [], ◌∷◌, ◌++◌, map, length, drop, Option, Some, None, is_some, refl, sym, ap, subst, ◌∙◌, arith}
+use Rattle.std.specs.List.{cons_option, AllByRecursion, IsDistinct}
+use Rattle.std.specs.List.Retain.{RetainsInTurn}
+use Rattle.std.specs.Map.{keys_of, lookup}
+use Rattle.std.specs.Map.Calls.{RetainsPairs}
+use Rattle.std.specs.Option.{unwrap_or, option_map}
+use Rattle.am_labels.specs.Matchers.{all_admitted}
+use Rattle.am_alert.specs.declared.alert.Alert.{Alert}
+use Rattle.am_alert.specs.Merging.{is_resolved_at}
+use Rattle.am_config.specs.declared.inhibit_rule.InhibitRule.{InhibitRule}
+use Rattle.am_inhibit.specs.declared.source.Source.{Source}
+use Rattle.am_inhibit.specs.LastAlerts.{label_sets}
+use Rattle.am_inhibit.specs.KeptAlerts.{unresolved}
+use Rattle.am_inhibit.specs.inside.Sources.{same_values}
+use Rattle.am_inhibit.specs.inside.Indexes.{SourceEntries, IndexView, values_of as values_for, source_of, listed, sources_from, IsIndexOf, AreIndexesOf}
+use Rattle.am_inhibit.specs.inside.Places.{places_from, moved, moved_sources, has_none, swept_entries, index_swept}
+use Rattle.am_inhibit.proofs.Cases.{by_bool}
+use Rattle.am_inhibit.proofs.Indexes.{same_are, are_mapped}
+use Rattle.am_inhibit.proofs.Searching.{drop_next}
+
+-- ---- the sources of one list
+
+-- the sources among some alerts are moved to those among the ones that stay
+moved-all : (rule : InhibitRule) (values : List (List ℕ)) (now : ℕ) (places : List (Option ℕ)) (alerts : List Alert) (at place : ℕ) → drop at places ≡ places_from place now alerts
+    → moved_sources places (sources_from rule values at (label_sets alerts)) ≡ sources_from rule values place (label_sets (unresolved now alerts))
+moved-all rule values now places [] at place e = refl
+moved-all rule values now places (alert ∷ alerts) at place e =
+    let chosen = all_admitted rule.source alert.labels && same_values values (values_for rule.equal alert.labels) in
+    let source = source_of rule at alert.labels in
+    let more = sources_from rule values (at + 1) (label_sets alerts) in
+    let left = unresolved now alerts in
+    let later = λ (b : Bool). cond b (None ∷ places_from place now alerts) (Some place ∷ places_from (place + 1) now alerts) in
+    let kept = λ (b : Bool). sources_from rule values place (label_sets (cond (not b) (alert ∷ left) left)) in
+    by_bool {P = moved_sources places (cond chosen (source ∷ more) more) ≡ kept (is_resolved_at now alert)} (is_resolved_at now alert)
+    (λ t.
+    let next = drop_next places at None (places_from place now alerts) (e ∙ ap later t) in
+    let gone : moved places source ≡ None = ap (λ o. option_map (λ n. record source { at = n }) (unwrap_or o None)) next.0 in
+    let rest = moved-all rule values now places alerts (at + 1) place next.1 in
+    elim chosen as (λ b. moved_sources places (cond b (source ∷ more) more) ≡ moved_sources places more) [ true ↦ ap (λ o. cons_option o (moved_sources places more)) gone | false ↦ refl ]
+    ∙ (rest ∙ ap kept (sym t)))
+    (λ f.
+    let next = drop_next places at (Some place) (places_from (place + 1) now alerts) (e ∙ ap later f) in
+    let there = source_of rule place alert.labels in
+    let stays : moved places source ≡ Some there = ap (λ o. option_map (λ n. record source { at = n }) (unwrap_or o None)) next.0 in
+    let rest = moved-all rule values now places alerts (at + 1) (place + 1) next.1 in
+    elim chosen as (λ b. moved_sources places (cond b (source ∷ more) more) ≡ cond b (there ∷ moved_sources places more) (moved_sources places more)) [ true ↦ ap (λ o. cons_option o (moved_sources places more)) stays | false ↦ refl ]
+    ∙ (ap (λ l. cond chosen (there ∷ l) l) rest ∙ ap kept (sym f)))
+
+-- ---- the entries of one index
+
+none_is : (sources : List Source) → has_none sources ≡ true → sources ≡ []
+none_is [] e = refl
+none_is (source ∷ sources) e = absurd (cc)
+
+none-swept : (places : List (Option ℕ)) (wanted : List (List ℕ)) (entries : SourceEntries) → AllByRecursion (λ other. same_values wanted other ≡ false) (keys_of entries)
+    → AllByRecursion (λ other. same_values wanted other ≡ false) (keys_of (swept_entries places entries))
+none-swept places wanted [] none = tt
+none-swept places wanted (entry ∷ entries) none =
+    let here : List (List ℕ) × List Source = (entry.0, moved_sources places entry.1) in
+    let rest = none-swept places wanted entries none.1 in
+    elim (has_none (moved_sources places entry.1)) as (λ b. AllByRecursion (λ other. same_values wanted other ≡ false) (keys_of (cond (not b) (here ∷ swept_entries places entries) (swept_entries places entries)))) [ true ↦ rest | false ↦ (none.0, rest) ]
+
+distinct-swept : (places : List (Option ℕ)) (entries : SourceEntries) → IsDistinct same_values (keys_of entries) → IsDistinct same_values (keys_of (swept_entries places entries))
+unfolding IsDistinct
+distinct-swept places [] distinct = tt
+distinct-swept places (entry ∷ entries) distinct =
+    let here : List (List ℕ) × List Source = (entry.0, moved_sources places entry.1) in
+    let rest = distinct-swept places entries distinct.1 in
+    elim (has_none (moved_sources places entry.1)) as (λ b. IsDistinct same_values (keys_of (cond (not b) (here ∷ swept_entries places entries) (swept_entries places entries)))) [ true ↦ rest | false ↦ (none-swept places entry.0 entries distinct.0, rest) ]
+
+-- what isn't listed isn't listed after a sweep
+unlisted-swept : (places : List (Option ℕ)) (wanted : List (List ℕ)) (entries : SourceEntries) → AllByRecursion (λ other. same_values wanted other ≡ false) (keys_of entries) → listed wanted (swept_entries places entries) ≡ []
+unlisted-swept places wanted [] none = refl
+unlisted-swept places wanted (entry ∷ entries) none =
+    let here = moved_sources places entry.1 in
+    let after = swept_entries places entries in
+    let rest = unlisted-swept places wanted entries none.1 in
+    elim (has_none here) as (λ b. listed wanted (cond (not b) ((entry.0, here) ∷ after) after) ≡ []) [ true ↦ rest | false ↦ ap (λ b. unwrap_or (cond b (Some here) (lookup (same_values wanted) after)) []) none.0 ∙ rest ]
+
+listed-swept : (places : List (Option ℕ)) (wanted : List (List ℕ)) (entries : SourceEntries) → IsDistinct same_values (keys_of entries) → listed wanted (swept_entries places entries) ≡ moved_sources places (listed wanted entries)
+unfolding IsDistinct
+listed-swept places wanted [] distinct = refl
+listed-swept places wanted (entry ∷ entries) distinct =
+    let here = moved_sources places entry.1 in
+    let after = swept_entries places entries in
+    let old = λ (b : Bool). moved_sources places (unwrap_or (cond b (Some entry.1) (lookup (same_values wanted) entries)) []) in
+    let new = λ (b : Bool). unwrap_or (cond b (Some here) (lookup (same_values wanted) after)) [] in
+    let kept = λ (b : Bool). cond (not b) ((entry.0, here) ∷ after) after in
+    by_bool {P = listed wanted (kept (has_none here)) ≡ old (same_values wanted entry.0)} (same_values wanted entry.0)
+    (λ t.
+    by_bool {P = listed wanted (kept (has_none here)) ≡ old (same_values wanted entry.0)} (has_none here)
+    (λ none.
+    ap (λ b. listed wanted (kept b)) none
+    ∙ (ap (λ w. listed w after) (same_are wanted entry.0 t)
+    ∙ (unlisted-swept places entry.0 entries distinct.0
+    ∙ (sym (none_is here none) ∙ ap old (sym t)))))
+    (λ some. ap (λ b. listed wanted (kept b)) some ∙ (ap new t ∙ ap old (sym t))))
+    (λ f.
+    elim (has_none here) as (λ b. listed wanted (kept b) ≡ listed wanted after) [ true ↦ refl | false ↦ ap new f ]
+    ∙ (listed-swept places wanted entries distinct.1 ∙ ap old (sym f)))
+
+-- ---- the indexes of all rules
+
+is_index-swept : (now : ℕ) (alerts : List Alert) (index : IndexView) → IsIndexOf (label_sets alerts) index → IsIndexOf (label_sets (unresolved now alerts)) (index_swept (places_from 0 now alerts) index)
+is_index-swept now alerts index is =
+    let places = places_from 0 now alerts in (
+      distinct-swept places index.entries is.0,
+      λ values.
+          listed-swept places values index.entries is.0
+          ∙ (ap (moved_sources places) (is.1 values) ∙ moved-all index.rule values now places alerts 0 0 refl),
+    )
+
+pub are_indexes-swept : (rules : List InhibitRule) (now : ℕ) (alerts : List Alert) (indexes : List IndexView) → AreIndexesOf rules (label_sets alerts) indexes
+    → AreIndexesOf rules (label_sets (unresolved now alerts)) (map (index_swept (places_from 0 now alerts)) indexes)
+are_indexes-swept rules now alerts indexes are =
+    are_mapped rules (index_swept (places_from 0 now alerts)) (label_sets alerts) (label_sets (unresolved now alerts)) indexes (λ index. refl) (is_index-swept now alerts) are
+
+-- ---- one alert more
+
+pub places_from-push : (place now : ℕ) (alerts : List Alert) (alert : Alert)
+    → places_from place now (alerts ++ alert ∷ []) ≡ places_from place now alerts ++ cond (is_resolved_at now alert) None (Some (place + length (unresolved now alerts))) ∷ []
+places_from-push place now [] alert =
+    let here : place ≡ place + 0 = omega arith in
+    elim (is_resolved_at now alert) as (λ b. cond b (None ∷ []) (Some place ∷ []) ≡ cond b None (Some (place + 0)) ∷ []) [ true ↦ refl | false ↦ ap (λ n. Some n ∷ []) here ]
+places_from-push place now (first ∷ alerts) alert =
+    let last = λ (n : ℕ). cond (is_resolved_at now alert) None (Some n) ∷ [] in
+    let count = length (unresolved now alerts) in
+    let along : place + 1 + count ≡ place + length (first ∷ unresolved now alerts) = omega arith in
+    elim (is_resolved_at now first) as (λ b. cond b (None ∷ places_from place now (alerts ++ alert ∷ [])) (Some place ∷ places_from (place + 1) now (alerts ++ alert ∷ [])) ≡ cond b (None ∷ places_from place now alerts) (Some place ∷ places_from (place + 1) now alerts) ++ last (place + length (cond (not b) (first ∷ unresolved now alerts) (unresolved now alerts)))) [ true ↦ ap (λ l. None ∷ l) (places_from-push place now alerts alert) | false ↦ ap (λ l. Some place ∷ l) (places_from-push (place + 1) now alerts alert ∙ ap (λ n. places_from (place + 1) now alerts ++ last n) along) ]
+
+-- ---- what closures leave
+
+-- where each call moves a source or drops it, the moved ones are left
+pub moved-retained : {F : Type 0} (T : F → Source → Bool → F → Source → Type 0) (f : F) (places : List (Option ℕ))
+    → ((source : Source) (b : Bool) (g : F) (new : Source) → T f source b g new → (b ≡ is_some (moved places source)) × ((new ≡ unwrap_or (moved places source) source) × (g ≡ f)))
+    → (sources kept : List Source) → RetainsInTurn T f sources kept → kept ≡ moved_sources places sources
+moved-retained T f places says [] kept h = h
+moved-retained T f places says (source ∷ sources) kept h =
+    let said = says source h.0 h.1 h.2 h.3 in
+    let rest = moved-retained T f places says sources h.4 (subst (λ g. RetainsInTurn T g sources h.4) said.1.1 h.5) in
+    let is = moved places source in
+    h.6
+    ∙ (ap (λ b. cond b (h.2 ∷ h.4) h.4) said.0
+    ∙ (ap (λ s. cond (is_some is) (s ∷ h.4) h.4) said.1.0
+    ∙ (elim is as (λ o. cond (is_some o) (unwrap_or o source ∷ h.4) h.4 ≡ cons_option o h.4) [ None ↦ refl | Some new ↦ refl ]
+    ∙ ap (cons_option is) rest)))
+
+-- where each call moves the sources of an entry, and says whether some are left, the entries are swept
+pub entries-retained : {F : Type 0} (T : F → List (List ℕ) → List Source → Bool → List Source → F → Type 0) (f : F) (places : List (Option ℕ))
+    → ((values : List (List ℕ)) (sources : List Source) (b : Bool) (new : List Source) (g : F) → T f values sources b new g → (b ≡ not (has_none new)) × ((new ≡ moved_sources places sources) × (g ≡ f)))
+    → (entries kept : SourceEntries) → RetainsPairs T f entries kept → kept ≡ swept_entries places entries
+entries-retained T f places says [] kept h = h
+entries-retained T f places says (entry ∷ entries) kept h =
+    let said = says entry.0 entry.1 h.0 h.1 h.2 h.4 in
+    let rest = entries-retained T f places says entries h.3 (subst (λ g. RetainsPairs T g entries h.3) said.1.1 h.5) in
+    h.6
+    ∙ (ap (λ b. cond b ((entry.0, h.1) ∷ h.3) h.3) said.0
+    ∙ (ap (λ l. cond (not (has_none l)) ((entry.0, l) ∷ h.3) h.3) said.1.0
+    ∙ ap (λ l. cond (not (has_none (moved_sources places entry.1))) ((entry.0, moved_sources places entry.1) ∷ l) l) rest))
