@@ -1,9 +1,18 @@
 //! Laws of reading and merging that callers may cite.
 
+ghost use Rattle.std.specs.Prelude.{◌≡◌};
 ghost use Rattle.am_alert.specs.Laws.{EachElementCounts, FaultsAreInOrder, MergingEndsAtAnEnd};
 ghost use Rattle.am_alert.specs.Laws.{MergingHasNoOrder, MergingStartsEarliest};
 ghost use Rattle.am_alert.specs.Laws.{ValidAlertsAreWellFormed, YoungerReportDecides};
 ghost use Rattle.am_alert.specs.Laws.{YoungerReportStays};
+
+use crate::post::{MAX_ALERTS, MAX_BYTES};
+
+/// The numbers of a post's limits.
+pub fn limit_laws()
+    ensures bytes { MAX_BYTES ≡ 4194304 }
+    ensures alerts { MAX_ALERTS ≡ 1024 }
+{}
 
 /// Of a post that was read: its valid alerts are well formed and were updated at its moment. Its
 /// invalid ones are listed in order. Each of its elements is one of these, once.

@@ -33,7 +33,7 @@ pub use alert::Alert;
 pub use alert_parts::{AlertParts, PartsFault};
 pub use alerts::Alerts;
 pub use civil_time::CivilTime;
-pub use laws::{merging_laws, post_laws};
+pub use laws::{limit_laws, merging_laws, post_laws};
 pub use merging::{absorb, merge, overlaps};
 pub use moment::Moment;
 pub use post::{AlertFault, Faults, MAX_ALERTS, MAX_BYTES, Post, PostFault};

@@ -59,6 +59,18 @@ impl<E, N: Timeline> Front<E, N> {
         }
     }
 
+    /// A front for an onlooker, who makes no entry. It has seen as much, and has no part.
+    pub fn onlooker(&mut self, table: &HistoryTable<E, N>) -> Front<E, N>
+        ensures same { self.new ≡ self.old }
+        ensures new { result ≡ record { seen = self.old.seen; made = []; parts = 0 } }
+    {
+        Front {
+            seat: steps::new_seat(&table.board.shared, &mut self.seat),
+            share: self.share.empty(),
+            count: self.count,
+        }
+    }
+
     /// What another front's holder made is this one's too. Both have seen the same.
     pub fn merge(&mut self, table: &HistoryTable<E, N>, other: Front<E, N>)
         requires { other.seen ≡ self.old.seen }

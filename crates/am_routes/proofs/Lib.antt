@@ -2,6 +2,8 @@ pub mod Cases
 pub mod InOrder
 pub mod Groups
 pub mod Searching
+pub mod Listings
+pub mod Joins
 pub mod RouteAnswers
 pub mod GroupEntries
 pub mod GroupMaps

@@ -1,5 +1,6 @@
 pub use Rattle.am_labels.specs.LabelSets
 pub use Rattle.am_labels.specs.Matchers
+pub use Rattle.am_labels.specs.MatcherTexts
 pub use Rattle.am_alert.specs.Alerts
 pub use Rattle.am_alert.specs.Merging
 pub use Rattle.am_config.specs.Routes
@@ -8,5 +9,7 @@ pub use Rattle.am_config.specs.GroupLabels
 pub mod RouteAnswers
 pub mod InOrder
 pub mod Groups
+pub mod Listings
+pub mod Printing
 pub mod DispatchLaws
 pub mod inside

@@ -3,7 +3,8 @@
 //! A [`PreparedTree`] is a routing tree made ready to be asked often. It gives the numbers of the
 //! routes that a label set matches, as Alertmanager's `dispatch.Route.Match`. A [`Dispatcher`] puts
 //! each alert that it is given into one group of each of these routes, by the labels that the route
-//! groups by. A sweep removes the resolved alerts, and then the empty groups.
+//! groups by. A sweep removes the resolved alerts, and then the empty groups. [`list_routes`] shows a
+//! tree as the list of its routes, and [`matched_routes`] says who is notified of a label set alone.
 //!
 //! ```text
 //! let config = Config::read(alloc, bytes)?;           // {"route":{"receiver":"ops", ..}}
@@ -21,11 +22,17 @@
 mod dispatcher;
 mod group;
 mod laws;
+mod listed_route;
+mod matched_route;
+mod matcher_texts;
 mod matching;
 mod route_id;
 
 pub use dispatcher::{Dispatcher, Swept};
 pub use group::Group;
 pub use laws::dispatch_laws;
+pub use listed_route::{ListedRoute, list_routes};
+pub use matched_route::{MatchedRoute, matched_routes};
+pub use matcher_texts::MatcherTexts;
 pub use matching::{PreparedTree, matching_routes};
 pub use route_id::RouteId;
