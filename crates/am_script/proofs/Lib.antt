@@ -1,4 +1,6 @@
 pub mod Lines
+pub mod JsonLines
+pub mod Puts
 pub mod Labels
 pub mod Naming
 pub mod Checking

@@ -9,27 +9,20 @@ use Rattle.serde_json.specs.Read.{read, max_depth}
 use Rattle.serde_json.specs.Written.{compact_text, has_float, IsInOrder}
 use Rattle.am_labels.specs.LabelSets.{Labels}
 use Rattle.am_alert.specs.Postables.{labels_of}
-use Rattle.am_alert.specs.TimeTexts.{time_of}
 use Rattle.am_script.specs.declared.command.Command.{Command}
-use Rattle.am_script.specs.declared.command.Command.TheVariants.{Post, Subscribe, Read, Leave, Collect, Close}
-use Rattle.am_script.specs.declared.command.Command.TheVariants.{Trim, Groups, Sweep, Mutes, Stored, Get}
+use Rattle.am_script.specs.declared.command.Command.TheVariants.{Post, Put, Subscribe, Read, Leave, Collect}
+use Rattle.am_script.specs.declared.command.Command.TheVariants.{Close, Trim, Groups, Sweep, Mutes, Stored}
+use Rattle.am_script.specs.declared.command.Command.TheVariants.{Get, Routes, Route}
 use Rattle.am_script.specs.declared.command.Line.{Line}
 use Rattle.am_script.specs.declared.command.LineFault.{LineFault}
 use Rattle.am_script.specs.declared.command.LineFault.TheVariants.{BadLine, NoMemory}
 use Rattle.am_script.specs.Kinds.{kind_named}
+use Rattle.am_script.specs.Members.{◌>>=◌, moment_at, text_member}
+use Rattle.am_script.specs.Puts.{alerts_at}
 use Rattle.am_script.specs.declared.kind.Kind.{Kind}
 use Rattle.am_script.specs.declared.kind.Kind.TheVariants.{Plain}
 use Rattle.am_script.specs.declared.command.Verb.{Verb}
 use Rattle.am_script.specs.declared.command.Verb.TheVariants as verb
-
--- one reading after another, each of which may fail
-infixl 10 ◌>>=◌
-abbrev pub ◌>>=◌ : {A B : Type 0} → Option A → (A → Option B) → Option B
-o >>= f = option_and_then f o
-
--- a member that is a text
-abbrev pub text_member : List ℕ → Data → Option (List ℕ)
-text_member name d = option_and_then as_str (get name d)
 
 -- a number from low to high
 abbrev pub within : ℕ → ℕ → ℕ → Option ℕ
@@ -44,9 +37,9 @@ number_member name low high d = option_and_then (within low high)
 abbrev pub thread_of : Data → Option ℕ
 thread_of d = number_member (codes "thread") 0 7 d
 
--- the moment of `at`, a time text that isn't absent
+-- the moment of `at`
 abbrev pub moment_of : Data → Option ℕ
-moment_of d = option_and_then (λ time. time) (option_and_then time_of (text_member (codes "at") d))
+moment_of d = moment_at (codes "at") d
 
 -- a text that isn't empty
 abbrev pub unless_empty : List ℕ → Option (List ℕ)
@@ -80,6 +73,7 @@ labels_at d = option_and_then labels_of (get (codes "labels") d)
 abbrev pub verb_of : List ℕ → Option Verb
 verb_of text =
     if bytes_eq text (codes "post") then Some verb.Post
+    else (if bytes_eq text (codes "put") then Some verb.Put
     else (if bytes_eq text (codes "subscribe") then Some verb.Subscribe
     else (if bytes_eq text (codes "read") then Some verb.Read
     else (if bytes_eq text (codes "leave") then Some verb.Leave
@@ -91,7 +85,9 @@ verb_of text =
     else (if bytes_eq text (codes "mutes") then Some verb.Mutes
     else (if bytes_eq text (codes "stored") then Some verb.Stored
     else (if bytes_eq text (codes "get") then Some verb.Get
-    else None)))))))))))
+    else (if bytes_eq text (codes "routes") then Some verb.Routes
+    else (if bytes_eq text (codes "route") then Some verb.Route
+    else None))))))))))))))
 
 -- the word in `do`
 abbrev pub verb_at : Data → Option Verb
@@ -103,6 +99,10 @@ command_for body d verb.Post = do
   at ← moment_of d
   given ← get (codes "body") d
   Some (Post at body)
+command_for body d verb.Put = do
+  at ← moment_of d
+  alerts ← alerts_at d
+  Some (Put at alerts)
 command_for body d verb.Subscribe = do
   name ← name_of d
   kind ← kind_of d
@@ -127,6 +127,8 @@ command_for body d verb.Mutes = do
   Some (Mutes name at labels)
 command_for body d verb.Stored = Some Stored
 command_for body d verb.Get = option_map Get (labels_at d)
+command_for body d verb.Routes = Some Routes
+command_for body d verb.Route = option_map Route (labels_at d)
 
 -- the line of this number, where a post's body is posted as this text
 unfoldable pub line_of : ℕ → List ℕ → Data → Option Line
@@ -149,6 +151,7 @@ IsBodyText d text = MatchOption (as_str d) (IsCompactText d text) (λ bytes. tex
 -- the text that a command posts
 abbrev pub body_text : Command → List ℕ
 body_text (Post at body) = body
+body_text (Put at alerts) = []
 body_text (Subscribe name kind) = []
 body_text (Read name max) = []
 body_text (Leave name) = []
@@ -160,10 +163,13 @@ body_text (Sweep name at) = []
 body_text (Mutes name at labels) = []
 body_text Stored = []
 body_text (Get labels) = []
+body_text Routes = []
+body_text (Route labels) = []
 
 -- a post's text is that of the line's body
 abbrev pub HasItsBody : Data → Command → Type 0
 HasItsBody d (Post at body) = IfSome (get (codes "body") d) (λ given. IsBodyText given body)
+HasItsBody d (Put at alerts) = ⊤
 HasItsBody d (Subscribe name kind) = ⊤
 HasItsBody d (Read name max) = ⊤
 HasItsBody d (Leave name) = ⊤
@@ -175,6 +181,8 @@ HasItsBody d (Sweep name at) = ⊤
 HasItsBody d (Mutes name at labels) = ⊤
 HasItsBody d Stored = ⊤
 HasItsBody d (Get labels) = ⊤
+HasItsBody d Routes = ⊤
+HasItsBody d (Route labels) = ⊤
 
 -- what a reader returned is what the definition gives, unless memory ran out
 abbrev pub IsReadAs : {X : Type 0} → Result X LineFault → Option X → Type 0

@@ -1,8 +1,11 @@
 pub mod Kinds
+pub mod Members
+pub mod Puts
 pub mod Commands
 pub mod Script
 pub mod Names
 pub mod ScriptTexts
+pub mod JsonLines
 pub mod Inputs
 pub mod Outputs
 pub mod inside

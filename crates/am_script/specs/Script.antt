@@ -10,8 +10,9 @@ use Rattle.std.specs.List.{onto_first}
 use Rattle.std.specs.Str.{bytes_eq}
 use Rattle.am_script.specs.Commands.{IsLineOf}
 use Rattle.am_script.specs.declared.command.Command.{Command}
-use Rattle.am_script.specs.declared.command.Command.TheVariants.{Post, Subscribe, Read, Leave, Collect, Close}
-use Rattle.am_script.specs.declared.command.Command.TheVariants.{Trim, Groups, Sweep, Mutes, Stored, Get}
+use Rattle.am_script.specs.declared.command.Command.TheVariants.{Post, Put, Subscribe, Read, Leave, Collect}
+use Rattle.am_script.specs.declared.command.Command.TheVariants.{Close, Trim, Groups, Sweep, Mutes, Stored}
+use Rattle.am_script.specs.declared.command.Command.TheVariants.{Get, Routes, Route}
 use Rattle.am_script.specs.declared.command.Line.{Line}
 use Rattle.am_script.specs.declared.command.LineFault.TheVariants as line_fault
 use Rattle.am_script.specs.declared.script.Fault.TheVariants.{BadLine, BadName, TooLarge}
@@ -37,6 +38,7 @@ subscribed_after here name before (Subscribe other kind) =
 subscribed_after here name before (Leave other) =
     if here && bytes_eq other name then None else before
 subscribed_after here name before (Post at body) = before
+subscribed_after here name before (Put at alerts) = before
 subscribed_after here name before (Read other max) = before
 subscribed_after here name before (Collect at) = before
 subscribed_after here name before Close = before
@@ -46,6 +48,8 @@ subscribed_after here name before (Sweep other at) = before
 subscribed_after here name before (Mutes other at labels) = before
 subscribed_after here name before Stored = before
 subscribed_after here name before (Get labels) = before
+subscribed_after here name before Routes = before
+subscribed_after here name before (Route labels) = before
 
 -- as what kind a name is subscribed in a thread by some lines, and not left again
 abbrev pub subscribed_as : List Line → ℕ → List ℕ → Option Kind
@@ -62,11 +66,14 @@ is_named_well subscribed (Groups name) = is_some_dispatch (subscribed name)
 is_named_well subscribed (Sweep name at) = is_some_dispatch (subscribed name)
 is_named_well subscribed (Mutes name at labels) = is_some_inhibit (subscribed name)
 is_named_well subscribed (Post at body) = true
+is_named_well subscribed (Put at alerts) = true
 is_named_well subscribed (Collect at) = true
 is_named_well subscribed Close = true
 is_named_well subscribed Trim = true
 is_named_well subscribed Stored = true
 is_named_well subscribed (Get labels) = true
+is_named_well subscribed Routes = true
+is_named_well subscribed (Route labels) = true
 
 -- whether a line's name is the right one after the lines before it
 abbrev pub is_well_named : List Line → Line → Bool

@@ -10,6 +10,7 @@ use Rattle.am_script.specs.declared.script.Refusal.{Refusal}
 -- the word of a command
 abbrev pub verb_text : Verb → List ℕ
 verb_text verb.Post = codes "post"
+verb_text verb.Put = codes "put"
 verb_text verb.Subscribe = codes "subscribe"
 verb_text verb.Read = codes "read"
 verb_text verb.Leave = codes "leave"
@@ -21,6 +22,8 @@ verb_text verb.Sweep = codes "sweep"
 verb_text verb.Mutes = codes "mutes"
 verb_text verb.Stored = codes "stored"
 verb_text verb.Get = codes "get"
+verb_text verb.Routes = codes "routes"
+verb_text verb.Route = codes "route"
 
 -- what is wrong with a line of a script
 abbrev pub fault_text : Fault → List ℕ

@@ -1,3 +1,4 @@
 -- Definitions that only code of this crate cites.
 pub mod Counting
 pub mod Intakes
+pub mod AlertTokens

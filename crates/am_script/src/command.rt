@@ -4,6 +4,7 @@ ghost use Rattle.std.specs.Prelude.{◌≡◌, Some};
 ghost use Rattle.am_script.specs.ScriptTexts.{verb_text};
 
 use crate::kind::Kind;
+use crate::put_alerts::PutAlerts;
 use crate::thread::Thread;
 use am_alert::Moment;
 use am_labels::{LabelSet, Text};
@@ -17,6 +18,11 @@ pub enum Command {
     Post {
         at: Moment,
         body: Text,
+    },
+    /// Alerts that carry their own moments are posted.
+    Put {
+        at: Moment,
+        alerts: PutAlerts,
     },
     Subscribe {
         name: Text,
@@ -55,6 +61,12 @@ pub enum Command {
     Stored,
     /// The stored alert of a label set, which is made as that of `Mutes` is.
     Get {
+        labels: LabelSet,
+    },
+    /// The configuration's routing tree.
+    Routes,
+    /// The routes that a label set matches, which is made as that of `Mutes` is.
+    Route {
         labels: LabelSet,
     },
 }
@@ -98,6 +110,7 @@ impl<T: Drop> From<AllocFailed<T>> for LineFault {
 #[derive(Clone, Copy, Debug, PartialEq, Eq)]
 pub enum Verb {
     Post,
+    Put,
     Subscribe,
     Read,
     Leave,
@@ -109,6 +122,8 @@ pub enum Verb {
     Mutes,
     Stored,
     Get,
+    Routes,
+    Route,
 }
 
 impl fmt::Display for Verb {
@@ -117,6 +132,7 @@ impl fmt::Display for Verb {
     fn fmt<W: fmt::Write>(&self, f: &mut fmt::Formatter<W>) -> fmt::Result {
         f.write_str(match self {
             Verb::Post => "post",
+            Verb::Put => "put",
             Verb::Subscribe => "subscribe",
             Verb::Read => "read",
             Verb::Leave => "leave",
@@ -128,6 +144,8 @@ impl fmt::Display for Verb {
             Verb::Mutes => "mutes",
             Verb::Stored => "stored",
             Verb::Get => "get",
+            Verb::Routes => "routes",
+            Verb::Route => "route",
         })
     }
 }

@@ -22,26 +22,35 @@
 //! This crate knows alerts' moments and no provider: what a command does is in am_runner.
 #![tactic(auto)]
 
+mod advice;
 mod command;
 mod failure;
 mod input;
+mod json_line;
 mod kind;
+mod laws;
 mod limits;
 mod line_counter;
 mod line_reader;
 mod members;
 mod names;
 mod output;
+mod put_alerts;
+mod put_reader;
 mod script;
 mod thread;
 
+pub use advice::{config_advice, script_advice};
 pub use command::{Command, Line, LineFault, Verb};
 pub use failure::Failure;
 pub use input::read_input;
+pub use json_line::{JsonLine, write_fault};
 pub use kind::Kind;
+pub use laws::limit_laws;
 pub use limits::{LONGEST_LINE, MOST_LINES};
 pub use line_reader::{read_command, read_line};
 pub use output::write_text;
+pub use put_alerts::PutAlerts;
 pub use script::{Fault, Refusal, ScriptFault, config_line, read_script};
 pub use thread::{THREADS, Thread};
 

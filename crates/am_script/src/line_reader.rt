@@ -7,6 +7,7 @@ ghost use Rattle.am_script.specs.Commands.{IsBodyText, IsCommandOf, IsLineFrom, 
 
 use crate::command::{Command, Line, LineFault, Verb};
 use crate::members::{kind_at, labels_at, max_at, moment_at, name_at, thread_at, verb_at};
+use crate::put_reader::alerts_at;
 use am_labels::Text;
 use serde_json::Value;
 use std::alloc::{AllocError, Global};
@@ -61,6 +62,7 @@ fn command_for(alloc: Global, value: &Value, verb: Verb) -> Result<Command, Line
 {
     match verb {
         Verb::Post => post_of(alloc, value),
+        Verb::Put => put_of(alloc, value),
         Verb::Subscribe => subscribe_of(alloc, value),
         Verb::Read => read_of(alloc, value),
         Verb::Leave => leave_of(alloc, value),
@@ -72,6 +74,8 @@ fn command_for(alloc: Global, value: &Value, verb: Verb) -> Result<Command, Line
         Verb::Mutes => mutes_of(alloc, value),
         Verb::Stored => Ok(Command::Stored),
         Verb::Get => get_of(alloc, value),
+        Verb::Routes => Ok(Command::Routes),
+        Verb::Route => route_of(alloc, value),
     }
 }
 
@@ -80,12 +84,22 @@ fn post_of(alloc: Global, value: &Value) -> Result<Command, LineFault>
     ensures { ReadsCommand (view value.now) result
         (λ body. command_for body (view value.now) Verb.Post) }
 {
-    let at = moment_at(value)?;
+    let at = moment_at(value, "at")?;
     let Some(given) = value.get("body") else {
         return Err(LineFault::BadLine);
     };
     let body = posted_text(alloc, given)?;
     Ok(Command::Post { at, body })
+}
+
+#[tactic(auto, unfolding(crate::specs::Commands::command_for))]
+fn put_of(alloc: Global, value: &Value) -> Result<Command, LineFault>
+    ensures { ReadsCommand (view value.now) result
+        (λ body. command_for body (view value.now) Verb.Put) }
+{
+    let at = moment_at(value, "at")?;
+    let alerts = alerts_at(alloc, value)?;
+    Ok(Command::Put { at, alerts })
 }
 
 fn posted_text(alloc: Global, body: &Value) -> Result<Text, AllocError>
@@ -133,7 +147,7 @@ fn collect_of(value: &Value) -> Result<Command, LineFault>
     ensures { ReadsCommand (view value.now) result
         (λ body. command_for body (view value.now) Verb.Collect) }
 {
-    let at = moment_at(value)?;
+    let at = moment_at(value, "at")?;
     Ok(Command::Collect { at })
 }
 
@@ -152,7 +166,7 @@ fn sweep_of(alloc: Global, value: &Value) -> Result<Command, LineFault>
         (λ body. command_for body (view value.now) Verb.Sweep) }
 {
     let name = name_at(alloc, value)?;
-    let at = moment_at(value)?;
+    let at = moment_at(value, "at")?;
     Ok(Command::Sweep { name, at })
 }
 
@@ -162,7 +176,7 @@ fn mutes_of(alloc: Global, value: &Value) -> Result<Command, LineFault>
         (λ body. command_for body (view value.now) Verb.Mutes) }
 {
     let name = name_at(alloc, value)?;
-    let at = moment_at(value)?;
+    let at = moment_at(value, "at")?;
     let labels = labels_at(alloc, value)?;
     Ok(Command::Mutes { name, at, labels })
 }
@@ -174,4 +188,13 @@ fn get_of(alloc: Global, value: &Value) -> Result<Command, LineFault>
 {
     let labels = labels_at(alloc, value)?;
     Ok(Command::Get { labels })
+}
+
+#[tactic(auto, unfolding(crate::specs::Commands::command_for))]
+fn route_of(alloc: Global, value: &Value) -> Result<Command, LineFault>
+    ensures { ReadsCommand (view value.now) result
+        (λ body. command_for body (view value.now) Verb.Route) }
+{
+    let labels = labels_at(alloc, value)?;
+    Ok(Command::Route { labels })
 }

@@ -2,8 +2,9 @@
 
 ghost use Rattle.std.specs.Prelude.{◌≡◌, ◌≤◌, IfOk, option_map};
 ghost use Rattle.serde_json.specs.View.{view, members_view};
-ghost use Rattle.am_script.specs.Commands.{kind_of, labels_at, max_of, moment_of, name_of, number_member};
-ghost use Rattle.am_script.specs.Commands.{label_set_of, text_member, thread_of, verb_at, verb_of, IsReadAs};
+ghost use Rattle.am_script.specs.Commands.{kind_of, labels_at, max_of, name_of, number_member};
+ghost use Rattle.am_script.specs.Commands.{label_set_of, thread_of, verb_at, verb_of, IsReadAs};
+ghost use Rattle.am_script.specs.Members.{moment_at, text_member};
 ghost use Rattle.am_script.specs.Kinds.{kind_named};
 
 use crate::command::{LineFault, Verb};
@@ -47,6 +48,8 @@ fn verb_of(text: &str) -> Option<Verb>
 {
     if text == "post" {
         Some(Verb::Post)
+    } else if text == "put" {
+        Some(Verb::Put)
     } else if text == "subscribe" {
         Some(Verb::Subscribe)
     } else if text == "read" {
@@ -69,6 +72,10 @@ fn verb_of(text: &str) -> Option<Verb>
         Some(Verb::Stored)
     } else if text == "get" {
         Some(Verb::Get)
+    } else if text == "routes" {
+        Some(Verb::Routes)
+    } else if text == "route" {
+        Some(Verb::Route)
     } else {
         None
     }
@@ -125,11 +132,11 @@ fn number_member(value: &Value, name: &str, low: u32, high: u32) -> Result<u32, 
     }
 }
 
-// The moment of `at`, which isn't absent.
-pub(crate) fn moment_at(value: &Value) -> Result<Moment, LineFault>
-    ensures { IsReadAs result (moment_of (view value.now)) }
+// The moment of a member, which isn't absent.
+pub(crate) fn moment_at(value: &Value, name: &str) -> Result<Moment, LineFault>
+    ensures { IsReadAs result (moment_at name.now (view value.now)) }
 {
-    let Some(text) = text_member(value, "at") else {
+    let Some(text) = text_member(value, name) else {
         return Err(LineFault::BadLine);
     };
     match read_time(text) {

@@ -35,11 +35,14 @@ pub(crate) fn follow(names: &mut Names, line: &Line) -> Result<bool, AllocError>
         }
         Command::Mutes { name, .. } => Ok(has_inhibitor(names, &(thread, name.copy()?))),
         Command::Post { .. }
+        | Command::Put { .. }
         | Command::Collect { .. }
         | Command::Close
         | Command::Trim
         | Command::Stored
-        | Command::Get { .. } => Ok(true),
+        | Command::Get { .. }
+        | Command::Routes
+        | Command::Route { .. } => Ok(true),
     }
 }
 

@@ -14,3 +14,7 @@ returns-in-Trim c = (tt, ap (λ v. command_for [] (view c.args.value.now) v) c.i
 pub returns-in-Stored : goal.returns-in-Stored
 unfolding command_for
 returns-in-Stored c = (tt, ap (λ v. command_for [] (view c.args.value.now) v) c.in-Stored.is)
+
+pub returns-in-Routes : goal.returns-in-Routes
+unfolding command_for
+returns-in-Routes c = (tt, ap (λ v. command_for [] (view c.args.value.now) v) c.in-Routes.is)

@@ -1,0 +1,15 @@
+use Rattle.std.proofs.Common.{◌∙◌, List, codes}
+use Rattle.std.proofs.lemmas.Result.{IfOk-weaker}
+use Rattle.json.specs.Json.{string}
+use Rattle.json.specs.Token.{Token}
+use Rattle.am_alert.specs.Printing.{moment_text}
+use Rattle.am_script.specs.JsonLines.{named}
+use Rattle.am_script.proofs.JsonLines.{and_then}
+use Rattle.am_script.proofs.json_line.JsonLine.moments.Goals as goal
+
+pub returns : goal.returns
+returns c =
+    let start : List Token = named (codes "startsAt") (string (moment_text c.args.alert.now.start)) in
+    let finish : List Token = named (codes "endsAt") (string (moment_text c.args.alert.now.end)) in
+    IfOk-weaker c.shown-3.result _ _ (λ _ last. last ∙ (and_then c.shown.new.self c.shown-2.new.self finish _ c.in_ok-shown-2.ensures
+    ∙ and_then c.args.self.now c.shown.new.self start _ c.in_ok-shown.ensures)) c.shown-3.ensures

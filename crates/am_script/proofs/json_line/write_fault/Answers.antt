@@ -1,0 +1,11 @@
+use Rattle.std.proofs.Common.{rules, ◌≡◌, ◌++◌, ◌∷◌, [], List, OnOk, string_bytes, subst}
+use Rattle.json.specs.Print.{print}
+use Rattle.json.specs.Token.{Token, end_object}
+use Rattle.json.specs.Tree.{json_tokens}
+use Rattle.am_script.specs.JsonLines.{about_line, fault_members}
+use Rattle.am_script.proofs.json_line.write_fault.Goals as goal
+
+pub returns : goal.returns
+returns c =
+    let whole : c.shown.new.self ++ end_object ∷ [] ≡ json_tokens (about_line c.args.number (fault_members c.args.fault)) = search rules in
+    subst (λ (tokens : List Token). OnOk c.end.result (string_bytes c.end.new.text ≡ string_bytes c.args.text.now ++ (print tokens ++ 10 ∷ []))) whole c.end.ensures
