@@ -35,6 +35,13 @@ pub record SeesCall (was is : FrontView EntryView) (Answers : List EntryView →
   pub made : is.made ≡ was.made ++ made_from (length before) added
   pub answers : Answers before added
 
+-- a caller and an onlooker are shown the same entries, of which both had seen a beginning; nothing is added
+pub record SeesWhole (was is saw sees : FrontView EntryView) : Type 0 where
+  pub entries : List EntryView
+  pub known : IsPrefix was.seen entries × IsPrefix saw.seen entries
+  pub caller : is ≡ record was { seen = entries }
+  pub onlooker : sees ≡ record saw { seen = entries }
+
 -- what a post of a body comes to: a body that can't be read is refused for its fault before the history is
 -- looked at; another is posted, and then the pass owns its place with what was read
 abbrev pub AnswersBody : Policy → ℕ → ℕ → ℕ → List ℕ → PassView Alert Call → PassView Alert Call

@@ -5,10 +5,10 @@
 //! for a look at each; a trim, for the calls that it drops; a leave, for its places. Nothing is printed,
 //! parsed or waited for under it.
 
-ghost use Rattle.std.specs.Prelude.{◌≡◌, ◌↔◌, IsTrue, IfOk, OnErr, length, map};
+ghost use Rattle.std.specs.Prelude.{◌≡◌, ◌↔◌, IsTrue, IfOk, OnErr, [], length, map};
 ghost use Rattle.std.specs.List.{All};
 ghost use Rattle.std.specs.Duration.{as_nanos};
-ghost use Rattle.am_provider.specs.Callers.{AnswersBody, AnswersPostIf, IsNewCaller, SeesCall};
+ghost use Rattle.am_provider.specs.Callers.{AnswersBody, AnswersPostIf, IsNewCaller, SeesCall, SeesWhole};
 ghost use Rattle.am_provider.specs.Headline.{AnswersPost, AnswersSubscribe, AnswersLeave, AnswersCollect};
 ghost use Rattle.am_provider.specs.Headline.{AnswersClose, AnswersTrim, AnswersStored, AnswersGet, AnswersTake};
 ghost use Rattle.am_provider.specs.Posts.{AddsOwn, HasMet};
@@ -29,7 +29,7 @@ use crate::settled::Settled;
 use crate::subscription::Subscription;
 use am_alert::{Alert, Moment, Post, read_post};
 use am_cast::AlreadyClosed;
-use am_history::{HistoryTable, Opened, open};
+use am_history::{Front, HistoryTable, Opened, open};
 use am_labels::LabelSet;
 use am_store::{SharedAlert, StoredAlerts};
 use std::alloc::{AllocError, Global};
@@ -267,6 +267,24 @@ impl<N: Recorded> Provider<N> {
         ensures pass { caller.new.pass ≡ caller.old.pass }
     {
         self.book.lock(rt).get(&self.table, caller, labels)
+    }
+
+    /// A front for an onlooker of the calls, who makes none. It has seen as much of the history as the
+    /// caller.
+    pub fn onlooker(&self, caller: &mut Caller<N>) -> Front<Entry, N>
+        ensures pass { caller.new.pass ≡ caller.old.pass }
+        ensures front { caller.new.front ≡ caller.old.front }
+        ensures onlooker { result ≡ record { seen = caller.old.front.seen; made = []; parts = 0 } }
+    {
+        caller.front.onlooker(&self.table)
+    }
+
+    /// Shows the whole history, as it is now, to a caller and to an onlooker. It adds nothing to it.
+    pub fn look<R: Wait>(&self, rt: &R, caller: &mut Caller<N>, onlooker: &mut Front<Entry, N>)
+        ensures sees { SeesWhole caller.old.front caller.new.front onlooker.old onlooker.new }
+        ensures pass { caller.new.pass ≡ caller.old.pass }
+    {
+        self.book.lock(rt).look(&self.table, caller, onlooker);
     }
 
     /// Ends the provider. Each pass's posts stand at rising places, in the order in which it posted

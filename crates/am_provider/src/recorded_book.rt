@@ -7,7 +7,7 @@ ghost use Rattle.std.specs.Prelude.{◌≡◌, ◌↔◌, ◌++◌, ◌∷◌, I
 ghost use Rattle.std.specs.List.{All};
 ghost use mathlib.Core.List.{IsPrefix};
 ghost use Rattle.am_history.specs.Fronts.{made_at};
-ghost use Rattle.am_provider.specs.Callers.{AnswersPostIf, SeesCall};
+ghost use Rattle.am_provider.specs.Callers.{AnswersPostIf, SeesCall, SeesWhole};
 ghost use Rattle.am_provider.specs.Headline.{AnswersPost, AnswersSubscribe, AnswersLeave, AnswersCollect};
 ghost use Rattle.am_provider.specs.Headline.{AnswersClose, AnswersTrim, AnswersStored, AnswersGet, AnswersTake};
 ghost use Rattle.am_provider.specs.Histories.{Accepted};
@@ -25,7 +25,7 @@ use crate::settled::Settled;
 use crate::subscription::Subscription;
 use am_alert::{Alert, Moment, Post};
 use am_cast::AlreadyClosed;
-use am_history::{History, HistoryTable};
+use am_history::{Front, History, HistoryTable};
 use am_labels::LabelSet;
 use am_store::{Call, LaneSet, SharedAlert, StoredAlerts};
 use std::alloc::AllocError;
@@ -315,6 +315,20 @@ impl<N: Recorded> RecordedBook<N> {
         self.book.kept();
         self.history.show(table, &mut caller.front);
         self.book.get(labels)
+    }
+
+    /// Shows all of the history to a caller and to an onlooker.
+    pub(crate) fn look(
+        &mut self,
+        table: &HistoryTable<Entry, N>,
+        caller: &mut Caller<N>,
+        onlooker: &mut Front<Entry, N>,
+    )
+        ensures sees { SeesWhole caller.old.front caller.new.front onlooker.old onlooker.new }
+        ensures pass { caller.new.pass ≡ caller.old.pass }
+    {
+        self.history.show(table, &mut caller.front);
+        self.history.show(table, onlooker);
     }
 
     /// Ends the Book, and with it its log.

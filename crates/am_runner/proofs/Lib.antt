@@ -3,3 +3,4 @@ pub mod Named
 pub mod Owed
 pub mod Results
 pub mod Taking
+pub mod Turning

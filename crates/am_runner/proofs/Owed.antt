@@ -1,5 +1,5 @@
 -- What a thread read of its subscriptions is what was due to them.
-use Rattle.std.proofs.Common.{◌≡◌, ◌≢◌, ℕ, zero, suc, ◌<◌, ◌≤◌, ◌⊎◌, inl, inr, Bool, true, false, List, [], ◌∷◌, ◌++◌, Option, Some, None, Err, length, take, slice_get, slice_set, remove, refl, sym, ap, subst, ◌∙◌, arith}
+use Rattle.std.proofs.Common.{◌≡◌, ◌≢◌, ℕ, zero, suc, ◌+◌, ◌<◌, ◌≤◌, ◌⊎◌, inl, inr, Bool, true, false, List, [], ◌∷◌, ◌++◌, Option, Some, None, Err, length, take, slice_get, slice_set, remove, refl, sym, ap, subst, ◌∙◌, arith}
 use native.Mathlib.Decide.{ℕ_discrete}
 use mathlib.Core.Logic.{dite}
 use mathlib.Core.List.{IsPrefix}
@@ -31,11 +31,14 @@ use Rattle.am_script.specs.declared.command.Verb.TheVariants as verb
 use Rattle.am_runner.specs.Answers.{is_item}
 use Rattle.am_runner.specs.Consuming.{IsAsked, IsSwept}
 use Rattle.am_runner.specs.Owed.{AreOwed, ReadIsDue, ReadsContinue, item_in, items_in}
+use Rattle.am_runner.specs.Putting.{AnswersPut}
 use Rattle.am_runner.specs.Reading.{OpenView, NextIs, ReadsOne, takes, misses, ends, ReadsSome, nothing, one_more, ReadAnswers, all, ended, Asks}
 use Rattle.am_runner.specs.Sessions.{Setting, SessionView, Does, LeavesAt, LeavesAll, OnNamed, IsOne}
 use Rattle.am_runner.specs.Sessions as does
-use Rattle.am_runner.specs.Working.{Works, RunsLine}
+use Rattle.am_runner.specs.Turning.{Order}
+use Rattle.am_runner.specs.Working.{LeavesLast, LooksOn, Works, RunsLine}
 use Rattle.am_runner.specs.Working as works
+use Rattle.am_runner.proofs.Turning.{prefix_then}
 use Rattle.am_runner.specs.declared.answer.Answer.{Answer}
 use Rattle.am_runner.specs.declared.answer.Answer.TheVariants as answer
 
@@ -80,7 +83,9 @@ last_stays old new answer.MutesRefused none next = absurd next
 last_stays old new (answer.StoredCount n) none next = absurd next
 last_stays old new (answer.StoredAlert a) none next = absurd next
 last_stays old new answer.NotStored none next = absurd next
-last_stays old new (answer.StoredRefused v) none next = absurd next
+last_stays old new (answer.Route r) none next = absurd next
+last_stays old new (answer.Matched r) none next = absurd next
+last_stays old new (answer.OutOfMemory v) none next = absurd next
 last_stays old new (answer.NotOpen v) none next = absurd next
 
 -- what a subscription has taken since it had taken this, and when it came
@@ -252,9 +257,19 @@ module _ (law : StaysFrontOfDue) (entries : List EntryView) where
     owed = owed.owed;
   }
 
+  put_refused_back : (setting : Setting) (at : ℕ) (alerts : List Alert) (old : SessionView) (why : PostRefused) (pass : PassView Alert Call) (front : FrontView EntryView)
+      → AnswersPut setting.policy setting.places at alerts old.pass pass old.front front (Err why) → WasOwed (record old { pass = pass; front = front }) → WasOwed old
+  put_refused_back setting at alerts old (refused.Put fault) pass front it owed = same_opened old (record old { pass = pass; front = front }) _ it.2 refl owed
+  put_refused_back setting at alerts old (refused.Unread fault) pass front it owed = record {
+    seen = subst (λ (f : FrontView EntryView). IsPrefix f.seen entries) it.2 owed.seen;
+    owed = owed.owed;
+  }
+
   does_back : (config : Config) (setting : Setting) (old new : SessionView) (command : Command) (given : List Answer) → Does config setting old command given new → WasOwed new → WasOwed old
   does_back config setting old new command given (does.posted {pass = pass} {front = front} it) owed = same_opened old (record old { pass = pass; front = front }) _ it.2 refl owed
   does_back config setting old new command given (does.post_refused {at = at} {body = body} {why = why} {pass = pass} {front = front} it) owed = refused_back config setting at body old why pass front it owed
+  does_back config setting old new command given (does.put {pass = pass} {front = front} it) owed = same_opened old (record old { pass = pass; front = front }) _ it.2 refl owed
+  does_back config setting old new command given (does.put_refused {at = at} {alerts = alerts} {why = why} {pass = pass} {front = front} it) owed = put_refused_back setting at alerts old why pass front it owed
   does_back config setting old new command given (does.subscribed {front = front} one named sees fresh) owed = record {
     seen = seen_before old.front front _ sees owed.seen;
     owed = λ j other there. owed.owed j other (append_there old.opened (one ∷ []) j other there);
@@ -285,16 +300,29 @@ module _ (law : StaysFrontOfDue) (entries : List EntryView) where
   does_back config setting old new command given (does.stored_refused {front = front} sees) owed = same_opened old (record old { front = front }) _ sees refl owed
   does_back config setting old new command given (does.got {front = front} found sees) owed = same_opened old (record old { front = front }) _ sees refl owed
   does_back config setting old new command given (does.get_refused {front = front} sees) owed = same_opened old (record old { front = front }) _ sees refl owed
+  does_back config setting old new command given (does.routes shows) owed = owed
+  does_back config setting old new command given (does.route asks) owed = owed
 
-  line_back : (config : Config) (setting : Setting) (thread : ℕ) (line : Line) (old new : SessionView) (given : List Answer) → RunsLine config setting thread line old given new → WasOwed new → WasOwed old
-  line_back config setting thread line old new given (works.own mine it) owed = does_back config setting old new line.command given it owed
-  line_back config setting thread line old new given (works.others not_mine) owed = owed
+  looked_back : (old new : SessionView) → LooksOn old new → WasOwed new → WasOwed old
+  looked_back old new looks it = record {
+    seen = prefix_then old.front.seen new.front.seen entries looks.0.0 it.seen;
+    owed = subst (AreOwed entries) (ap (λ (s : SessionView). s.opened) looks.1) it.owed;
+  }
 
-  lines_back : (config : Config) (setting : Setting) (thread : ℕ) (now end : SessionView) (lines : List Line) (answers : List (Vec Answer)) → Works config setting thread now lines answers end → WasOwed end → WasOwed now
-  lines_back config setting thread now end lines answers works.nothing owed = owed
-  lines_back config setting thread now end lines answers (works.one_more {lines = before} {answers = told} {old = old} line given it runs) owed =
-      lines_back config setting thread now old before told it (line_back config setting thread line old end given.items runs owed)
+  line_back : (config : Config) (setting : Setting) (order : Order) (thread at : ℕ) (line : Line) (old new : SessionView) (given : List Answer) → RunsLine config setting order thread at line old given new → WasOwed new → WasOwed old
+  line_back config setting order thread at line old new given (works.own begun done mine before it behind turn) owed =
+      looked_back old begun before (does_back config setting begun done line.command given it (looked_back done new behind owed))
+  line_back config setting order thread at line old new given (works.others not_mine) owed = owed
+
+  lines_back : (config : Config) (setting : Setting) (order : Order) (thread first : ℕ) (now end : SessionView) (lines : List Line) (answers : List (Vec Answer)) → Works config setting order thread first now lines answers end → WasOwed end → WasOwed now
+  lines_back config setting order thread first now end lines answers works.nothing owed = owed
+  lines_back config setting order thread first now end lines answers (works.one_more {lines = before} {answers = told} {old = old} line given it runs) owed =
+      lines_back config setting order thread first now old before told it (line_back config setting order thread (first + length before) line old end given.items runs owed)
+
+  last_back : (order : Order) (number : ℕ) (end : SessionView) (pass : PassView Alert Call) (front : FrontView EntryView) → LeavesLast order number end pass front → IsPrefix front.seen entries → WasOwed end
+  last_back order number end pass front last longer =
+      looked_back end last.begun last.looks (all_left last.begun (record { pass = pass; front = last.left; opened = [] }) last.leaves (prefix_then last.left.seen front.seen entries last.sees.0 longer))
 
 pub read_is_due : StaysFrontOfDue → ReadIsDue
-read_is_due law config setting thread now end left lines answers entries works leaves longer =
-    (lines_back law entries config setting thread now end lines answers works (all_left law entries end left leaves longer)).owed
+read_is_due law config setting order thread first number now end pass front lines answers entries works leaves longer =
+    (lines_back law entries config setting order thread first now end lines answers works (last_back law entries order number end pass front leaves longer)).owed

@@ -94,7 +94,9 @@ module _ (old new : SubscriptionView) (before after : Option Consumer) (missed g
   took_shown law (answer.StoredCount n) next kept took = absurd next
   took_shown law (answer.StoredAlert a) next kept took = absurd next
   took_shown law answer.NotStored next kept took = absurd next
-  took_shown law (answer.StoredRefused v) next kept took = absurd next
+  took_shown law (answer.Route r) next kept took = absurd next
+  took_shown law (answer.Matched r) next kept took = absurd next
+  took_shown law (answer.OutOfMemory v) next kept took = absurd next
   took_shown law (answer.NotOpen v) next kept took = absurd next
 
   abbrev pub view_before : List ℕ → OpenView
@@ -141,7 +143,9 @@ module _ (old new : SubscriptionView) (before after : Option Consumer) (missed g
   reads_shown name answers (answer.StoredCount n) next kept = absurd next
   reads_shown name answers (answer.StoredAlert a) next kept = absurd next
   reads_shown name answers answer.NotStored next kept = absurd next
-  reads_shown name answers (answer.StoredRefused v) next kept = absurd next
+  reads_shown name answers (answer.Route r) next kept = absurd next
+  reads_shown name answers (answer.Matched r) next kept = absurd next
+  reads_shown name answers (answer.OutOfMemory v) next kept = absurd next
   reads_shown name answers (answer.NotOpen v) next kept = absurd next
 
   -- an alert was refused beside: one read too
@@ -174,7 +178,9 @@ module _ (old new : SubscriptionView) (before after : Option Consumer) (missed g
   reads_missed name answers (answer.StoredCount n) is next kept = absurd (false≢true is)
   reads_missed name answers (answer.StoredAlert a) is next kept = absurd (false≢true is)
   reads_missed name answers answer.NotStored is next kept = absurd (false≢true is)
-  reads_missed name answers (answer.StoredRefused v) is next kept = absurd (false≢true is)
+  reads_missed name answers (answer.Route r) is next kept = absurd (false≢true is)
+  reads_missed name answers (answer.Matched r) is next kept = absurd (false≢true is)
+  reads_missed name answers (answer.OutOfMemory v) is next kept = absurd (false≢true is)
   reads_missed name answers (answer.NotOpen v) is next kept = absurd (false≢true is)
 
   pub read_one : (name : List ℕ) (answers all : List Answer) (given : Answer) → NextIs old given new → IsTaken given before goes_on after

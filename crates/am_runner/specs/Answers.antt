@@ -16,7 +16,7 @@ is_out_of_memory answer.CollectRefused = true
 is_out_of_memory answer.TrimRefused = true
 is_out_of_memory answer.TakeRefused = true
 is_out_of_memory answer.MutesRefused = true
-is_out_of_memory (answer.StoredRefused word) = true
+is_out_of_memory (answer.OutOfMemory word) = true
 is_out_of_memory _ = false
 
 -- whether the answer is an item, after which a subscription may show more

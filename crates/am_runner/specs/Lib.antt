@@ -1,7 +1,12 @@
 pub mod Answers
 pub mod Printing
+pub mod PrintingJson
+pub mod Forms
 pub mod Consuming
+pub mod Asking
 pub mod Owed
 pub mod Reading
+pub mod Putting
 pub mod Sessions
+pub mod Turning
 pub mod Working

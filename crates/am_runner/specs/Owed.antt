@@ -4,14 +4,18 @@ use Rattle.std.specs.Global.{Vec}
 use Rattle.std.specs.List.{filter_map}
 use mathlib.Core.List.{IsPrefix}
 use Rattle.am_alert.specs.declared.alert.Alert.{Alert}
+use Rattle.am_store.specs.declared.call.Call.{Call}
 use Rattle.am_store.specs.Broadcast.{due, IsFront}
+use Rattle.am_cast.specs.Posters.{PassView}
+use Rattle.am_history.specs.Fronts.{FrontView}
 use Rattle.am_provider.specs.Histories.{EntryView, whole}
 use Rattle.am_provider.specs.Subscriptions.{taken}
 use Rattle.am_config.specs.declared.config.Config.{Config}
 use Rattle.am_script.specs.declared.command.Line.{Line}
 use Rattle.am_runner.specs.Reading.{OpenView, ReadAnswers}
-use Rattle.am_runner.specs.Sessions.{Setting, SessionView, LeavesAll}
-use Rattle.am_runner.specs.Working.{Works}
+use Rattle.am_runner.specs.Sessions.{Setting, SessionView}
+use Rattle.am_runner.specs.Turning.{Order}
+use Rattle.am_runner.specs.Working.{Works, LeavesLast}
 use Rattle.am_runner.specs.declared.answer.Answer.{Answer}
 use Rattle.am_runner.specs.declared.answer.Answer.TheVariants as answer
 
@@ -37,7 +41,8 @@ AreOwed entries opened = (index : ℕ) (one : OpenView) → slice_get opened ind
 -- at each moment of a thread's work: if it runs its other lines and then leaves what is open, what each
 -- subscription has taken begins what is due to it after the whole history
 abbrev pub ReadIsDue : Type 0
-ReadIsDue = (config : Config) (setting : Setting) (thread : ℕ) (now end left : SessionView)
+ReadIsDue = (config : Config) (setting : Setting) (order : Order) (thread first number : ℕ)
+    (now end : SessionView) (pass : PassView Alert Call) (front : FrontView EntryView)
     (lines : List Line) (answers : List (Vec Answer)) (entries : List EntryView)
-    → Works config setting thread now lines answers end → LeavesAll end left
-    → IsPrefix left.front.seen entries → AreOwed entries now.opened
+    → Works config setting order thread first now lines answers end → LeavesLast order number end pass front
+    → IsPrefix front.seen entries → AreOwed entries now.opened

@@ -5,7 +5,9 @@ use Rattle.std.specs.Fmt.{decimal}
 use Rattle.am_alert.specs.Printing.{alert_text, alert_fault_text}
 use Rattle.am_labels.specs.LabelSets.{Labels}
 use Rattle.am_labels.specs.Printing.{labels_text, quoted}
+use Rattle.am_routes.specs.Printing.{listed_text}
 use Rattle.am_routes.specs.declared.dispatcher.Swept.{Swept}
+use Rattle.am_routes.specs.declared.matched_route.MatchedRoute.{MatchedRoute}
 use Rattle.am_cast.specs.FaultTexts.{closed_text}
 use Rattle.am_provider.specs.FaultTexts.{post_refused_text, sub_fault_text}
 use Rattle.am_script.specs.ScriptTexts.{verb_text}
@@ -32,6 +34,12 @@ abbrev pub group_text : ℕ → List ℕ → Labels → ℕ → List ℕ
 group_text route receiver labels alerts =
     codes "group route " ++ (decimal route ++ (codes " receiver " ++ (quoted receiver
     ++ (codes " labels " ++ (labels_text labels ++ (codes " alerts " ++ decimal alerts))))))
+
+-- a route that a label set matches: its number, who is told, and the group labels there
+abbrev pub matched_text : MatchedRoute → List ℕ
+matched_text route =
+    codes "matched route " ++ (decimal route.id.0 ++ (codes " receiver " ++ (quoted route.receiver
+    ++ (codes " labels " ++ labels_text route.labels))))
 
 -- how many alerts and groups a sweep removed
 abbrev pub swept_text : Swept → List ℕ
@@ -72,7 +80,9 @@ answer_text answer.NotMuted = codes "not muted"
 answer_text (answer.StoredCount count) = codes "stored " ++ decimal count
 answer_text (answer.StoredAlert alert) = codes "alert " ++ alert_text alert
 answer_text answer.NotStored = codes "no alert"
-answer_text (answer.StoredRefused word) = verb_text word ++ codes " refused E0 NoMemory"
+answer_text (answer.Route route) = codes "route " ++ listed_text route
+answer_text (answer.Matched route) = matched_text route
+answer_text (answer.OutOfMemory word) = verb_text word ++ codes " refused E0 NoMemory"
 answer_text answer.MutesRefused = codes "mutes refused E0 NoMemory"
 answer_text (answer.NotOpen word) = verb_text word ++ codes " none"
 

@@ -27,13 +27,17 @@ use Rattle.am_provider.specs.declared.faults.PostRefused.{PostRefused}
 use Rattle.am_provider.specs.declared.faults.SubFault.{SubFault}
 use Rattle.am_labels.specs.LabelSets.{Labels}
 use Rattle.am_script.specs.declared.kind.Kind.{Kind}
+use Rattle.am_config.specs.RouteLists.{root_of}
 use Rattle.am_config.specs.declared.config.Config.{Config}
 use Rattle.am_script.specs.declared.command.Command.{Command}
-use Rattle.am_script.specs.declared.command.Command.TheVariants.{Post, Subscribe, Read, Leave, Collect, Close}
-use Rattle.am_script.specs.declared.command.Command.TheVariants.{Trim, Groups, Sweep, Mutes, Stored, Get}
+use Rattle.am_script.specs.declared.command.Command.TheVariants.{Post, Put, Subscribe, Read, Leave, Collect}
+use Rattle.am_script.specs.declared.command.Command.TheVariants.{Close, Trim, Groups, Sweep, Mutes, Stored}
+use Rattle.am_script.specs.declared.command.Command.TheVariants.{Get, Routes, Route}
 use Rattle.am_script.specs.declared.command.Verb.{Verb}
 use Rattle.am_script.specs.declared.command.Verb.TheVariants as verb
+use Rattle.am_runner.specs.Asking.{AsksTree, ShowsTree}
 use Rattle.am_runner.specs.Consuming.{fresh_consumer, IsAsked, IsSwept}
+use Rattle.am_runner.specs.Putting.{AnswersPut}
 use Rattle.am_runner.specs.Reading.{OpenView, ReadAnswers, Asks, groups_beside}
 use Rattle.am_runner.specs.declared.answer.Answer.{Answer}
 use Rattle.am_runner.specs.declared.answer.Answer.TheVariants as answer
@@ -161,6 +165,16 @@ pub data Does (config : Config) (setting : Setting) (old : SessionView)
       (Err why)
       → Does config setting old (Post at body) (answer.PostRefused why ∷ [])
       (record old { pass = pass; front = front })
+  put : {at : ℕ} {alerts : List Alert} {posted : Posted} {pass : PassView Alert Call}
+      {front : FrontView EntryView}
+      → AnswersPut setting.policy setting.places at alerts old.pass pass old.front front (Ok posted)
+      → Does config setting old (Put at alerts) (posted_answers posted)
+      (record old { pass = pass; front = front })
+  put_refused : {at : ℕ} {alerts : List Alert} {why : PostRefused} {pass : PassView Alert Call}
+      {front : FrontView EntryView}
+      → AnswersPut setting.policy setting.places at alerts old.pass pass old.front front (Err why)
+      → Does config setting old (Put at alerts) (answer.PostRefused why ∷ [])
+      (record old { pass = pass; front = front })
   subscribed : {name : List ℕ} {kind : Kind} {front : FrontView EntryView} (one : OpenView) → one.name ≡ name
       → SeesCall old.front front (AnswersSubscribe (Ok one.subscription))
       → one.consumer ≡ fresh_consumer config kind
@@ -212,12 +226,16 @@ pub data Does (config : Config) (setting : Setting) (old : SessionView)
       → Does config setting old Stored (stored_answers alerts) (record old { front = front })
   stored_refused : {error : AllocError} {front : FrontView EntryView}
       → SeesCall old.front front (AnswersStored (Err error))
-      → Does config setting old Stored (answer.StoredRefused verb.Stored ∷ []) (record old { front = front })
+      → Does config setting old Stored (answer.OutOfMemory verb.Stored ∷ []) (record old { front = front })
   got : {labels : Labels} {front : FrontView EntryView} (found : Option (Arc Alert Global))
       → SeesCall old.front front (AnswersGet {E = AllocError} labels (Ok found))
       → Does config setting old (Get labels) (found_answer (option_map arc_value found) ∷ [])
       (record old { front = front })
   get_refused : {labels : Labels} {error : AllocError} {front : FrontView EntryView}
       → SeesCall old.front front (AnswersGet labels (Err error))
-      → Does config setting old (Get labels) (answer.StoredRefused verb.Get ∷ [])
+      → Does config setting old (Get labels) (answer.OutOfMemory verb.Get ∷ [])
       (record old { front = front })
+  routes : {answers : List Answer} → ShowsTree (root_of config.tree) answers
+      → Does config setting old Routes answers old
+  route : {labels : Labels} {answers : List Answer} → AsksTree labels (root_of config.tree) answers
+      → Does config setting old (Route labels) answers old

@@ -1,5 +1,5 @@
 -- What a thread's run of its lines comes to.
-use Rattle.std.specs.Prelude.{◌≡◌, ◌≢◌, ℕ, ◌+◌, List, [], ◌∷◌, ◌++◌, Result, Ok, IfOk}
+use Rattle.std.specs.Prelude.{◌≡◌, ◌≢◌, ℕ, ◌+◌, List, [], ◌∷◌, ◌++◌, length, Result, Ok, IfOk}
 use Rattle.std.specs.Global.{Vec}
 use Rattle.am_alert.specs.declared.alert.Alert.{Alert}
 use Rattle.am_store.specs.declared.call.Call.{Call}
@@ -10,44 +10,61 @@ use Rattle.am_config.specs.Configs.{IsConfigOf}
 use Rattle.am_config.specs.declared.config.Config.{Config}
 use Rattle.am_script.specs.declared.command.Line.{Line}
 use Rattle.am_runner.specs.Sessions.{Setting, SessionView, Does, LeavesAll, new_session}
+use Rattle.am_runner.specs.Turning.{Order, IsTurn, SeesMore}
 use Rattle.am_runner.specs.declared.answer.Answer.{Answer}
 
--- what a line of the script does to a thread's session, and answers there: its command, where it is this
--- thread's line, and nothing where it is another's
-pub data RunsLine (config : Config) (setting : Setting) (thread : ℕ) (line : Line) (old : SessionView)
-    : List Answer → SessionView → Type 0 where
-  own : {given : List Answer} {new : SessionView} → line.thread ≡ thread
-      → Does config setting old line.command given new
-      → RunsLine config setting thread line old given new
-  others : line.thread ≢ thread → RunsLine config setting thread line old [] old
+-- a session's caller sees more of the history, and makes no call
+abbrev pub LooksOn : SessionView → SessionView → Type 0
+LooksOn old new = SeesMore old.front new.front × (new ≡ record old { front = new.front })
 
--- the lines one after another, with what each answers
-pub data Works (config : Config) (setting : Setting) (thread : ℕ) (begun : SessionView)
+-- what the line at a number of the script does to a thread's session, and answers there: its command in its
+-- turn, where it is this thread's line, and nothing where it is another's
+pub data RunsLine (config : Config) (setting : Setting) (order : Order) (thread at : ℕ) (line : Line)
+    (old : SessionView) : List Answer → SessionView → Type 0 where
+  own : {given : List Answer} {new : SessionView} (begun done : SessionView) → line.thread ≡ thread
+      → LooksOn old begun → Does config setting begun line.command given done → LooksOn done new
+      → IsTurn order at begun.front new.front
+      → RunsLine config setting order thread at line old given new
+  others : line.thread ≢ thread → RunsLine config setting order thread at line old [] old
+
+-- the lines one after another, from the one at a number on, with what each answers
+pub data Works (config : Config) (setting : Setting) (order : Order) (thread first : ℕ) (begun : SessionView)
     : List Line → List (Vec Answer) → SessionView → Type 0 where
-  nothing : Works config setting thread begun [] [] begun
+  nothing : Works config setting order thread first begun [] [] begun
   one_more : {lines : List Line} {answers : List (Vec Answer)} {old new : SessionView} (line : Line)
       (given : Vec Answer)
-      → Works config setting thread begun lines answers old
-      → RunsLine config setting thread line old given.items new
-      → Works config setting thread begun (lines ++ line ∷ []) (answers ++ given ∷ []) new
+      → Works config setting order thread first begun lines answers old
+      → RunsLine config setting order thread (first + length lines) line old given.items new
+      → Works config setting order thread first begun (lines ++ line ∷ []) (answers ++ given ∷ []) new
+
+-- in its last turn, whose number comes after the lines' and those of the threads before it, a thread leaves
+-- what it still has open
+pub record LeavesLast (order : Order) (number : ℕ) (old : SessionView) (pass : PassView Alert Call)
+    (front : FrontView EntryView) : Type 0 where
+  pub begun : SessionView
+  pub left : FrontView EntryView
+  pub looks : LooksOn old begun
+  pub leaves : LeavesAll begun (record { pass = pass; front = left; opened = [] })
+  pub sees : SeesMore left front
+  pub turn : IsTurn order number begun.front front
 
 -- A thread's work, of which its pass and its front come back: unless memory ran out, it ran all of its lines,
 -- and then left what it still had open
-abbrev pub IsWork : {E : Type 0} → Config → Setting → List Line → ℕ → Result (Vec (Vec Answer)) E
+abbrev pub IsWork : {E : Type 0} → Config → Setting → Order → List Line → ℕ → Result (Vec (Vec Answer)) E
     → PassView Alert Call → FrontView EntryView → Type 0
-IsWork config setting lines thread answers pass front = IfOk answers (λ all. (end : SessionView)
-    × Works config setting thread new_session lines all.items end
-    × LeavesAll end (record { pass = pass; front = front; opened = [] }))
+IsWork config setting order lines thread answers pass front = IfOk answers (λ all. (end : SessionView)
+    × Works config setting order thread 0 new_session lines all.items end
+    × LeavesLast order (length lines + thread) end pass front)
 
 -- a list has an item more at its end, the one of the result
 abbrev pub Adds : {A E : Type 0} → List A → Result A E → List A → Type 0
 Adds old given new = (one : _) × (given ≡ Ok one) × (new ≡ old ++ one ∷ [])
 
 -- a thread's work under a configuration that the bytes are read as
-abbrev pub IsWorkUnder : {E : Type 0} → List ℕ → Setting → List Line → ℕ → Result (Vec (Vec Answer)) E
+abbrev pub IsWorkUnder : {E : Type 0} → List ℕ → Setting → Order → List Line → ℕ → Result (Vec (Vec Answer)) E
     → PassView Alert Call → FrontView EntryView → Type 0
-IsWorkUnder bytes setting lines thread answers pass front = IfOk answers (λ all. (config : Config)
-    × IsConfigOf bytes (Ok config) × IsWork config setting lines thread answers pass front)
+IsWorkUnder bytes setting order lines thread answers pass front = IfOk answers (λ all. (config : Config)
+    × IsConfigOf bytes (Ok config) × IsWork config setting order lines thread answers pass front)
 
 -- what a thread came to: what it answered, its pass and its front
 pub record Outcome (E : Type 0) : Type 0 where
@@ -60,10 +77,10 @@ abbrev pub outcome_of : {E : Type 0} → Result (Vec (Vec Answer)) E → PassVie
 outcome_of answers pass front = record { answers = answers; pass = pass; front = front }
 
 -- what the threads below a number came to, one after another
-pub data AreWork {E : Type 0} (bytes : List ℕ) (setting : Setting) (lines : List Line)
+pub data AreWork {E : Type 0} (bytes : List ℕ) (setting : Setting) (order : Order) (lines : List Line)
     : ℕ → List (Outcome E) → Type 0 where
-  none : AreWork bytes setting lines 0 []
+  none : AreWork bytes setting order lines 0 []
   one_more_thread : {thread : ℕ} {before : List (Outcome E)} (one : Outcome E)
-      → AreWork bytes setting lines thread before
-      → IsWorkUnder bytes setting lines thread one.answers one.pass one.front
-      → AreWork bytes setting lines (thread + 1) (before ++ one ∷ [])
+      → AreWork bytes setting order lines thread before
+      → IsWorkUnder bytes setting order lines thread one.answers one.pass one.front
+      → AreWork bytes setting order lines (thread + 1) (before ++ one ∷ [])

@@ -3,13 +3,16 @@
 ghost use Rattle.std.specs.Prelude.{◌≡◌, ◌++◌, ◌∷◌, [], IfOk, OnOk, Some, string_bytes};
 ghost use Rattle.std.specs.Fmt.{DisplaysOnOk};
 ghost use Rattle.am_runner.specs.Answers.{is_item, is_out_of_memory};
+ghost use Rattle.am_runner.specs.Forms.{answers_printed};
 ghost use Rattle.am_runner.specs.Printing.{answer_text, answers_text, group_text, left_text};
-ghost use Rattle.am_runner.specs.Printing.{posted_text, swept_text};
+ghost use Rattle.am_runner.specs.Printing.{matched_text, posted_text, swept_text};
 
+use crate::answer_json::write_objects;
+use crate::form::Form;
 use am_alert::{Alert, AlertFault, PostFault};
 use am_labels::{LabelSet, Quoted, Text};
 use am_provider::{PostRefused, PutFault, SubFault};
-use am_routes::Swept;
+use am_routes::{ListedRoute, MatchedRoute, Swept};
 use am_script::Verb;
 use std::alloc::{AllocError, Global};
 use std::fmt;
@@ -78,8 +81,12 @@ pub enum Answer {
     StoredAlert(Alert),
     /// No alert of the label set is stored.
     NotStored,
-    /// A read of the store was out of memory.
-    StoredRefused(Verb),
+    /// A route of the routing tree.
+    Route(ListedRoute),
+    /// A route that a label set matches.
+    Matched(MatchedRoute),
+    /// A command that asks the store or the routing tree was out of memory.
+    OutOfMemory(Verb),
     /// The command's subscription isn't open, since its subscribe was refused.
     NotOpen(Verb),
 }
@@ -103,7 +110,7 @@ impl Answer {
             | Answer::TrimRefused
             | Answer::TakeRefused
             | Answer::MutesRefused
-            | Answer::StoredRefused(_) => true,
+            | Answer::OutOfMemory(_) => true,
             _ => false,
         }
     }
@@ -147,7 +154,9 @@ impl fmt::Display for Answer {
             Answer::StoredCount(count) => write!(f, "stored {count}"),
             Answer::StoredAlert(alert) => write!(f, "alert {alert}"),
             Answer::NotStored => f.write_str("no alert"),
-            Answer::StoredRefused(verb) => write!(f, "{verb} refused E0 NoMemory"),
+            Answer::Route(route) => write!(f, "route {route}"),
+            Answer::Matched(route) => write_matched(route, f),
+            Answer::OutOfMemory(verb) => write!(f, "{verb} refused E0 NoMemory"),
             Answer::MutesRefused => f.write_str("mutes refused E0 NoMemory"),
             Answer::NotOpen(verb) => write!(f, "{verb} none"),
         }
@@ -202,6 +211,18 @@ fn write_group<W: fmt::Write>(
     )
 }
 
+fn write_matched<W: fmt::Write>(route: &MatchedRoute, f: &mut fmt::Formatter<W>) -> fmt::Result
+    ensures { DisplaysOnOk W.write_str_gives f.old result (Some (matched_text route.now)) f.new }
+{
+    let number = route.id.0;
+    let receiver = Quoted(route.receiver.as_str());
+    let labels = &route.labels;
+    write!(
+        f,
+        "matched route {number} receiver {receiver} labels {labels}"
+    )
+}
+
 fn write_swept<W: fmt::Write>(swept: Swept, f: &mut fmt::Formatter<W>) -> fmt::Result
     ensures { DisplaysOnOk W.write_str_gives f.old result (Some (swept_text swept)) f.new }
 {
@@ -217,8 +238,24 @@ pub(crate) fn one(alloc: Global, answer: Answer) -> Result<Vec<Answer>, AllocErr
     Ok(answers)
 }
 
-/// Writes a line for each answer to the line of input with this number.
-pub fn write_answers(text: &mut String, number: u64, given: &[Answer]) -> Result<(), AllocError>
+/// Writes the answers to the line of input with this number.
+pub fn write_answers(
+    text: &mut String,
+    form: Form,
+    number: u64,
+    given: &[Answer],
+) -> Result<(), AllocError>
+    ensures { OnOk result
+        (string_bytes text.new ≡ string_bytes text.old ++ answers_printed form number given.now) }
+{
+    match form {
+        Form::Text => write_lines(text, number, given),
+        Form::Json => write_objects(text, number, given),
+    }
+}
+
+// Writes a line of words for each answer.
+fn write_lines(text: &mut String, number: u64, given: &[Answer]) -> Result<(), AllocError>
     ensures { OnOk result
         (string_bytes text.new ≡ string_bytes text.old ++ answers_text number given.now) }
 {

@@ -1,6 +1,7 @@
 //! Laws over a thread's work that callers may cite.
 
 ghost use Rattle.am_runner.specs.Owed.{ReadIsDue, ReadsContinue};
+ghost use Rattle.am_runner.specs.Turning.{TurnsFollow};
 
 use am_provider::history_laws;
 
@@ -13,3 +14,8 @@ pub fn reading_laws()
 {
     history_laws();
 }
+
+/// In script order, whatever was done in a turn was seen by the thread of each later one when that began.
+pub fn turn_laws()
+    ensures { TurnsFollow }
+{}

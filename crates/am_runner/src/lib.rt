@@ -18,10 +18,14 @@
 #![tactic(auto)]
 
 mod answer;
+mod answer_json;
 mod consumer;
 mod context;
+mod form;
 mod laws;
+mod not_run;
 mod open_subscription;
+mod register;
 mod session;
 mod start;
 mod threads;
@@ -29,10 +33,14 @@ mod turns;
 mod work;
 
 pub use answer::{Answer, write_answers};
+pub use answer_json::write_count;
 pub use consumer::Consumer;
 pub use context::Context;
-pub use laws::reading_laws;
+pub use form::Form;
+pub use laws::{reading_laws, turn_laws};
+pub use not_run::NotRun;
 pub use open_subscription::OpenSubscription;
+pub use register::{Register, TurnsSeen};
 pub use session::Session;
 pub use threads::{ThreadOutcome, run_threads};
 pub use turns::{Freely, InOrder, Turn, Turns};

@@ -3,20 +3,30 @@
 
 ghost use Rattle.std.specs.Prelude.{◌≡◌, ◌<◌, ◌++◌, ◌∷◌, [], IfOk, OnOk, is_some, length, map, option_map};
 ghost use Rattle.std.specs.Arc.{arc_value};
+ghost use Rattle.am_alert.specs.FromParts.{alert_of};
 ghost use Rattle.am_store.specs.Shared.{alerts_in};
+ghost use Rattle.am_runner.specs.Putting.{AnswersPut};
+ghost use Rattle.am_config.specs.RouteLists.{root_of};
 ghost use Rattle.am_config.specs.declared.config.Config.{Config};
+ghost use Rattle.am_runner.specs.Asking.{AsksTree, ShowsTree};
 ghost use Rattle.am_runner.specs.Sessions.{AsksNamed, Does, LeavesAll, LeavesAt, ReadsNamed, Setting};
 ghost use Rattle.am_runner.specs.Sessions.{SweepsNamed, cut_below, groups_told, named_in, setting_of};
+ghost use Rattle.am_runner.specs.Turning.{Begins, Ends};
 ghost use Rattle.am_runner.specs.Sessions.{found_answer, index_named, posted_answers, stored_answers};
 
 use crate::answer::{Answer, one};
 use crate::consumer::Consumer;
 use crate::context::Context;
 use crate::open_subscription::OpenSubscription;
-use am_alert::{AlertFault, Moment};
+use crate::register::{Register, TurnsSeen};
+use crate::turns::{Turn, Turns};
+use am_alert::{AlertFault, AlertParts, Moment, Post};
+use am_config::RouteTree;
+use am_history::Timeline;
 use am_labels::{LabelSet, Text};
-use am_provider::{Caller, Ended, Gate, Posted, Recorded};
-use am_script::{Command, Kind, Verb};
+use am_provider::{Caller, Ended, Gate, PostRefused, Posted, Recorded};
+use am_routes::{ListedRoute, MatchedRoute, list_routes, matched_routes};
+use am_script::{Command, Kind, PutAlerts, Verb};
 use am_store::{LaneSet, SharedAlert};
 use std::alloc::{AllocError, Global};
 use std::marker::Model;
@@ -68,6 +78,48 @@ impl<'p, 'c, N: Recorded> Session<'p, 'c, N> {
         index_named(&self.opened, name).is_some()
     }
 
+    // Begins a turn of its caller.
+    pub(crate) fn begin_turn<M: Timeline, R: Wait, T: Turns>(
+        &mut self,
+        context: &Context<'p, 'c, N, R, T>,
+        register: &Register<N, M>,
+        turn: &Turn,
+        seen: &mut TurnsSeen<N, M>,
+    )
+        ensures begun { Begins T.ordered turn.now.at seen.old.seen seen.new.seen self.old.front self.new.front }
+        ensures same { self.new ≡ record self.old { front = self.new.front } }
+    {
+        let Context {
+            rt,
+            alloc: _,
+            provider,
+            config: _,
+            turns,
+        } = *context;
+        turns.begin(rt, provider, register, turn, seen, &mut self.caller);
+    }
+
+    // Ends it.
+    pub(crate) fn end_turn<M: Timeline, R: Wait, T: Turns>(
+        &mut self,
+        context: &Context<'p, 'c, N, R, T>,
+        register: &Register<N, M>,
+        turn: &Turn,
+        seen: &mut TurnsSeen<N, M>,
+    )
+        ensures ended { Ends T.ordered turn.now.at seen.old.seen seen.new.seen self.old.front self.new.front }
+        ensures same { self.new ≡ record self.old { front = self.new.front } }
+    {
+        let Context {
+            rt,
+            alloc: _,
+            provider,
+            config: _,
+            turns,
+        } = *context;
+        turns.end(rt, provider, register, turn, seen, &mut self.caller);
+    }
+
     /// Does what a command asks for, and answers it. If the memory for the answers runs out, the command
     /// may have been done.
     pub fn run<R: Wait, G: Gate>(
@@ -82,6 +134,7 @@ impl<'p, 'c, N: Recorded> Session<'p, 'c, N> {
         let alloc = context.alloc;
         match command {
             Command::Post { at, body } => self.post(context, *at, body),
+            Command::Put { at, alerts } => self.put(context, *at, alerts),
             Command::Subscribe { name, kind } => one(alloc, self.subscribe(context, name, *kind)?),
             Command::Read { name, max } => self.read(alloc, name, *max),
             Command::Leave { name } => one(alloc, self.leave(context, name)),
@@ -93,6 +146,8 @@ impl<'p, 'c, N: Recorded> Session<'p, 'c, N> {
             Command::Mutes { name, at, labels } => self.mutes(alloc, name, labels, *at),
             Command::Stored => self.stored(context),
             Command::Get { labels } => one(alloc, self.get(context, labels)?),
+            Command::Routes => show_tree(alloc, &context.config.tree),
+            Command::Route { labels } => ask_tree(alloc, &context.config.tree, labels),
         }
     }
 
@@ -109,6 +164,24 @@ impl<'p, 'c, N: Recorded> Session<'p, 'c, N> {
         let body = body.as_str().as_bytes();
         let provider = context.provider;
         let posted = match provider.post(context.rt, &mut self.caller, context.turns, body, at) {
+            Ok(posted) => posted,
+            Err(why) => return one(context.alloc, Answer::PostRefused(why)),
+        };
+        posted_answers(context.alloc, &posted)
+    }
+
+    fn put<R: Wait, G: Gate>(
+        &mut self,
+        context: &Context<'p, 'c, N, R, G>,
+        at: Moment,
+        alerts: &PutAlerts,
+    ) -> Result<Vec<Answer>, AllocError>
+        ensures { IfOk result (λ answers. (config : Config)
+            → Does config (setting_of N.places N.policy context.now.provider.now.resolve_timeout)
+            self.old (Command.Put at alerts.now) answers.items self.new) }
+    {
+        let parts = alerts.parts(context.alloc)?;
+        let posted = match put_parts(context, &mut self.caller, at, parts) {
             Ok(posted) => posted,
             Err(why) => return one(context.alloc, Answer::PostRefused(why)),
         };
@@ -243,7 +316,7 @@ impl<'p, 'c, N: Recorded> Session<'p, 'c, N> {
         let provider = context.provider;
         let stored = match provider.stored(context.rt, &mut self.caller) {
             Ok(stored) => stored,
-            Err(_) => return one(context.alloc, Answer::StoredRefused(Verb::Stored)),
+            Err(_) => return one(context.alloc, Answer::OutOfMemory(Verb::Stored)),
         };
         stored_answers(context.alloc, stored.as_slice())
     }
@@ -259,7 +332,7 @@ impl<'p, 'c, N: Recorded> Session<'p, 'c, N> {
         let provider = context.provider;
         let found = match provider.get(context.rt, &mut self.caller, labels) {
             Ok(found) => found,
-            Err(_) => return Ok(Answer::StoredRefused(Verb::Get)),
+            Err(_) => return Ok(Answer::OutOfMemory(Verb::Get)),
         };
         found_answer(&found)
     }
@@ -275,6 +348,29 @@ impl<'p, 'c, N: Recorded> Session<'p, 'c, N> {
         let Session { caller, opened } = self;
         opened.destroy_empty();
         caller
+    }
+}
+
+// Posts those alerts of some parts that are valid.
+fn put_parts<N: Recorded, R: Wait, G: Gate>(
+    context: &Context<'_, '_, N, R, G>,
+    caller: &mut Caller<N>,
+    at: Moment,
+    parts: Vec<AlertParts>,
+) -> Result<Posted, PostRefused>
+    ensures { AnswersPut N.policy N.places at (map alert_of parts.items)
+        caller.old.pass caller.new.pass caller.old.front caller.new.front result }
+{
+    let post = match Post::from_parts(context.alloc, parts) {
+        Ok(post) => post,
+        Err(fault) => return Err(PostRefused::Unread(fault)),
+    };
+    match context
+        .provider
+        .put(context.rt, caller, context.turns, post, at)
+    {
+        Ok(posted) => Ok(posted),
+        Err(fault) => Err(PostRefused::Put(fault)),
     }
 }
 
@@ -420,6 +516,46 @@ fn add_stored(answers: &mut Vec<Answer>, stored: &[SharedAlert]) -> Result<(), A
         answers.push(Answer::StoredAlert(alert.copy()?))?;
     }
     Ok(())
+}
+
+// The routes of a tree.
+fn show_tree(alloc: Global, tree: &RouteTree) -> Result<Vec<Answer>, AllocError>
+    ensures { IfOk result (λ answers. ShowsTree (root_of tree.now) answers.items) }
+{
+    match list_routes(alloc, tree) {
+        Ok(routes) => listed_answers(alloc, routes),
+        Err(_) => one(alloc, Answer::OutOfMemory(Verb::Routes)),
+    }
+}
+
+fn listed_answers(alloc: Global, routes: Vec<ListedRoute>) -> Result<Vec<Answer>, AllocError>
+    ensures { IfOk result (λ answers. answers.items ≡ map Answer.Route routes.items) }
+{
+    let mut answers = Vec::with_capacity(alloc, routes.len())?;
+    for route in routes {
+        answers.push(Answer::Route(route))?;
+    }
+    Ok(answers)
+}
+
+// The routes of a tree that a label set matches.
+fn ask_tree(alloc: Global, tree: &RouteTree, labels: &LabelSet) -> Result<Vec<Answer>, AllocError>
+    ensures { IfOk result (λ answers. AsksTree labels.now (root_of tree.now) answers.items) }
+{
+    match matched_routes(alloc, tree, labels) {
+        Ok(routes) => matched_answers(alloc, routes),
+        Err(_) => one(alloc, Answer::OutOfMemory(Verb::Route)),
+    }
+}
+
+fn matched_answers(alloc: Global, routes: Vec<MatchedRoute>) -> Result<Vec<Answer>, AllocError>
+    ensures { IfOk result (λ answers. answers.items ≡ map Answer.Matched routes.items) }
+{
+    let mut answers = Vec::with_capacity(alloc, routes.len())?;
+    for route in routes {
+        answers.push(Answer::Matched(route))?;
+    }
+    Ok(answers)
 }
 
 // The stored alert that was found, if one was.

@@ -1,20 +1,28 @@
 //! The eight threads: started together, and each run to its end.
 
-ghost use Rattle.std.specs.Prelude.{◌≡◌, ◌≤◌, IfOk, IsErr, map, vec_len};
+ghost use Rattle.std.specs.Prelude.{◌≡◌, ◌≤◌, ◌<◌, ◌-◌, ◌^◌, List, IfOk, IsErr, length, map, vec_len};
 ghost use Rattle.std.specs.List.{All};
+ghost use mathlib.Core.List.{IsPrefix};
+ghost use Rattle.am_history.specs.Fronts.{FrontView};
 ghost use Rattle.am_provider.specs.Callers.{IsNewCaller};
+ghost use Rattle.am_provider.specs.Histories.{EntryView};
 ghost use Rattle.am_runner.specs.Sessions.{setting_of};
+ghost use Rattle.am_runner.specs.Turning.{order_of};
 ghost use Rattle.am_runner.specs.Working.{AreWork, IsWorkUnder, outcome_of};
 
 use crate::answer::Answer;
 use crate::context::Context;
+use crate::not_run::NotRun;
+use crate::register::{Register, TurnsSeen};
 use crate::start::Start;
 use crate::turns::Turns;
 use crate::work::work;
 use am_config::Config;
-use am_provider::{Caller, Provider, Recorded};
+use am_history::{Front, NewHistory, Timeline, open};
+use am_provider::{Caller, Entry, Provider, Recorded};
 use am_script::{Line, THREADS, Thread};
 use std::alloc::{AllocError, Global};
+use std::marker::{Brand, PhantomData};
 use std::sync::Wait;
 use std::thread;
 use std::thread::{Promise, Scope, Threads};
@@ -25,33 +33,49 @@ use std::time::Duration;
 /// has what the thread added to the provider's history.
 pub type ThreadOutcome<N> = (Result<Vec<Vec<Answer>>, AllocError>, Caller<N>);
 
+// The same, and what the thread had seen of the turns.
+type Worked<N, M> = (ThreadOutcome<N>, TurnsSeen<N, M>);
+
+// The outcomes of threads, and what each had seen of the turns.
+type Outcomes<N, M> = (Vec<ThreadOutcome<N>>, Vec<TurnsSeen<N, M>>);
+
 // What all threads share.
 #[derive(Drop)]
-struct Shared<'s, N: Recorded, R, T> {
+struct Shared<'s, N: Recorded, M: Timeline, R, T> {
     rt: &'s R,
     alloc: Global,
     provider: &'s Provider<N>,
     configuration: &'s [u8],
     lines: &'s [Line],
     turns: &'s T,
+    register: &'s Register<N, M>,
     start: &'s Start,
+    // A line's number and eight more fit.
+    ghost few: { length lines.now < 2 ^ 64 - 8 },
 }
 
 // That a thread's outcome is the work that its lines ask for.
 #[derive(Clone, Copy, Drop)]
-struct RunsLines<'s> {
+struct RunsLines<'s, T> {
     configuration: &'s [u8],
     lines: &'s [Line],
     timeout: Duration,
     thread: Thread,
+    turns: PhantomData<T>,
 }
 
-impl<'s, N: Recorded> Promise<ThreadOutcome<N>> for RunsLines<'s> {
+impl<'s, N: Recorded, M: Timeline, T: Turns> Promise<Worked<N, M>> for RunsLines<'s, T> {
+    ghost use Rattle.std.specs.Prelude.{List};
+    ghost use mathlib.Core.List.{IsPrefix};
+    ghost use Rattle.am_history.specs.Fronts.{FrontView};
+    ghost use Rattle.am_provider.specs.Histories.{EntryView};
     ghost use Rattle.am_runner.specs.Sessions.{setting_of};
+    ghost use Rattle.am_runner.specs.Turning.{order_of};
     ghost use Rattle.am_runner.specs.Working.{IsWorkUnder};
 
-    ghost kept_by = { λ p outcome. IsWorkUnder p.configuration.now (setting_of N.places N.policy p.timeout) p.lines.now
-        p.thread outcome.0 outcome.1.pass outcome.1.front };
+    ghost kept_by = { λ p worked. (turns : List (FrontView EntryView)) → IsPrefix worked.1.seen turns
+        → IsWorkUnder p.configuration.now (setting_of N.places N.policy p.timeout) (order_of T.ordered turns) p.lines.now
+        p.thread worked.0.0 worked.0.1.pass worked.0.1.front };
 }
 
 /// Runs a script's lines, each in the thread that it names. None is run before all threads are there;
@@ -65,13 +89,72 @@ pub fn run_threads<N: Recorded + Send + Sync, R: Threads + Wait + Sync, T: Turns
     configuration: &[u8],
     lines: &[Line],
     turns: &T,
-) -> Result<Vec<ThreadOutcome<N>>, AllocError>
+) -> Result<Vec<ThreadOutcome<N>>, NotRun>
     requires count { vec_len callers ≡ 8 }
     requires fresh { All (λ caller. IsNewCaller caller.pass caller.front) callers.items }
-    ensures { IfOk result (λ all. AreWork configuration.now
-        (setting_of N.places N.policy provider.now.resolve_timeout) lines.now 8
+    ensures { IfOk result (λ all. (turns : List (FrontView EntryView)) × AreWork configuration.now
+        (setting_of N.places N.policy provider.now.resolve_timeout) (order_of T.ordered turns) lines.now 8
         (map (λ one. outcome_of one.0 one.1.pass one.1.front) all.items)) }
 {
+    if lines.len() >= usize::MAX - 7 {
+        // No memory has so many lines.
+        return Err(NotRun::NoMemory);
+    }
+    let taken = NewHistory::<Front<Entry, N>>::make(alloc, 1)?;
+    let run = Run {
+        rt,
+        alloc,
+        provider,
+        configuration,
+        lines,
+        turns,
+    };
+    run_registered::<N, Brand, R, T>(&run, callers, taken)
+}
+
+// What a script is run on.
+#[derive(Drop)]
+struct Run<'s, N: Recorded, R, T> {
+    rt: &'s R,
+    alloc: Global,
+    provider: &'s Provider<N>,
+    configuration: &'s [u8],
+    lines: &'s [Line],
+    turns: &'s T,
+    ghost few: { length lines.now < 2 ^ 64 - 8 },
+}
+
+// Runs the lines, with a register of the turns.
+fn run_registered<
+    N: Recorded + Send + Sync,
+    M: Timeline + Send + Sync,
+    R: Threads + Wait + Sync,
+    T: Turns + Sync,
+>(
+    run: &Run<'_, N, R, T>,
+    callers: Vec<Caller<N>>,
+    taken: NewHistory<Front<Entry, N>>,
+) -> Result<Vec<ThreadOutcome<N>>, NotRun>
+    requires table { taken.board.shared.table_id ≡ M.timeline }
+    requires ledger { (taken.ledger.name ≡ M.entries) × (taken.ledger.parts ≡ M.holders) }
+    requires some { 0 < taken.ledger.parts }
+    requires count { vec_len callers ≡ 8 }
+    requires fresh { All (λ caller. IsNewCaller caller.pass caller.front) callers.items }
+    ensures { IfOk result (λ all. (turns : List (FrontView EntryView)) × AreWork run.now.configuration.now
+        (setting_of N.places N.policy run.now.provider.now.resolve_timeout) (order_of T.ordered turns) run.now.lines.now 8
+        (map (λ one. outcome_of one.0 one.1.pass one.1.front) all.items)) }
+{
+    let Run {
+        rt,
+        alloc,
+        provider,
+        configuration,
+        lines,
+        turns,
+    } = *run;
+    let mut callers = callers;
+    let onlooker = onlooker_of(provider, &mut callers);
+    let register = Register::new(open::<Front<Entry, N>, M>(taken), onlooker);
     let start = Start::new(THREADS);
     let shared = Shared {
         rt,
@@ -80,52 +163,85 @@ pub fn run_threads<N: Recorded + Send + Sync, R: Threads + Wait + Sync, T: Turns
         configuration,
         lines,
         turns,
+        register: &register,
         start: &start,
     };
-    run_shared(rt, &shared, callers)
+    let (outcomes, seen) = run_shared(rt, &shared, callers)?;
+    register.conclude(seen);
+    Ok(outcomes)
 }
 
-fn run_shared<N: Recorded + Send + Sync, R: Threads + Wait + Sync, T: Turns + Sync>(
+// An onlooker of the calls, from the first caller.
+fn onlooker_of<N: Recorded>(provider: &Provider<N>, callers: &mut [Caller<N>]) -> Front<Entry, N>
+    requires some { 0 < length callers.old }
+    requires fresh { All (λ caller. IsNewCaller caller.pass caller.front) callers.old }
+    ensures count { length callers.new ≡ length callers.old }
+    ensures fresh { All (λ caller. IsNewCaller caller.pass caller.front) callers.new }
+{
+    provider.onlooker(&mut callers[0])
+}
+
+fn run_shared<
+    N: Recorded + Send + Sync,
+    M: Timeline + Send + Sync,
+    R: Threads + Wait + Sync,
+    T: Turns + Sync,
+>(
     rt: &R,
-    shared: &Shared<'_, N, R, T>,
+    shared: &Shared<'_, N, M, R, T>,
     callers: Vec<Caller<N>>,
-) -> Result<Vec<ThreadOutcome<N>>, AllocError>
+) -> Result<Outcomes<N, M>, NotRun>
     requires count { vec_len callers ≡ 8 }
     requires fresh { All (λ caller. IsNewCaller caller.pass caller.front) callers.items }
-    ensures { IfOk result (λ all. AreWork shared.now.configuration.now
-        (setting_of N.places N.policy shared.now.provider.now.resolve_timeout) shared.now.lines.now 8
-        (map (λ one. outcome_of one.0 one.1.pass one.1.front) all.items)) }
+    ensures { IfOk result (λ all. (turns : List (FrontView EntryView))
+        → All (λ one. IsPrefix one.seen turns) all.1.items
+        → AreWork shared.now.configuration.now
+        (setting_of N.places N.policy shared.now.provider.now.resolve_timeout) (order_of T.ordered turns)
+        shared.now.lines.now 8
+        (map (λ one. outcome_of one.0 one.1.pass one.1.front) all.0.items)) }
 {
     thread::scope(
         thread::scope_env(),
         rt,
-        |scope| -> Result<Vec<ThreadOutcome<N>>, AllocError>
+        |scope| -> Result<Outcomes<N, M>, NotRun>
             requires count { vec_len callers ≡ 8 }
             requires fresh { All (λ caller. IsNewCaller caller.pass caller.front) callers.items }
-            ensures { IfOk result (λ all. AreWork shared.entry.now.configuration.now
-                (setting_of N.places N.policy shared.entry.now.provider.now.resolve_timeout)
+            ensures { IfOk result (λ all. (turns : List (FrontView EntryView))
+                → All (λ one. IsPrefix one.seen turns) all.1.items
+                → AreWork shared.entry.now.configuration.now
+                (setting_of N.places N.policy shared.entry.now.provider.now.resolve_timeout) (order_of T.ordered turns)
                 shared.entry.now.lines.now 8
-                (map (λ one. outcome_of one.0 one.1.pass one.1.front) all.items)) }
+                (map (λ one. outcome_of one.0 one.1.pass one.1.front) all.0.items)) }
         { run_from(rt, scope, shared, callers) },
     )
 }
 
 // Starts a thread for the last caller, then those for the others, and waits for it when these have ended.
-fn run_from<'s, E, N: Recorded + Send + Sync, R: Threads + Wait + Sync, T: Turns + Sync>(
+fn run_from<
+    's,
+    E,
+    N: Recorded + Send + Sync,
+    M: Timeline + Send + Sync,
+    R: Threads + Wait + Sync,
+    T: Turns + Sync,
+>(
     rt: &R,
     scope: &Scope<'s, E>,
-    shared: &'s Shared<'s, N, R, T>,
+    shared: &'s Shared<'s, N, M, R, T>,
     callers: Vec<Caller<N>>,
-) -> Result<Vec<ThreadOutcome<N>>, AllocError>
+) -> Result<Outcomes<N, M>, NotRun>
     requires count { vec_len callers ≤ 8 }
     requires fresh { All (λ caller. IsNewCaller caller.pass caller.front) callers.items }
-    ensures { IfOk result (λ all. AreWork shared.now.configuration.now
-        (setting_of N.places N.policy shared.now.provider.now.resolve_timeout) shared.now.lines.now
-        (vec_len callers) (map (λ one. outcome_of one.0 one.1.pass one.1.front) all.items)) }
+    ensures { IfOk result (λ all. (turns : List (FrontView EntryView))
+        → All (λ one. IsPrefix one.seen turns) all.1.items
+        → AreWork shared.now.configuration.now
+        (setting_of N.places N.policy shared.now.provider.now.resolve_timeout) (order_of T.ordered turns)
+        shared.now.lines.now (vec_len callers)
+        (map (λ one. outcome_of one.0 one.1.pass one.1.front) all.0.items)) }
 {
     let mut callers = callers;
     let Some(caller) = callers.pop() else {
-        return Ok(Vec::new(shared.alloc));
+        return Ok((Vec::new(shared.alloc), Vec::new(shared.alloc)));
     };
     let thread = Thread::new(callers.len() as u32);
     let promise = RunsLines {
@@ -133,39 +249,42 @@ fn run_from<'s, E, N: Recorded + Send + Sync, R: Threads + Wait + Sync, T: Turns
         lines: shared.lines,
         timeout: shared.provider.resolve_timeout,
         thread,
+        turns: PhantomData::<T>,
     };
     let child = match scope.spawn_with(promise, move || work_when_told(shared, thread, caller)) {
         Ok(child) => child,
         Err(_) => {
             shared.start.give_up(rt);
-            return Err(AllocError);
+            return Err(NotRun::NoThread);
         }
     };
     let others = run_from(rt, scope, shared, callers);
-    let outcome = child.join(rt);
-    let mut all = others?;
+    let (outcome, seen) = child.join(rt);
+    let (mut all, mut all_seen) = others?;
     all.push(outcome)?;
-    Ok(all)
+    all_seen.push(seen)?;
+    Ok((all, all_seen))
 }
 
 // Reads the configuration, meets the other threads, and works.
-fn work_when_told<N: Recorded, R: Wait, T: Turns>(
-    shared: &Shared<'_, N, R, T>,
+fn work_when_told<N: Recorded, M: Timeline, R: Wait, T: Turns>(
+    shared: &Shared<'_, N, M, R, T>,
     thread: Thread,
     caller: Caller<N>,
-) -> ThreadOutcome<N>
+) -> Worked<N, M>
     requires { IsNewCaller caller.pass caller.front }
-    ensures { IsWorkUnder shared.now.configuration.now
-        (setting_of N.places N.policy shared.now.provider.now.resolve_timeout) shared.now.lines.now
-        thread result.0 result.1.pass result.1.front }
+    ensures { (turns : List (FrontView EntryView)) → IsPrefix result.1.seen turns
+        → IsWorkUnder shared.now.configuration.now
+        (setting_of N.places N.policy shared.now.provider.now.resolve_timeout) (order_of T.ordered turns)
+        shared.now.lines.now thread result.0.0 result.0.1.pass result.0.1.front }
 {
     let rt = shared.rt;
     let Ok(config) = Config::read(shared.alloc, shared.configuration) else {
         shared.start.give_up(rt);
-        return not_run(caller);
+        return not_run(shared, caller);
     };
     if !shared.start.arrive(rt) {
-        return not_run(caller);
+        return not_run(shared, caller);
     }
     let context = Context {
         rt,
@@ -174,11 +293,17 @@ fn work_when_told<N: Recorded, R: Wait, T: Turns>(
         config: &config,
         turns: shared.turns,
     };
-    work(&context, shared.lines, thread, caller)
+    work(&context, shared.register, shared.lines, thread, caller)
 }
 
-fn not_run<N: Recorded>(caller: Caller<N>) -> ThreadOutcome<N>
-    ensures { IsErr result.0 }
+fn not_run<N: Recorded, M: Timeline, R: Wait, T>(
+    shared: &Shared<'_, N, M, R, T>,
+    caller: Caller<N>,
+) -> Worked<N, M>
+    ensures { IsErr result.0.0 }
 {
-    (Err(AllocError), caller)
+    (
+        (Err(AllocError), caller),
+        shared.register.onlooker(shared.rt),
+    )
 }

@@ -2,10 +2,12 @@
 
 ghost use Rattle.std.specs.Prelude.{◌<◌};
 
-use am_provider::Gate;
+use crate::register::{Register, TurnsSeen};
+use am_history::Timeline;
+use am_provider::{Caller, Gate, Provider, Recorded};
 use am_script::{Line, Thread};
 use std::alloc::{AllocError, Global};
-use std::sync::{Condvar, Mutex, Wait};
+use std::sync::{Condvar, Wait};
 
 /// One thing that a thread does: a line of the script, or the leaving of its subscriptions at its end.
 #[derive(Clone, Copy, Debug, PartialEq, Eq)]
@@ -18,11 +20,38 @@ pub struct Turn {
 /// When the threads run their lines. Each thread calls `begin` before each of its turns and `end` behind
 /// it, whether memory ran out in it or not; all turns of a script are some thread's.
 pub trait Turns: Gate {
-    /// Returns when the turn may be taken.
-    fn begin<R: Wait>(&self, rt: &R, turn: &Turn);
+    ghost use Rattle.std.specs.Prelude.{Bool, ◌≡◌};
+    ghost use Rattle.am_runner.specs.Turning.{Begins, Ends};
 
-    /// The turn was taken.
-    fn end<R: Wait>(&self, rt: &R, turn: &Turn);
+    // Whether the turns are taken in the order of their numbers.
+    ghost ordered: { Bool };
+
+    /// Returns when the turn may be taken. In an order, its thread then knows the turns before it, and its
+    /// caller has seen what the callers of these had.
+    fn begin<N: Recorded, M: Timeline, R: Wait>(
+        &self,
+        rt: &R,
+        provider: &Provider<N>,
+        register: &Register<N, M>,
+        turn: &Turn,
+        seen: &mut TurnsSeen<N, M>,
+        caller: &mut Caller<N>,
+    )
+        ensures begun { Begins ordered turn.now.at seen.old.seen seen.new.seen caller.old.front caller.new.front }
+        ensures pass { caller.new.pass ≡ caller.old.pass };
+
+    /// The turn was taken. In an order, it is added to the register.
+    fn end<N: Recorded, M: Timeline, R: Wait>(
+        &self,
+        rt: &R,
+        provider: &Provider<N>,
+        register: &Register<N, M>,
+        turn: &Turn,
+        seen: &mut TurnsSeen<N, M>,
+        caller: &mut Caller<N>,
+    )
+        ensures ended { Ends ordered turn.now.at seen.old.seen seen.new.seen caller.old.front caller.new.front }
+        ensures pass { caller.new.pass ≡ caller.old.pass };
 }
 
 /// One turn after another, in the order of the script.
@@ -30,8 +59,6 @@ pub trait Turns: Gate {
 pub struct InOrder {
     // The thread of each line.
     threads: Vec<Thread>,
-    // The turn whose time it is.
-    next: Mutex<usize>,
     // Where each thread waits for its turn.
     came: [Condvar; 8],
 }
@@ -44,7 +71,6 @@ impl InOrder {
         }
         Ok(InOrder {
             threads,
-            next: Mutex::new(0),
             came: [
                 Condvar::new(),
                 Condvar::new(),
@@ -75,16 +101,35 @@ impl Gate for InOrder {
 }
 
 impl Turns for InOrder {
-    fn begin<R: Wait>(&self, rt: &R, turn: &Turn) {
-        let at = turn.at;
-        let next = self.next.lock(rt);
-        let _mine = self.came[self.thread_of(at)].wait_while(rt, next, |next| *next != at);
+    ghost use Rattle.std.specs.Prelude.{true};
+
+    ghost ordered = { true };
+
+    fn begin<N: Recorded, M: Timeline, R: Wait>(
+        &self,
+        rt: &R,
+        provider: &Provider<N>,
+        register: &Register<N, M>,
+        turn: &Turn,
+        seen: &mut TurnsSeen<N, M>,
+        caller: &mut Caller<N>,
+    ) {
+        let came = &self.came[self.thread_of(turn.at)];
+        register.begin(rt, provider, came, turn.at, seen, caller);
     }
 
-    fn end<R: Wait>(&self, rt: &R, turn: &Turn) {
-        let at = turn.at.wrapping_add(1);
-        *self.next.lock(rt) = at;
-        let next = self.thread_of(at);
+    fn end<N: Recorded, M: Timeline, R: Wait>(
+        &self,
+        rt: &R,
+        provider: &Provider<N>,
+        register: &Register<N, M>,
+        turn: &Turn,
+        seen: &mut TurnsSeen<N, M>,
+        caller: &mut Caller<N>,
+    ) {
+        let came = &self.came[self.thread_of(turn.at)];
+        register.end(rt, provider, came, turn.at, seen, caller);
+        let next = self.thread_of(turn.at.wrapping_add(1));
         // A thread that goes on by itself waits nowhere.
         if next != turn.thread.index() {
             self.came[next].notify_one();
@@ -101,7 +146,27 @@ impl Gate for Freely {
 }
 
 impl Turns for Freely {
-    fn begin<R: Wait>(&self, _rt: &R, _turn: &Turn) {}
+    ghost use Rattle.std.specs.Prelude.{false};
 
-    fn end<R: Wait>(&self, _rt: &R, _turn: &Turn) {}
+    ghost ordered = { false };
+
+    fn begin<N: Recorded, M: Timeline, R: Wait>(
+        &self,
+        _rt: &R,
+        _provider: &Provider<N>,
+        _register: &Register<N, M>,
+        _turn: &Turn,
+        _seen: &mut TurnsSeen<N, M>,
+        _caller: &mut Caller<N>,
+    ) {}
+
+    fn end<N: Recorded, M: Timeline, R: Wait>(
+        &self,
+        _rt: &R,
+        _provider: &Provider<N>,
+        _register: &Register<N, M>,
+        _turn: &Turn,
+        _seen: &mut TurnsSeen<N, M>,
+        _caller: &mut Caller<N>,
+    ) {}
 }

@@ -1,8 +1,9 @@
 //! The eight threads run their lines beside one another.
 
 use crate::runs::{Log, Run, Stopped, run_lines};
-use am_provider::{Gate, Policy};
-use am_runner::{Turn, Turns};
+use am_history::Timeline;
+use am_provider::{Caller, Gate, Policy, Provider, Recorded};
+use am_runner::{Register, Turn, Turns, TurnsSeen};
 use am_script::{THREADS, read_script};
 use std::alloc::Global;
 use std::rt::Clock;
@@ -77,14 +78,34 @@ impl<'a, C: Clock> Gate for LastFirst<'a, C> {
 }
 
 impl<'a, C: Clock> Turns for LastFirst<'a, C> {
-    fn begin<R: Wait>(&self, _rt: &R, turn: &Turn) {
+    ghost use Rattle.std.specs.Prelude.{false};
+
+    ghost ordered = { false };
+
+    fn begin<N: Recorded, M: Timeline, R: Wait>(
+        &self,
+        _rt: &R,
+        _provider: &Provider<N>,
+        _register: &Register<N, M>,
+        turn: &Turn,
+        _seen: &mut TurnsSeen<N, M>,
+        _caller: &mut Caller<N>,
+    ) {
         if turn.at < 8 {
             self.begun.fetch_add(1, Ordering::SeqCst);
             self.wait_for(7 - turn.at as u32);
         }
     }
 
-    fn end<R: Wait>(&self, _rt: &R, turn: &Turn) {
+    fn end<N: Recorded, M: Timeline, R: Wait>(
+        &self,
+        _rt: &R,
+        _provider: &Provider<N>,
+        _register: &Register<N, M>,
+        turn: &Turn,
+        _seen: &mut TurnsSeen<N, M>,
+        _caller: &mut Caller<N>,
+    ) {
         if turn.at < 8 {
             self.ended.fetch_add(1, Ordering::SeqCst);
         }

@@ -3,7 +3,9 @@
 ghost use Rattle.std.specs.Prelude.{◌≡◌, ◌≤◌};
 
 use am_provider::{Caller, Counts, Ended, Parts, Policy, Provider, Recorded, Settled};
-use am_runner::{Answer, Freely, InOrder, ThreadOutcome, Turns, run_threads, write_answers};
+use am_runner::{
+    Answer, Form, Freely, InOrder, NotRun, ThreadOutcome, Turns, run_threads, write_answers,
+};
 use am_script::{Line, ScriptFault, THREADS, config_line, read_script};
 use am_store::Call;
 use std::alloc::{AllocError, AllocFailed, Global};
@@ -21,6 +23,8 @@ pub enum Stopped {
     NoMemory,
     /// The script isn't one.
     NoScript,
+    /// The system started no more threads.
+    NoThread,
 }
 
 impl From<AllocError> for Stopped {
@@ -32,6 +36,15 @@ impl From<AllocError> for Stopped {
 impl<T: Drop> From<AllocFailed<T>> for Stopped {
     fn from(_error: AllocFailed<T>) -> Stopped {
         Stopped::NoMemory
+    }
+}
+
+impl From<NotRun> for Stopped {
+    fn from(why: NotRun) -> Stopped {
+        match why {
+            NotRun::NoMemory => Stopped::NoMemory,
+            NotRun::NoThread => Stopped::NoThread,
+        }
     }
 }
 
@@ -85,7 +98,7 @@ impl Run {
         let mut text = String::new(alloc);
         for (at, line) in self.lines.iter().enumerate() {
             if let Some(answers) = self.answers(at) {
-                write_answers(&mut text, u64::from(line.number), answers)?;
+                write_answers(&mut text, Form::Text, u64::from(line.number), answers)?;
             }
         }
         write_settled(&mut text, &self.settled)?;
@@ -224,7 +237,7 @@ fn run_over<N: Recorded + Send + Sync, R: Threads + Wait + Sync, T: Turns + Sync
 // them.
 fn take_callers<N: Recorded>(
     alloc: Global,
-    ran: Result<Vec<ThreadOutcome<N>>, AllocError>,
+    ran: Result<Vec<ThreadOutcome<N>>, NotRun>,
     callers: &mut Vec<Caller<N>>,
 ) -> Result<Answers, Stopped> {
     let mut threads = Vec::new(alloc);

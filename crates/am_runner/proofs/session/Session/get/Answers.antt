@@ -5,7 +5,7 @@ use Rattle.am_store.specs.declared.call.Call.{Call}
 use Rattle.am_cast.specs.Posters.{PassView}
 use Rattle.am_runner.specs.Sessions.{SessionView, Does, got, get_refused, found_answer}
 use Rattle.am_runner.specs.declared.answer.Answer.{Answer}
-use Rattle.am_runner.specs.declared.answer.Answer.TheVariants.{StoredRefused}
+use Rattle.am_runner.specs.declared.answer.Answer.TheVariants.{OutOfMemory}
 use Rattle.am_script.specs.declared.command.Command.TheVariants.{Get}
 use Rattle.am_script.specs.declared.command.Verb.TheVariants as verb
 use Rattle.am_runner.proofs.Results.{if_ok_map}
@@ -21,6 +21,6 @@ returns g c =
 
 pub returns-in-Err : goal.returns-in-Err
 returns-in-Err g c config setting =
-    subst (λ (old : SessionView). Does config setting old (Get c.args.labels.now) (StoredRefused verb.Get ∷ []) (record { pass = c.get.new.caller.pass; front = c.get.new.caller.front; opened = c.self.inside.opened.items })) c.self.view_is
-    (subst (λ (pass : PassView Alert Call). Does config setting (record { pass = c.self.inside.caller.pass; front = c.self.inside.caller.front; opened = c.self.inside.opened.items }) (Get c.args.labels.now) (StoredRefused verb.Get ∷ []) (record { pass = pass; front = c.get.new.caller.front; opened = c.self.inside.opened.items })) (sym c.in-Err.ensures.pass)
+    subst (λ (old : SessionView). Does config setting old (Get c.args.labels.now) (OutOfMemory verb.Get ∷ []) (record { pass = c.get.new.caller.pass; front = c.get.new.caller.front; opened = c.self.inside.opened.items })) c.self.view_is
+    (subst (λ (pass : PassView Alert Call). Does config setting (record { pass = c.self.inside.caller.pass; front = c.self.inside.caller.front; opened = c.self.inside.opened.items }) (Get c.args.labels.now) (OutOfMemory verb.Get ∷ []) (record { pass = pass; front = c.get.new.caller.front; opened = c.self.inside.opened.items })) (sym c.in-Err.ensures.pass)
     (get_refused c.in-Err.ensures.sees))

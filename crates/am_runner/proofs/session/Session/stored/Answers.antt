@@ -5,7 +5,7 @@ use Rattle.am_store.specs.declared.call.Call.{Call}
 use Rattle.am_cast.specs.Posters.{PassView}
 use Rattle.am_runner.specs.Sessions.{SessionView, Does, stored, stored_refused, stored_answers}
 use Rattle.am_runner.specs.declared.answer.Answer.{Answer}
-use Rattle.am_runner.specs.declared.answer.Answer.TheVariants.{StoredRefused}
+use Rattle.am_runner.specs.declared.answer.Answer.TheVariants.{OutOfMemory}
 use Rattle.am_script.specs.declared.command.Command.TheVariants.{Stored}
 use Rattle.am_script.specs.declared.command.Verb.TheVariants as verb
 use Rattle.am_runner.proofs.Results.{if_ok_map}
@@ -24,6 +24,6 @@ pub returns-in-Err : goal.returns-in-Err
 returns-in-Err g c =
     if_ok_map c.one.result c.one.ensures (λ answers are config setting.
     subst (λ (given : List Answer). Does config setting c.args.self.now Stored given (record { pass = c.stored.new.caller.pass; front = c.stored.new.caller.front; opened = c.self.inside.opened.items })) (sym are)
-    (subst (λ (old : SessionView). Does config setting old Stored (StoredRefused verb.Stored ∷ []) (record { pass = c.stored.new.caller.pass; front = c.stored.new.caller.front; opened = c.self.inside.opened.items })) c.self.view_is
-    (subst (λ (pass : PassView Alert Call). Does config setting (record { pass = c.self.inside.caller.pass; front = c.self.inside.caller.front; opened = c.self.inside.opened.items }) Stored (StoredRefused verb.Stored ∷ []) (record { pass = pass; front = c.stored.new.caller.front; opened = c.self.inside.opened.items })) (sym c.in-Err.ensures.pass)
+    (subst (λ (old : SessionView). Does config setting old Stored (OutOfMemory verb.Stored ∷ []) (record { pass = c.stored.new.caller.pass; front = c.stored.new.caller.front; opened = c.self.inside.opened.items })) c.self.view_is
+    (subst (λ (pass : PassView Alert Call). Does config setting (record { pass = c.self.inside.caller.pass; front = c.self.inside.caller.front; opened = c.self.inside.opened.items }) Stored (OutOfMemory verb.Stored ∷ []) (record { pass = pass; front = c.stored.new.caller.front; opened = c.self.inside.opened.items })) (sym c.in-Err.ensures.pass)
     (stored_refused c.in-Err.ensures.sees))))

@@ -1,6 +1,6 @@
 use Rattle.std.proofs.Common.{◌≡◌, ◌++◌, take, string_bytes}
 use Rattle.am_runner.specs.Printing.{answers_text}
-use Rattle.am_runner.proofs.answer.write_answers.Given as goal
+use Rattle.am_runner.proofs.answer.write_lines.Given as goal
 
 -- the answers so far are written
 abbrev pub invariant-loop-answer : goal.invariant-loop-answer

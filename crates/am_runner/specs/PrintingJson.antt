@@ -1,0 +1,137 @@
+-- How answers are printed as JSON objects, one a line.
+use Rattle.std.specs.Prelude.{ℕ, Bool, List, [], ◌∷◌, ◌++◌, codes, flat_map, length, Option, Some, None}
+use Rattle.json.specs.Json.{Json, null, boolean, string, object, Members, no_members, member}
+use Rattle.am_alert.specs.Printing.{alert_fault_text}
+use Rattle.am_alert.specs.declared.alert.Alert.{Alert}
+use Rattle.am_labels.specs.LabelSets.{Labels}
+use Rattle.am_cast.specs.FaultTexts.{closed_text}
+use Rattle.am_config.specs.declared.group_by.GroupBy.{GroupBy}
+use Rattle.am_config.specs.declared.group_by.GroupBy.TheVariants.{All, Names}
+use Rattle.am_routes.specs.declared.dispatcher.Swept.{Swept}
+use Rattle.am_routes.specs.declared.listed_route.ListedRoute.{ListedRoute}
+use Rattle.am_routes.specs.declared.matched_route.MatchedRoute.{MatchedRoute}
+use Rattle.am_provider.specs.FaultTexts.{post_refused_text, sub_fault_text}
+use Rattle.am_script.specs.JsonLines.{about_line, alert_members, labels_json, object_line, texts_json, whole}
+use Rattle.am_script.specs.JsonLines.{worded}
+use Rattle.am_script.specs.ScriptTexts.{verb_text}
+use Rattle.am_script.specs.declared.command.Verb.TheVariants as verb
+use Rattle.am_runner.specs.declared.answer.Answer.{Answer}
+use Rattle.am_runner.specs.declared.answer.Answer.TheVariants as answer
+
+-- an answer that shows an alert
+abbrev pub showing : List ℕ → Alert → Members
+showing word alert = worded word (member (codes "alert") (object (alert_members alert)) no_members)
+
+-- an answer that has a number
+abbrev pub counting : List ℕ → List ℕ → ℕ → Members
+counting word name n = worded word (member name (whole n) no_members)
+
+-- a call that was refused, and why
+abbrev pub refusing : List ℕ → List ℕ → Members
+refusing call why = worded (codes "refused")
+    (member (codes "do") (string call) (member (codes "fault") (string why) no_members))
+
+-- a call that was out of memory
+abbrev pub out_of_memory : List ℕ → Members
+out_of_memory call = refusing call (codes "E0 NoMemory")
+
+-- the place of a post's batch in the log, if it has one
+abbrev pub place_json : Option ℕ → Json
+place_json (Some place) = whole place
+place_json None = null
+
+-- an accepted post
+abbrev pub posted_members : ℕ → Option ℕ → Members
+posted_members valid place = worded (codes "post")
+    (member (codes "valid") (whole valid) (member (codes "place") (place_json place) no_members))
+
+-- a subscription that was left, whether it was told that the log is closed, and whether a post cut it
+abbrev pub left_members : ℕ → Bool → Bool → Members
+left_members taken closed cut = worded (codes "leave")
+    (member (codes "taken") (whole taken)
+    (member (codes "closed") (boolean closed) (member (codes "cut") (boolean cut) no_members)))
+
+-- a group of a dispatcher: its route, who is told, its labels, and how many alerts it has
+abbrev pub group_members : ℕ → List ℕ → Labels → ℕ → Members
+group_members route receiver labels alerts = worded (codes "group")
+    (member (codes "route") (whole route)
+    (member (codes "receiver") (string receiver)
+    (member (codes "labels") (labels_json labels)
+    (member (codes "alerts") (whole alerts) no_members))))
+
+-- by which labels a route groups: `...` is all of them
+abbrev pub grouping_json : GroupBy → Json
+grouping_json All = texts_json (codes "..." ∷ [])
+grouping_json (Names names) = texts_json names
+
+-- a route of the routing tree
+abbrev pub listed_members : ListedRoute → Members
+listed_members route = worded (codes "route")
+    (member (codes "route") (whole route.id.0)
+    (member (codes "depth") (whole route.depth)
+    (member (codes "receiver") (string route.receiver)
+    (member (codes "matchers") (texts_json route.matchers)
+    (member (codes "group_by") (grouping_json route.group_by)
+    (member (codes "continue") (boolean route.continues) no_members))))))
+
+-- a route that a label set matches: its number, who is told, and the group labels there
+abbrev pub matched_members : MatchedRoute → Members
+matched_members route = worded (codes "matched")
+    (member (codes "route") (whole route.id.0)
+    (member (codes "receiver") (string route.receiver)
+    (member (codes "labels") (labels_json route.labels) no_members)))
+
+-- how many alerts and groups a sweep removed
+abbrev pub swept_members : Swept → Members
+swept_members swept = worded (codes "sweep")
+    (member (codes "alerts") (whole swept.alerts)
+    (member (codes "groups") (whole swept.groups) no_members))
+
+-- the members of what a call answered
+abbrev pub answer_members : Answer → Members
+answer_members (answer.Posted valid place) = posted_members valid place
+answer_members (answer.Invalid index why) = worded (codes "invalid")
+    (member (codes "index") (whole index)
+    (member (codes "fault") (string (alert_fault_text why)) no_members))
+answer_members (answer.CutLane lane) = counting (codes "cut_lane") (codes "lane") lane
+answer_members (answer.PostRefused why) = refusing (verb_text verb.Post) (post_refused_text why)
+answer_members (answer.Subscribed lane opening) = worded (codes "subscribe")
+    (member (codes "lane") (whole lane) (member (codes "opening") (whole opening) no_members))
+answer_members (answer.SubscribeRefused why) = refusing (verb_text verb.Subscribe) (sub_fault_text why)
+answer_members (answer.Item alert) = showing (codes "item") alert
+answer_members answer.Pending = worded (codes "pending") no_members
+answer_members answer.SawClosed = worded (codes "closed") no_members
+answer_members answer.SawCut = worded (codes "cut") no_members
+answer_members (answer.Left taken closed cut) = left_members taken closed cut
+answer_members (answer.Collected removed) = counting (codes "collect") (codes "removed") removed
+answer_members answer.CollectRefused = out_of_memory (verb_text verb.Collect)
+answer_members answer.CloseAccepted = worded (codes "close") no_members
+answer_members answer.CloseRefused = refusing (verb_text verb.Close) closed_text
+answer_members (answer.Trimmed dropped) = counting (codes "trim") (codes "dropped") dropped
+answer_members answer.TrimRefused = out_of_memory (verb_text verb.Trim)
+answer_members answer.TakeRefused = out_of_memory (codes "take")
+answer_members (answer.Group route receiver labels alerts) =
+    group_members route receiver labels alerts
+answer_members (answer.Member alert) = showing (codes "member") alert
+answer_members (answer.Swept swept) = swept_members swept
+answer_members (answer.Muted rule by) = worded (codes "muted")
+    (member (codes "rule") (whole rule) (member (codes "by") (labels_json by) no_members))
+answer_members answer.NotMuted = worded (codes "not_muted") no_members
+answer_members (answer.StoredCount count) = counting (codes "stored") (codes "alerts") count
+answer_members (answer.StoredAlert alert) = showing (codes "alert") alert
+answer_members answer.NotStored = worded (codes "no_alert") no_members
+answer_members (answer.Route route) = listed_members route
+answer_members (answer.Matched route) = matched_members route
+answer_members (answer.OutOfMemory word) = out_of_memory (verb_text word)
+answer_members answer.MutesRefused = out_of_memory (verb_text verb.Mutes)
+answer_members (answer.NotOpen word) =
+    worded (codes "none") (member (codes "do") (string (verb_text word)) no_members)
+
+-- a line of input has so many answers
+abbrev pub count_members : ℕ → Members
+count_members count = member (codes "answers") (whole count) no_members
+
+-- the lines of the answers to one line of input, and of how many they are
+abbrev pub objects_text : ℕ → List Answer → List ℕ
+objects_text line given = flat_map (λ one. object_line (about_line line (answer_members one))) given
+    ++ object_line (about_line line (count_members (length given)))

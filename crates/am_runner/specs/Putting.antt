@@ -1,0 +1,37 @@
+-- What a put of alerts that carry their own moments comes to.
+use Rattle.std.specs.Prelude.{◌≡◌, ℕ, List, map, Result, Ok, Err}
+use Rattle.am_alert.specs.FromParts.{IsPostOfParts, alert_of}
+use Rattle.am_alert.specs.declared.alert.Alert.{Alert}
+use Rattle.am_alert.specs.declared.alert_parts.AlertParts.{AlertParts}
+use Rattle.am_alert.specs.declared.post.Post.{Post}
+use Rattle.am_alert.specs.declared.post.PostFault.{PostFault}
+use Rattle.am_cast.specs.Posters.{PassView}
+use Rattle.am_history.specs.Fronts.{FrontView}
+use Rattle.am_store.specs.declared.call.Call.{Call}
+use Rattle.am_provider.specs.Callers.{SeesCall}
+use Rattle.am_provider.specs.Headline.{AnswersPost}
+use Rattle.am_provider.specs.Histories.{EntryView}
+use Rattle.am_provider.specs.Posts.{AddsOwn}
+use Rattle.am_provider.specs.declared.answers.Policy.{Policy}
+use Rattle.am_provider.specs.declared.answers.Posted.{Posted}
+use Rattle.am_provider.specs.declared.faults.PostRefused.{PostRefused}
+use Rattle.am_provider.specs.declared.faults.PostRefused.TheVariants as refused
+
+-- what the post of some alerts is, or why there is none
+abbrev pub IsPostOfAlerts : List Alert → Result Post PostFault → Type 0
+IsPostOfAlerts alerts post = (parts : List AlertParts) × (map alert_of parts ≡ alerts)
+    × IsPostOfParts parts post
+
+-- what a put of alerts answers at a moment: alerts that make no post are refused before the history is looked
+-- at; others are posted, and then the pass owns their place
+abbrev pub AnswersPut : Policy → ℕ → ℕ → List Alert → PassView Alert Call → PassView Alert Call
+    → FrontView EntryView → FrontView EntryView → Result Posted PostRefused → Type 0
+AnswersPut policy places now alerts was is saw sees (Ok posted) =
+    (post : Post) × IsPostOfAlerts alerts (Ok post)
+    × SeesCall saw sees (AnswersPost policy places now post (Ok posted))
+    × AddsOwn was now post.valid posted.place is
+AnswersPut policy places now alerts was is saw sees (Err (refused.Put fault)) =
+    (post : Post) × IsPostOfAlerts alerts (Ok post)
+    × SeesCall saw sees (AnswersPost policy places now post (Err fault)) × (is ≡ was)
+AnswersPut policy places now alerts was is saw sees (Err (refused.Unread fault)) =
+    IsPostOfAlerts alerts (Err fault) × (is ≡ was) × (sees ≡ saw)

@@ -1,0 +1,65 @@
+-- The order in which the turns of a script's threads are taken.
+use Rattle.std.specs.Prelude.{◌≡◌, ℕ, ◌<◌, Bool, true, false, if◌then◌else◌, List, [], ◌∷◌, ◌++◌, length}
+use Rattle.std.specs.Prelude.{slice_get, Option, Some, None}
+use Rattle.std.specs.List.{All}
+use mathlib.Core.List.{IsPrefix}
+use Rattle.am_history.specs.Fronts.{FrontView}
+use Rattle.am_provider.specs.Histories.{EntryView}
+
+-- the turns in the order in which they were taken, each as the front that its caller had at its end; none, if
+-- the threads take theirs as they come to them
+abbrev pub Order : Type 0
+Order = Option (List (FrontView EntryView))
+
+-- these turns, if they are taken in an order
+abbrev pub order_of : Bool → List (FrontView EntryView) → Order
+order_of ordered turns = if ordered then Some turns else None
+
+-- the turn of a number began with one front and ended with another: in an order it stands at its number, and
+-- when it began its caller had seen all that the callers of the turns before it had at the ends of these
+abbrev pub IsTurn : Order → ℕ → FrontView EntryView → FrontView EntryView → Type 0
+IsTurn None at began ended = Unit {0}
+IsTurn (Some turns) at began ended = (slice_get turns at ≡ Some ended)
+    × ((earlier : ℕ) (turn : FrontView EntryView) → earlier < at → slice_get turns earlier ≡ Some turn
+    → IsPrefix turn.seen began.seen)
+
+-- a caller sees more of the history, and makes no call
+abbrev pub SeesMore : FrontView EntryView → FrontView EntryView → Type 0
+SeesMore was is = IsPrefix was.seen is.seen × (is ≡ record was { seen = is.seen })
+
+-- the turn of a number begins: as many were taken, and its caller has seen what the callers of these had
+pub record IsBegun (at : ℕ) (saw sees : List (FrontView EntryView)) (was is : FrontView EntryView)
+    : Type 0 where
+  pub kept : IsPrefix saw sees
+  pub count : length sees ≡ at
+  pub shown : All (λ (turn : FrontView EntryView). IsPrefix turn.seen is.seen) sees
+  pub more : SeesMore was is
+
+-- the turn of a number ends: as many were taken before it, and it is added to them
+pub record IsEnded (at : ℕ) (saw sees : List (FrontView EntryView)) (was is : FrontView EntryView)
+    : Type 0 where
+  pub before : List (FrontView EntryView)
+  pub kept : IsPrefix saw before
+  pub count : length before ≡ at
+  pub added : sees ≡ before ++ is ∷ []
+  pub more : SeesMore was is
+
+-- what the begin of a turn shows, if the turns are taken in an order: to its thread the turns before it, and
+-- to its caller the history. Else it shows nothing
+abbrev pub Begins : Bool → ℕ → List (FrontView EntryView) → List (FrontView EntryView) → FrontView EntryView
+    → FrontView EntryView → Type 0
+Begins false at saw sees was is = (sees ≡ saw) × (is ≡ was)
+Begins true at saw sees was is = IsBegun at saw sees was is
+
+-- what the end of a turn adds
+abbrev pub Ends : Bool → ℕ → List (FrontView EntryView) → List (FrontView EntryView) → FrontView EntryView
+    → FrontView EntryView → Type 0
+Ends false at saw sees was is = (sees ≡ saw) × (is ≡ was)
+Ends true at saw sees was is = IsEnded at saw sees was is
+
+-- of two turns in one order, the later one began when its caller had seen all that the earlier one's had
+abbrev pub TurnsFollow : Type 0
+TurnsFollow = (turns : List (FrontView EntryView)) (at later : ℕ)
+    (began ended began_then ended_then : FrontView EntryView)
+    → at < later → IsTurn (Some turns) at began ended → IsTurn (Some turns) later began_then ended_then
+    → IsPrefix ended.seen began_then.seen
