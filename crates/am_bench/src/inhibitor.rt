@@ -18,29 +18,41 @@ const TARGETS: u32 = 1_000;
 /// What is asked.
 #[derive(Clone, Copy, Debug)]
 pub(crate) struct Load {
-    /// How many alerts fire, each with its own value of `equal`, the values counted from 0.
-    sources: u32,
+    /// How many values of `equal` there are, counted from 0.
+    values: u32,
     /// How often each target is asked about.
     rounds: u32,
-    /// The first value of the targets, which have as many values as there are sources.
+    /// The first value of the targets, which have as many values as the sources.
     first: u32,
+    /// How many alerts of each value are resolved. They are taken first.
+    resolved: u32,
+    /// How many alerts of each value fire.
+    firing: u32,
+    /// How many sweeps come before the questions.
+    sweeps: u32,
 }
 
 impl Load {
     pub(crate) fn read(words: &[String]) -> Option<Load> {
         Some(Load {
-            sources: small_number(words, 0)?,
+            values: small_number(words, 0)?,
             rounds: small_number(words, 1)?,
             first: small_number(words, 2)?,
+            resolved: small_number(words, 3)?,
+            firing: small_number(words, 4)?,
+            sweeps: small_number(words, 5)?,
         })
     }
 
-    /// Two rounds over ten sources, each of which mutes.
+    /// Two rounds over ten values, each with a source that mutes and two that a sweep drops.
     pub(crate) fn small() -> Load {
         Load {
-            sources: 10,
+            values: 10,
             rounds: 2,
             first: 0,
+            resolved: 2,
+            firing: 1,
+            sweeps: 1,
         }
     }
 }
@@ -48,6 +60,8 @@ impl Load {
 /// The sums of all answers.
 #[derive(Clone, Copy, Debug)]
 struct Answers {
+    /// How many alerts the sweeps dropped.
+    dropped: u64,
     /// How often a target was muted.
     muted: u64,
     /// How many sources were examined.
@@ -83,14 +97,22 @@ fn labels_at(
     LabelSet::from_pairs(alloc, pairs)
 }
 
-// Takes a firing alert at each of some instances.
-fn take_all(alloc: Global, inhibitor: &mut Inhibitor<'_>, sources: u32) -> Result<(), AllocError> {
-    for instance in 0..sources {
+// Takes alerts of so many names at an instance, which fire until a moment.
+fn take_each(
+    alloc: Global,
+    inhibitor: &mut Inhibitor<'_>,
+    name: &str,
+    instance: u32,
+    count: u32,
+    end: Moment,
+) -> Result<(), AllocError> {
+    for number in 0..count {
+        let name = format!(in alloc; "{name}{number}")?;
         inhibitor.take(&Alert {
-            labels: labels_at(alloc, "InstanceDown", "critical", instance)?,
+            labels: labels_at(alloc, name.as_str(), "critical", instance)?,
             annotations: LabelSet::new(),
             start: moment(1),
-            end: moment(3),
+            end,
             updated: moment(1),
             timeout: false,
             generator: SharedText::new(),
@@ -99,11 +121,34 @@ fn take_all(alloc: Global, inhibitor: &mut Inhibitor<'_>, sources: u32) -> Resul
     Ok(())
 }
 
-// The labels of the targets, with as many values as there are sources.
+// Takes the alerts of each instance, those first that are resolved.
+fn take_all(alloc: Global, inhibitor: &mut Inhibitor<'_>, load: Load) -> Result<(), AllocError> {
+    for instance in 0..load.values {
+        take_each(
+            alloc,
+            inhibitor,
+            "Deployed",
+            instance,
+            load.resolved,
+            moment(2),
+        )?;
+        take_each(
+            alloc,
+            inhibitor,
+            "InstanceDown",
+            instance,
+            load.firing,
+            moment(3),
+        )?;
+    }
+    Ok(())
+}
+
+// The labels of the targets, with as many values as the sources have.
 fn targets_of(alloc: Global, load: Load) -> Result<Vec<LabelSet>, AllocError> {
     let mut targets = Vec::new(alloc);
     for number in 0..TARGETS {
-        let value = number.checked_rem(load.sources).unwrap_or(0);
+        let value = number.checked_rem(load.values).unwrap_or(0);
         let instance = load.first.wrapping_add(value);
         targets.push(labels_at(alloc, "DiskFull", "warning", instance)?)?;
     }
@@ -133,9 +178,14 @@ fn run(alloc: Global, load: Load) -> Result<Answers, Failure> {
 
 fn ask(alloc: Global, config: &Config, load: Load) -> Result<Answers, AllocError> {
     let mut inhibitor = Inhibitor::new(alloc, &config.rules)?;
-    take_all(alloc, &mut inhibitor, load.sources)?;
+    take_all(alloc, &mut inhibitor, load)?;
+    let mut dropped = 0u64;
+    for _ in 0..load.sweeps {
+        dropped = dropped.wrapping_add(inhibitor.sweep(moment(2)));
+    }
     let targets = targets_of(alloc, load)?;
     let mut answers = Answers {
+        dropped,
         muted: 0,
         looked: 0,
     };
@@ -145,9 +195,14 @@ fn ask(alloc: Global, config: &Config, load: Load) -> Result<Answers, AllocError
     Ok(answers)
 }
 
-/// Runs a load, and prints how often a target was muted, and how many sources were examined.
+/// Runs a load, and prints how often a target was muted, how many sources were examined, and how many
+/// alerts were dropped.
 pub(crate) fn time(alloc: Global, load: Load, printed: &mut Printed) -> Result<(), Failure> {
     let answers = run(alloc, load)?;
-    write!(printed.counts, "{} {}\n", answers.muted, answers.looked)?;
+    write!(
+        printed.counts,
+        "{} {} {}\n",
+        answers.muted, answers.looked, answers.dropped
+    )?;
     Ok(())
 }

@@ -4,7 +4,7 @@
 //!     am_bench log READERS BATCHES ITEMS PLACES
 //!     am_bench provider bytes|ready POSTERS READERS POSTS ALERTS LABELS TRIM
 //!     am_bench routes matches|takes ALERTS ROUNDS
-//!     am_bench inhibitor SOURCES ROUNDS FIRST
+//!     am_bench inhibitor VALUES ROUNDS FIRST RESOLVED FIRING SWEEPS
 //!     am_bench each
 //!
 //! The first word says what to time; `each` runs a small load of each. What is printed is a count that

@@ -11,7 +11,7 @@ use Rattle.clap.specs.declared.error.Error.{Error}
 use Rattle.clap.specs.declared.parser.matches.ArgMatches.{ArgMatches}
 use Rattle.clap.proofs.OnLiterals.{clap_on_literals}
 use Rattle.clap.proofs.WalkLemmas.{first_value-rows}
-use Rattle.am_replay.specs.Options.{AreModes, ArePolicies, AreOptions, IsCommandOf, Choices, options_of}
+use Rattle.am_replay.specs.Options.{AreModes, ArePolicies, AreOptions, IsCommandOf, Choices, form_of, options_of}
 use Rattle.am_replay.specs.Arguments.{AreFound, AreRead, IsFaultOf}
 use Rattle.am_replay.specs.ArgumentsFaults.{IsTold}
 use Rattle.am_replay.specs.declared.arguments.Arguments.{Arguments}
@@ -57,6 +57,7 @@ module _ (modes policies : Choices) (are_modes : AreModes modes) (are_policies :
         mode = value _ ∙ found.mode;
         places = (found.places.0, value _ ∙ found.places.1, found.places.2);
         full = value _ ∙ found.full;
+        form = found.form ∙ ap form_of (sym (value _));
       }
 
   pub given_refused : (given : List Text) (error : Error) (fault : ArgumentsFault) → HasKind (fault_of (app_of command) given) error

@@ -7,14 +7,15 @@ use Rattle.am_config.specs.declared.config.Config.{Config}
 use Rattle.am_script.specs.Outputs.{AppendsBeginning}
 use Rattle.am_provider.specs.declared.answers.Counts.{Counts}
 use Rattle.am_runner.specs.Sessions.{Setting}
+use Rattle.am_runner.specs.declared.form.Form.{Form}
 use Rattle.am_serve.specs.Reading.{IsNext}
 use Rattle.am_replay.specs.FirstLines.{IsFirstLine}
 use Rattle.am_replay.specs.Live.{IsEnd, IsLive, IsLived, IsRefusedAs, IsTold, LivesUnder, line_or_empty, lived, last_line_cut_short, no_memory, not_begun, not_written, refused, refusal_cut_short}
-use Rattle.am_replay.specs.Printing.{counts_text}
+use Rattle.am_replay.specs.Printing.{counts_line}
 use Rattle.am_replay.specs.declared.arguments.Arguments.{Arguments}
 use Rattle.am_replay.specs.declared.first_line.FirstLine.{FirstLine}
 use Rattle.am_replay.specs.declared.status.Status.{Status}
-use Rattle.am_replay.specs.declared.status.Status.TheVariants.{Done, BadArguments, Refused, CallOutOfMemory, OutOfMemory, ReadFailed, WriteFailed}
+use Rattle.am_replay.specs.declared.status.Status.TheVariants.{Done, BadArguments, Refused, CallOutOfMemory, OutOfMemory, NoThread, ReadFailed, WriteFailed}
 
 -- what is kept grows by nothing
 appends_kept_none : (old new : Option (List ℕ)) → Keeps old new → Appends old new []
@@ -23,30 +24,33 @@ appends_kept_none (Some xs) None kept = absurd kept
 appends_kept_none (Some xs) (Some ys) kept = kept ∙ sym (append-nil xs)
 
 pub refusal_told : {E : Type 0} (arguments : Arguments) (input old new line rest : Option (List ℕ)) (first : FirstLine) (wanted : List ℕ) (text : Result (String Global) E) (status : Status)
-    → IsNext input line rest → IsFirstLine (line_or_empty line) first → IsRefusedAs first wanted → IfOk text (λ t. string_bytes t ≡ wanted) → IsTold text old status new → IsLive arguments input old status new
+    → IsNext input line rest → IsFirstLine (line_or_empty line) first → IsRefusedAs arguments.form first wanted → IfOk text (λ t. string_bytes t ≡ wanted) → IsTold text old status new → IsLive arguments input old status new
 refusal_told arguments input old new line rest first wanted (Ok text) Refused next is as_text same told = refused line rest first wanted next is as_text (subst (Appends old new) same told)
 refusal_told arguments input old new line rest first wanted (Ok text) WriteFailed next is as_text same told = refusal_cut_short line rest first wanted next is as_text (subst (AppendsBeginning old new) same told)
 refusal_told arguments input old new line rest first wanted (Ok text) Done next is as_text same told = absurd told
 refusal_told arguments input old new line rest first wanted (Ok text) BadArguments next is as_text same told = absurd told
 refusal_told arguments input old new line rest first wanted (Ok text) CallOutOfMemory next is as_text same told = absurd told
 refusal_told arguments input old new line rest first wanted (Ok text) OutOfMemory next is as_text same told = absurd told
+refusal_told arguments input old new line rest first wanted (Ok text) NoThread next is as_text same told = absurd told
 refusal_told arguments input old new line rest first wanted (Ok text) ReadFailed next is as_text same told = absurd told
 refusal_told arguments input old new line rest first wanted (Err error) OutOfMemory next is as_text same told = IsLive.not_begun no_memory told
 refusal_told arguments input old new line rest first wanted (Err error) Done next is as_text same told = absurd told
 refusal_told arguments input old new line rest first wanted (Err error) BadArguments next is as_text same told = absurd told
 refusal_told arguments input old new line rest first wanted (Err error) Refused next is as_text same told = absurd told
 refusal_told arguments input old new line rest first wanted (Err error) CallOutOfMemory next is as_text same told = absurd told
+refusal_told arguments input old new line rest first wanted (Err error) NoThread next is as_text same told = absurd told
 refusal_told arguments input old new line rest first wanted (Err error) ReadFailed next is as_text same told = absurd told
 refusal_told arguments input old new line rest first wanted (Err error) WriteFailed next is as_text same told = absurd told
 
-pub counts_told : (setting : Setting) (config : Config) (input rest old mid new : Option (List ℕ)) (counts : Counts) (status : Status) → IsLived config setting input rest old mid counts → IsEnd counts mid status new → LivesUnder setting config input old status new
-counts_told setting config input rest old mid new counts Done is told = lived counts is told
-counts_told setting config input rest old mid new counts WriteFailed is told = last_line_cut_short counts is not_written told
-counts_told setting config input rest old mid new counts OutOfMemory is told = last_line_cut_short counts is no_memory ([], counts_text counts ++ 10 ∷ [], refl, appends_kept_none mid new told)
-counts_told setting config input rest old mid new counts BadArguments is told = absurd told
-counts_told setting config input rest old mid new counts Refused is told = absurd told
-counts_told setting config input rest old mid new counts CallOutOfMemory is told = absurd told
-counts_told setting config input rest old mid new counts ReadFailed is told = absurd told
+pub counts_told : (setting : Setting) (form : Form) (config : Config) (input rest old mid new : Option (List ℕ)) (counts : Counts) (status : Status) → IsLived config setting form input rest old mid counts → IsEnd form counts mid status new → LivesUnder setting form config input old status new
+counts_told setting form config input rest old mid new counts Done is told = lived counts is told
+counts_told setting form config input rest old mid new counts WriteFailed is told = last_line_cut_short counts is not_written told
+counts_told setting form config input rest old mid new counts OutOfMemory is told = last_line_cut_short counts is no_memory ([], counts_line form counts, refl, appends_kept_none mid new told)
+counts_told setting form config input rest old mid new counts BadArguments is told = absurd told
+counts_told setting form config input rest old mid new counts Refused is told = absurd told
+counts_told setting form config input rest old mid new counts CallOutOfMemory is told = absurd told
+counts_told setting form config input rest old mid new counts NoThread is told = absurd told
+counts_told setting form config input rest old mid new counts ReadFailed is told = absurd told
 
 -- the last of a list of one is the only one
 pub none_before : {A : Type 0} (left : List A) (last : A) (all : List A) → all ≡ left ++ last ∷ [] → length all ≡ 1 → left ≡ []

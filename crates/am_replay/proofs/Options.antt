@@ -24,7 +24,7 @@ use Rattle.clap.proofs.CallerLemmas.{added_plain, default_present, entry_by_id, 
 use Rattle.clap.proofs.WalkLemmas.{list_any-map}
 use Rattle.am_provider.specs.declared.answers.Policy.TheVariants.{Refuse, Cut}
 use Rattle.am_cast.specs.declared.limits.TheConstants.{MAX_PLACES}
-use Rattle.am_replay.specs.Options.{AreModes, ArePolicies, HasOptions, IsCommandOf, IsOption, Choices, mode_name, options_of, policy_name}
+use Rattle.am_replay.specs.Options.{AreModes, ArePolicies, HasOptions, IsCommandOf, IsFlag, IsOption, Choices, mode_name, options_of, policy_name}
 use Rattle.am_replay.specs.declared.arguments.Mode.TheVariants.{Ordered, Free, Live}
 
 -- a list with an element that passes has a first one
@@ -169,10 +169,10 @@ one_of_three names first second third text are accepted =
     go false false false e f g h = cc
 
 abbrev option_names : List Text
-option_names = codes "mode" ∷ codes "places" ∷ codes "full" ∷ []
+option_names = codes "mode" ∷ codes "places" ∷ codes "full" ∷ codes "json" ∷ []
 
 -- no two options have one name
-names_differ : (j k : ℕ) → j < 3 → k < 3 → bytes_eq (slice_index_or option_names j []) (slice_index_or option_names k []) ≡ true → j ≡ k
+names_differ : (j k : ℕ) → j < 4 → k < 4 → bytes_eq (slice_index_or option_names j []) (slice_index_or option_names k []) ≡ true → j ≡ k
 names_differ zero zero jlt klt e = refl
 names_differ zero (suc zero) jlt klt e = cc
 names_differ zero (suc (suc zero)) jlt klt e = cc
@@ -182,8 +182,15 @@ names_differ (suc zero) (suc (suc zero)) jlt klt e = cc
 names_differ (suc (suc zero)) zero jlt klt e = cc
 names_differ (suc (suc zero)) (suc zero) jlt klt e = cc
 names_differ (suc (suc zero)) (suc (suc zero)) jlt klt e = refl
-names_differ (suc (suc (suc j))) k jlt klt e = absurd (omega arith)
-names_differ j (suc (suc (suc k))) jlt klt e = absurd (omega arith)
+names_differ zero (suc (suc (suc zero))) jlt klt e = cc
+names_differ (suc zero) (suc (suc (suc zero))) jlt klt e = cc
+names_differ (suc (suc zero)) (suc (suc (suc zero))) jlt klt e = cc
+names_differ (suc (suc (suc zero))) zero jlt klt e = cc
+names_differ (suc (suc (suc zero))) (suc zero) jlt klt e = cc
+names_differ (suc (suc (suc zero))) (suc (suc zero)) jlt klt e = cc
+names_differ (suc (suc (suc zero))) (suc (suc (suc zero))) jlt klt e = refl
+names_differ (suc (suc (suc (suc j)))) k jlt klt e = absurd (omega arith)
+names_differ j (suc (suc (suc (suc k)))) jlt klt e = absurd (omega arith)
 
 -- texts that a test tells apart are two
 apart : (a b : Text) → bytes_eq a b ≡ false → a ≡ b → ⊥
@@ -208,54 +215,58 @@ names_own (suc (suc zero)) lt (inr e) = apart (codes "full") (codes "version") r
 names_own (suc (suc (suc k))) lt e = absurd (omega arith)
 
 -- the program's command
-module _ (start one two three : Command) (mode places full : Arg) (modes policies : Choices)
+module _ (start one two three four : Command) (mode places full json : Arg) (modes policies : Choices)
     (made : app_of start ≡ on_top (λ top. record top { no_binary_name = true }) (new_app (codes "replay")))
     (empty : (args_of start ≡ []) × (groups_of start ≡ [])) (local : (out-Command start).has_globals ≡ false)
     (is_mode : IsOption (codes "mode") (mode_name Ordered) (value.Names modes) mode)
     (is_places : IsOption (codes "places") (codes "256") (value.Unsigned 1 MAX_PLACES) places)
     (is_full : IsOption (codes "full") (policy_name Refuse) (value.Names policies) full)
-    (first : AddsArg start mode one) (second : AddsArg one places two) (third : AddsArg two full three) where
-  has_options : app_of three ≡ options_of modes policies
-  has_options = third.shape is_full.local ∙ ap₂ with_rule (second.shape is_places.local
-      ∙ ap₂ with_rule (first.shape is_mode.local ∙ ap₂ with_rule made is_mode.rule) is_places.rule) is_full.rule
+    (is_json : IsFlag (codes "json") json)
+    (first : AddsArg start mode one) (second : AddsArg one places two) (third : AddsArg two full three)
+    (fourth : AddsArg three json four) where
+  has_options : app_of four ≡ options_of modes policies
+  has_options = fourth.shape is_json.local ∙ ap₂ with_rule (third.shape is_full.local ∙ ap₂ with_rule (second.shape is_places.local
+      ∙ ap₂ with_rule (first.shape is_mode.local ∙ ap₂ with_rule made is_mode.rule) is_places.rule) is_full.rule) is_json.rule
 
-  list : args_of three ≡ first.arg ∷ second.arg ∷ third.arg ∷ []
-  list = third.args ∙ rw (second.args, first.args, empty.0) refl
+  list : args_of four ≡ first.arg ∷ second.arg ∷ third.arg ∷ fourth.arg ∷ []
+  list = fourth.args ∙ rw (third.args, second.args, first.args, empty.0) refl
 
-  plain : IsPlain three
-  plain = added_plain two three full third (added_plain one two places second (added_plain start one mode first
-      (rw empty.0 (All-nil IsPlainArg), empty.1) is_mode.plain) is_places.plain) is_full.plain
+  plain : IsPlain four
+  plain = added_plain three four json fourth (added_plain two three full third (added_plain one two places second (added_plain start one mode first
+      (rw empty.0 (All-nil IsPlainArg), empty.1) is_mode.plain) is_places.plain) is_full.plain) is_json.plain
 
-  no_globals : (out-Command three).has_globals ≡ false
-  no_globals = third.globals ∙ rw (second.globals, first.globals, local, is_mode.local, is_places.local, is_full.local) refl
+  no_globals : (out-Command four).has_globals ≡ false
+  no_globals = fourth.globals ∙ rw (third.globals, second.globals, first.globals, local, is_mode.local, is_places.local, is_full.local, is_json.local) refl
 
   abbrev given : List Arg
-  given = first.arg ∷ second.arg ∷ third.arg ∷ []
+  given = first.arg ∷ second.arg ∷ third.arg ∷ fourth.arg ∷ []
 
-  ids : (j : ℕ) (e : Arg) → j < 3 → (slice_index_or given j e).id.now ≡ slice_index_or option_names j []
+  ids : (j : ℕ) (e : Arg) → j < 4 → (slice_index_or given j e).id.now ≡ slice_index_or option_names j []
   ids zero e lt = ap (λ (i : Bor Text). i.now) first.rules.id ∙ is_mode.id
   ids (suc zero) e lt = ap (λ (i : Bor Text). i.now) second.rules.id ∙ is_places.id
   ids (suc (suc zero)) e lt = ap (λ (i : Bor Text). i.now) third.rules.id ∙ is_full.id
-  ids (suc (suc (suc j))) e lt = absurd (omega arith)
+  ids (suc (suc (suc zero))) e lt = ap (λ (i : Bor Text). i.now) fourth.rules.id ∙ is_json.id
+  ids (suc (suc (suc (suc j)))) e lt = absurd (omega arith)
 
   -- the option at index k of the command
-  found_at : (m : ArgMatches) → IsParsedFrom three m → (k : ℕ) (b : Arg) (parser : ValueParser) → k < 3 → Keeps parser (slice_index_or given k b)
+  found_at : (m : ArgMatches) → IsParsedFrom four m → (k : ℕ) (b : Arg) (parser : ValueParser) → k < 3 → Keeps parser (slice_index_or given k b)
       → (t : Text) × (first_value (found_of m) (slice_index_or option_names k []) ≡ Some t)
       × (one_text (found_of m) (slice_index_or option_names k []) ≡ Some (read_as (reading_of parser) t)) × Accepts false parser t
   found_at m p k b parser lt kept =
-      let at : (j : ℕ) (e : Arg) → j < 3 → (slice_index_or (args_of three) j e).id.now ≡ slice_index_or option_names j [] =
+      let at : (j : ℕ) (e : Arg) → j < 4 → (slice_index_or (args_of four) j e).id.now ≡ slice_index_or option_names j [] =
       λ j e low. rw list (ids j e low) in
-      let count : length (args_of three) ≡ 3 = rw list refl in
-      let key = at k b lt in
-      let unique : (j : ℕ) (e : Arg) → j < length (args_of three)
-      → bytes_eq (slice_index_or (args_of three) j e).id.now (slice_index_or (args_of three) k b).id.now ≡ true → j ≡ k =
-      λ j e low same. let below : j < 3 = rw count at low in names_differ j k below lt (rw (← at j e below, ← key) same) in
-      let found = option_found three m p plain no_globals k b (rw count lt) parser (rw list kept) unique
+      let count : length (args_of four) ≡ 4 = rw list refl in
+      let low : k < 4 = omega (arith, lt) in
+      let key = at k b low in
+      let unique : (j : ℕ) (e : Arg) → j < length (args_of four)
+      → bytes_eq (slice_index_or (args_of four) j e).id.now (slice_index_or (args_of four) k b).id.now ≡ true → j ≡ k =
+      λ j e short same. let below : j < 4 = rw count at short in names_differ j k below low (rw (← at j e below, ← key) same) in
+      let found = option_found four m p plain no_globals k b (rw count low) parser (rw list kept) unique
       (λ h. names_named k lt (sym key ∙ h)) (λ h. names_own k lt (elim h [ inl e ↦ inl (sym key ∙ e) | inr e ↦ inr (sym key ∙ e) ])) in
       subst (λ (w : Text). (t : Text) × (first_value (found_of m) w ≡ Some t)
       × (one_text (found_of m) w ≡ Some (read_as (reading_of parser) t)) × Accepts false parser t) key found
 
-  finds : AreModes modes → ArePolicies policies → (m : ArgMatches) → IsParsedFrom three m → HasOptions (found_of m)
+  finds : AreModes modes → ArePolicies policies → (m : ArgMatches) → IsParsedFrom four m → HasOptions (found_of m)
   finds mode_names policy_names m p =
       let of_mode = found_at m p 0 mode (value.Names modes) (omega arith) (keeps _ _ _ _ _ is_mode first.rules) in
       let of_places = found_at m p 1 mode (value.Unsigned 1 MAX_PLACES) (omega arith) (keeps _ _ _ _ _ is_places second.rules) in
@@ -273,5 +284,5 @@ module _ (start one two three : Command) (mode places full : Arg) (modes policie
         ];
       }
 
-  pub is_command : AreModes modes → ArePolicies policies → IsCommandOf modes policies three
+  pub is_command : AreModes modes → ArePolicies policies → IsCommandOf modes policies four
   is_command mode_names policy_names = record { options = has_options; finds = finds mode_names policy_names }

@@ -1,5 +1,5 @@
 -- Facts about the words of specs/Replays.antt, and of specs/Runs.antt below it.
-use Rattle.std.proofs.Common.{◌≡◌, ℕ, ◌+◌, List, [], ◌∷◌, ◌++◌, true, length, map, Option, Some, None, Result, Ok, Err, IfOk, ap, sym, subst, refl, ◌∙◌}
+use Rattle.std.proofs.Common.{◌≡◌, ℕ, ◌+◌, Bool, List, [], ◌∷◌, ◌++◌, true, length, map, Option, Some, None, Result, Ok, Err, IfOk, ap, sym, subst, refl, ◌∙◌}
 use Rattle.std.proofs.lemmas.List.{map-append, length-append, length-map}
 use Rattle.std.specs.Global.{Vec}
 use Rattle.std.specs.declared.alloc.AllocError.{AllocError}
@@ -12,11 +12,12 @@ use Rattle.am_provider.specs.Histories.{EntryView}
 use Rattle.am_provider.specs.Ending.{IsSettledFrom}
 use Rattle.am_provider.specs.declared.settled.Settled.{Settled}
 use Rattle.am_runner.specs.Sessions.{Setting, setting_of}
+use Rattle.am_runner.specs.Turning.{Order, order_of}
 use Rattle.am_runner.specs.Working.{AreWork, Outcome, none, one_more_thread}
 use Rattle.am_replay.specs.declared.arguments.Arguments.{Arguments}
 use Rattle.am_runner.specs.declared.answer.Answer.{Answer}
 use Rattle.am_replay.specs.Printing.{transcript_text, ran_out_of_memory}
-use Rattle.am_replay.specs.Replays.{ComesTo, ran, status_of}
+use Rattle.am_replay.specs.Replays.{ComesTo, ran, runs_in_order, status_of}
 use Rattle.am_replay.specs.Runs.{AreCountsOf, IsRun}
 use Rattle.am_config.specs.declared.config.Config.{Config}
 use Rattle.am_replay.specs.FirstLines.{IsFirstLine}
@@ -38,13 +39,13 @@ refused_so {arguments} text words output status comes ends said =
 -- a script that was run
 pub comes : (arguments : Arguments) (text configuration : List ℕ) (lines : List Line) (config : Config) (transcript : Transcript) (settled : Settled) (status : Status) (output : List ℕ)
     → IsFirstLine text (Read config) → Checks 1 [] (lines_of text) (Ok lines) → configuration ≡ config_line text
-    → IsRun configuration (setting_of arguments.places arguments.full config.resolve_timeout) lines transcript settled
-    → output ≡ transcript_text transcript.lines.items transcript.answers.items transcript.counts
+    → IsRun (runs_in_order arguments.mode) configuration (setting_of arguments.places arguments.full config.resolve_timeout) lines transcript settled
+    → output ≡ transcript_text arguments.form transcript.lines.items transcript.answers.items transcript.counts
     → status ≡ status_of (ran_out_of_memory transcript.answers.items) → ComesTo arguments text status output
 comes arguments text configuration lines config transcript settled status output first checks is runs said ends =
     subst (λ (s : Status). ComesTo arguments text s output) (sym ends)
-    (subst (λ (o : List ℕ). ComesTo arguments text (status_of (ran_out_of_memory transcript.answers.items)) o) (sym (said ∙ ap (λ (all : List Line). transcript_text all transcript.answers.items transcript.counts) runs.script))
-    (ran config transcript settled first checks (subst (λ (bytes : List ℕ). IsRun bytes (setting_of arguments.places arguments.full config.resolve_timeout) lines transcript settled) is runs)))
+    (subst (λ (o : List ℕ). ComesTo arguments text (status_of (ran_out_of_memory transcript.answers.items)) o) (sym (said ∙ ap (λ (all : List Line). transcript_text arguments.form all transcript.answers.items transcript.counts) runs.script))
+    (ran config transcript settled first checks (subst (λ (bytes : List ℕ). IsRun (runs_in_order arguments.mode) bytes (setting_of arguments.places arguments.full config.resolve_timeout) lines transcript settled) is runs)))
 
 -- one thread's outcome more
 pub one_more_parted : {A B E : Type 0} (all : List (Result A E × B)) (answers answers_then : List A) (passes passes_then : List B) (one : Result A E) (answer : A) (pass : B)
@@ -60,19 +61,20 @@ one_more_parted {A} {B} {E} all answers answers_then passes passes_then one answ
       ∙ (ap (λ (front : List B). front ++ pass ∷ []) so_far.1 ∙ sym more),
 )
 
-work_of_each : {bytes : List ℕ} {setting : Setting} {lines : List Line} {threads : ℕ} {all : List (Outcome AllocError)} → AreWork bytes setting lines threads all → length all ≡ threads
+work_of_each : {bytes : List ℕ} {setting : Setting} {order : Order} {lines : List Line} {threads : ℕ} {all : List (Outcome AllocError)} → AreWork bytes setting order lines threads all → length all ≡ threads
 work_of_each none = refl
 work_of_each (one_more_thread {thread} {before} one work this) =
     length-append before (one ∷ []) ∙ ap (λ (n : ℕ). n + 1) (work_of_each work)
 
 -- what the threads came to, and the provider by their callers
-pub run_of : (bytes : List ℕ) (setting : Setting) (lines : List Line) (all : List (Outcome AllocError)) (transcript : Transcript) (passes : List (PassView Alert Call)) (fronts : List (FrontView EntryView)) (settled : Settled)
-    → transcript.lines.items ≡ lines → AreWork bytes setting lines 8 all
+pub run_of : (ordered : Bool) (turns : List (FrontView EntryView)) (bytes : List ℕ) (setting : Setting) (lines : List Line) (all : List (Outcome AllocError)) (transcript : Transcript) (passes : List (PassView Alert Call)) (fronts : List (FrontView EntryView)) (settled : Settled)
+    → transcript.lines.items ≡ lines → AreWork bytes setting (order_of ordered turns) lines 8 all
     → map (λ (x : Outcome AllocError). x.answers) all ≡ map Ok transcript.answers.items → map (λ (x : Outcome AllocError). x.pass) all ≡ passes → map (λ (x : Outcome AllocError). x.front) all ≡ fronts
     → IsSettledFrom passes fronts settled → (length passes ≡ 8 → settled.complete ≡ true) → AreCountsOf settled transcript.counts
-    → IsRun bytes setting lines transcript settled
-run_of bytes setting lines all transcript passes fronts settled script work answered owned seen end complete counts = record {
+    → IsRun ordered bytes setting lines transcript settled
+run_of ordered turns bytes setting lines all transcript passes fronts settled script work answered owned seen end complete counts = record {
   outcomes = all;
+  turns = turns;
   script = script;
   work = work;
   answered = answered;

@@ -6,7 +6,7 @@ use Rattle.clap.specs.Simple.{App, matches_of}
 use Rattle.clap.specs.Faults.{fault_of}
 use Rattle.clap.specs.Matches.{first_value}
 use Rattle.clap.specs.declared.parser.matches.Found.{Found}
-use Rattle.am_replay.specs.Options.{AreOptions, mode_name, policy_name}
+use Rattle.am_replay.specs.Options.{AreOptions, form_of, mode_name, policy_name}
 use Rattle.am_replay.specs.declared.arguments.Arguments.{Arguments}
 use Rattle.am_replay.specs.declared.arguments.ArgumentsFault.{ArgumentsFault}
 use Rattle.am_replay.specs.declared.arguments.ArgumentsFault.TheVariants.{Refused, NoMemory}
@@ -28,6 +28,7 @@ pub record AreRead (given : List Text) (arguments : Arguments) : Type 0 where
   pub places : (text : Text) × (option_value options given (codes "places") ≡ Some text)
       × (number_of text ≡ arguments.places)
   pub full : option_value options given (codes "full") ≡ Some (policy_name arguments.full)
+  pub form : arguments.form ≡ form_of (option_value options given (codes "json"))
 
 -- clap finds a fault with what is given, or is asked for help
 pub record AreRefused (given : List Text) : Type 0 where
@@ -46,3 +47,4 @@ pub record AreFound (found : Found) (arguments : Arguments) : Type 0 where
   pub places : (text : Text) × (first_value found (codes "places") ≡ Some text)
       × (number_of text ≡ arguments.places)
   pub full : first_value found (codes "full") ≡ Some (policy_name arguments.full)
+  pub form : arguments.form ≡ form_of (first_value found (codes "json"))

@@ -1,9 +1,8 @@
 -- The first line of a script, which is its configuration.
-use Rattle.std.specs.Prelude.{◌≢◌, ◌<◌, ◌≤◌, ℕ, List, ◌++◌, length, codes, Ok, Err}
+use Rattle.std.specs.Prelude.{◌≢◌, ◌<◌, ◌≤◌, ℕ, List, length, Ok, Err}
 use Rattle.am_script.specs.Script.{config_line}
 use Rattle.am_script.specs.declared.limits.TheConstants.{LONGEST_LINE}
 use Rattle.am_config.specs.Configs.{IsConfigOf}
-use Rattle.am_config.specs.FaultTexts.{config_fault_text}
 use Rattle.am_config.specs.declared.fault.ConfigFault.{ConfigFault}
 use Rattle.am_config.specs.declared.fault.ConfigFault.TheVariants.{NoMemory}
 use Rattle.am_replay.specs.declared.first_line.FirstLine.{FirstLine}
@@ -17,7 +16,3 @@ IsFirstLine text (Refused fault) =
     × IsConfigOf (config_line text) (Err fault)
 IsFirstLine text (Read config) =
     (length (config_line text) ≤ LONGEST_LINE) × IsConfigOf (config_line text) (Ok config)
-
--- a refused configuration
-abbrev pub config_refusal_text : ConfigFault → List ℕ
-config_refusal_text fault = codes "config " ++ config_fault_text fault

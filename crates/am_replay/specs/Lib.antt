@@ -5,6 +5,7 @@ pub mod Live
 pub mod Options
 pub mod Printing
 pub mod Programs
+pub mod Refusals
 pub mod Replays
 pub mod Runs
 pub mod Statuses

@@ -6,16 +6,16 @@ use Rattle.std.specs.Io.KnownBytes.{Appends, Keeps}
 use Rattle.am_config.specs.declared.config.Config.{Config}
 use Rattle.am_config.specs.declared.fault.ConfigFault.{ConfigFault}
 use Rattle.am_script.specs.Outputs.{AppendsBeginning}
-use Rattle.am_script.specs.ScriptTexts.{refusal_text}
 use Rattle.am_provider.specs.Ending.{IsSettledFrom}
 use Rattle.am_provider.specs.declared.answers.Counts.{Counts}
 use Rattle.am_provider.specs.declared.settled.Settled.{Settled}
 use Rattle.am_runner.specs.Sessions.{Setting, SessionView, LeavesAll, new_session, setting_of}
+use Rattle.am_runner.specs.declared.form.Form.{Form}
 use Rattle.am_serve.specs.Reading.{IsNext}
 use Rattle.am_serve.specs.Serving.{IsServed, IsServedInPart}
-use Rattle.am_replay.specs.FirstLines.{IsFirstLine, config_refusal_text}
-use Rattle.am_replay.specs.Printing.{counts_text}
-use Rattle.am_replay.specs.Replays.{first_line_too_large}
+use Rattle.am_replay.specs.FirstLines.{IsFirstLine}
+use Rattle.am_replay.specs.Printing.{counts_line}
+use Rattle.am_replay.specs.Refusals.{first_line_too_large, refused_config, refused_script}
 use Rattle.am_replay.specs.Runs.{AreCountsOf}
 use Rattle.am_replay.specs.declared.arguments.Arguments.{Arguments}
 use Rattle.am_replay.specs.declared.first_line.FirstLine.{FirstLine}
@@ -30,19 +30,19 @@ line_or_empty None = []
 line_or_empty (Some bytes) = bytes
 
 -- what is told of a first line that is no configuration
-abbrev pub IsRefusedAs : FirstLine → List ℕ → Type 0
-IsRefusedAs first_line.TooLong text = text ≡ refusal_text first_line_too_large ++ 10 ∷ []
-IsRefusedAs (first_line.Refused fault) text = text ≡ config_refusal_text fault ++ 10 ∷ []
-IsRefusedAs (first_line.Read config) text = ⊥
+abbrev pub IsRefusedAs : Form → FirstLine → List ℕ → Type 0
+IsRefusedAs form first_line.TooLong text = text ≡ refused_script form first_line_too_large
+IsRefusedAs form (first_line.Refused fault) text = text ≡ refused_config form fault
+IsRefusedAs form (first_line.Read config) text = ⊥
 
 -- all lines after the first were served on one provider; then its subscriptions were left, and it ended:
 -- its one history has what the lines and these leaves added, and nothing else
-pub record IsLived (config : Config) (setting : Setting) (input rest out written : Option (List ℕ))
-    (counts : Counts) : Type 0 where
+pub record IsLived (config : Config) (setting : Setting) (form : Form)
+    (input rest out written : Option (List ℕ)) (counts : Counts) : Type 0 where
   pub end : SessionView
   pub left : SessionView
   pub settled : Settled
-  pub served : IsServed config setting 2 new_session input rest out written end
+  pub served : IsServed config setting form 2 new_session input rest out written end
   pub leaves : LeavesAll end left
   pub ended : IsSettledFrom (left.pass ∷ []) (left.front ∷ []) settled
   pub complete : settled.complete ≡ true
@@ -56,26 +56,27 @@ pub data IsFailure : Status → Type 0 where
 
 -- what the lines after the configuration come to: they are served, and the last line printed has the counts.
 -- Where something fails, a beginning of that was printed
-pub data LivesUnder (setting : Setting) (config : Config) (input old : Option (List ℕ))
+pub data LivesUnder (setting : Setting) (form : Form) (config : Config) (input old : Option (List ℕ))
     : Status → Option (List ℕ) → Type 0 where
-  not_begun : {new : Option (List ℕ)} → Keeps old new → LivesUnder setting config input old OutOfMemory new
+  not_begun : {new : Option (List ℕ)} → Keeps old new
+      → LivesUnder setting form config input old OutOfMemory new
   lived : {rest mid new : Option (List ℕ)} (counts : Counts)
-      → IsLived config setting input rest old mid counts
-      → Appends mid new (counts_text counts ++ 10 ∷ []) → LivesUnder setting config input old Done new
+      → IsLived config setting form input rest old mid counts
+      → Appends mid new (counts_line form counts) → LivesUnder setting form config input old Done new
   last_line_cut_short : {rest mid new : Option (List ℕ)} {status : Status} (counts : Counts)
-      → IsLived config setting input rest old mid counts
-      → IsFailure status → AppendsBeginning mid new (counts_text counts ++ 10 ∷ [])
-      → LivesUnder setting config input old status new
+      → IsLived config setting form input rest old mid counts
+      → IsFailure status → AppendsBeginning mid new (counts_line form counts)
+      → LivesUnder setting form config input old status new
   cut_short : {new : Option (List ℕ)} {status : Status} → IsFailure status
-      → IsServedInPart config setting 2 new_session input old new
-      → LivesUnder setting config input old status new
+      → IsServedInPart config setting form 2 new_session input old new
+      → LivesUnder setting form config input old status new
 
 -- what comes of printing the counts
-abbrev pub IsEnd : Counts → Option (List ℕ) → Status → Option (List ℕ) → Type 0
-IsEnd counts old Done new = Appends old new (counts_text counts ++ 10 ∷ [])
-IsEnd counts old WriteFailed new = AppendsBeginning old new (counts_text counts ++ 10 ∷ [])
-IsEnd counts old OutOfMemory new = Keeps old new
-IsEnd counts old status new = ⊥
+abbrev pub IsEnd : Form → Counts → Option (List ℕ) → Status → Option (List ℕ) → Type 0
+IsEnd form counts old Done new = Appends old new (counts_line form counts)
+IsEnd form counts old WriteFailed new = AppendsBeginning old new (counts_line form counts)
+IsEnd form counts old OutOfMemory new = Keeps old new
+IsEnd form counts old status new = ⊥
 
 -- what is told of a text that may be out of memory
 abbrev pub IsTold : {E : Type 0} → Result (String Global) E → Option (List ℕ) → Status → Option (List ℕ)
@@ -92,14 +93,16 @@ pub data IsLive (arguments : Arguments) (input old : Option (List ℕ))
   not_begun : {status : Status} {new : Option (List ℕ)} → IsFailure status → Keeps old new
       → IsLive arguments input old status new
   refused : {new : Option (List ℕ)} (line rest : Option (List ℕ)) (first : FirstLine) (text : List ℕ)
-      → IsNext input line rest → IsFirstLine (line_or_empty line) first → IsRefusedAs first text
+      → IsNext input line rest → IsFirstLine (line_or_empty line) first
+      → IsRefusedAs arguments.form first text
       → Appends old new text → IsLive arguments input old Refused new
   refusal_cut_short : {new : Option (List ℕ)} (line rest : Option (List ℕ)) (first : FirstLine)
       (text : List ℕ)
-      → IsNext input line rest → IsFirstLine (line_or_empty line) first → IsRefusedAs first text
+      → IsNext input line rest → IsFirstLine (line_or_empty line) first
+      → IsRefusedAs arguments.form first text
       → AppendsBeginning old new text → IsLive arguments input old WriteFailed new
   ran : {status : Status} {new : Option (List ℕ)} (line rest : Option (List ℕ)) (config : Config)
       → IsNext input line rest → IsFirstLine (line_or_empty line) (first_line.Read config)
-      → LivesUnder (setting_of arguments.places arguments.full config.resolve_timeout) config rest old status
-      new
+      → LivesUnder (setting_of arguments.places arguments.full config.resolve_timeout) arguments.form config
+      rest old status new
       → IsLive arguments input old status new

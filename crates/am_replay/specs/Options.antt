@@ -1,5 +1,7 @@
 -- The program's options, as clap is told of them and as it finds them.
-use Rattle.std.specs.Prelude.{◌≡◌, ◌<◌, ◌∷◌, [], true, false, List, Some, None, codes, length}
+use Rattle.std.specs.Prelude.{◌≡◌, ◌<◌, ◌∷◌, [], true, false, List, Option, Some, None, codes, length}
+use Rattle.std.specs.Prelude.{if◌then◌else◌}
+use Rattle.std.specs.Str.{bytes_eq}
 use Rattle.std.specs.Borrow.{Bor}
 use Rattle.clap.specs.Texts.{items_of}
 use Rattle.clap.specs.Walk.{Rule, Text, rule_of, texts}
@@ -7,7 +9,7 @@ use Rattle.clap.specs.Simple.{App, app_of, new_app, new_rule, on_top, with_rule}
 use Rattle.clap.specs.Built.{IsParsedFrom, IsPlainArg}
 use Rattle.clap.specs.Matches.{first_value, found_of, one_text}
 use Rattle.clap.specs.Values.{IsUnsignedIn}
-use Rattle.clap.specs.declared.builder.action.ArgAction.TheVariants.{Set}
+use Rattle.clap.specs.declared.builder.action.ArgAction.TheVariants.{Set, SetTrue}
 use Rattle.clap.specs.declared.builder.arg.Arg.{Arg}
 use Rattle.clap.specs.declared.builder.command.Command.{Command}
 use Rattle.clap.specs.declared.builder.value_parser.ValueParser.{ValueParser}
@@ -17,6 +19,8 @@ use Rattle.clap.specs.declared.parser.matches.Found.{Found}
 use Rattle.am_provider.specs.declared.answers.Policy.{Policy}
 use Rattle.am_provider.specs.declared.answers.Policy.TheVariants.{Refuse, Cut}
 use Rattle.am_cast.specs.declared.limits.TheConstants.{MAX_PLACES}
+use Rattle.am_runner.specs.declared.form.Form.{Form}
+use Rattle.am_runner.specs.declared.form.Form.TheVariants as form
 use Rattle.am_replay.specs.declared.arguments.Mode.{Mode}
 use Rattle.am_replay.specs.declared.arguments.Mode.TheVariants.{Ordered, Free, Live}
 
@@ -53,16 +57,22 @@ option_rule name default parser = record (new_rule name) {
   parser = Some parser;
 }
 
+-- a flag `--name`
+abbrev pub flag_rule : Text → Rule
+flag_rule name = record (new_rule name) { long = Some name; action = Some SetTrue }
+
 -- the options, of arguments that come without the program's name
 abbrev pub options_of : Choices → Choices → App
 options_of modes policies =
-    with_rule (with_rule (with_rule (on_top (λ top. record top { no_binary_name = true })
+    with_rule (with_rule (with_rule (with_rule (on_top (λ top. record top { no_binary_name = true })
     (new_app (codes "replay")))
     (option_rule (codes "mode") (mode_name Ordered) (value.Names modes)))
     (option_rule (codes "places") (codes "256") (value.Unsigned 1 MAX_PLACES)))
-    (option_rule (codes "full") (policy_name Refuse) (value.Names policies))
+    (option_rule (codes "full") (policy_name Refuse) (value.Names policies)))
+    (flag_rule (codes "json"))
 
--- the program's options: `--mode` ordered, free or live, `--places` 1 to the most, `--full` refuse or cut
+-- the program's options: `--mode` ordered, free or live, `--places` 1 to the most, `--full` refuse or cut,
+-- and the flag `--json`
 pub record AreOptions (options : App) : Type 0 where
   pub modes : Choices
   pub policies : Choices
@@ -83,6 +93,18 @@ pub record IsOption (name default : Text) (parser : ValueParser) (option : Arg) 
   pub has_default : 0 < length (items_of option.default_vals)
   pub parser_of : option.value_parser ≡ Some parser
   pub exact : option.ignore_case ≡ false
+
+-- a flag, which excludes nothing
+pub record IsFlag (name : Text) (flag : Arg) : Type 0 where
+  pub rule : rule_of flag ≡ flag_rule name
+  pub plain : IsPlainArg flag
+  pub local : flag.global ≡ false
+  pub id : flag.id.now ≡ name
+
+-- the form that the value of the flag `--json` says
+abbrev pub form_of : Option Text → Form
+form_of None = form.Text
+form_of (Some given) = if bytes_eq given (codes "true") then form.Json else form.Text
 
 -- the value that was found of an option
 abbrev pub IsFoundAs : Found → Text → Text → Type 0

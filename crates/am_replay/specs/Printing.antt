@@ -1,4 +1,4 @@
--- How a run is printed: one line for each answer, by the number of the script's line, and a last one.
+-- How a run is printed: the answers to each of the script's lines, and a last line.
 use Rattle.std.specs.Prelude.{ℕ, ◌+◌, Bool, List, [], ◌∷◌, ◌++◌, codes, slice_get, Option, Some}
 use Rattle.std.specs.Prelude.{None}
 use Rattle.std.specs.Global.{Vec}
@@ -7,7 +7,11 @@ use Rattle.std.specs.List.{list_any}
 use Rattle.std.specs.Fmt.{decimal}
 use Rattle.am_provider.specs.declared.answers.Counts.{Counts}
 use Rattle.am_runner.specs.Answers.{is_out_of_memory}
-use Rattle.am_runner.specs.Printing.{answers_text}
+use Rattle.json.specs.Json.{object, Members, no_members, member}
+use Rattle.am_script.specs.JsonLines.{object_line, whole, worded}
+use Rattle.am_runner.specs.Forms.{answers_printed}
+use Rattle.am_runner.specs.declared.form.Form.{Form}
+use Rattle.am_runner.specs.declared.form.Form.TheVariants.{Text, Json}
 use Rattle.am_runner.specs.declared.answer.Answer.{Answer}
 use Rattle.am_script.specs.declared.command.Line.{Line}
 
@@ -22,11 +26,11 @@ given_at answers thread index =
     answers_in (option_and_then (λ all. slice_get all.items index) (slice_get answers thread))
 
 -- what each line, from the one at an index on, was answered by its thread
-abbrev pub lines_text : List (Vec (Vec Answer)) → ℕ → List Line → List ℕ
-lines_text answers index [] = []
-lines_text answers index (line ∷ lines) =
-    answers_text line.number (given_at answers line.thread index)
-    ++ lines_text answers (index + 1) lines
+abbrev pub lines_text : Form → List (Vec (Vec Answer)) → ℕ → List Line → List ℕ
+lines_text form answers index [] = []
+lines_text form answers index (line ∷ lines) =
+    answers_printed form line.number (given_at answers line.thread index)
+    ++ lines_text form answers (index + 1) lines
 
 -- the last line: the places of the log, the accepted posts, the stored alerts
 abbrev pub counts_text : Counts → List ℕ
@@ -34,9 +38,21 @@ counts_text counts =
     codes "end places " ++ (decimal counts.places ++ (codes " posts " ++ (decimal counts.posts
     ++ (codes " stored " ++ decimal counts.stored))))
 
--- what a run prints: a line for each answer in the order of the script's lines, and the last one
-abbrev pub transcript_text : List Line → List (Vec (Vec Answer)) → Counts → List ℕ
-transcript_text lines answers counts = lines_text answers 0 lines ++ (counts_text counts ++ 10 ∷ [])
+-- the same as members
+abbrev pub counts_members : Counts → Members
+counts_members counts = worded (codes "end")
+    (member (codes "places") (whole counts.places)
+    (member (codes "posts") (whole counts.posts)
+    (member (codes "stored") (whole counts.stored) no_members)))
+
+-- the last line in a form
+abbrev pub counts_line : Form → Counts → List ℕ
+counts_line Text counts = counts_text counts ++ 10 ∷ []
+counts_line Json counts = object_line (object (counts_members counts))
+
+-- what a run prints: the answers in the order of the script's lines, and the last line
+abbrev pub transcript_text : Form → List Line → List (Vec (Vec Answer)) → Counts → List ℕ
+transcript_text form lines answers counts = lines_text form answers 0 lines ++ counts_line form counts
 
 -- whether some call was out of memory
 abbrev pub ran_out_of_memory : List (Vec (Vec Answer)) → Bool

@@ -10,7 +10,7 @@ use Rattle.am_replay.specs.declared.arguments.Mode.{Mode}
 use Rattle.am_replay.specs.declared.arguments.Mode.TheVariants.{Ordered, Free, Live}
 use Rattle.am_replay.specs.declared.status.Status.{Status}
 use Rattle.am_replay.specs.declared.status.Status.TheVariants.{Done, BadArguments, Refused, CallOutOfMemory}
-use Rattle.am_replay.specs.declared.status.Status.TheVariants.{OutOfMemory, ReadFailed, WriteFailed}
+use Rattle.am_replay.specs.declared.status.Status.TheVariants.{OutOfMemory, NoThread, ReadFailed, WriteFailed}
 
 -- what clap has to say of arguments is printed, or a beginning of it where a write failed
 abbrev pub IsTelling : List ℕ → Option (List ℕ) → Status → Option (List ℕ) → Type 0
@@ -20,6 +20,7 @@ IsTelling text old Done new = ⊥
 IsTelling text old Refused new = ⊥
 IsTelling text old CallOutOfMemory new = ⊥
 IsTelling text old OutOfMemory new = ⊥
+IsTelling text old NoThread new = ⊥
 IsTelling text old ReadFailed new = ⊥
 
 -- what a run in the arguments' mode comes to

@@ -3,11 +3,12 @@
 ghost use Rattle.std.specs.Prelude.{◌≤◌, ◌≡◌, IfOk, IfErr, map, string_bytes};
 ghost use Rattle.clap.specs.Matches.{found_of};
 ghost use Rattle.am_cast.specs.declared.limits.TheConstants.{MAX_PLACES};
-ghost use Rattle.am_replay.specs.Options.{AreModes, ArePolicies, HasOptions, IsCommandOf, IsOption};
+ghost use Rattle.am_replay.specs.Options.{AreModes, ArePolicies, HasOptions, IsCommandOf, IsFlag, IsOption};
 ghost use Rattle.am_replay.specs.ArgumentsFaults.{IsTold};
 
 use am_cast::MAX_PLACES;
 use am_provider::Policy;
+use am_runner::Form;
 use clap::builder::ValueParser;
 use clap::error::ErrorKind;
 use clap::{Arg, ArgAction, ArgMatches, Command, Error};
@@ -28,6 +29,8 @@ pub enum Mode {
 #[derive(Clone, Copy)]
 pub struct Arguments {
     pub mode: Mode,
+    /// In which form the answers are printed.
+    pub form: Form,
     /// How many batches the log holds.
     pub places: u32,
     /// What a post does where the log is full.
@@ -83,6 +86,10 @@ impl Arguments {
                 Some("live") => Mode::Live,
                 _ => Mode::Ordered,
             },
+            form: match matches.get_str("json") {
+                Some("true") => Form::Json,
+                _ => Form::Text,
+            },
             places: matches
                 .get_one::<u32>("places")
                 .unwrap_or(MAX_PLACES as u32),
@@ -104,6 +111,8 @@ const MODE_HELP: &str =
 
 const PLACES_HELP: &str = "How many batches the log holds, from 1 to 256";
 
+const JSON_HELP: &str = "Print each answer as a JSON object on a line";
+
 const FULL_HELP: &str = "If the log is full, refuse the post or cut the slowest subscribers off";
 
 // Two calls that work as they stand, and a line for each command of a script.
@@ -115,6 +124,7 @@ Examples:
 The first line of a script is the configuration. Each further one is a JSON object
 with a command as `do`, a `thread` from 0 to 7, and the command's own members:
   post       at, body          posts alerts
+  put        at, alerts        posts alerts that carry their own moments
   subscribe  sub, kind         subscribes; `dispatch` adds a dispatcher, `inhibit` an inhibitor
   read       sub, max          prints what the subscription delivers next
   leave      sub               leaves the subscription
@@ -126,6 +136,12 @@ with a command as `do`, a `thread` from 0 to 7, and the command's own members:
   mutes      sub, at, labels   asks the inhibitor whether it mutes such an alert
   stored                       prints all stored alerts
   get        labels            prints the stored alert of these labels
+  routes                       prints the routing tree
+  route      labels            prints the routes that these labels match
+
+`at` is a moment as 2024-01-01T10:00:00Z; `sub` is the subscription's name. `kind`
+is `plain`, `dispatch` or `inhibit`, and `plain` if it is missing. `max` is from 1
+to 65536, and 1 if it is missing.
 
 With --mode live the lines are answered one by one as they come, `thread` isn't
 needed, and a line that can't be read is answered by its fault.";
@@ -151,6 +167,7 @@ fn command<'a>(
         policies.into(),
         FULL_HELP,
     );
+    let json = flag(alloc, "json", JSON_HELP);
     Command::new(alloc, "replay")
         .no_binary_name(true)
         .override_usage(USAGE)
@@ -158,7 +175,8 @@ fn command<'a>(
         .after_help(EXAMPLES)
         .arg(mode)?
         .arg(places)?
-        .arg(full)
+        .arg(full)?
+        .arg(json)
 }
 
 // An option that takes one value.
@@ -178,6 +196,16 @@ fn option<'a>(
         .value_name(value_name)
         .default_value(default)
         .value_parser(parser)
+        .help(help)
+}
+
+// A flag, whose value is `true` if it is given, and else `false`.
+fn flag<'a>(alloc: Global, name: &'a str, help: &'a str) -> Arg<'a>
+    ensures { IsFlag name.entry.now result }
+{
+    Arg::new(alloc, name)
+        .long(name)
+        .action(ArgAction::SetTrue)
         .help(help)
 }
 

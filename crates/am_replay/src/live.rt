@@ -1,21 +1,18 @@
 //! A live run: each line of the input is answered before the next one is read.
 
 ghost use Rattle.std.specs.Prelude.{◌≡◌, ◌++◌, ◌∷◌, [], IfOk, option_map, string_bytes};
-ghost use Rattle.am_replay.specs.FirstLines.{config_refusal_text};
 ghost use Rattle.am_replay.specs.Live.{IsEnd, IsFailure, IsLive, IsTold, LivesUnder, line_or_empty};
-ghost use Rattle.am_replay.specs.Replays.{first_line_too_large};
 ghost use Rattle.am_runner.specs.Sessions.{setting_of};
-ghost use Rattle.am_script.specs.ScriptTexts.{refusal_text};
 
 use crate::arguments::Arguments;
 use crate::first_line::FirstLine;
-use crate::program::FIRST_LINE_TOO_LARGE;
+use crate::refusals::{FIRST_LINE_TOO_LARGE, advise, refused_config, refused_script};
 use crate::status::Status;
 use crate::transcript::counts_line;
-use am_config::{Config, ConfigFault};
+use am_config::Config;
 use am_provider::{Counts, Parts, Provider, Recorded};
-use am_runner::{Context, Freely, Session};
-use am_script::{Failure, write_text};
+use am_runner::{Context, Form, Freely, Session};
+use am_script::{Failure, config_advice, script_advice, write_text};
 use am_serve::{next_line, serve};
 use std::alloc::{AllocError, Global};
 use std::io::{BufRead, Write};
@@ -23,12 +20,13 @@ use std::marker::Brand;
 use std::sync::Wait;
 
 /// Reads the configuration, serves each line after it, and prints the counts at the input's end.
-pub fn live<R: Wait, I: BufRead, O: Write>(
+pub fn live<R: Wait, I: BufRead, O: Write, E: Write>(
     rt: &R,
     alloc: Global,
     arguments: Arguments,
     input: &mut I,
     out: &mut O,
+    err: &mut E,
 ) -> Status
     ensures { IsLive arguments (I.remaining input.old) (O.contents out.old) result (O.contents out.new) }
 {
@@ -38,8 +36,23 @@ pub fn live<R: Wait, I: BufRead, O: Write>(
     };
     match FirstLine::read(alloc, bytes_of(&line)) {
         Ok(FirstLine::Read(config)) => live_under(rt, alloc, arguments, &config, input, out),
-        Ok(FirstLine::Refused(fault)) => refuse(refused_config(alloc, fault), out),
-        Ok(FirstLine::TooLong) => refuse(too_long(alloc), out),
+        Ok(FirstLine::Refused(fault)) => {
+            let status = refuse(refused_config(alloc, arguments.form, fault), out);
+            advise(err, status, &config_advice(alloc, bytes_of(&line)).ok());
+            status
+        },
+        Ok(FirstLine::TooLong) => {
+            let status = refuse(
+                refused_script(alloc, arguments.form, FIRST_LINE_TOO_LARGE),
+                out,
+            );
+            advise(
+                err,
+                status,
+                &script_advice(alloc, &[], FIRST_LINE_TOO_LARGE).ok(),
+            );
+            status
+        },
         Err(_) => Status::OutOfMemory,
     }
 }
@@ -52,21 +65,6 @@ fn bytes_of(line: &Option<Vec<u8>>) -> &[u8]
         Some(bytes) => bytes.as_slice(),
         None => &[],
     }
-}
-
-// What is told of a first line above the limit.
-fn too_long(alloc: Global) -> Result<String, AllocError>
-    ensures { IfOk result (λ text. string_bytes text ≡ refusal_text first_line_too_large ++ 10 ∷ []) }
-{
-    let refusal = FIRST_LINE_TOO_LARGE;
-    format!(in alloc; "{refusal}\n")
-}
-
-// What is told of a configuration that is refused.
-fn refused_config(alloc: Global, fault: ConfigFault) -> Result<String, AllocError>
-    ensures { IfOk result (λ text. string_bytes text ≡ config_refusal_text fault ++ 10 ∷ []) }
-{
-    format!(in alloc; "config {fault}\n")
 }
 
 // How a failure of the program's own work ends it.
@@ -103,7 +101,7 @@ fn live_under<R: Wait, I: BufRead, O: Write>(
     input: &mut I,
     out: &mut O,
 ) -> Status
-    ensures { LivesUnder (setting_of arguments.places arguments.full config.now.resolve_timeout) config.now
+    ensures { LivesUnder (setting_of arguments.places arguments.full config.now.resolve_timeout) arguments.form config.now
         (I.remaining input.old) (O.contents out.old) result (O.contents out.new) }
 {
     match Parts::make(alloc, arguments.places, 1) {
@@ -129,7 +127,7 @@ fn live_on<N: Recorded, R: Wait, I: BufRead, O: Write>(
     requires limits { (parts.log.places ≡ N.places)
         × (arguments.places ≡ N.places) × (arguments.full ≡ N.policy) }
     requires posters { (parts.posters ≡ 1) × (N.parts ≡ 1) }
-    ensures { LivesUnder (setting_of arguments.places arguments.full config.now.resolve_timeout) config.now
+    ensures { LivesUnder (setting_of arguments.places arguments.full config.now.resolve_timeout) arguments.form config.now
         (I.remaining input.old) (O.contents out.old) result (O.contents out.new) }
 {
     let begun = Provider::<N>::begin(alloc, parts, arguments.full, config.resolve_timeout);
@@ -147,20 +145,20 @@ fn live_on<N: Recorded, R: Wait, I: BufRead, O: Write>(
         turns: &Freely,
     };
     let mut session = Session::begin(alloc, caller);
-    let served = serve(&context, &mut session, 2, input, out);
+    let served = serve(&context, &mut session, arguments.form, 2, input, out);
     callers.push_reserved(session.end(&context));
     let settled = provider.settle(rt, callers);
     match served {
-        Ok(()) => print_counts(alloc, settled.counts(), out),
+        Ok(()) => print_counts(alloc, arguments.form, settled.counts(), out),
         Err(failure) => status_of(failure),
     }
 }
 
 // Prints the last line.
-fn print_counts<O: Write>(alloc: Global, counts: Counts, out: &mut O) -> Status
-    ensures { IsEnd counts (O.contents out.old) result (O.contents out.new) }
+fn print_counts<O: Write>(alloc: Global, form: Form, counts: Counts, out: &mut O) -> Status
+    ensures { IsEnd form counts (O.contents out.old) result (O.contents out.new) }
 {
-    match counts_line(alloc, counts) {
+    match counts_line(alloc, form, counts) {
         Ok(text) => match write_text(out, text.as_bytes()) {
             Ok(()) => Status::Done,
             Err(_) => Status::WriteFailed,

@@ -8,6 +8,7 @@ mod arguments;
 mod first_line;
 mod live;
 mod program;
+mod refusals;
 mod script_run;
 mod status;
 #[cfg(test)]
@@ -42,7 +43,13 @@ fn given_arguments(rt: &HostRuntime) -> Result<Vec<String>, Status> {
 
 fn main(rt: HostRuntime) -> ExitCode {
     let status = match given_arguments(&rt) {
-        Ok(arguments) => run(&rt, &arguments, &mut rt.stdin(), &mut rt.stdout()),
+        Ok(arguments) => run(
+            &rt,
+            &arguments,
+            &mut rt.stdin(),
+            &mut rt.stdout(),
+            &mut rt.stderr(),
+        ),
         Err(status) => status,
     };
     // Where the error stream can't be written either, the exit status alone tells it.

@@ -10,49 +10,55 @@ ghost use Rattle.am_replay.specs.Replays.{ComesTo, IsReplay, status_of};
 use crate::arguments::{Arguments, ArgumentsFault, Mode};
 use crate::first_line::FirstLine;
 use crate::live::live;
+use crate::refusals::{FIRST_LINE_TOO_LARGE, advise, refused_config, refused_script};
 use crate::script_run::{Ran, Settings, run_script};
 use crate::status::Status;
 use am_config::Config;
+use am_runner::{Form, NotRun};
 use am_script::{
-    Failure, Fault, Line, Refusal, ScriptFault, config_line, read_input, read_script, write_text,
+    Failure, Line, ScriptFault, config_advice, config_line, read_input, read_script, script_advice,
+    write_text,
 };
-use std::alloc::{AllocError, Global};
+use std::alloc::Global;
 use std::io::{BufReader, Read, Write};
 use std::sync::Wait;
 use std::thread::Threads;
 
-/// Reads a script, runs it as the arguments ask, and prints each answer.
-pub fn run<R: AllocGlobal + Threads + Wait + Sync, I: Read, O: Write>(
+/// Reads a script, runs it as the arguments ask, and prints each answer. `err` is told what a person
+/// may want to know of a script that is refused; no contract says what.
+pub fn run<R: AllocGlobal + Threads + Wait + Sync, I: Read, O: Write, E: Write>(
     rt: &R,
     arguments: &[String],
     input: &mut I,
     out: &mut O,
+    err: &mut E,
 ) -> Status
     ensures { IsProgram (map string_bytes arguments.now) (I.remaining input.old)
         (O.contents out.old) result (O.contents out.new) }
 {
     match Arguments::read(rt.alloc(), arguments) {
-        Ok(arguments) => obey(rt, rt.alloc(), arguments, input, out),
+        Ok(arguments) => obey(rt, rt.alloc(), arguments, input, out, err),
         Err(ArgumentsFault::Refused(text)) => tell(out, &text),
         Err(ArgumentsFault::NoMemory) => Status::OutOfMemory,
     }
 }
 
 // Runs the whole script, or each line as it comes.
-fn obey<R: Threads + Wait + Sync, I: Read, O: Write>(
+fn obey<R: Threads + Wait + Sync, I: Read, O: Write, E: Write>(
     rt: &R,
     alloc: Global,
     arguments: Arguments,
     input: &mut I,
     out: &mut O,
+    err: &mut E,
 ) -> Status
     ensures { IsRunAs arguments (I.remaining input.old) (O.contents out.old) result (O.contents out.new) }
 {
     if arguments.mode != Mode::Live {
-        return replay(rt, alloc, arguments, input, out);
+        return replay(rt, alloc, arguments, input, out, err);
     }
     match BufReader::new(alloc, input) {
-        Ok(mut input) => live(rt, alloc, arguments, &mut input, out),
+        Ok(mut input) => live(rt, alloc, arguments, &mut input, out, err),
         Err(_) => Status::OutOfMemory,
     }
 }
@@ -67,12 +73,13 @@ fn tell<O: Write>(out: &mut O, text: &str) -> Status
     }
 }
 
-fn replay<R: Threads + Wait + Sync, I: Read, O: Write>(
+fn replay<R: Threads + Wait + Sync, I: Read, O: Write, E: Write>(
     rt: &R,
     alloc: Global,
     arguments: Arguments,
     input: &mut I,
     out: &mut O,
+    err: &mut E,
 ) -> Status
     ensures { IsReplay arguments (I.remaining input.old) (O.contents out.old) result (O.contents out.new) }
 {
@@ -81,13 +88,16 @@ fn replay<R: Threads + Wait + Sync, I: Read, O: Write>(
         Err(Failure::OutOfMemory) => return Status::OutOfMemory,
         Err(_) => return Status::ReadFailed,
     };
-    let Ok(printout) = printout_of(rt, alloc, arguments, text) else {
-        return Status::OutOfMemory;
+    let printout = match printout_of(rt, alloc, arguments, text) {
+        Ok(printout) => printout,
+        Err(NotRun::NoMemory) => return Status::OutOfMemory,
+        Err(NotRun::NoThread) => return Status::NoThread,
     };
     let status = match write_text(out, printout.output.as_bytes()) {
         Ok(()) => printout.status,
         Err(_) => Status::WriteFailed,
     };
+    advise(err, status, &printout.advice);
     // Nobody who reads the output waits for this.
     drop(printout);
     status
@@ -98,6 +108,8 @@ fn replay<R: Threads + Wait + Sync, I: Read, O: Write>(
 struct Printout {
     status: Status,
     output: String,
+    // What a person may want to know of a refusal.
+    advice: Option<String>,
     // What was run, to be let go after the output was written.
     ran: Option<Ran>,
 }
@@ -107,33 +119,34 @@ fn printout_of<R: Threads + Wait + Sync>(
     alloc: Global,
     arguments: Arguments,
     text: Vec<u8>,
-) -> Result<Printout, AllocError>
+) -> Result<Printout, NotRun>
     ensures { IfOk result
         (λ printout. ComesTo arguments text.items printout.status (string_bytes printout.output)) }
 {
     match FirstLine::read(alloc, &text)? {
         FirstLine::TooLong => {
-            let refusal = FIRST_LINE_TOO_LARGE;
-            Ok(refused(format!(in alloc; "{refusal}\n")?))
+            let output = refused_script(alloc, arguments.form, FIRST_LINE_TOO_LARGE)?;
+            let advice = script_advice(alloc, &text, FIRST_LINE_TOO_LARGE);
+            Ok(refused(output, advice.ok()))
         }
-        FirstLine::Refused(fault) => { Ok(refused(format!(in alloc; "config {fault}\n")?)) }
+        FirstLine::Refused(fault) => {
+            let output = refused_config(alloc, arguments.form, fault)?;
+            let advice = config_advice(alloc, config_line(&text));
+            Ok(refused(output, advice.ok()))
+        }
         FirstLine::Read(config) => printout_under(rt, alloc, arguments, &config, text),
     }
 }
 
-pub(crate) const FIRST_LINE_TOO_LARGE: Refusal = Refusal {
-    number: 1,
-    fault: Fault::TooLarge,
-};
-
 // Nothing was run.
-fn refused(output: String) -> Printout
+fn refused(output: String, advice: Option<String>) -> Printout
     ensures status { result.status ≡ Status.Refused }
     ensures output { result.output ≡ output }
 {
     Printout {
         status: Status::Refused,
         output,
+        advice,
         ran: None,
     }
 }
@@ -145,7 +158,7 @@ fn printout_under<R: Threads + Wait + Sync>(
     arguments: Arguments,
     config: &Config,
     text: Vec<u8>,
-) -> Result<Printout, AllocError>
+) -> Result<Printout, NotRun>
     requires { IsFirstLine text.items (FirstLine.Read config.now) }
     ensures { IfOk result
         (λ printout. ComesTo arguments text.items printout.status (string_bytes printout.output)) }
@@ -159,33 +172,36 @@ fn printout_under<R: Threads + Wait + Sync>(
                 resolve_timeout: config.resolve_timeout,
                 configuration: &configuration,
             };
-            ran(alloc, run_script(&settings, lines)?)
+            ran(alloc, arguments.form, run_script(&settings, lines)?)
         }
-        Err(ScriptFault::Refused(refusal)) => Ok(refused(format!(in alloc; "{refusal}\n")?)),
-        Err(ScriptFault::NoMemory) => Err(AllocError),
+        Err((ScriptFault::Refused(refusal), text)) => {
+            let output = refused_script(alloc, arguments.form, refusal)?;
+            Ok(refused(output, script_advice(alloc, &text, refusal).ok()))
+        }
+        Err((ScriptFault::NoMemory, _)) => Err(NotRun::NoMemory),
     }
 }
 
-// The configuration's text and the lines of a script, whose text is let go.
-fn take_lines(alloc: Global, text: Vec<u8>) -> Result<(Vec<u8>, Vec<Line>), ScriptFault>
+// The configuration's text and the lines of a script, whose text is let go; or why it is refused, and its text.
+fn take_lines(alloc: Global, text: Vec<u8>) -> Result<(Vec<u8>, Vec<Line>), (ScriptFault, Vec<u8>)>
     ensures configuration { IfOk result (λ taken. taken.0.items ≡ config_line text.items) }
     ensures read { IfOk result (λ taken. Checks 1 [] (lines_of text.items) (Ok taken.1.items)) }
-    ensures refused { IfErr result (IsRefused text.items) }
+    ensures refused { IfErr result (λ refused. IsRefused text.items refused.0) }
 {
     let lines = match read_script(alloc, &text) {
         Ok(lines) => lines,
-        Err(fault) => return Err(fault),
+        Err(fault) => return Err((fault, text)),
     };
     let mut configuration = Vec::new(alloc);
     match configuration.extend_from_slice(config_line(&text)) {
         Ok(()) => Ok((configuration, lines)),
-        Err(_) => Err(ScriptFault::NoMemory),
+        Err(_) => Err((ScriptFault::NoMemory, text)),
     }
 }
 
-fn ran(alloc: Global, ran: Ran) -> Result<Printout, AllocError>
+fn ran(alloc: Global, form: Form, ran: Ran) -> Result<Printout, NotRun>
     ensures output { IfOk result (λ printout. string_bytes printout.output
-        ≡ transcript_text ran.transcript.lines.items ran.transcript.answers.items ran.transcript.counts) }
+        ≡ transcript_text form ran.transcript.lines.items ran.transcript.answers.items ran.transcript.counts) }
     ensures status { IfOk result (λ printout. printout.status
         ≡ status_of (ran_out_of_memory ran.transcript.answers.items)) }
 {
@@ -196,7 +212,8 @@ fn ran(alloc: Global, ran: Ran) -> Result<Printout, AllocError>
     };
     Ok(Printout {
         status,
-        output: ran.transcript.text(alloc)?,
+        output: ran.transcript.text(alloc, form)?,
+        advice: None,
         ran: Some(ran),
     })
 }

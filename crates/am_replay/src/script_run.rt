@@ -1,14 +1,18 @@
 //! A script's run: a provider of its own, the threads on it, and its end.
 
-ghost use Rattle.std.specs.Prelude.{◌≡◌, ℕ, List, IfOk, Ok, map};
+ghost use Rattle.std.specs.Prelude.{◌≡◌, ℕ, Bool, List, IfOk, Ok, map};
+ghost use Rattle.am_history.specs.Fronts.{FrontView};
+ghost use Rattle.am_provider.specs.Histories.{EntryView};
 ghost use Rattle.am_runner.specs.Sessions.{Setting, setting_of};
+ghost use Rattle.am_runner.specs.Turning.{order_of};
 ghost use Rattle.am_runner.specs.Working.{AreWork, outcome_of};
+ghost use Rattle.am_replay.specs.Replays.{runs_in_order};
 ghost use Rattle.am_replay.specs.Runs.{IsRun};
 
 use crate::arguments::{Arguments, Mode};
 use crate::transcript::Transcript;
 use am_provider::{Caller, Parts, Provider, Recorded, Settled};
-use am_runner::{Answer, Freely, InOrder, ThreadOutcome, Turns, run_threads};
+use am_runner::{Answer, Freely, InOrder, NotRun, ThreadOutcome, Turns, run_threads};
 use am_script::{Line, THREADS};
 use std::alloc::{AllocError, Global};
 use std::marker::Brand;
@@ -37,9 +41,9 @@ pub struct Ran {
 pub fn run_script<R: Threads + Wait + Sync>(
     settings: &Settings<'_, R>,
     lines: Vec<Line>,
-) -> Result<Ran, AllocError>
-    ensures { IfOk result (λ ran. IsRun settings.now.configuration.now
-        (setting_of settings.now.arguments.places settings.now.arguments.full
+) -> Result<Ran, NotRun>
+    ensures { IfOk result (λ ran. IsRun (runs_in_order settings.now.arguments.mode)
+        settings.now.configuration.now (setting_of settings.now.arguments.places settings.now.arguments.full
         settings.now.resolve_timeout) lines.items ran.transcript ran.settled) }
 {
     match settings.arguments.mode {
@@ -56,8 +60,8 @@ fn run_in<R: Threads + Wait + Sync, T: Turns + Sync>(
     settings: &Settings<'_, R>,
     lines: Vec<Line>,
     turns: &T,
-) -> Result<Ran, AllocError>
-    ensures { IfOk result (λ ran. IsRun settings.now.configuration.now
+) -> Result<Ran, NotRun>
+    ensures { IfOk result (λ ran. IsRun T.ordered settings.now.configuration.now
         (setting_of settings.now.arguments.places settings.now.arguments.full
         settings.now.resolve_timeout) lines.items ran.transcript ran.settled) }
 {
@@ -70,7 +74,7 @@ fn run_on<N: Recorded + Send + Sync, R: Threads + Wait + Sync, T: Turns + Sync>(
     lines: Vec<Line>,
     turns: &T,
     parts: Parts,
-) -> Result<Ran, AllocError>
+) -> Result<Ran, NotRun>
     requires table { parts.log.board.shared.table_id ≡ N.table }
     requires ledger { (parts.ledger.name ≡ N.name) × (parts.ledger.parts ≡ N.parts) }
     requires history { parts.history.board.shared.table_id ≡ N.timeline }
@@ -79,7 +83,7 @@ fn run_on<N: Recorded + Send + Sync, R: Threads + Wait + Sync, T: Turns + Sync>(
     requires limits { (parts.log.places ≡ N.places)
         × (settings.now.arguments.places ≡ N.places) × (settings.now.arguments.full ≡ N.policy) }
     requires posters { parts.posters ≡ 8 }
-    ensures { IfOk result (λ ran. IsRun settings.now.configuration.now
+    ensures { IfOk result (λ ran. IsRun T.ordered settings.now.configuration.now
         (setting_of settings.now.arguments.places settings.now.arguments.full
         settings.now.resolve_timeout) lines.items ran.transcript ran.settled) }
 {
@@ -92,7 +96,7 @@ fn run_on<N: Recorded + Send + Sync, R: Threads + Wait + Sync, T: Turns + Sync>(
     } = *settings;
     let (provider, callers) = Provider::<N>::begin(alloc, parts, arguments.full, resolve_timeout)?;
     match run_threads(rt, alloc, &provider, callers, configuration, &lines, turns) {
-        Ok(outcomes) => end(rt, alloc, provider, lines, outcomes),
+        Ok(outcomes) => Ok(end(rt, alloc, provider, lines, outcomes)?),
         Err(error) => {
             let _settled = provider.settle(rt, Vec::new(alloc));
             Err(error)
@@ -109,10 +113,11 @@ fn end<N: Recorded, R: Wait>(
     outcomes: Vec<ThreadOutcome<N>>,
 ) -> Result<Ran, AllocError>
     requires { N.parts ≡ 8 }
-    ensures { IfOk result (λ ran. (configuration : List ℕ) (setting : Setting)
-        → AreWork configuration setting lines.items 8
+    ensures { IfOk result (λ ran. (ordered : Bool) (turns : List (FrontView EntryView))
+        (configuration : List ℕ) (setting : Setting)
+        → AreWork configuration setting (order_of ordered turns) lines.items 8
         (map (λ one. outcome_of one.0 one.1.pass one.1.front) outcomes.items)
-        → IsRun configuration setting lines.items ran.transcript ran.settled) }
+        → IsRun ordered configuration setting lines.items ran.transcript ran.settled) }
 {
     match part(alloc, outcomes) {
         Ok((answers, callers)) => {

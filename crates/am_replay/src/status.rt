@@ -16,6 +16,8 @@ pub enum Status {
     CallOutOfMemory,
     /// The program itself ran out of memory. Nothing was printed.
     OutOfMemory,
+    /// The system started too few threads. Nothing was run and nothing printed.
+    NoThread,
     /// The script could not be read. Nothing was run and nothing printed.
     ReadFailed,
     /// The output could not be written whole.
@@ -33,13 +35,14 @@ impl Status {
             Status::Refused => 2,
             Status::CallOutOfMemory
             | Status::OutOfMemory
+            | Status::NoThread
             | Status::ReadFailed
             | Status::WriteFailed => 3,
         }
     }
 
     /// What the error stream is told of a run that failed or wasn't begun; nothing of another one, whose
-    /// output says all.
+    /// output says all. Of a script that was refused it is told more, by `am_script::script_advice`.
     pub fn reason(self) -> &'static str
         ensures { result.now ≡ reason_of self }
     {
@@ -49,6 +52,7 @@ impl Status {
                 "replay: nothing was run: the arguments are wrong, or ask for help\n",
             Status::CallOutOfMemory => "replay: a call was out of memory, as its line says\n",
             Status::OutOfMemory => "replay: out of memory\n",
+            Status::NoThread => "replay: a thread could not be started\n",
             Status::ReadFailed => "replay: the script could not be read\n",
             Status::WriteFailed => "replay: the output could not be written\n",
         }

@@ -109,7 +109,13 @@ fn output(alloc: Global) -> Writer {
 #[test]
 fn a_script_is_run(rt: HostRuntime) -> std::result::Result<(), Fail> {
     let mut out = output(rt.alloc());
-    let status = run(&rt, &[], &mut script_in(), &mut out);
+    let status = run(
+        &rt,
+        &[],
+        &mut script_in(),
+        &mut out,
+        &mut output(rt.alloc()),
+    );
     assert_eq!(rt; status, Status::Done);
     assert_eq!(rt; status.exit_status(), 0);
     assert!(rt; out.written.as_slice() == OUTPUT.as_bytes());
@@ -125,7 +131,7 @@ fn a_failed_read_prints_nothing(rt: HostRuntime) -> std::result::Result<(), Fail
             let mut input = script_in();
             input.calls = calls;
             input.failure = Some(kind);
-            let status = run(&rt, &[], &mut input, &mut out);
+            let status = run(&rt, &[], &mut input, &mut out, &mut output(rt.alloc()));
             assert_eq!(rt; status, Status::ReadFailed);
             assert_eq!(rt; status.exit_status(), 3);
             assert!(rt; out.written.is_empty());
@@ -139,7 +145,7 @@ fn cut_short<R: AllocGlobal + Threads + Wait + Sync>(rt: &R, calls: u32, trouble
     let mut out = output(rt.alloc());
     out.calls = calls;
     out.trouble = Some(trouble);
-    let status = run(rt, &[], &mut script_in(), &mut out);
+    let status = run(rt, &[], &mut script_in(), &mut out, &mut output(rt.alloc()));
     status == Status::WriteFailed
         && out.written.len() as u64 == u64::from(calls) * PIECE as u64
         && OUTPUT.as_bytes().starts_with(out.written.as_slice())
@@ -165,10 +171,22 @@ fn an_interrupted_call_is_tried_again(rt: HostRuntime) -> std::result::Result<()
         let mut input = script_in();
         input.interrupted = times;
         let mut out = output(rt.alloc());
-        assert_eq!(rt; run(&rt, &[], &mut input, &mut out), read);
+        assert_eq!(rt;
+            run(&rt, &[], &mut input, &mut out, &mut output(rt.alloc())),
+            read
+        );
         let mut out = output(rt.alloc());
         out.interrupted = times;
-        assert_eq!(rt; run(&rt, &[], &mut script_in(), &mut out), written);
+        assert_eq!(rt;
+            run(
+                &rt,
+                &[],
+                &mut script_in(),
+                &mut out,
+                &mut output(rt.alloc())
+            ),
+            written
+        );
         assert_eq!(rt; out.written.is_empty(), written == Status::WriteFailed);
     }
     Ok(())

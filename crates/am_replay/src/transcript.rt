@@ -3,12 +3,12 @@
 ghost use Rattle.std.specs.Prelude.{◌≡◌, ◌++◌, ◌∷◌, [], IfOk, OnOk, Some, string_bytes};
 ghost use Rattle.std.specs.List.{list_any};
 ghost use Rattle.am_runner.specs.Answers.{is_out_of_memory};
-ghost use Rattle.am_replay.specs.Printing.{counts_text, given_at, lines_text};
+ghost use Rattle.am_replay.specs.Printing.{counts_line, counts_text, given_at, lines_text};
 ghost use Rattle.am_replay.specs.Printing.{ran_out_of_memory, transcript_text};
 
 use am_provider::Counts;
-use am_runner::{Answer, write_answers};
-use am_script::{Line, Thread};
+use am_runner::{Answer, Form, write_answers};
+use am_script::{JsonLine, Line, Thread};
 use std::alloc::{AllocError, Global};
 use std::fmt;
 
@@ -30,24 +30,48 @@ impl Transcript {
     }
 
     /// A line for each answer, and the last one.
-    pub fn text(&self, alloc: Global) -> Result<String, AllocError>
+    pub fn text(&self, alloc: Global, form: Form) -> Result<String, AllocError>
         ensures { IfOk result (λ text. string_bytes text
-            ≡ transcript_text self.now.lines.items self.now.answers.items self.now.counts) }
+            ≡ transcript_text form self.now.lines.items self.now.answers.items self.now.counts) }
     {
         let mut text = String::new(alloc);
-        write_lines(&mut text, &self.lines, &self.answers)?;
-        let counts = End(self.counts);
-        write!(text, "{counts}\n")?;
+        write_lines(&mut text, form, &self.lines, &self.answers)?;
+        write_counts(&mut text, form, self.counts)?;
         Ok(text)
     }
 }
 
 /// The last line of the output.
-pub fn counts_line(alloc: Global, counts: Counts) -> Result<String, AllocError>
-    ensures { IfOk result (λ text. string_bytes text ≡ counts_text counts ++ 10 ∷ []) }
+pub fn counts_line(alloc: Global, form: Form, counts: Counts) -> Result<String, AllocError>
+    ensures { IfOk result (λ text. string_bytes text ≡ counts_line form counts) }
 {
-    let counts = End(counts);
-    format!(in alloc; "{counts}\n")
+    let mut text = String::new(alloc);
+    write_counts(&mut text, form, counts)?;
+    Ok(text)
+}
+
+fn write_counts(text: &mut String, form: Form, counts: Counts) -> Result<(), AllocError>
+    ensures { OnOk result (string_bytes text.new ≡ string_bytes text.old ++ counts_line form counts) }
+{
+    match form {
+        Form::Text => {
+            let counts = End(counts);
+            write!(text, "{counts}\n")
+        }
+        Form::Json => write_end(text, counts),
+    }
+}
+
+fn write_end(text: &mut String, counts: Counts) -> Result<(), AllocError>
+    ensures { OnOk result
+        (string_bytes text.new ≡ string_bytes text.old ++ counts_line Form.Json counts) }
+{
+    let mut line = JsonLine::begin(*text.allocator())?;
+    line.text("answer", "end")?;
+    line.number("places", counts.places)?;
+    line.number("posts", counts.posts)?;
+    line.number("stored", counts.stored)?;
+    line.end(text)
 }
 
 fn has_one_run_out(all: &[Vec<Answer>]) -> bool
@@ -64,15 +88,17 @@ fn has_run_out(given: &[Answer]) -> bool
 
 fn write_lines(
     text: &mut String,
+    form: Form,
     lines: &[Line],
     answers: &[Vec<Vec<Answer>>],
 ) -> Result<(), AllocError>
     ensures { OnOk result (string_bytes text.new
-        ≡ string_bytes text.old ++ lines_text answers.now 0 lines.now) }
+        ≡ string_bytes text.old ++ lines_text form answers.now 0 lines.now) }
 {
     for (index, line) in lines.iter().enumerate() {
         write_answers(
             text,
+            form,
             u64::from(line.number),
             given_at(answers, line.thread, index),
         )?;

@@ -7,6 +7,7 @@ use Rattle.am_script.specs.declared.command.Command.TheVariants.{Trim}
 use Rattle.am_script.proofs.Outputs.{appends_more, appends_none}
 use Rattle.am_runner.specs.Sessions.{Setting, SessionView, Does}
 use Rattle.am_runner.specs.declared.answer.Answer.{Answer}
+use Rattle.am_runner.specs.declared.form.Form.{Form}
 use Rattle.am_serve.specs.Answering.{Answers}
 use Rattle.am_serve.specs.Reading.{Begins, IsNext, no_lines}
 use Rattle.am_serve.specs.Reading as reading
@@ -23,10 +24,10 @@ on_err_of (Ok x) holds = tt
 on_err_of (Err e) holds = holds
 
 -- what was served before the line of a number
-pub record SoFar (config : Config) (setting : Setting) (first : ℕ) (begun : SessionView) (input out : Option (List ℕ)) (number : ℕ) (now : SessionView) (rest written : Option (List ℕ)) : Type 0 where
+pub record SoFar (config : Config) (setting : Setting) (form : Form) (first : ℕ) (begun : SessionView) (input out : Option (List ℕ)) (number : ℕ) (now : SessionView) (rest written : Option (List ℕ)) : Type 0 where
   pub lines : List (List ℕ)
   pub printed : List ℕ
-  pub serves : Serves config setting first begun lines printed now
+  pub serves : Serves config setting form first begun lines printed now
   pub read : AreRead input lines rest
   pub counted : first + length lines ≡ number
   pub written_is : Appends out written printed
@@ -52,23 +53,23 @@ at_end (Some text) rest new lines read next =
     let gone : read.0 ≡ [] = it.0 in
     ((read.0, read.1, it.1 ∙ ap (λ (l : List ℕ). Some l) (sym gone)), subst (λ (o : Option (List ℕ)). IfSome o (λ left. left ≡ [])) (sym it.1) refl)
 
-module _ (config : Config) (setting : Setting) (first : ℕ) (begun : SessionView) (input out : Option (List ℕ)) where
-  pub so_far_none : SoFar config setting first begun input out first begun input out
+module _ (config : Config) (setting : Setting) (form : Form) (first : ℕ) (begun : SessionView) (input out : Option (List ℕ)) where
+  pub so_far_none : SoFar config setting form first begun input out first begun input out
   so_far_none = record { lines = []; printed = []; serves = nothing; read = none_read input; counted = omega arith; written_is = appends_none out }
 
-  pub so_far_more : (number : ℕ) (old new : SessionView) (rest left written now : Option (List ℕ)) (bytes more : List ℕ) → SoFar config setting first begun input out number old rest written
-      → IsNext rest (Some bytes) left → Answers config setting number bytes old more new → Appends written now more → SoFar config setting first begun input out (number + 1) new left now
+  pub so_far_more : (number : ℕ) (old new : SessionView) (rest left written now : Option (List ℕ)) (bytes more : List ℕ) → SoFar config setting form first begun input out number old rest written
+      → IsNext rest (Some bytes) left → Answers config setting form number bytes old more new → Appends written now more → SoFar config setting form first begun input out (number + 1) new left now
   so_far_more number old new rest left written now bytes more so next answers added = record {
     lines = so.lines ++ bytes ∷ [];
     printed = so.printed ++ more;
-    serves = one_more bytes so.serves (subst (λ (n : ℕ). Answers config setting n bytes old more new) (sym so.counted) answers);
+    serves = one_more bytes so.serves (subst (λ (n : ℕ). Answers config setting form n bytes old more new) (sym so.counted) answers);
     read = one_more_read input rest left so.lines bytes so.read next;
     counted = let long = length-append so.lines (bytes ∷ []) in let before = so.counted in omega (arith, long, before);
     written_is = appends_more out written now so.printed more so.written_is added;
   }
 
-  pub so_far_trimmed : (number : ℕ) (old new : SessionView) (rest written : Option (List ℕ)) (given : List Answer) → SoFar config setting first begun input out number old rest written
-      → Does config setting old Trim given new → SoFar config setting first begun input out number new rest written
+  pub so_far_trimmed : (number : ℕ) (old new : SessionView) (rest written : Option (List ℕ)) (given : List Answer) → SoFar config setting form first begun input out number old rest written
+      → Does config setting old Trim given new → SoFar config setting form first begun input out number new rest written
   so_far_trimmed number old new rest written given so does = record {
     lines = so.lines;
     printed = so.printed;
@@ -78,8 +79,8 @@ module _ (config : Config) (setting : Setting) (first : ℕ) (begun : SessionVie
     written_is = so.written_is;
   }
 
-  pub served : (number : ℕ) (now : SessionView) (rest left written : Option (List ℕ)) → SoFar config setting first begun input out number now rest written
-      → IsNext rest None left → IsServed config setting first begun input left out written now
+  pub served : (number : ℕ) (now : SessionView) (rest left written : Option (List ℕ)) → SoFar config setting form first begun input out number now rest written
+      → IsNext rest None left → IsServed config setting form first begun input left out written now
   served number now rest left written so next =
       let ended = at_end input rest left so.lines so.read next in record {
         lines = so.lines;
@@ -90,8 +91,8 @@ module _ (config : Config) (setting : Setting) (first : ℕ) (begun : SessionVie
         written_is = so.written_is;
       }
 
-  pub in_part : (number : ℕ) (now : SessionView) (rest written after : Option (List ℕ)) (beginning : List ℕ) → SoFar config setting first begun input out number now rest written
-      → IsBeginning config setting number now beginning → Appends written after beginning → IsServedInPart config setting first begun input out after
+  pub in_part : (number : ℕ) (now : SessionView) (rest written after : Option (List ℕ)) (beginning : List ℕ) → SoFar config setting form first begun input out number now rest written
+      → IsBeginning config setting form number now beginning → Appends written after beginning → IsServedInPart config setting form first begun input out after
   in_part number now rest written after beginning so next added = record {
     lines = so.lines;
     printed = so.printed;
@@ -99,10 +100,10 @@ module _ (config : Config) (setting : Setting) (first : ℕ) (begun : SessionVie
     last = now;
     serves = so.serves;
     read = begins_of input rest so.lines so.read;
-    next = subst (λ (n : ℕ). IsBeginning config setting n now beginning) (sym so.counted) next;
+    next = subst (λ (n : ℕ). IsBeginning config setting form n now beginning) (sym so.counted) next;
     written_is = appends_more out written after so.printed beginning so.written_is added;
   }
 
   -- nothing more was written
-  pub in_part_so : (number : ℕ) (now : SessionView) (rest written : Option (List ℕ)) → SoFar config setting first begun input out number now rest written → IsServedInPart config setting first begun input out written
+  pub in_part_so : (number : ℕ) (now : SessionView) (rest written : Option (List ℕ)) → SoFar config setting form first begun input out number now rest written → IsServedInPart config setting form first begun input out written
   in_part_so number now rest written so = in_part number now rest written written [] so (inl refl) (appends_none written)

@@ -11,14 +11,20 @@ use Rattle.am_script.specs.declared.command.LineFault.TheVariants as line_fault
 use Rattle.am_script.specs.declared.limits.TheConstants.{LONGEST_LINE}
 use Rattle.am_script.specs.declared.script.Fault.{Fault}
 use Rattle.am_script.specs.declared.script.Fault.TheVariants.{BadLine, BadName, TooLarge}
-use Rattle.am_runner.specs.Printing.{answers_text}
+use Rattle.am_script.specs.JsonLines.{about_line, fault_members, object_line}
+use Rattle.am_runner.specs.Forms.{answers_printed}
+use Rattle.am_runner.specs.PrintingJson.{count_members}
+use Rattle.am_runner.specs.declared.form.Form.{Form}
+use Rattle.am_runner.specs.declared.form.Form.TheVariants.{Text, Json}
 use Rattle.am_runner.specs.Reading.{OpenView}
 use Rattle.am_runner.specs.Sessions.{Setting, SessionView, Does, index_named}
 use Rattle.am_runner.specs.declared.answer.Answer.{Answer}
 
--- a refused line: its number and its fault
-abbrev pub refused_text : ℕ → Fault → List ℕ
-refused_text number fault = decimal number ++ 32 ∷ (fault_text fault ++ 10 ∷ [])
+-- a refused line: its number and its fault, as an object followed by how many answers the line has
+abbrev pub refused_text : Form → ℕ → Fault → List ℕ
+refused_text Text number fault = decimal number ++ 32 ∷ (fault_text fault ++ 10 ∷ [])
+refused_text Json number fault = object_line (about_line number (fault_members fault))
+    ++ object_line (about_line number (count_members 1))
 
 -- whether a command subscribes no name that an open subscription has
 abbrev pub has_free_name : Command → List OpenView → Bool
@@ -27,25 +33,25 @@ has_free_name _ opened = true
 
 -- what a command of the line of this number prints, and what it does to a session: nothing, if it
 -- subscribes a name that is open; else what it answers
-pub data Obeys (config : Config) (setting : Setting) (number : ℕ) (command : Command) (old : SessionView)
-    : List ℕ → SessionView → Type 0 where
+pub data Obeys (config : Config) (setting : Setting) (form : Form) (number : ℕ) (command : Command)
+    (old : SessionView) : List ℕ → SessionView → Type 0 where
   bad_name : has_free_name command old.opened ≡ false
-      → Obeys config setting number command old (refused_text number BadName) old
+      → Obeys config setting form number command old (refused_text form number BadName) old
   ran : {given : List Answer} {new : SessionView} → has_free_name command old.opened ≡ true
       → Does config setting old command given new
-      → Obeys config setting number command old (answers_text number given) new
+      → Obeys config setting form number command old (answers_printed form number given) new
 
 -- What the line of this number prints, and what it does to a session: nothing, if it is empty; a refusal,
 -- if it is too long or isn't a command; else what its command does.
-pub data Answers (config : Config) (setting : Setting) (number : ℕ) (bytes : List ℕ) (old : SessionView)
-    : List ℕ → SessionView → Type 0 where
-  nothing_asked : bytes ≡ [] → Answers config setting number bytes old [] old
+pub data Answers (config : Config) (setting : Setting) (form : Form) (number : ℕ) (bytes : List ℕ)
+    (old : SessionView) : List ℕ → SessionView → Type 0 where
+  nothing_asked : bytes ≡ [] → Answers config setting form number bytes old [] old
   too_large : LONGEST_LINE < length bytes
-      → Answers config setting number bytes old (refused_text number TooLarge) old
+      → Answers config setting form number bytes old (refused_text form number TooLarge) old
   bad_line : 0 < length bytes → length bytes ≤ LONGEST_LINE
       → IsCommandOf bytes (Err line_fault.BadLine)
-      → Answers config setting number bytes old (refused_text number BadLine) old
+      → Answers config setting form number bytes old (refused_text form number BadLine) old
   obeyed : {command : Command} {printed : List ℕ} {new : SessionView}
       → 0 < length bytes → length bytes ≤ LONGEST_LINE → IsCommandOf bytes (Ok command)
-      → Obeys config setting number command old printed new
-      → Answers config setting number bytes old printed new
+      → Obeys config setting form number command old printed new
+      → Answers config setting form number bytes old printed new

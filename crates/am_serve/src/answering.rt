@@ -5,8 +5,8 @@ ghost use Rattle.am_runner.specs.Sessions.{setting_of};
 ghost use Rattle.am_serve.specs.Answering.{Answers, Obeys, has_free_name, refused_text};
 
 use am_provider::{Gate, Recorded};
-use am_runner::{Context, Session, write_answers};
-use am_script::{Command, Fault, LONGEST_LINE, LineFault, read_command};
+use am_runner::{Context, Form, Session, write_answers, write_count};
+use am_script::{Command, Fault, LONGEST_LINE, LineFault, read_command, write_fault};
 use std::alloc::{AllocError, Global};
 use std::sync::Wait;
 
@@ -15,11 +15,12 @@ use std::sync::Wait;
 pub fn answer_line<'p, 'c, N: Recorded, R: Wait, G: Gate>(
     context: &Context<'p, 'c, N, R, G>,
     session: &mut Session<'p, 'c, N>,
+    form: Form,
     number: u64,
     bytes: &[u8],
 ) -> Result<String, AllocError>
     ensures { IfOk result (λ text. Answers context.now.config.now
-        (setting_of N.places N.policy context.now.provider.now.resolve_timeout) number bytes.now
+        (setting_of N.places N.policy context.now.provider.now.resolve_timeout) form number bytes.now
         session.old (string_bytes text) session.new) }
 {
     let alloc = context.alloc;
@@ -27,11 +28,11 @@ pub fn answer_line<'p, 'c, N: Recorded, R: Wait, G: Gate>(
         return Ok(String::new(alloc));
     }
     if bytes.len() > LONGEST_LINE {
-        return refused(alloc, number, Fault::TooLarge);
+        return refused(alloc, form, number, Fault::TooLarge);
     }
     match read_command(alloc, bytes) {
-        Ok(command) => obey(context, session, number, &command),
-        Err(LineFault::BadLine) => refused(alloc, number, Fault::BadLine),
+        Ok(command) => obey(context, session, form, number, &command),
+        Err(LineFault::BadLine) => refused(alloc, form, number, Fault::BadLine),
         Err(LineFault::NoMemory) => Err(AllocError),
     }
 }
@@ -40,19 +41,20 @@ pub fn answer_line<'p, 'c, N: Recorded, R: Wait, G: Gate>(
 fn obey<'p, 'c, N: Recorded, R: Wait, G: Gate>(
     context: &Context<'p, 'c, N, R, G>,
     session: &mut Session<'p, 'c, N>,
+    form: Form,
     number: u64,
     command: &Command,
 ) -> Result<String, AllocError>
     ensures { IfOk result (λ text. Obeys context.now.config.now
-        (setting_of N.places N.policy context.now.provider.now.resolve_timeout) number command.now
+        (setting_of N.places N.policy context.now.provider.now.resolve_timeout) form number command.now
         session.old (string_bytes text) session.new) }
 {
     if !has_free_name(session, command) {
-        return refused(context.alloc, number, Fault::BadName);
+        return refused(context.alloc, form, number, Fault::BadName);
     }
     let given = session.run(context, command)?;
     let mut text = String::new(context.alloc);
-    write_answers(&mut text, number, &given)?;
+    write_answers(&mut text, form, number, &given)?;
     Ok(text)
 }
 
@@ -67,8 +69,20 @@ fn has_free_name<N: Recorded>(session: &Session<'_, '_, N>, command: &Command) -
 }
 
 // What is printed of a line that is refused.
-fn refused(alloc: Global, number: u64, fault: Fault) -> Result<String, AllocError>
-    ensures { IfOk result (λ text. string_bytes text ≡ refused_text number fault) }
+fn refused(alloc: Global, form: Form, number: u64, fault: Fault) -> Result<String, AllocError>
+    ensures { IfOk result (λ text. string_bytes text ≡ refused_text form number fault) }
 {
-    format!(in alloc; "{number} {fault}\n")
+    match form {
+        Form::Text => format!(in alloc; "{number} {fault}\n"),
+        Form::Json => refused_object(alloc, number, fault),
+    }
+}
+
+fn refused_object(alloc: Global, number: u64, fault: Fault) -> Result<String, AllocError>
+    ensures { IfOk result (λ text. string_bytes text ≡ refused_text Form.Json number fault) }
+{
+    let mut text = String::new(alloc);
+    write_fault(&mut text, number, fault)?;
+    write_count(&mut text, number, 1)?;
+    Ok(text)
 }

@@ -9,7 +9,7 @@
 //! let (provider, mut callers) = Provider::<N>::begin(alloc, parts, policy, timeout)?;   // for one caller
 //! let context = Context { rt, alloc, provider: &provider, config: &config, turns: &Freely };
 //! let mut session = Session::begin(alloc, caller);
-//! serve(&context, &mut session, &mut input, &mut output)?;
+//! serve(&context, &mut session, Form::Text, 1, &mut input, &mut output)?;
 //! ```
 //!
 //! Who has lines of its own, and no reader, calls `answer_line` for each.

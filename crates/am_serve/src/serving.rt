@@ -10,7 +10,7 @@ ghost use Rattle.am_serve.specs.Serving.{IsBeginning, IsServed, IsServedInPart};
 use crate::answering::answer_line;
 use crate::reading::next_line;
 use am_provider::{Gate, Recorded};
-use am_runner::{Context, Session};
+use am_runner::{Context, Form, Session};
 use am_script::{Command, Failure, write_text};
 use std::alloc::AllocError;
 use std::io::{BufRead, Write};
@@ -24,22 +24,23 @@ const LINES_BETWEEN_TRIMS: u64 = 1_024;
 pub fn serve<'p, 'c, N: Recorded, R: Wait, G: Gate, I: BufRead, O: Write>(
     context: &Context<'p, 'c, N, R, G>,
     session: &mut Session<'p, 'c, N>,
+    form: Form,
     first: u64,
     input: &mut I,
     out: &mut O,
 ) -> Result<(), Failure>
     ensures served { OnOk result (IsServed context.now.config.now
-        (setting_of N.places N.policy context.now.provider.now.resolve_timeout) first session.old
+        (setting_of N.places N.policy context.now.provider.now.resolve_timeout) form first session.old
         (I.remaining input.old) (I.remaining input.new) (O.contents out.old) (O.contents out.new) session.new) }
     ensures err { OnErr result (IsServedInPart context.now.config.now
-        (setting_of N.places N.policy context.now.provider.now.resolve_timeout) first session.old
+        (setting_of N.places N.policy context.now.provider.now.resolve_timeout) form first session.old
         (I.remaining input.old) (O.contents out.old) (O.contents out.new)) }
 {
     for number in first..u64::MAX {
         let Some(bytes) = next_line(context.alloc, input)? else {
             return Ok(());
         };
-        serve_line(context, session, number, &bytes, out)?;
+        serve_line(context, session, form, number, &bytes, out)?;
         if number % LINES_BETWEEN_TRIMS == 0 {
             trim(context, session)?;
         }
@@ -51,18 +52,19 @@ pub fn serve<'p, 'c, N: Recorded, R: Wait, G: Gate, I: BufRead, O: Write>(
 fn serve_line<'p, 'c, N: Recorded, R: Wait, G: Gate, O: Write>(
     context: &Context<'p, 'c, N, R, G>,
     session: &mut Session<'p, 'c, N>,
+    form: Form,
     number: u64,
     bytes: &[u8],
     out: &mut O,
 ) -> Result<(), Failure>
     ensures answers { OnOk result ((more : List ℕ) × Answers context.now.config.now
-        (setting_of N.places N.policy context.now.provider.now.resolve_timeout) number bytes.now
+        (setting_of N.places N.policy context.now.provider.now.resolve_timeout) form number bytes.now
         session.old more session.new × Appends (O.contents out.old) (O.contents out.new) more) }
     ensures err { OnErr result ((beginning : List ℕ) × IsBeginning context.now.config.now
-        (setting_of N.places N.policy context.now.provider.now.resolve_timeout) number session.old
+        (setting_of N.places N.policy context.now.provider.now.resolve_timeout) form number session.old
         beginning × Appends (O.contents out.old) (O.contents out.new) beginning) }
 {
-    let text = answer_line(context, session, number, bytes)?;
+    let text = answer_line(context, session, form, number, bytes)?;
     write_text(out, text.as_bytes())?;
     match out.flush() {
         Ok(()) => Ok(()),

@@ -2,6 +2,7 @@
 
 use super::{Arguments, ArgumentsFault, Mode};
 use am_provider::Policy;
+use am_runner::Form;
 use std::alloc::{AllocError, Global};
 use std::test::Fail;
 
@@ -48,6 +49,21 @@ fn options_have_the_values_that_they_are_given(rt: HostRuntime) -> Result<(), Fa
 }
 
 #[test]
+fn the_form_is_json_if_it_is_asked_for(rt: HostRuntime) -> Result<(), Fail> {
+    for (line, form) in [
+        ("", Form::Text),
+        ("--json", Form::Json),
+        ("--mode live --json", Form::Json),
+    ] {
+        match read(rt.alloc(), line)? {
+            Ok(arguments) => assert_eq!(rt; arguments.form, form),
+            Err(text) => panic!(rt; "{line}: {text}"),
+        }
+    }
+    Ok(())
+}
+
+#[test]
 fn other_arguments_are_refused(rt: HostRuntime) -> Result<(), Fail> {
     for (line, told) in [
         ("--mode slow", "invalid value 'slow' for '--mode <MODE>'"),
@@ -68,6 +84,10 @@ fn other_arguments_are_refused(rt: HostRuntime) -> Result<(), Fail> {
         (
             "--mode free --mode free",
             "the argument '--mode <MODE>' cannot be used multiple times",
+        ),
+        (
+            "--json --json",
+            "the argument '--json' cannot be used multiple times",
         ),
         ("--fast", "unexpected argument '--fast' found"),
         ("script", "unexpected argument 'script' found"),
@@ -96,6 +116,7 @@ fn help_has_examples_and_each_command(rt: HostRuntime) -> Result<(), Fail> {
     }
     for command in [
         "post",
+        "put",
         "subscribe",
         "read",
         "leave",

@@ -21,5 +21,5 @@ returns c =
     subst (λ (q : ValueParser). IsOption (codes "places") (codes "256") q c.option-places.result) c.unsigned-numbers.ensures c.option-places.ensures in
     let full : IsOption (codes "full") (policy_name Refuse) (value.Names c.args.policies) c.option-full.result =
     subst (λ (q : ValueParser). IsOption (codes "full") (policy_name Refuse) q c.option-full.result) c.into-2.ensures c.option-full.ensures in
-    IfOk-weaker c.arg-3.result _ _ (λ three third. is_command c.after_help.result _ _ three _ _ _ c.args.modes c.args.policies made
-    (search rules) (search rules) mode places full c.in_ok-arg.ensures c.in_ok-arg-2.ensures third c.requires.modes c.requires.policies) c.arg-3.ensures
+    IfOk-weaker c.arg-4.result _ _ (λ four fourth. is_command c.after_help.result _ _ _ four _ _ _ _ c.args.modes c.args.policies made
+    (search rules) (search rules) mode places full c.flag-json.ensures c.in_ok-arg.ensures c.in_ok-arg-2.ensures c.in_ok-arg-3.ensures fourth c.requires.modes c.requires.policies) c.arg-4.ensures

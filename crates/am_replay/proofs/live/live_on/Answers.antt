@@ -40,13 +40,13 @@ returns-in-Ok-served g c =
     let same : setting_of g.N.Recorded.places g.N.Recorded.policy c.in-Ok.provider.resolve_timeout ≡ setting =
     same_setting c.args.arguments.places g.N.Recorded.places c.args.arguments.full g.N.Recorded.policy c.args.config.now.resolve_timeout c.in-Ok.provider.resolve_timeout c.requires.limits.1 c.requires.limits.2 c.in-Ok.ensures.timeout in
     let all : c.push_reserved.new.self.items ≡ c.end.result ∷ [] = c.push_reserved.ensures.items ∙ ap (λ l. l ++ c.end.result ∷ []) none in
-    counts_told setting c.args.config.now (g.I.Read.remaining c.args.input.now) (g.I.Read.remaining c.serve-served.new.input) (g.O.Write.contents c.args.out.now) (g.O.Write.contents c.serve-served.new.out) (g.O.Write.contents c.print_counts.new.out) c.counts.result c.print_counts.result
+    counts_told setting c.args.arguments.form c.args.config.now (g.I.Read.remaining c.args.input.now) (g.I.Read.remaining c.serve-served.new.input) (g.O.Write.contents c.args.out.now) (g.O.Write.contents c.serve-served.new.out) (g.O.Write.contents c.print_counts.new.out) c.counts.result c.print_counts.result
     (record {
       end = c.serve-served.new.session;
       left = record { pass = c.end.result.pass; front = c.end.result.front; opened = [] };
       settled = c.settle-settled.result;
-      served = subst (λ (first : SessionView). IsServed c.args.config.now setting 2 first (g.I.Read.remaining c.args.input.now) (g.I.Read.remaining c.serve-served.new.input) (g.O.Write.contents c.args.out.now) (g.O.Write.contents c.serve-served.new.out) c.serve-served.new.session) begun
-          (subst (λ (s : Setting). IsServed c.args.config.now s 2 c.begin-session.result (g.I.Read.remaining c.args.input.now) (g.I.Read.remaining c.serve-served.new.input) (g.O.Write.contents c.args.out.now) (g.O.Write.contents c.serve-served.new.out) c.serve-served.new.session) same c.in-Ok-served.ensures.served);
+      served = subst (λ (first : SessionView). IsServed c.args.config.now setting c.args.arguments.form 2 first (g.I.Read.remaining c.args.input.now) (g.I.Read.remaining c.serve-served.new.input) (g.O.Write.contents c.args.out.now) (g.O.Write.contents c.serve-served.new.out) c.serve-served.new.session) begun
+          (subst (λ (s : Setting). IsServed c.args.config.now s c.args.arguments.form 2 c.begin-session.result (g.I.Read.remaining c.args.input.now) (g.I.Read.remaining c.serve-served.new.input) (g.O.Write.contents c.args.out.now) (g.O.Write.contents c.serve-served.new.out) c.serve-served.new.session) same c.in-Ok-served.ensures.served);
       leaves = c.end.ensures;
       ended = subst (λ l. IsSettledFrom (map (λ one. one.pass) l) (map (λ one. one.front) l) c.settle-settled.result) all c.settle-settled.ensures.settled;
       complete = c.settle-settled.ensures.complete.1 (ap length all ∙ sym c.requires.posters.1);
@@ -66,5 +66,5 @@ returns g c =
     let same : setting_of g.N.Recorded.places g.N.Recorded.policy c.in-Ok.provider.resolve_timeout ≡ setting =
     same_setting c.args.arguments.places g.N.Recorded.places c.args.arguments.full g.N.Recorded.policy c.args.config.now.resolve_timeout c.in-Ok.provider.resolve_timeout c.requires.limits.1 c.requires.limits.2 c.in-Ok.ensures.timeout in
     cut_short c.status_of.ensures
-    (subst (λ (first : SessionView). IsServedInPart c.args.config.now setting 2 first (g.I.Read.remaining c.args.input.now) (g.O.Write.contents c.args.out.now) (g.O.Write.contents c.serve-served.new.out)) begun
-    (subst (λ (s : Setting). IsServedInPart c.args.config.now s 2 c.begin-session.result (g.I.Read.remaining c.args.input.now) (g.O.Write.contents c.args.out.now) (g.O.Write.contents c.serve-served.new.out)) same c.in-Err.ensures.err))
+    (subst (λ (first : SessionView). IsServedInPart c.args.config.now setting c.args.arguments.form 2 first (g.I.Read.remaining c.args.input.now) (g.O.Write.contents c.args.out.now) (g.O.Write.contents c.serve-served.new.out)) begun
+    (subst (λ (s : Setting). IsServedInPart c.args.config.now s c.args.arguments.form 2 c.begin-session.result (g.I.Read.remaining c.args.input.now) (g.O.Write.contents c.args.out.now) (g.O.Write.contents c.serve-served.new.out)) same c.in-Err.ensures.err))

@@ -4,4 +4,4 @@ use Rattle.am_replay.proofs.transcript.write_lines.Given as goal
 
 -- what is written and what the lines left come to are all
 abbrev pub invariant-loop-index : goal.invariant-loop-index
-invariant-loop-index l = string_bytes l.text ++ lines_text l.answers l.index (drop l.index l.lines) ≡ string_bytes l.initial.text ++ lines_text l.answers 0 l.lines
+invariant-loop-index l = string_bytes l.text ++ lines_text l.form l.answers l.index (drop l.index l.lines) ≡ string_bytes l.initial.text ++ lines_text l.form l.answers 0 l.lines

@@ -5,5 +5,5 @@ use Rattle.am_serve.proofs.serving.serve.Given as goal
 -- the lines before the number were served
 abbrev pub invariant-loop-number : goal.invariant-loop-number
 invariant-loop-number g l =
-    SoFar l.context.config.now (setting_of g.N.Recorded.places g.N.Recorded.policy l.context.provider.now.resolve_timeout) l.first l.initial.session (g.I.Read.remaining l.initial.input) (g.O.Write.contents l.initial.out)
+    SoFar l.context.config.now (setting_of g.N.Recorded.places g.N.Recorded.policy l.context.provider.now.resolve_timeout) l.form l.first l.initial.session (g.I.Read.remaining l.initial.input) (g.O.Write.contents l.initial.out)
     l.number l.session (g.I.Read.remaining l.input) (g.O.Write.contents l.out)
