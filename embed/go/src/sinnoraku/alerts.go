@@ -1,0 +1,300 @@
+// Package sinnoraku is an alert provider of Alertmanager 0.25 over the proved replay program.
+//
+// NewAlerts starts the program and keeps it as a process of its own. Every call is a line that is written to it, and
+// every answer a line that it prints. The program runs the lines in their order, so what they answer is one history of
+// all calls; many goroutines can wait for their answers at once. Merging, the store, the order of alerts and who gets
+// what are the program's. Here are the encoding of alerts, their fingerprints, the waiting of readers, and the callbacks.
+//
+// A subscriber that is too slow is cut off by the program, and blocks nobody. It then subscribes again and gets what is
+// stored once more; the counter sinnoraku_subscriptions_cut_total and a warning say so. With Options.Refuse the Put is
+// refused instead, and its error names the reader.
+//
+// If the program ends by itself, every call returns an error, each iterator's channel is closed and its Err says why, and
+// Done is closed. An owner should then stop, since the inhibitor of Alertmanager reads a closed channel again and again.
+//
+// Moments keep their nanoseconds. An end that is Go's zero time never comes: the program has its last moment,
+// 9999-12-30T22:00:00.999999999Z, for it, and the zero time comes back. (At a merge provider/mem takes such an end as the
+// earliest of all.) A start or an update that is the zero time is the first nanosecond after it. Labels with an empty
+// value are ignored, also in fingerprints.
+package sinnoraku
+
+import (
+	"context"
+	"errors"
+	"fmt"
+	"sync"
+	"time"
+
+	"github.com/go-kit/log"
+	"github.com/go-kit/log/level"
+	"github.com/prometheus/client_golang/prometheus"
+	"github.com/prometheus/common/model"
+
+	"github.com/prometheus/alertmanager/provider"
+	"github.com/prometheus/alertmanager/store"
+	"github.com/prometheus/alertmanager/types"
+)
+
+// Options say how the program is run.
+type Options struct {
+	// Program is the path of the replay program, or of the script replay that runs it.
+	Program string
+	// Places is how many batches its log holds for the slowest reader, 1 to 256; 0 is 256.
+	Places int
+	// Refuse has a Put refused if the log is full. Without it the readers that hold it up are cut off.
+	Refuse bool
+}
+
+func (o Options) arguments() []string {
+	full, places := "cut", o.Places
+	if o.Refuse {
+		full = "refuse"
+	}
+	if places == 0 {
+		places = 256
+	}
+	return []string{"--json", "--mode", "live", "--places", fmt.Sprint(places), "--full", full}
+}
+
+// The program's routes aren't asked: Alertmanager's own dispatcher reads its own configuration.
+const configuration = `{"route":{"receiver":"alertmanager"}}`
+
+// AlertStoreCallback is asked before an alert is stored, and notified of what is stored and removed, as provider/mem's.
+type AlertStoreCallback interface {
+	// PreStore is given the alert as it would be stored, merged with the stored one if existing says that there is
+	// one. If it returns an error, the alert isn't stored.
+	PreStore(alert *types.Alert, existing bool) error
+	// PostStore is called once the alert is stored.
+	PostStore(alert *types.Alert, existing bool)
+	// PostDelete is called once a resolved alert was removed by a collection.
+	PostDelete(alert *types.Alert)
+}
+
+// Alerts is a provider.Alerts whose store and broadcast are the replay program's. All methods may be called from any
+// goroutine.
+type Alerts struct {
+	program  *program
+	readers  readers
+	marker   types.Marker
+	callback AlertStoreCallback // nil if nobody has to be asked
+	logger   log.Logger
+	cuts     prometheus.Counter
+
+	gate  sync.RWMutex // puts share it, and a collection has it alone; with a callback so has a put
+	known labelTexts   // of all stored alerts
+
+	closing chan struct{}
+	once    sync.Once
+	work    sync.WaitGroup // the collecting goroutine
+}
+
+var _ provider.Alerts = (*Alerts)(nil)
+
+// NewAlerts starts the program. The other arguments are those of mem.NewAlerts; each gc interval what is resolved is
+// removed. Cancelling the context closes the provider.
+func NewAlerts(
+	ctx context.Context, m types.Marker, intervalGC time.Duration, cb AlertStoreCallback, l log.Logger,
+	r prometheus.Registerer, options Options,
+) (*Alerts, error) {
+	a := &Alerts{
+		marker:   m,
+		callback: cb,
+		logger:   log.With(l, "component", "provider"),
+		cuts: prometheus.NewCounter(prometheus.CounterOpts{
+			Name: "sinnoraku_subscriptions_cut_total",
+			Help: "How many subscriptions were cut off because their reader was too slow.",
+		}),
+		known:   labelTexts{texts: map[model.Fingerprint]string{}},
+		closing: make(chan struct{}),
+	}
+	a.readers.init(a)
+	running, err := start(options.Program, options.arguments(), configuration, startPatience, a.readers.wake)
+	if err != nil {
+		return nil, err
+	}
+	a.program = running
+	if r != nil {
+		r.MustRegister(a.cuts, stateCollector{a})
+	}
+	a.work.Add(1)
+	go a.run(ctx, intervalGC)
+	return a, nil
+}
+
+// run collects each interval, until the provider is closed or the program has ended.
+func (a *Alerts) run(ctx context.Context, interval time.Duration) {
+	defer a.work.Done()
+	ticker := time.NewTicker(interval)
+	defer ticker.Stop()
+	for {
+		select {
+		case <-ticker.C:
+			if err := a.collect(time.Now()); err != nil {
+				level.Error(a.logger).Log("msg", "collection of resolved alerts failed", "err", err)
+			}
+		case <-ctx.Done():
+			go a.Close()
+			return
+		case <-a.closing:
+			return
+		case <-a.program.ended:
+			level.Error(a.logger).Log("msg", "the provider has ended", "err", a.Err())
+			return
+		}
+	}
+}
+
+// Close ends the program once it has answered what was asked before, and waits for its end. Readers are ended with
+// ErrClosed.
+func (a *Alerts) Close() {
+	a.once.Do(func() { close(a.closing) })
+	a.program.close()
+	a.work.Wait()
+}
+
+// Done is closed once the program has ended, by Close or by itself.
+func (a *Alerts) Done() <-chan struct{} { return a.program.ended }
+
+// Err says why no more calls are taken, and is nil while they are.
+func (a *Alerts) Err() error { return a.program.why() }
+
+// Get returns the stored alert of a fingerprint.
+func (a *Alerts) Get(fingerprint model.Fingerprint) (*types.Alert, error) {
+	if err := a.Err(); err != nil {
+		return nil, err
+	}
+	labels, found := a.known.get(fingerprint)
+	if !found {
+		return nil, store.ErrNotFound
+	}
+	alert, err := a.get(labels)
+	if alert == nil && err == nil {
+		err = store.ErrNotFound
+	}
+	return alert, err
+}
+
+// get asks for the stored alert of these labels, and is nil if there is none.
+func (a *Alerts) get(labels string) (*types.Alert, error) {
+	alerts, err := a.alertsOf(getLine(labels))
+	if err != nil || len(alerts) == 0 {
+		return nil, err
+	}
+	return alerts[0], nil
+}
+
+// stored asks for all stored alerts.
+func (a *Alerts) stored() ([]*types.Alert, error) { return a.alertsOf(getStored) }
+
+func (a *Alerts) alertsOf(line []byte) ([]*types.Alert, error) {
+	asked, err := a.program.ask(line)
+	if err != nil {
+		return nil, err
+	}
+	return alertsIn(asked)
+}
+
+// alertsIn reads the alerts of an answered call.
+func alertsIn(asked *call) ([]*types.Alert, error) {
+	answers, err := answersOf(asked)
+	if err != nil {
+		return nil, err
+	}
+	alerts := make([]*types.Alert, 0, len(answers))
+	for _, it := range answers {
+		switch it.word {
+		case "alert":
+			alerts = append(alerts, it.alert)
+		case "stored", "no_alert":
+		case "refused":
+			return nil, errors.New("sinnoraku: refused: " + it.fault)
+		default:
+			return nil, fmt.Errorf("sinnoraku: a question was answered by %q", it.word)
+		}
+	}
+	return alerts, nil
+}
+
+// GetPending returns an iterator over what is stored. If the program fails, one empty alert comes while Err says why:
+// Alertmanager's API looks for an error only when it gets an alert.
+func (a *Alerts) GetPending() provider.AlertIterator {
+	it := newIterator()
+	go func() {
+		alerts, err := a.stored()
+		if err != nil {
+			it.fail(err)
+			it.hand(&types.Alert{})
+		}
+		for _, alert := range alerts {
+			if !it.hand(alert) {
+				break
+			}
+		}
+		it.end(err)
+	}()
+	return it
+}
+
+// collect removes what is resolved, and says so to the marker and the callback. What is stored is read just before, so
+// what of it is resolved is what goes.
+func (a *Alerts) collect(now time.Time) error {
+	a.gate.Lock()
+	defer a.gate.Unlock()
+	calls := a.program.send(false, getStored, collectLine(now))
+	if err := calls[1].wait(); err != nil {
+		return err
+	}
+	alerts, err := alertsIn(calls[0])
+	if err != nil {
+		return err
+	}
+	collected, err := answersOf(calls[1])
+	if err != nil {
+		return err
+	}
+	if len(collected) != 1 || collected[0].word != "collect" {
+		return fmt.Errorf("sinnoraku: the collection was answered by %q", calls[1].answers)
+	}
+	gone := 0
+	for _, alert := range alerts {
+		if !alert.ResolvedAt(now) {
+			continue
+		}
+		gone++
+		fingerprint := alert.Fingerprint()
+		a.known.remove(fingerprint)
+		a.marker.Delete(fingerprint)
+		if a.callback != nil {
+			a.callback.PostDelete(alert)
+		}
+	}
+	if gone != collected[0].removed {
+		return fmt.Errorf("sinnoraku: %d alerts were removed where %d were resolved", collected[0].removed, gone)
+	}
+	return nil
+}
+
+// labelTexts has the labels of each fingerprint, as they are written in a line.
+type labelTexts struct {
+	mutex sync.RWMutex
+	texts map[model.Fingerprint]string
+}
+
+func (l *labelTexts) get(fingerprint model.Fingerprint) (string, bool) {
+	l.mutex.RLock()
+	defer l.mutex.RUnlock()
+	text, found := l.texts[fingerprint]
+	return text, found
+}
+
+func (l *labelTexts) add(fingerprint model.Fingerprint, text string) {
+	l.mutex.Lock()
+	defer l.mutex.Unlock()
+	l.texts[fingerprint] = text
+}
+
+func (l *labelTexts) remove(fingerprint model.Fingerprint) {
+	l.mutex.Lock()
+	defer l.mutex.Unlock()
+	delete(l.texts, fingerprint)
+}

@@ -1,0 +1,578 @@
+package sinnoraku
+
+import (
+	"context"
+	"fmt"
+	"os"
+	"reflect"
+	"strings"
+	"sync"
+	"testing"
+	"time"
+
+	"github.com/go-kit/log"
+	"github.com/prometheus/client_golang/prometheus"
+	"github.com/prometheus/client_golang/prometheus/testutil"
+	"github.com/prometheus/common/model"
+
+	"github.com/prometheus/alertmanager/provider"
+	"github.com/prometheus/alertmanager/store"
+	"github.com/prometheus/alertmanager/types"
+)
+
+// programPath is the replay program that the tests run: SINNORAKU_PROGRAM, or the proved one of this checkout.
+func programPath(t testing.TB) string {
+	path := os.Getenv("SINNORAKU_PROGRAM")
+	if path == "" {
+		path = "../../../crates/am_replay/out/am_replay"
+	}
+	if _, err := os.Stat(path); err != nil {
+		t.Skip("there is no replay program: ./replay --prove builds it, or SINNORAKU_PROGRAM names one")
+	}
+	return path
+}
+
+func startWith(t testing.TB, intervalGC time.Duration, callback AlertStoreCallback, logger log.Logger, options Options) *Alerts {
+	t.Helper()
+	options.Program = programPath(t)
+	marker := types.NewMarker(prometheus.NewRegistry())
+	a, err := NewAlerts(context.Background(), marker, intervalGC, callback, logger, prometheus.NewRegistry(), options)
+	if err != nil {
+		t.Fatal(err)
+	}
+	t.Cleanup(a.Close)
+	return a
+}
+
+func startPlain(t testing.TB) *Alerts {
+	return startWith(t, time.Hour, nil, log.NewNopLogger(), Options{})
+}
+
+func alertOf(labels model.LabelSet, from, to time.Time) *types.Alert {
+	return &types.Alert{
+		Alert:     model.Alert{Labels: labels, Annotations: model.LabelSet{}, StartsAt: from.UTC(), EndsAt: to.UTC()},
+		UpdatedAt: from.UTC(),
+	}
+}
+
+// firing is an alert of a number that fires for an hour.
+func firing(number int) *types.Alert {
+	now := time.Now().Round(0)
+	return alertOf(model.LabelSet{"alertname": "Test", "n": model.LabelValue(fmt.Sprint(number))}, now, now.Add(time.Hour))
+}
+
+func firings(from, to int) (alerts []*types.Alert) {
+	for number := from; number < to; number++ {
+		alerts = append(alerts, firing(number))
+	}
+	return alerts
+}
+
+func put(t testing.TB, a *Alerts, alerts ...*types.Alert) {
+	t.Helper()
+	if err := a.Put(alerts...); err != nil {
+		t.Fatal(err)
+	}
+}
+
+// take takes that many alerts of an iterator, and fails if they don't come.
+func take(t testing.TB, it provider.AlertIterator, count int) (alerts []*types.Alert) {
+	t.Helper()
+	late := time.After(30 * time.Second)
+	for len(alerts) < count {
+		select {
+		case alert, isOpen := <-it.Next():
+			if !isOpen {
+				t.Fatalf("the iterator ended after %d of %d alerts: %v", len(alerts), count, it.Err())
+			}
+			alerts = append(alerts, alert)
+		case <-late:
+			t.Fatalf("%d of %d alerts came", len(alerts), count)
+		}
+	}
+	return alerts
+}
+
+// takesNothing fails if another alert comes.
+func takesNothing(t testing.TB, it provider.AlertIterator) {
+	t.Helper()
+	select {
+	case alert, isOpen := <-it.Next():
+		t.Fatalf("%v came (the channel is open: %v)", alert, isOpen)
+	case <-time.After(50 * time.Millisecond):
+	}
+}
+
+func numbers(alerts []*types.Alert) (found []string) {
+	for _, it := range alerts {
+		found = append(found, string(it.Labels["n"]))
+	}
+	return found
+}
+
+func pending(t testing.TB, a *Alerts) (alerts []*types.Alert) {
+	t.Helper()
+	it := a.GetPending()
+	defer it.Close()
+	for alert := range it.Next() {
+		alerts = append(alerts, alert)
+	}
+	if err := it.Err(); err != nil {
+		t.Fatal(err)
+	}
+	return alerts
+}
+
+func TestEachAlertComesBackAsItWas(t *testing.T) {
+	a := startPlain(t)
+	now := time.Date(2024, 2, 29, 23, 59, 58, 7, time.FixedZone("", 3600))
+	for name, labels := range map[string]model.LabelSet{
+		"plain":        {"a": "b"},
+		"quotes":       {"a": `"\/`, `"`: `\"`},
+		"controls":     {"a": "\x00\x01\b\f\n\r\t\x1f\x7f", "\n": "\n"},
+		"unicode":      {"ключ": "значение", "日本": "語", "a": "\u2028\u2029\ufeff", "b": "\U0001F600\U0010FFFF"},
+		"long":         {"a": model.LabelValue(strings.Repeat("\x01x", 50_000))},
+		"many":         manyLabels(40),
+		"digits":       {"1": "2", "-": "null", "true": "false"},
+		"values alike": {"a": `{"labels":{}}`, "b": "},{", "line": `{"line":2,"answers":0}`},
+	} {
+		whole := alertOf(labels, now, now.Add(time.Hour+time.Nanosecond))
+		whole.Annotations = labels.Clone()
+		whole.GeneratorURL = "http://example.com/\n\"\x00é"
+		whole.UpdatedAt = now.Add(time.Microsecond).UTC()
+		whole.Timeout = true
+		put(t, a, whole)
+		got, err := a.Get(whole.Fingerprint())
+		if err != nil {
+			t.Fatalf("%s: %v", name, err)
+		}
+		if !reflect.DeepEqual(got, whole) {
+			t.Errorf("%s: %#v came back of %#v", name, got, whole)
+		}
+	}
+}
+
+func manyLabels(count int) model.LabelSet {
+	labels := model.LabelSet{}
+	for at := 0; at < count; at++ {
+		labels[model.LabelName(fmt.Sprint("name", at))] = model.LabelValue(fmt.Sprint("value", at))
+	}
+	return labels
+}
+
+func TestMomentsThatAreNotThere(t *testing.T) {
+	a := startPlain(t)
+	bare := &types.Alert{Alert: model.Alert{Labels: model.LabelSet{"a": "b"}, Annotations: model.LabelSet{}}}
+	put(t, a, bare)
+	got, err := a.Get(bare.Fingerprint())
+	if err != nil {
+		t.Fatal(err)
+	}
+	if !reflect.DeepEqual(got, bare) {
+		t.Errorf("%#v came back of %#v", got, bare)
+	}
+	if got.Resolved() {
+		t.Error("an alert without an end is resolved")
+	}
+	if err := a.collect(time.Now()); err != nil {
+		t.Fatal(err)
+	}
+	if len(pending(t, a)) != 1 {
+		t.Error("an alert without an end was removed")
+	}
+}
+
+func TestWhatCannotBeStoredIsNamedAndTheRestIsStored(t *testing.T) {
+	a := startPlain(t)
+	now := time.Now()
+	faulty := map[string]*types.Alert{
+		"isn't UTF-8":        alertOf(model.LabelSet{"a": "\xff"}, now, now),
+		"out of range":       alertOf(model.LabelSet{"late": "b"}, now, time.Date(10000, 1, 1, 0, 0, 0, 0, time.UTC)),
+		"E10 NoLabels":       alertOf(model.LabelSet{"empty": ""}, now, now),
+		"E11 EndBeforeStart": alertOf(model.LabelSet{"turned": "b"}, now, now.Add(-1)),
+	}
+	var alerts []*types.Alert
+	for _, it := range faulty {
+		alerts = append(alerts, it, firing(len(alerts)))
+	}
+	err := a.Put(alerts...)
+	failed, isPutError := err.(*PutError)
+	if !isPutError || len(failed.Faults) != len(faulty) {
+		t.Fatalf("%v", err)
+	}
+	for fault, it := range faulty {
+		if !strings.Contains(err.Error(), fmt.Sprint(it.Labels)) || !strings.Contains(err.Error(), fault) {
+			t.Errorf("%q, %v isn't in: %v", fault, it.Labels, err)
+		}
+		if _, err := a.Get(it.Fingerprint()); err != store.ErrNotFound {
+			t.Errorf("%v: %v", it.Labels, err)
+		}
+	}
+	if stored := pending(t, a); len(stored) != len(faulty) {
+		t.Errorf("%d are stored", len(stored))
+	}
+}
+
+func TestLabelsWithoutAValueAreIgnored(t *testing.T) {
+	a := startPlain(t)
+	now := time.Now()
+	put(t, a, alertOf(model.LabelSet{"a": "b", "empty": ""}, now, now.Add(time.Hour)))
+	got, err := a.Get(model.LabelSet{"a": "b"}.Fingerprint())
+	if err != nil || !reflect.DeepEqual(got.Labels, model.LabelSet{"a": "b"}) {
+		t.Errorf("%v, %v", got, err)
+	}
+}
+
+func TestReportsAreMergedAsMergeDoes(t *testing.T) {
+	a := startPlain(t)
+	base := time.Now().Add(-time.Hour).Round(0)
+	labels := model.LabelSet{"a": "b"}
+	for at, reports := range [][2]*types.Alert{
+		{alertOf(labels, base, base.Add(2*time.Hour)), alertOf(labels, base.Add(time.Minute), base.Add(3*time.Hour))},
+		{alertOf(labels, base, base.Add(4*time.Hour)), alertOf(labels, base.Add(time.Minute), base.Add(3*time.Hour))},
+		{alertOf(labels, base, base.Add(time.Minute)), alertOf(labels, base.Add(time.Hour), base.Add(3*time.Hour))},
+		{alertOf(labels, base, base.Add(4*time.Hour)), alertOf(labels, base.Add(time.Minute), base.Add(30*time.Minute))},
+	} {
+		reports[1].Labels = model.LabelSet{"a": model.LabelValue(fmt.Sprint(at))}
+		reports[0].Labels = reports[1].Labels
+		put(t, a, reports[0])
+		put(t, a, reports[1])
+		want := reports[1]
+		if overlap(reports[0], reports[1]) {
+			want = reports[0].Merge(reports[1])
+		}
+		got, err := a.Get(want.Fingerprint())
+		if err != nil || !reflect.DeepEqual(got, want) {
+			t.Errorf("%d: %v where %v is wanted, %v", at, got, want, err)
+		}
+	}
+}
+
+func TestMoreAlertsThanALineHolds(t *testing.T) {
+	a := startPlain(t)
+	it := a.Subscribe()
+	defer it.Close()
+	alerts := firings(0, 3*mostAlerts+5)
+	put(t, a, alerts...)
+	if got := take(t, it, len(alerts)); !reflect.DeepEqual(numbers(got), numbers(alerts)) {
+		t.Error("they came in another order")
+	}
+	takesNothing(t, it)
+	large := firings(0, 6)
+	for _, it := range large {
+		it.Annotations = model.LabelSet{"text": model.LabelValue(strings.Repeat("x", 3<<20))}
+	}
+	put(t, a, large...)
+	if got := take(t, it, len(large)); !reflect.DeepEqual(numbers(got), numbers(large)) {
+		t.Error("large ones came in another order")
+	}
+	huge := firing(0)
+	huge.Annotations = model.LabelSet{"text": model.LabelValue(strings.Repeat("\x01", 2<<20))}
+	if err := a.Put(huge, firing(9_000)); err == nil || !strings.Contains(err.Error(), "bytes") {
+		t.Errorf("an alert of 12 MB: %v", err)
+	}
+	take(t, it, 1)
+}
+
+func TestEightPuttersAtOnce(t *testing.T) {
+	// Fewer puts than the log has places, so that no reader is cut.
+	const putters, each = 8, 30
+	a := startPlain(t)
+	var readers, work sync.WaitGroup
+	for reader := 0; reader < 3; reader++ {
+		it := a.Subscribe()
+		defer it.Close()
+		readers.Add(1)
+		go func() {
+			defer readers.Done()
+			next := [putters]int{}
+			for at := 0; at < putters*each; at++ {
+				alert := <-it.Next()
+				var putter, number int
+				fmt.Sscanf(string(alert.Labels["n"]), "%d", &number)
+				putter, number = number/each, number%each
+				if number != next[putter] {
+					t.Errorf("of putter %d came %d where %d is next", putter, number, next[putter])
+				}
+				next[putter] = number + 1
+			}
+		}()
+	}
+	for putter := 0; putter < putters; putter++ {
+		work.Add(1)
+		go func(putter int) {
+			defer work.Done()
+			for number := 0; number < each; number++ {
+				if err := a.Put(firing(putter*each + number)); err != nil {
+					t.Error(err)
+				}
+			}
+		}(putter)
+	}
+	work.Wait()
+	readers.Wait()
+	if stored := pending(t, a); len(stored) != putters*each {
+		t.Errorf("%d are stored", len(stored))
+	}
+}
+
+func TestAHundredSubscriptions(t *testing.T) {
+	const readers = 100
+	a := startPlain(t)
+	put(t, a, firings(0, 10)...)
+	var iterators []provider.AlertIterator
+	for reader := 0; reader < readers; reader++ {
+		it := a.Subscribe()
+		iterators = append(iterators, it)
+		put(t, a, firing(10+reader))
+	}
+	for reader, it := range iterators {
+		got := take(t, it, 10+readers)
+		seen := map[string]bool{}
+		for at, n := range numbers(got) {
+			seen[n] = true
+			if at >= 10+reader && n != fmt.Sprint(at) {
+				t.Fatalf("reader %d got %s as its %dth", reader, n, at)
+			}
+		}
+		if len(seen) != 10+readers {
+			t.Fatalf("reader %d got %d different alerts", reader, len(seen))
+		}
+		takesNothing(t, it)
+	}
+	for _, it := range iterators[:50] {
+		it.Close()
+	}
+	put(t, a, firing(1000))
+	for _, it := range iterators[50:] {
+		if got := take(t, it, 1); numbers(got)[0] != "1000" {
+			t.Fatalf("%v came", got)
+		}
+		it.Close()
+	}
+	waitUntil(t, "no lane is open", func() bool { return len(a.readers.openNames()) == 0 })
+	again := a.Subscribe()
+	defer again.Close()
+	take(t, again, 10+readers+1)
+}
+
+func (r *readers) openNames() (names []string) {
+	r.mutex.Lock()
+	defer r.mutex.Unlock()
+	for it := range r.open {
+		names = append(names, it.name)
+	}
+	return names
+}
+
+func waitUntil(t testing.TB, what string, holds func() bool) {
+	t.Helper()
+	for late := time.Now().Add(20 * time.Second); !holds(); time.Sleep(time.Millisecond) {
+		if time.Now().After(late) {
+			t.Fatalf("it never held that %s", what)
+		}
+	}
+}
+
+// A logCounter counts the messages with a text.
+type logCounter struct {
+	mutex sync.Mutex
+	text  string
+	count int
+}
+
+func (l *logCounter) Log(pairs ...interface{}) error {
+	l.mutex.Lock()
+	defer l.mutex.Unlock()
+	if strings.Contains(fmt.Sprint(pairs...), l.text) {
+		l.count++
+	}
+	return nil
+}
+
+func (l *logCounter) seen() int {
+	l.mutex.Lock()
+	defer l.mutex.Unlock()
+	return l.count
+}
+
+func TestASlowReaderIsCutAndGetsWhatIsStoredAgain(t *testing.T) {
+	logged := &logCounter{text: "TestASlowReaderIsCut"}
+	a := startWith(t, time.Hour, nil, logged, Options{Places: 2})
+	it := a.Subscribe()
+	defer it.Close()
+	// The reader stands still: its channel and one read fill up, then the log's places, and then it is cut.
+	const count = 64 * 60
+	for at := 0; at < count; at += 64 {
+		put(t, a, firings(at, at+64)...)
+	}
+	put(t, a, firing(count))
+	seen := timesUntil(t, it, count)
+	if len(seen) != count+1 {
+		t.Errorf("%d of %d alerts came", len(seen), count+1)
+	}
+	if testutil.ToFloat64(a.cuts) == 0 || logged.seen() == 0 {
+		t.Errorf("%v cuts were counted and %d logged", testutil.ToFloat64(a.cuts), logged.seen())
+	}
+	if seen["0"] < 2 {
+		t.Error("what it had got didn't come again with what is stored")
+	}
+	put(t, a, firing(count+1))
+	if got := numbers(take(t, it, 1)); got[0] != fmt.Sprint(count+1) {
+		t.Errorf("%v came", got)
+	}
+}
+
+// timesUntil takes alerts up to the one of a number, and is how often each came.
+func timesUntil(t testing.TB, it provider.AlertIterator, last int) map[string]int {
+	seen := map[string]int{}
+	for seen[fmt.Sprint(last)] == 0 {
+		seen[numbers(take(t, it, 1))[0]]++
+	}
+	return seen
+}
+
+func TestASharedReaderThatStandsStillHoldsUpNobody(t *testing.T) {
+	a := startPlain(t)
+	var iterators []provider.AlertIterator
+	for reader := 0; reader < ownLanes+3; reader++ {
+		it := a.Subscribe()
+		defer it.Close()
+		iterators = append(iterators, it)
+	}
+	slow, quick := iterators[ownLanes], iterators[ownLanes+1:]
+	count := 2*mostWaiting + mostRead
+	for at := 0; at < count; at += mostRead {
+		put(t, a, firings(at, at+mostRead)...)
+		for _, it := range quick {
+			take(t, it, mostRead)
+		}
+	}
+	for _, it := range quick {
+		takesNothing(t, it)
+	}
+	put(t, a, firing(count))
+	if seen := timesUntil(t, slow, count); len(seen) != count+1 {
+		t.Errorf("%d of %d alerts came", len(seen), count+1)
+	}
+	if cuts := testutil.ToFloat64(a.cuts); cuts == 0 {
+		t.Errorf("%v cuts were counted", cuts)
+	}
+}
+
+func TestAFullLogNamesItsReader(t *testing.T) {
+	a := startWith(t, time.Hour, nil, log.NewNopLogger(), Options{Places: 1, Refuse: true})
+	it := a.Subscribe()
+	defer it.Close()
+	var err error
+	for at := 0; err == nil && at < 100*mostRead; at += 64 {
+		err = a.Put(firings(at, at+64)...)
+	}
+	if err == nil || !strings.Contains(err.Error(), "E13 Full lane 0") || !strings.Contains(err.Error(), "TestAFullLogNamesItsReader") {
+		t.Errorf("%v", err)
+	}
+}
+
+func TestClosedIteratorsFreeTheirLanes(t *testing.T) {
+	a := startPlain(t)
+	for turn := 0; turn < 50; turn++ {
+		it := a.Subscribe()
+		it.Close()
+		it.Close()
+	}
+	waitUntil(t, "no lane is open", func() bool { return len(a.readers.openNames()) == 0 && len(a.readers.own) == 0 })
+}
+
+// Subscriptions that share a lane come and go while alerts are put, each of its own label set and with the numbers of its
+// putter in order: none may get one twice, or miss one before the last of a putter that it got.
+func TestSharedSubscriptionsBesidePuts(t *testing.T) {
+	// Fewer puts than the log has places, so that no reader is cut.
+	const putters, each, readers, turns = 3, 80, 4, 40
+	a := startPlain(t)
+	for lane := 0; lane < ownLanes; lane++ {
+		it := a.Subscribe()
+		defer it.Close()
+		go func() {
+			for range it.Next() {
+			}
+		}()
+	}
+	var work sync.WaitGroup
+	for putter := 0; putter < putters; putter++ {
+		work.Add(1)
+		go func(putter int) {
+			defer work.Done()
+			for number := 0; number < each; number++ {
+				if err := a.Put(firing(putter*each + number)); err != nil {
+					t.Error(err)
+				}
+			}
+		}(putter)
+	}
+	for reader := 0; reader < readers; reader++ {
+		work.Add(1)
+		go func() {
+			defer work.Done()
+			for turn := 0; turn < turns; turn++ {
+				it := a.Subscribe()
+				judgeNumbers(t, readAWhile(it), each)
+				it.Close()
+			}
+		}()
+	}
+	work.Wait()
+}
+
+// readAWhile takes alerts until none has come for ten milliseconds, or for a tenth of a second.
+func readAWhile(it provider.AlertIterator) (alerts []*types.Alert) {
+	late := time.After(100 * time.Millisecond)
+	for {
+		select {
+		case alert := <-it.Next():
+			alerts = append(alerts, alert)
+		case <-time.After(10 * time.Millisecond):
+			return alerts
+		case <-late:
+			return alerts
+		}
+	}
+}
+
+func judgeNumbers(t *testing.T, alerts []*types.Alert, each int) {
+	seen, counts, last := map[int]bool{}, map[int]int{}, map[int]int{}
+	for _, text := range numbers(alerts) {
+		var number int
+		fmt.Sscan(text, &number)
+		if seen[number] {
+			t.Errorf("%d came twice", number)
+		}
+		seen[number] = true
+		counts[number/each]++
+		if number%each > last[number/each] {
+			last[number/each] = number % each
+		}
+	}
+	for putter, count := range counts {
+		if count != last[putter]+1 {
+			t.Errorf("%d alerts of putter %d came up to its %dth", count, putter, last[putter])
+		}
+	}
+}
+
+func TestStatesAreCounted(t *testing.T) {
+	a := startPlain(t)
+	put(t, a, firings(0, 3)...)
+	a.marker.SetActiveOrSilenced(firing(0).Fingerprint(), 1, []string{"1"}, nil)
+	a.marker.SetActiveOrSilenced(firing(1).Fingerprint(), 0, nil, nil)
+	now := time.Now()
+	put(t, a, alertOf(model.LabelSet{"resolved": "b"}, now.Add(-time.Hour), now.Add(-time.Minute)))
+	want := map[types.AlertState]int{types.AlertStateSuppressed: 1, types.AlertStateActive: 1, types.AlertStateUnprocessed: 1}
+	if got, err := a.countStates(); err != nil || !reflect.DeepEqual(got, want) {
+		t.Errorf("%v, %v", got, err)
+	}
+	registry := prometheus.NewRegistry()
+	registry.MustRegister(stateCollector{a})
+	if found, err := registry.Gather(); err != nil || len(found) != 1 || len(found[0].Metric) != 3 {
+		t.Errorf("%v, %v", found, err)
+	}
+}

@@ -1,0 +1,291 @@
+package sinnoraku
+
+import (
+	"bufio"
+	"bytes"
+	"errors"
+	"fmt"
+	"io"
+	"os/exec"
+	"sync"
+	"syscall"
+	"time"
+)
+
+// ErrClosed is what calls and iterators end with after Close.
+var ErrClosed = errors.New("sinnoraku: the provider is closed")
+
+// How long the program may take to answer its first line, and to end once its input has ended.
+const (
+	startPatience = 30 * time.Second
+	endPatience   = 10 * time.Second
+)
+
+// A program is one running replay program. It runs the lines that it is given in their order, so many callers can wait
+// for their answers at once. One goroutine reads the answers and hands each to its call.
+type program struct {
+	path    string
+	command *exec.Cmd
+	input   io.WriteCloser
+	told    tail          // the end of its error stream
+	onPut   func()        // called by the reading goroutine after each answered put
+	ended   chan struct{} // closed once the program has ended and each call has its answer or an error
+
+	writing sync.Mutex // held while lines are numbered and written, so that numbers are in the order of the lines
+	last    int        // the number of the last line
+
+	mutex   sync.Mutex // guards what follows
+	waiting map[int]*call
+	closing bool
+	err     error // why no more calls are taken
+}
+
+// A call is a line that was written, with its answers once they are there.
+type call struct {
+	isPut   bool
+	count   int    // how many answers there are
+	answers []byte // one object a line
+	err     error
+	done    chan struct{}
+}
+
+// start starts the program with these arguments and gives it its first line. It returns once the program has answered,
+// which has to be within the patience.
+func start(path string, arguments []string, configuration string, patience time.Duration, onPut func()) (*program, error) {
+	p := &program{path: path, onPut: onPut, ended: make(chan struct{}), waiting: map[int]*call{}, last: 1}
+	p.command = exec.Command(path, arguments...)
+	p.command.Stderr = &p.told
+	// A signal of the terminal is for this process, which then ends the program in order.
+	p.command.SysProcAttr = &syscall.SysProcAttr{Setpgid: true}
+	input, err := p.command.StdinPipe()
+	if err != nil {
+		return nil, err
+	}
+	output, err := p.command.StdoutPipe()
+	if err != nil {
+		return nil, err
+	}
+	if err := p.command.Start(); err != nil {
+		return nil, fmt.Errorf("sinnoraku: %w", err)
+	}
+	p.input = input
+	go p.read(bufio.NewReaderSize(output, 1<<16))
+	late := time.AfterFunc(patience, p.kill)
+	defer late.Stop()
+	if _, err := io.WriteString(input, configuration+"\n"); err != nil {
+		p.kill()
+	}
+	if _, err := p.ask(getStored); err != nil {
+		p.kill()
+		<-p.ended
+		return nil, err
+	}
+	return p, nil
+}
+
+// ask writes a line and waits for its answers.
+func (p *program) ask(line []byte) (*call, error) {
+	asked := p.send(false, line)[0]
+	return asked, asked.wait()
+}
+
+func (c *call) wait() error {
+	<-c.done
+	return c.err
+}
+
+// send writes lines, each with its line feed, so that none comes between them. It doesn't wait for their answers.
+func (p *program) send(arePuts bool, lines ...[]byte) []*call {
+	calls := make([]*call, len(lines))
+	p.writing.Lock()
+	defer p.writing.Unlock()
+	if err := p.expect(calls, arePuts); err != nil {
+		return calls
+	}
+	text := lines[0]
+	if len(lines) > 1 {
+		text = bytes.Join(lines, nil)
+	}
+	if _, err := p.input.Write(text); err != nil {
+		// The reading goroutine finds the end of the answers, and then ends each call.
+		p.kill()
+	}
+	return calls
+}
+
+// expect makes the calls of the next lines. If no more are taken, they have ended already.
+func (p *program) expect(calls []*call, arePuts bool) error {
+	p.mutex.Lock()
+	defer p.mutex.Unlock()
+	for at := range calls {
+		calls[at] = &call{isPut: arePuts, err: p.err, done: make(chan struct{})}
+		if p.err != nil {
+			close(calls[at].done)
+			continue
+		}
+		p.last++
+		p.waiting[p.last] = calls[at]
+	}
+	return p.err
+}
+
+// read hands each answer to its call, until the program ends.
+func (p *program) read(output *bufio.Reader) {
+	err := p.readAnswers(output)
+	if err != nil {
+		p.kill()
+	}
+	p.end(err, p.command.Wait())
+}
+
+// readAnswers reads answers to the end of the output. What can't be an answer is an error.
+func (p *program) readAnswers(output *bufio.Reader) error {
+	var current *call
+	number := 0
+	for {
+		line, err := readLine(output)
+		if err != nil {
+			return nil
+		}
+		at, kind := headOf(line)
+		switch {
+		case kind == isFirst || kind == isLast:
+			p.note(line)
+			continue
+		case kind == isNone:
+			return fmt.Errorf("sinnoraku: the program printed what is no answer: %.200q", line)
+		case at != number || current == nil:
+			number, current = at, p.waitingFor(at)
+		}
+		if current == nil {
+			return fmt.Errorf("sinnoraku: the program answered a line that nobody waits for: %.200q", line)
+		}
+		if kind == isAnswer {
+			current.count++
+			current.answers = append(current.answers, line...)
+			continue
+		}
+		if count := closingCount(line); count != current.count {
+			return fmt.Errorf("sinnoraku: line %d has %d answers where %d were announced", number, current.count, count)
+		}
+		p.answered(number)
+		current = nil
+	}
+}
+
+// readLine reads a line with its line feed. The bytes are good until the next read.
+func readLine(from *bufio.Reader) ([]byte, error) {
+	line, err := from.ReadSlice('\n')
+	if err != bufio.ErrBufferFull {
+		return line, err
+	}
+	long := append([]byte(nil), line...)
+	rest, err := from.ReadBytes('\n')
+	return append(long, rest...), err
+}
+
+func (p *program) waitingFor(number int) *call {
+	p.mutex.Lock()
+	defer p.mutex.Unlock()
+	return p.waiting[number]
+}
+
+// answered ends the call of a line.
+func (p *program) answered(number int) {
+	p.mutex.Lock()
+	answered := p.waiting[number]
+	delete(p.waiting, number)
+	p.mutex.Unlock()
+	close(answered.done)
+	if answered.isPut {
+		p.onPut()
+	}
+}
+
+// note keeps a refusal of the configuration as why the program ended.
+func (p *program) note(line []byte) {
+	if refused, err := parseAnswer(line); err == nil && refused.word == "refused" {
+		_, _ = fmt.Fprintf(&p.told, "%s refused: %s", refused.do, refused.fault)
+	}
+}
+
+// end says that the program has ended, and ends each call that still waits.
+func (p *program) end(reading, exit error) {
+	p.mutex.Lock()
+	if reading == nil && p.closing {
+		reading = ErrClosed
+	}
+	if reading == nil {
+		reading = fmt.Errorf("sinnoraku: the program %s ended by itself: %s", p.path, endText(exit, p.told.String()))
+	}
+	p.err = reading
+	left := p.waiting
+	p.waiting = nil
+	p.mutex.Unlock()
+	for _, it := range left {
+		it.err = reading
+		close(it.done)
+	}
+	close(p.ended)
+}
+
+func endText(exit error, told string) string {
+	text := "exit status 0"
+	if exit != nil {
+		text = exit.Error()
+	}
+	if told != "" {
+		text += ": " + told
+	}
+	return text
+}
+
+// why says why the program takes no more calls; nil while it does.
+func (p *program) why() error {
+	p.mutex.Lock()
+	defer p.mutex.Unlock()
+	return p.err
+}
+
+// close ends the program's input, and waits until the program has answered what was asked before and has ended.
+func (p *program) close() {
+	p.mutex.Lock()
+	if p.err == nil {
+		p.closing, p.err = true, ErrClosed
+	}
+	p.mutex.Unlock()
+	// A writer that is stuck is freed by the program's end.
+	late := time.AfterFunc(endPatience, p.kill)
+	defer late.Stop()
+	p.writing.Lock()
+	_ = p.input.Close()
+	p.writing.Unlock()
+	<-p.ended
+}
+
+// kill kills the program with what it has started.
+func (p *program) kill() { _ = syscall.Kill(-p.command.Process.Pid, syscall.SIGKILL) }
+
+// A tail keeps the last bytes that are written to it.
+type tail struct {
+	mutex sync.Mutex
+	bytes []byte
+}
+
+const tailLength = 2048
+
+func (t *tail) Write(written []byte) (int, error) {
+	t.mutex.Lock()
+	defer t.mutex.Unlock()
+	t.bytes = append(t.bytes, written...)
+	if over := len(t.bytes) - tailLength; over > 0 {
+		t.bytes = append([]byte(nil), t.bytes[over:]...)
+	}
+	return len(written), nil
+}
+
+func (t *tail) String() string {
+	t.mutex.Lock()
+	defer t.mutex.Unlock()
+	return string(bytes.TrimSpace(t.bytes))
+}
