@@ -1,6 +1,6 @@
-// Alertmanager's own provider under the load of bench/race, from Debian's package of its source. It prints how many
-// subscriptions it made, how many of them were told an alert twice and how many missed one, then how many merges it made
-// and how many of them were lost.
+// An alert provider of Alertmanager under the load of bench/race. It prints how many subscriptions it made, how many of
+// them were told an alert twice and how many missed one, then how many merges it made and how many of them were lost.
+// The file race_mem.go or race_sinnoraku.go next to it says which provider it is.
 //
 //	race POSTERS EACH READERS TURNS MERGES
 package main
@@ -13,17 +13,12 @@ import (
 	"sync"
 	"time"
 
-	"github.com/go-kit/log"
-	"github.com/prometheus/alertmanager/provider/mem"
+	"github.com/prometheus/alertmanager/provider"
 	"github.com/prometheus/alertmanager/types"
-	"github.com/prometheus/client_golang/prometheus"
 	"github.com/prometheus/common/model"
 )
 
 const labelSets = 8
-
-// How long a reader waits for an alert before it leaves.
-const patience = time.Millisecond
 
 var base = time.Date(2090, 1, 1, 0, 0, 0, 0, time.UTC)
 
@@ -39,13 +34,6 @@ func check(err error) {
 	if err != nil {
 		panic(err)
 	}
-}
-
-func newProvider(running context.Context) *mem.Alerts {
-	marker := types.NewMarker(prometheus.NewRegistry())
-	provider, err := mem.NewAlerts(running, marker, time.Hour, nil, log.NewNopLogger(), nil)
-	check(err)
-	return provider
 }
 
 func alert(label string, start, end time.Duration, poster, at int) *types.Alert {
@@ -87,7 +75,7 @@ func judge(told []*types.Alert) (twice, missed bool) {
 	return twice, missed
 }
 
-func read(provider *mem.Alerts, most int) []*types.Alert {
+func read(provider provider.Alerts, most int) []*types.Alert {
 	subscription := provider.Subscribe()
 	defer subscription.Close()
 	var told []*types.Alert
