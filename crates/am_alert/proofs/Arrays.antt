@@ -1,19 +1,20 @@
 -- The array of a post.
-use Rattle.std.proofs.Common.{◌≡◌, ℕ, ◌<◌, ◌≤◌, List, [], ◌∷◌, ◌++◌, length, append-nil, None, Some, Result, Ok, Err, refl, sym, ap, ◌∙◌, arith, ◌⊎◌, inr}
+use Rattle.std.proofs.Common.{◌≡◌, ℕ, ◌<◌, ◌≤◌, List, [], ◌∷◌, ◌++◌, length, append-nil, Option, None, Some, Result, Ok, Err, refl, sym, ap, ◌∙◌, arith, ◌⊎◌, inr}
 use Rattle.std.specs.Prelude.{IsUtf8}
 use Rattle.std.proofs.lemmas.List.{nil_from_length}
-use Rattle.serde_json.specs.Data.{Data, null, boolean, number, string, array, object, Items}
+use Rattle.serde_json.specs.Data.{Data, null, boolean, number, string, array, object, Items, no_items, item}
 use Rattle.serde_json.specs.Find.{as_array}
 use Rattle.serde_json.specs.Read.{read}
 use Rattle.serde_json.proofs.OnLiterals.{serde_json_on_literals}
 use Rattle.serde_json.specs.View.{items_of, items_view}
 use Rattle.serde_json.specs.declared.value.Value.{Value}
 use Rattle.am_alert.specs.declared.alert.Alert.{Alert}
+use Rattle.am_alert.specs.declared.postable.Postable.{Postable}
 use Rattle.am_alert.specs.declared.post.AlertFault.{AlertFault}
 use Rattle.am_alert.specs.declared.post.Post.{Post}
 use Rattle.am_alert.specs.declared.post.PostFault.{PostFault}
 use Rattle.am_alert.specs.declared.post.PostFault.TheVariants as fault
-use Rattle.am_alert.specs.Posts.{count, elements_of, Entries, IsArray, IsPostOf, ReadsEach}
+use Rattle.am_alert.specs.Posts.{count, elements_of, entries_of, Entries, IsArray, IsPostOf, postables_of, ReadsEach}
 
 array_is : (d : Data) (ds : Items) → Some ds ≡ as_array d → d ≡ array ds
 array_is null ds e = (cc)
@@ -56,10 +57,19 @@ some_bytes [] d e = let none : read [] ≡ None = refl in absurd (let no : None 
 some_bytes (b ∷ bytes) d e = omega arith
 
 -- what was read before the end is all
-pub all_read : (now timeout i : ℕ) (rest : List Value) (all : Result Entries PostFault) (valid : List Alert) (faults : List (ℕ × AlertFault)) → length rest ≡ 0
-    → with_front (valid, faults) (elements_of now timeout i (items_view rest)) ≡ all
+pub all_read : (now timeout i : ℕ) (rest : List (Option Postable)) (all : Result Entries PostFault) (valid : List Alert) (faults : List (ℕ × AlertFault)) → length rest ≡ 0
+    → with_front (valid, faults) (entries_of now timeout i rest) ≡ all
     → all ≡ Ok (valid, faults)
 all_read now timeout i rest all valid faults none e =
     sym e
-    ∙ (ap (λ (left : List Value). with_front (valid, faults) (elements_of now timeout i (items_view left))) (nil_from_length rest none)
+    ∙ (ap (λ (left : List (Option Postable)). with_front (valid, faults) (entries_of now timeout i left)) (nil_from_length rest none)
     ∙ (ap (λ (front : List Alert). Ok (front, faults ++ [])) (append-nil valid) ∙ ap (λ (front : List (ℕ × AlertFault)). Ok (valid, front)) (append-nil faults)))
+
+pub count_values : (values : List Value) → count (items_view values) ≡ length values
+count_values [] = refl
+count_values (value ∷ values) = let h = count_values values in omega arith
+
+-- there is an element for each value
+pub as_many : (ds : Items) → length (postables_of ds) ≡ count ds
+as_many no_items = refl
+as_many (item d ds) = let h = as_many ds in omega arith

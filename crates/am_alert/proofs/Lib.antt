@@ -6,3 +6,5 @@ pub mod ValidAlerts
 pub mod MergingRules
 pub mod Printing
 pub mod FromParts
+pub mod Bodies
+pub mod Rooms

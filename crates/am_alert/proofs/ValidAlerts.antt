@@ -16,10 +16,10 @@ use Rattle.am_alert.specs.declared.post.AlertFault.{AlertFault}
 use Rattle.am_alert.specs.declared.post.AlertFault.TheVariants.{NoLabels, EndBeforeStart, EmptyName}
 use Rattle.am_alert.specs.declared.post.PostFault.{PostFault}
 use Rattle.am_alert.specs.declared.postable.Postable.{Postable}
-use Rattle.am_alert.specs.declared.post_reader.Element.{Element}
-use Rattle.am_alert.specs.declared.post_reader.Element.TheVariants.{Valid, Invalid, BadMember, OutOfRange}
+use Rattle.am_alert.specs.declared.elements.Element.{Element}
+use Rattle.am_alert.specs.declared.elements.Element.TheVariants.{Valid, Invalid, BadMember, OutOfRange}
 use Rattle.am_alert.specs.Postables.{◌>>=◌, has_value, labels_of, annotations_of, texts_of, given, if_given, time_at, text_at, postable_of}
-use Rattle.am_alert.specs.Posts.{Entries, count, first_given, defaulted, element_of, elements_of, fault_of, in_range, judged, read_members, with_end, with_first}
+use Rattle.am_alert.specs.Posts.{Entries, count, first_given, defaulted, element_of, elements_of, fault_of, in_range, judged, with_end, with_first}
 use Rattle.am_alert.specs.Laws.{EachElementCounts, FaultsAreInOrder, ValidAlertsAreWellFormed}
 use Rattle.am_alert.specs.declared.post.Post.{Post}
 use Rattle.am_alert.specs.Posts.{IsArray, IsPostOf}
@@ -144,13 +144,12 @@ in_range_valid None alert e = cc
 in_range_valid (Some a) alert e =
     let j = judged_valid a alert e in (ap Some j.0, subst (λ (b : Alert). fault_of b ≡ None) j.0 j.1)
 
-members_valid : (now timeout : ℕ) (o : Option Postable) (alert : Alert) → read_members now timeout o ≡ Valid alert
+members_valid : (now timeout : ℕ) (o : Option Postable) (alert : Alert) → element_of now timeout o ≡ Valid alert
     → (p : Postable) × (o ≡ Some p) × (defaulted now timeout p ≡ Some alert) × (fault_of alert ≡ None)
 members_valid now timeout None alert e = cc
 members_valid now timeout (Some p) alert e = let r = in_range_valid (defaulted now timeout p) alert e in (p, refl, r.0, r.1)
 
-pub well_formed : (now timeout : ℕ) (d : Data) (alert : Alert) → element_of now timeout d ≡ Valid alert → IsWellFormed alert × (alert.updated ≡ now)
-unfolding element_of
+pub well_formed : (now timeout : ℕ) (d : Data) (alert : Alert) → element_of now timeout (postable_of d) ≡ Valid alert → IsWellFormed alert × (alert.updated ≡ now)
 well_formed now timeout d alert e =
     let m = members_valid now timeout (postable_of d) alert e in
     let made = mapped (with_end now m.0) (first_given m.0.end (later now timeout)) alert m.2 in
@@ -222,7 +221,7 @@ pub are_told : (now timeout i : ℕ) (ds : Items) (entries : Entries) → elemen
 are_told now timeout i no_items entries e =
     let same : ([], []) ≡ entries = cc in subst (AreTold now i no_items) same (none_told now i)
 are_told now timeout i (item d ds) entries e =
-    told_first now i d ds (element_of now timeout d) (elements_of now timeout (i + 1) ds) entries
+    told_first now i d ds (element_of now timeout (postable_of d)) (elements_of now timeout (i + 1) ds) entries
     (λ alert is. well_formed now timeout d alert is) (λ more is. are_told now timeout (i + 1) ds more is) e
 
 -- ---- the laws of a post

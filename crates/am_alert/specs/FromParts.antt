@@ -11,7 +11,7 @@ use Rattle.am_alert.specs.declared.post.Post.{Post}
 use Rattle.am_alert.specs.declared.post.PostFault.{PostFault}
 use Rattle.am_alert.specs.declared.post.PostFault.TheVariants as fault
 use Rattle.am_alert.specs.declared.post.TheConstants.{MAX_ALERTS}
-use Rattle.am_alert.specs.declared.post_reader.Element.{Element}
+use Rattle.am_alert.specs.declared.elements.Element.{Element}
 use Rattle.am_alert.specs.Postables.{has_value}
 use Rattle.am_alert.specs.Posts.{Entries, fault_of, judged, with_first}
 

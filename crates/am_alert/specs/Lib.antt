@@ -9,6 +9,8 @@ pub mod Printing
 pub mod TimeTexts
 pub mod Postables
 pub mod Posts
+pub mod Bodies
 pub mod ValidAlerts
 pub mod FromParts
 pub mod Laws
+pub mod inside

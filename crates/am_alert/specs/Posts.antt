@@ -11,8 +11,8 @@ use Rattle.am_alert.specs.Moments.{later}
 use Rattle.am_alert.specs.Postables.{postable_of}
 use Rattle.am_alert.specs.declared.alert.Alert.{Alert}
 use Rattle.am_alert.specs.declared.postable.Postable.{Postable}
-use Rattle.am_alert.specs.declared.post_reader.Element.{Element}
-use Rattle.am_alert.specs.declared.post_reader.Element.TheVariants.{Valid, Invalid, BadMember, OutOfRange}
+use Rattle.am_alert.specs.declared.elements.Element.{Element}
+use Rattle.am_alert.specs.declared.elements.Element.TheVariants.{Valid, Invalid, BadMember, OutOfRange}
 use Rattle.am_alert.specs.declared.post.AlertFault.{AlertFault}
 use Rattle.am_alert.specs.declared.post.AlertFault.TheVariants.{NoLabels, EndBeforeStart, EmptyName}
 use Rattle.am_alert.specs.declared.post.TheConstants.{MAX_ALERTS, MAX_BYTES}
@@ -63,14 +63,16 @@ abbrev pub in_range : Option Alert → Element
 in_range None = OutOfRange
 in_range (Some alert) = judged alert (fault_of alert)
 
--- an element whose members are readable gets its defaults and is judged
-abbrev pub read_members : ℕ → ℕ → Option Postable → Element
-read_members now timeout None = BadMember
-read_members now timeout (Some given) = in_range (defaulted now timeout given)
+-- what an element is: a bad member comes before an end out of range, and that before an invalid alert. An
+-- element whose members are readable gets its defaults and is judged
+abbrev pub element_of : ℕ → ℕ → Option Postable → Element
+element_of now timeout None = BadMember
+element_of now timeout (Some given) = in_range (defaulted now timeout given)
 
--- what an element is: a bad member comes before an end out of range, and that before an invalid alert
-unfoldable pub element_of : ℕ → ℕ → Data → Element
-element_of now timeout d = read_members now timeout (postable_of d)
+-- the members of each element, none where one isn't readable
+abbrev pub postables_of : Items → List (Option Postable)
+postables_of no_items = []
+postables_of (item d ds) = postable_of d ∷ postables_of ds
 
 -- ---- all elements
 
@@ -89,10 +91,14 @@ with_first i OutOfRange rest = Err (fault.OutOfRange i)
 
 -- the elements from index i on: what is valid and what is invalid, or the refusal of the first that is
 -- refused
+abbrev pub entries_of : ℕ → ℕ → ℕ → List (Option Postable) → Result Entries PostFault
+entries_of now timeout i [] = Ok ([], [])
+entries_of now timeout i (given ∷ rest) =
+    with_first i (element_of now timeout given) (entries_of now timeout (i + 1) rest)
+
+-- the same of the elements as they are given
 abbrev pub elements_of : ℕ → ℕ → ℕ → Items → Result Entries PostFault
-elements_of now timeout i no_items = Ok ([], [])
-elements_of now timeout i (item d ds) =
-    with_first i (element_of now timeout d) (elements_of now timeout (i + 1) ds)
+elements_of now timeout i ds = entries_of now timeout i (postables_of ds)
 
 -- ---- the whole post
 

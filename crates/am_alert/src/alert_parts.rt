@@ -6,9 +6,9 @@ ghost use Rattle.am_alert.specs.Printing.{parts_fault_text};
 
 use crate::alert::Alert;
 use crate::alerts::Alerts;
+use crate::elements::fault_of;
 use crate::moment::Moment;
 use crate::post::{AlertFault, Faults, MAX_ALERTS, Post, PostFault};
-use crate::post_reader::fault_of;
 use crate::postable::labels_with_values;
 use am_labels::{LabelSet, SharedText, Text};
 use std::alloc::{AllocError, Global};

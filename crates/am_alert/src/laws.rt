@@ -1,6 +1,7 @@
 //! Laws of reading and merging that callers may cite.
 
 ghost use Rattle.std.specs.Prelude.{◌≡◌};
+ghost use Rattle.am_alert.specs.Bodies.{ElementsAreReadAsTheirText};
 ghost use Rattle.am_alert.specs.Laws.{EachElementCounts, FaultsAreInOrder, MergingEndsAtAnEnd};
 ghost use Rattle.am_alert.specs.Laws.{MergingHasNoOrder, MergingStartsEarliest};
 ghost use Rattle.am_alert.specs.Laws.{ValidAlertsAreWellFormed, YoungerReportDecides};
@@ -20,6 +21,11 @@ pub fn post_laws()
     ensures valid { ValidAlertsAreWellFormed }
     ensures faults { FaultsAreInOrder }
     ensures count { EachElementCounts }
+{}
+
+/// Elements that were read already make the post that the text of their array makes.
+pub fn body_laws()
+    ensures { ElementsAreReadAsTheirText }
 {}
 
 /// Of two reports that are merged: the alert starts no later than either, and ends when one of them

@@ -3,8 +3,8 @@
 //!
 //! `read_post` reads a request's body: its valid alerts, and the faults of the others with their
 //! indices, or one refusal of the whole. `absorb` says what a label set holds once a report of it
-//! came. Each moment is handed in: no clock is read. Who has no JSON makes a post by
-//! `Post::from_parts`.
+//! came. Each moment is handed in: no clock is read. Who has read the JSON already makes a `Body` of
+//! its value, and who has none makes a post by `Post::from_parts`.
 //!
 //! ```text
 //! let post = read_post(alloc, body, now, Duration::from_secs(300))?;
@@ -20,7 +20,9 @@
 mod alert;
 mod alert_parts;
 mod alerts;
+mod body;
 mod civil_time;
+mod elements;
 mod laws;
 mod merging;
 mod moment;
@@ -32,8 +34,10 @@ mod time_text;
 pub use alert::Alert;
 pub use alert_parts::{AlertParts, PartsFault};
 pub use alerts::Alerts;
+pub use body::Body;
 pub use civil_time::CivilTime;
-pub use laws::{limit_laws, merging_laws, post_laws};
+pub use elements::Elements;
+pub use laws::{body_laws, limit_laws, merging_laws, post_laws};
 pub use merging::{absorb, merge, overlaps};
 pub use moment::Moment;
 pub use post::{AlertFault, Faults, MAX_ALERTS, MAX_BYTES, Post, PostFault};

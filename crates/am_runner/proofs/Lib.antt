@@ -4,3 +4,4 @@ pub mod Owed
 pub mod Results
 pub mod Taking
 pub mod Turning
+pub mod Putting

@@ -7,7 +7,6 @@ use Rattle.std.specs.Str.{bytes_eq}
 use Rattle.am_provider.specs.Callers.{SeesCall}
 use Rattle.am_provider.specs.Headline.{AnswersSubscribe}
 use Rattle.am_config.specs.declared.config.Config.{Config}
-use Rattle.am_script.specs.declared.command.Command.{Command}
 use Rattle.am_script.specs.declared.command.Command.TheVariants.{Subscribe}
 use Rattle.am_script.specs.declared.command.Verb.{Verb}
 use Rattle.am_script.specs.declared.kind.Kind.{Kind}

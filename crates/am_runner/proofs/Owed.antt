@@ -1,5 +1,5 @@
 -- What a thread read of its subscriptions is what was due to them.
-use Rattle.std.proofs.Common.{◌≡◌, ◌≢◌, ℕ, zero, suc, ◌+◌, ◌<◌, ◌≤◌, ◌⊎◌, inl, inr, Bool, true, false, List, [], ◌∷◌, ◌++◌, Option, Some, None, Err, length, take, slice_get, slice_set, remove, refl, sym, ap, subst, ◌∙◌, arith}
+use Rattle.std.proofs.Common.{◌≡◌, ◌≢◌, ℕ, zero, suc, ◌+◌, ◌⊎◌, inl, inr, Bool, true, false, List, [], ◌∷◌, ◌++◌, Option, Some, None, Err, length, take, slice_get, slice_set, remove, refl, sym, ap, subst, ◌∙◌, arith}
 use native.Mathlib.Decide.{ℕ_discrete}
 use mathlib.Core.Logic.{dite}
 use mathlib.Core.List.{IsPrefix}
@@ -9,10 +9,11 @@ use Rattle.std.proofs.lemmas.List.{append_assoc, append-nil}
 use Rattle.std.proofs.lemmas.List.Elements.{filter_map-append}
 use Rattle.std.proofs.lemmas.Option.{slice_get_within}
 use Rattle.am_alert.specs.declared.alert.Alert.{Alert}
+use Rattle.am_alert.specs.declared.body.Body.{Body}
 use Rattle.am_history.specs.Fronts.{FrontView}
 use Rattle.am_store.specs.Broadcast.{due, IsFront}
 use Rattle.am_cast.specs.Cursors as cast
-use Rattle.am_provider.specs.Callers.{AnswersBody, SeesCall}
+use Rattle.am_provider.specs.Callers.{SeesCall}
 use Rattle.am_provider.specs.Headline.{AnswersLeave}
 use Rattle.am_provider.specs.Histories.{EntryView, calls_of, whole}
 use Rattle.am_provider.specs.Owing.{StaysFrontOfDue}
@@ -31,7 +32,7 @@ use Rattle.am_script.specs.declared.command.Verb.TheVariants as verb
 use Rattle.am_runner.specs.Answers.{is_item}
 use Rattle.am_runner.specs.Consuming.{IsAsked, IsSwept}
 use Rattle.am_runner.specs.Owed.{AreOwed, ReadIsDue, ReadsContinue, item_in, items_in}
-use Rattle.am_runner.specs.Putting.{AnswersPut}
+use Rattle.am_runner.specs.Putting.{AnswersPosted, AnswersPut}
 use Rattle.am_runner.specs.Reading.{OpenView, NextIs, ReadsOne, takes, misses, ends, ReadsSome, nothing, one_more, ReadAnswers, all, ended, Asks}
 use Rattle.am_runner.specs.Sessions.{Setting, SessionView, Does, LeavesAt, LeavesAll, OnNamed, IsOne}
 use Rattle.am_runner.specs.Sessions as does
@@ -249,8 +250,8 @@ module _ (law : StaysFrontOfDue) (entries : List EntryView) where
   read_back : (max : ℕ) (before after : OpenView) (given : List Answer) → ReadAnswers before max given after → IsOwed after → IsOwed before
   read_back max before after given reads owed = earlier before after given (read_goes_on before after max given reads) owed
 
-  refused_back : (config : Config) (setting : Setting) (at : ℕ) (body : List ℕ) (old : SessionView) (why : PostRefused) (pass : PassView Alert Call) (front : FrontView EntryView)
-      → AnswersBody setting.policy setting.places at setting.timeout body old.pass pass old.front front (Err why) → WasOwed (record old { pass = pass; front = front }) → WasOwed old
+  refused_back : (config : Config) (setting : Setting) (at : ℕ) (body : Body) (old : SessionView) (why : PostRefused) (pass : PassView Alert Call) (front : FrontView EntryView)
+      → AnswersPosted setting.policy setting.places at setting.timeout body old.pass pass old.front front (Err why) → WasOwed (record old { pass = pass; front = front }) → WasOwed old
   refused_back config setting at body old (refused.Put fault) pass front it owed = same_opened old (record old { pass = pass; front = front }) _ it.2 refl owed
   refused_back config setting at body old (refused.Unread fault) pass front it owed = record {
     seen = subst (λ (f : FrontView EntryView). IsPrefix f.seen entries) it.2 owed.seen;

@@ -1,8 +1,10 @@
--- What a put of alerts that carry their own moments comes to.
+-- What a post of a body and a put of alerts that carry their own moments come to.
 use Rattle.std.specs.Prelude.{◌≡◌, ℕ, List, map, Result, Ok, Err}
+use Rattle.am_alert.specs.Bodies.{IsPostOfBody}
 use Rattle.am_alert.specs.FromParts.{IsPostOfParts, alert_of}
 use Rattle.am_alert.specs.declared.alert.Alert.{Alert}
 use Rattle.am_alert.specs.declared.alert_parts.AlertParts.{AlertParts}
+use Rattle.am_alert.specs.declared.body.Body.{Body}
 use Rattle.am_alert.specs.declared.post.Post.{Post}
 use Rattle.am_alert.specs.declared.post.PostFault.{PostFault}
 use Rattle.am_cast.specs.Posters.{PassView}
@@ -17,21 +19,31 @@ use Rattle.am_provider.specs.declared.answers.Posted.{Posted}
 use Rattle.am_provider.specs.declared.faults.PostRefused.{PostRefused}
 use Rattle.am_provider.specs.declared.faults.PostRefused.TheVariants as refused
 
+-- what a post comes to of which the reading answers this: one that isn't read is refused for its fault before
+-- the history is looked at; another is posted, and then the pass owns its place
+abbrev pub AnswersRead : (Result Post PostFault → Type 0) → Policy → ℕ → ℕ → PassView Alert Call
+    → PassView Alert Call → FrontView EntryView → FrontView EntryView → Result Posted PostRefused → Type 0
+AnswersRead is_read policy places now was is saw sees (Ok posted) =
+    (post : Post) × is_read (Ok post)
+    × SeesCall saw sees (AnswersPost policy places now post (Ok posted))
+    × AddsOwn was now post.valid posted.place is
+AnswersRead is_read policy places now was is saw sees (Err (refused.Put fault)) =
+    (post : Post) × is_read (Ok post)
+    × SeesCall saw sees (AnswersPost policy places now post (Err fault)) × (is ≡ was)
+AnswersRead is_read policy places now was is saw sees (Err (refused.Unread fault)) =
+    is_read (Err fault) × (is ≡ was) × (sees ≡ saw)
+
+-- what a post of a body comes to
+abbrev pub AnswersPosted : Policy → ℕ → ℕ → ℕ → Body → PassView Alert Call → PassView Alert Call
+    → FrontView EntryView → FrontView EntryView → Result Posted PostRefused → Type 0
+AnswersPosted policy places now timeout body = AnswersRead (IsPostOfBody now timeout body) policy places now
+
 -- what the post of some alerts is, or why there is none
 abbrev pub IsPostOfAlerts : List Alert → Result Post PostFault → Type 0
 IsPostOfAlerts alerts post = (parts : List AlertParts) × (map alert_of parts ≡ alerts)
     × IsPostOfParts parts post
 
--- what a put of alerts answers at a moment: alerts that make no post are refused before the history is looked
--- at; others are posted, and then the pass owns their place
+-- what a put of alerts comes to
 abbrev pub AnswersPut : Policy → ℕ → ℕ → List Alert → PassView Alert Call → PassView Alert Call
     → FrontView EntryView → FrontView EntryView → Result Posted PostRefused → Type 0
-AnswersPut policy places now alerts was is saw sees (Ok posted) =
-    (post : Post) × IsPostOfAlerts alerts (Ok post)
-    × SeesCall saw sees (AnswersPost policy places now post (Ok posted))
-    × AddsOwn was now post.valid posted.place is
-AnswersPut policy places now alerts was is saw sees (Err (refused.Put fault)) =
-    (post : Post) × IsPostOfAlerts alerts (Ok post)
-    × SeesCall saw sees (AnswersPost policy places now post (Err fault)) × (is ≡ was)
-AnswersPut policy places now alerts was is saw sees (Err (refused.Unread fault)) =
-    IsPostOfAlerts alerts (Err fault) × (is ≡ was) × (sees ≡ saw)
+AnswersPut policy places now alerts = AnswersRead (IsPostOfAlerts alerts) policy places now

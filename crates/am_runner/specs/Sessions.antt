@@ -9,6 +9,7 @@ use Rattle.std.specs.declared.alloc.Global.{Global}
 use Rattle.std.specs.declared.sync.Arc.{Arc}
 use Rattle.std.specs.declared.time.Duration.{Duration}
 use Rattle.am_alert.specs.declared.alert.Alert.{Alert}
+use Rattle.am_alert.specs.declared.body.Body.{Body}
 use Rattle.am_store.specs.declared.call.Call.{Call}
 use Rattle.am_store.specs.LaneSets.{has_lane}
 use Rattle.std.specs.declared.alloc.AllocError.{AllocError}
@@ -16,7 +17,7 @@ use Rattle.am_cast.specs.Posters.{PassView}
 use Rattle.am_cast.specs.declared.faults.AlreadyClosed.{AlreadyClosed}
 use Rattle.am_history.specs.Fronts.{FrontView}
 use Rattle.am_provider.specs.Posts.{HasMet}
-use Rattle.am_provider.specs.Callers.{AnswersBody, SeesCall}
+use Rattle.am_provider.specs.Callers.{SeesCall}
 use Rattle.am_provider.specs.Headline.{AnswersSubscribe, AnswersLeave, AnswersCollect, AnswersClose}
 use Rattle.am_provider.specs.Headline.{AnswersGet, AnswersStored, AnswersTrim}
 use Rattle.am_provider.specs.Histories.{EntryView}
@@ -37,7 +38,7 @@ use Rattle.am_script.specs.declared.command.Verb.{Verb}
 use Rattle.am_script.specs.declared.command.Verb.TheVariants as verb
 use Rattle.am_runner.specs.Asking.{AsksTree, ShowsTree}
 use Rattle.am_runner.specs.Consuming.{fresh_consumer, IsAsked, IsSwept}
-use Rattle.am_runner.specs.Putting.{AnswersPut}
+use Rattle.am_runner.specs.Putting.{AnswersPosted, AnswersPut}
 use Rattle.am_runner.specs.Reading.{OpenView, ReadAnswers, Asks, groups_beside}
 use Rattle.am_runner.specs.declared.answer.Answer.{Answer}
 use Rattle.am_runner.specs.declared.answer.Answer.TheVariants as answer
@@ -153,15 +154,15 @@ AsksNamed name labels at old answers new = OnNamed name verb.Mutes (λ before gi
 -- provider makes of it is what its calls say, at their places in the one history.
 pub data Does (config : Config) (setting : Setting) (old : SessionView)
     : Command → List Answer → SessionView → Type 0 where
-  posted : {at : ℕ} {body : List ℕ} {posted : Posted} {pass : PassView Alert Call}
+  posted : {at : ℕ} {body : Body} {posted : Posted} {pass : PassView Alert Call}
       {front : FrontView EntryView}
-      → AnswersBody setting.policy setting.places at setting.timeout body old.pass pass old.front front
+      → AnswersPosted setting.policy setting.places at setting.timeout body old.pass pass old.front front
       (Ok posted)
       → Does config setting old (Post at body) (posted_answers posted)
       (record old { pass = pass; front = front })
-  post_refused : {at : ℕ} {body : List ℕ} {why : PostRefused} {pass : PassView Alert Call}
+  post_refused : {at : ℕ} {body : Body} {why : PostRefused} {pass : PassView Alert Call}
       {front : FrontView EntryView}
-      → AnswersBody setting.policy setting.places at setting.timeout body old.pass pass old.front front
+      → AnswersPosted setting.policy setting.places at setting.timeout body old.pass pass old.front front
       (Err why)
       → Does config setting old (Post at body) (answer.PostRefused why ∷ [])
       (record old { pass = pass; front = front })

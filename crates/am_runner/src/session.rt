@@ -3,9 +3,8 @@
 
 ghost use Rattle.std.specs.Prelude.{◌≡◌, ◌<◌, ◌++◌, ◌∷◌, [], IfOk, OnOk, is_some, length, map, option_map};
 ghost use Rattle.std.specs.Arc.{arc_value};
-ghost use Rattle.am_alert.specs.FromParts.{alert_of};
 ghost use Rattle.am_store.specs.Shared.{alerts_in};
-ghost use Rattle.am_runner.specs.Putting.{AnswersPut};
+ghost use Rattle.am_runner.specs.Putting.{AnswersRead};
 ghost use Rattle.am_config.specs.RouteLists.{root_of};
 ghost use Rattle.am_config.specs.declared.config.Config.{Config};
 ghost use Rattle.am_runner.specs.Asking.{AsksTree, ShowsTree};
@@ -20,7 +19,7 @@ use crate::context::Context;
 use crate::open_subscription::OpenSubscription;
 use crate::register::{Register, TurnsSeen};
 use crate::turns::{Turn, Turns};
-use am_alert::{AlertFault, AlertParts, Moment, Post};
+use am_alert::{AlertFault, Body, Moment, Post, PostFault};
 use am_config::RouteTree;
 use am_history::Timeline;
 use am_labels::{LabelSet, Text};
@@ -155,15 +154,14 @@ impl<'p, 'c, N: Recorded> Session<'p, 'c, N> {
         &mut self,
         context: &Context<'p, 'c, N, R, G>,
         at: Moment,
-        body: &Text,
+        body: &Body,
     ) -> Result<Vec<Answer>, AllocError>
         ensures { IfOk result (λ answers. (config : Config)
             → Does config (setting_of N.places N.policy context.now.provider.now.resolve_timeout)
             self.old (Command.Post at body.now) answers.items self.new) }
     {
-        let body = body.as_str().as_bytes();
-        let provider = context.provider;
-        let posted = match provider.post(context.rt, &mut self.caller, context.turns, body, at) {
+        let read = body.read(context.alloc, at, context.provider.resolve_timeout);
+        let posted = match put_read(context, &mut self.caller, at, read) {
             Ok(posted) => posted,
             Err(why) => return one(context.alloc, Answer::PostRefused(why)),
         };
@@ -180,8 +178,8 @@ impl<'p, 'c, N: Recorded> Session<'p, 'c, N> {
             → Does config (setting_of N.places N.policy context.now.provider.now.resolve_timeout)
             self.old (Command.Put at alerts.now) answers.items self.new) }
     {
-        let parts = alerts.parts(context.alloc)?;
-        let posted = match put_parts(context, &mut self.caller, at, parts) {
+        let read = Post::from_parts(context.alloc, alerts.parts(context.alloc)?);
+        let posted = match put_read(context, &mut self.caller, at, read) {
             Ok(posted) => posted,
             Err(why) => return one(context.alloc, Answer::PostRefused(why)),
         };
@@ -351,17 +349,17 @@ impl<'p, 'c, N: Recorded> Session<'p, 'c, N> {
     }
 }
 
-// Posts those alerts of some parts that are valid.
-fn put_parts<N: Recorded, R: Wait, G: Gate>(
+// Posts what was read, if it was.
+fn put_read<N: Recorded, R: Wait, G: Gate>(
     context: &Context<'_, '_, N, R, G>,
     caller: &mut Caller<N>,
     at: Moment,
-    parts: Vec<AlertParts>,
+    read: Result<Post, PostFault>,
 ) -> Result<Posted, PostRefused>
-    ensures { AnswersPut N.policy N.places at (map alert_of parts.items)
+    ensures { AnswersRead (λ answer. answer ≡ read) N.policy N.places at
         caller.old.pass caller.new.pass caller.old.front caller.new.front result }
 {
-    let post = match Post::from_parts(context.alloc, parts) {
+    let post = match read {
         Ok(post) => post,
         Err(fault) => return Err(PostRefused::Unread(fault)),
     };

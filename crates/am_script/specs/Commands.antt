@@ -3,12 +3,14 @@ use Rattle.std.specs.Prelude.{◌≡◌, ◌⊎◌, ◌≤◌, ⊤, ℕ, ◌&&�
 use Rattle.std.specs.Prelude.{Option, Some, None, is_some, option_map, option_and_then, IfSome, MatchOption}
 use Rattle.std.specs.Prelude.{Result, Ok, Err, IsUtf8}
 use Rattle.std.specs.Str.{bytes_eq}
-use Rattle.serde_json.specs.Data.{Data, Members, object, depth}
-use Rattle.serde_json.specs.Find.{get, as_str, as_number, as_u64}
-use Rattle.serde_json.specs.Read.{read, max_depth}
-use Rattle.serde_json.specs.Written.{compact_text, has_float, IsInOrder}
+use Rattle.serde_json.specs.Data.{Data, Members, object}
+use Rattle.serde_json.specs.Find.{get, as_number, as_u64}
+use Rattle.serde_json.specs.Read.{read}
 use Rattle.am_labels.specs.LabelSets.{Labels}
+use Rattle.am_alert.specs.Bodies.{IsBodyOf}
 use Rattle.am_alert.specs.Postables.{labels_of}
+use Rattle.am_alert.specs.declared.body.Body.{Body}
+use Rattle.am_alert.specs.declared.body.Body.TheVariants.{Text}
 use Rattle.am_script.specs.declared.command.Command.{Command}
 use Rattle.am_script.specs.declared.command.Command.TheVariants.{Post, Put, Subscribe, Read, Leave, Collect}
 use Rattle.am_script.specs.declared.command.Command.TheVariants.{Close, Trim, Groups, Sweep, Mutes, Stored}
@@ -93,8 +95,8 @@ verb_of text =
 abbrev pub verb_at : Data → Option Verb
 verb_at d = option_and_then verb_of (text_member (codes "do") d)
 
--- the command of a verb, where a post's body is posted as this text
-unfoldable pub command_for : List ℕ → Data → Verb → Option Command
+-- the command of a verb, where a post's body is posted as this
+unfoldable pub command_for : Body → Data → Verb → Option Command
 command_for body d verb.Post = do
   at ← moment_of d
   given ← get (codes "body") d
@@ -130,45 +132,35 @@ command_for body d verb.Get = option_map Get (labels_at d)
 command_for body d verb.Routes = Some Routes
 command_for body d verb.Route = option_map Route (labels_at d)
 
--- the line of this number, where a post's body is posted as this text
-unfoldable pub line_of : ℕ → List ℕ → Data → Option Line
+-- the line of this number, where a post's body is posted as this
+unfoldable pub line_of : ℕ → Body → Data → Option Line
 line_of number body d = do
   thread ← thread_of d
   word ← verb_at d
   command ← command_for body d word
   Some (record { number = number; thread = thread; command = command })
 
--- the text of a value with no white space between its parts, as `serde_json` writes it
-pub record IsCompactText (d : Data) (text : List ℕ) : Type 0 where
-  pub exact : has_float d ≡ false → text ≡ compact_text d
-  pub in_order : IsInOrder text d
-  pub reads_back : depth d ≤ max_depth → read text ≡ Some d
+-- the body that a command posts
+abbrev pub posted_body : Command → Body
+posted_body (Post at body) = body
+posted_body (Put at alerts) = Text []
+posted_body (Subscribe name kind) = Text []
+posted_body (Read name max) = Text []
+posted_body (Leave name) = Text []
+posted_body (Collect at) = Text []
+posted_body Close = Text []
+posted_body Trim = Text []
+posted_body (Groups name) = Text []
+posted_body (Sweep name at) = Text []
+posted_body (Mutes name at labels) = Text []
+posted_body Stored = Text []
+posted_body (Get labels) = Text []
+posted_body Routes = Text []
+posted_body (Route labels) = Text []
 
--- what a body is posted as: a text as its bytes, any other value as its compact text
-abbrev pub IsBodyText : Data → List ℕ → Type 0
-IsBodyText d text = MatchOption (as_str d) (IsCompactText d text) (λ bytes. text ≡ bytes)
-
--- the text that a command posts
-abbrev pub body_text : Command → List ℕ
-body_text (Post at body) = body
-body_text (Put at alerts) = []
-body_text (Subscribe name kind) = []
-body_text (Read name max) = []
-body_text (Leave name) = []
-body_text (Collect at) = []
-body_text Close = []
-body_text Trim = []
-body_text (Groups name) = []
-body_text (Sweep name at) = []
-body_text (Mutes name at labels) = []
-body_text Stored = []
-body_text (Get labels) = []
-body_text Routes = []
-body_text (Route labels) = []
-
--- a post's text is that of the line's body
+-- a post's body is what the line's body is posted as
 abbrev pub HasItsBody : Data → Command → Type 0
-HasItsBody d (Post at body) = IfSome (get (codes "body") d) (λ given. IsBodyText given body)
+HasItsBody d (Post at body) = IfSome (get (codes "body") d) (λ given. IsBodyOf given body)
 HasItsBody d (Put at alerts) = ⊤
 HasItsBody d (Subscribe name kind) = ⊤
 HasItsBody d (Read name max) = ⊤
@@ -190,18 +182,18 @@ IsReadAs (Ok x) read = read ≡ Some x
 IsReadAs (Err BadLine) read = read ≡ None
 IsReadAs (Err NoMemory) read = ⊤
 
--- the same of a reader of commands, where a post's text is that of the line's body
-abbrev pub ReadsCommand : Data → Result Command LineFault → (List ℕ → Option Command) → Type 0
+-- the same of a reader of commands, where a post's body is what the line's body is posted as
+abbrev pub ReadsCommand : Data → Result Command LineFault → (Body → Option Command) → Type 0
 ReadsCommand d (Ok command) read =
-    HasItsBody d command × (read (body_text command) ≡ Some command)
-ReadsCommand d (Err BadLine) read = (body : List ℕ) → read body ≡ None
+    HasItsBody d command × (read (posted_body command) ≡ Some command)
+ReadsCommand d (Err BadLine) read = (body : Body) → read body ≡ None
 ReadsCommand d (Err NoMemory) read = ⊤
 
 -- what reading a line's JSON answers
 abbrev pub IsLineFrom : ℕ → Data → Result Line LineFault → Type 0
 IsLineFrom number d (Ok line) =
-    HasItsBody d line.command × (line_of number (body_text line.command) d ≡ Some line)
-IsLineFrom number d (Err BadLine) = (body : List ℕ) → line_of number body d ≡ None
+    HasItsBody d line.command × (line_of number (posted_body line.command) d ≡ Some line)
+IsLineFrom number d (Err BadLine) = (body : Body) → line_of number body d ≡ None
 IsLineFrom number d (Err NoMemory) = ⊤
 
 -- what reading a line answers: the command of its JSON, or that it has none
@@ -212,8 +204,8 @@ IsLineOf number bytes (Err BadLine) = (IsUtf8 bytes → read bytes ≡ None) ⊎
     × (read bytes ≡ Some d) × IsLineFrom number d (Err BadLine))
 IsLineOf number bytes (Err NoMemory) = ⊤
 
--- the command of a line whose thread isn't looked at, where a post's body is posted as this text
-unfoldable pub command_of : List ℕ → Data → Option Command
+-- the command of a line whose thread isn't looked at, where a post's body is posted as this
+unfoldable pub command_of : Body → Data → Option Command
 command_of body d = do
   word ← verb_at d
   command_for body d word

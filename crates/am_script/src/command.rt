@@ -6,7 +6,7 @@ ghost use Rattle.am_script.specs.ScriptTexts.{verb_text};
 use crate::kind::Kind;
 use crate::put_alerts::PutAlerts;
 use crate::thread::Thread;
-use am_alert::Moment;
+use am_alert::{Body, Moment};
 use am_labels::{LabelSet, Text};
 use std::alloc::{AllocError, AllocFailed};
 use std::fmt;
@@ -17,7 +17,7 @@ pub enum Command {
     /// A body given as a text is posted as its bytes, any other value as its compact text.
     Post {
         at: Moment,
-        body: Text,
+        body: Body,
     },
     /// Alerts that carry their own moments are posted.
     Put {

@@ -1,34 +1,35 @@
 //! Reading the command of one line: its JSON, then its members in their order.
 
-ghost use Rattle.std.specs.Prelude.{IfOk};
-ghost use Rattle.serde_json.specs.View.{view};
+ghost use Rattle.std.specs.Prelude.{◌≡◌, codes, option_map};
+ghost use Rattle.serde_json.specs.Find.{get, get_member};
+ghost use Rattle.serde_json.specs.View.{view, members_view};
 ghost use Rattle.am_script.specs.Commands.{command_for, command_of};
-ghost use Rattle.am_script.specs.Commands.{IsBodyText, IsCommandOf, IsLineFrom, IsLineOf, ReadsCommand};
+ghost use Rattle.am_script.specs.Commands.{IsCommandOf, IsLineFrom, IsLineOf, ReadsCommand};
 
 use crate::command::{Command, Line, LineFault, Verb};
 use crate::members::{kind_at, labels_at, max_at, moment_at, name_at, thread_at, verb_at};
 use crate::put_reader::alerts_at;
-use am_labels::Text;
-use serde_json::Value;
-use std::alloc::{AllocError, Global};
+use am_alert::Body;
+use serde_json::{Map, Value};
+use std::alloc::Global;
 
 /// The command of a line.
 pub fn read_line(alloc: Global, number: u32, bytes: &[u8]) -> Result<Line, LineFault>
     ensures { IsLineOf number bytes.now result }
 {
     match Value::from_slice(alloc, bytes) {
-        Ok(value) => line_of(alloc, number, &value),
+        Ok(value) => line_of(alloc, number, value),
         Err(error) if error.is_memory() => Err(LineFault::NoMemory),
         Err(_) => Err(LineFault::BadLine),
     }
 }
 
 #[tactic(auto, unfolding(crate::specs::Commands::line_of))]
-fn line_of(alloc: Global, number: u32, value: &Value) -> Result<Line, LineFault>
-    ensures { IsLineFrom number (view value.now) result }
+fn line_of(alloc: Global, number: u32, value: Value) -> Result<Line, LineFault>
+    ensures { IsLineFrom number (view value) result }
 {
-    let thread = thread_at(value)?;
-    let verb = verb_at(value)?;
+    let thread = thread_at(&value)?;
+    let verb = verb_at(&value)?;
     let command = command_for(alloc, value, verb)?;
     Ok(Line {
         number,
@@ -42,54 +43,71 @@ pub fn read_command(alloc: Global, bytes: &[u8]) -> Result<Command, LineFault>
     ensures { IsCommandOf bytes.now result }
 {
     match Value::from_slice(alloc, bytes) {
-        Ok(value) => command_of(alloc, &value),
+        Ok(value) => command_of(alloc, value),
         Err(error) if error.is_memory() => Err(LineFault::NoMemory),
         Err(_) => Err(LineFault::BadLine),
     }
 }
 
 #[tactic(auto, unfolding(crate::specs::Commands::command_of))]
-fn command_of(alloc: Global, value: &Value) -> Result<Command, LineFault>
-    ensures { ReadsCommand (view value.now) result (λ body. command_of body (view value.now)) }
+fn command_of(alloc: Global, value: Value) -> Result<Command, LineFault>
+    ensures { ReadsCommand (view value) result (λ body. command_of body (view value)) }
 {
-    let verb = verb_at(value)?;
+    let verb = verb_at(&value)?;
     command_for(alloc, value, verb)
 }
 
-fn command_for(alloc: Global, value: &Value, verb: Verb) -> Result<Command, LineFault>
-    ensures { ReadsCommand (view value.now) result
-        (λ body. command_for body (view value.now) verb) }
+fn command_for(alloc: Global, value: Value, verb: Verb) -> Result<Command, LineFault>
+    ensures { ReadsCommand (view value) result
+        (λ body. command_for body (view value) verb) }
 {
     match verb {
         Verb::Post => post_of(alloc, value),
-        Verb::Put => put_of(alloc, value),
-        Verb::Subscribe => subscribe_of(alloc, value),
-        Verb::Read => read_of(alloc, value),
-        Verb::Leave => leave_of(alloc, value),
-        Verb::Collect => collect_of(value),
+        Verb::Put => put_of(alloc, &value),
+        Verb::Subscribe => subscribe_of(alloc, &value),
+        Verb::Read => read_of(alloc, &value),
+        Verb::Leave => leave_of(alloc, &value),
+        Verb::Collect => collect_of(&value),
         Verb::Close => Ok(Command::Close),
         Verb::Trim => Ok(Command::Trim),
-        Verb::Groups => groups_of(alloc, value),
-        Verb::Sweep => sweep_of(alloc, value),
-        Verb::Mutes => mutes_of(alloc, value),
+        Verb::Groups => groups_of(alloc, &value),
+        Verb::Sweep => sweep_of(alloc, &value),
+        Verb::Mutes => mutes_of(alloc, &value),
         Verb::Stored => Ok(Command::Stored),
-        Verb::Get => get_of(alloc, value),
+        Verb::Get => get_of(alloc, &value),
         Verb::Routes => Ok(Command::Routes),
-        Verb::Route => route_of(alloc, value),
+        Verb::Route => route_of(alloc, &value),
     }
 }
 
 #[tactic(auto, unfolding(crate::specs::Commands::command_for))]
-fn post_of(alloc: Global, value: &Value) -> Result<Command, LineFault>
-    ensures { ReadsCommand (view value.now) result
-        (λ body. command_for body (view value.now) Verb.Post) }
+fn post_of(alloc: Global, value: Value) -> Result<Command, LineFault>
+    ensures { ReadsCommand (view value) result
+        (λ body. command_for body (view value) Verb.Post) }
 {
-    let at = moment_at(value, "at")?;
-    let Some(given) = value.get("body") else {
+    let at = moment_at(&value, "at")?;
+    let Some(given) = body_at(value) else {
         return Err(LineFault::BadLine);
     };
-    let body = posted_text(alloc, given)?;
+    let body = Body::of(alloc, given)?;
     Ok(Command::Post { at, body })
+}
+
+// A post's body, taken out of its line.
+fn body_at(value: Value) -> Option<Value>
+    ensures { option_map view result ≡ get (codes "body") (view value) }
+{
+    match value {
+        Value::Object(members) => member(members, "body"),
+        _ => None,
+    }
+}
+
+fn member(members: Map<String, Value>, name: &str) -> Option<Value>
+    ensures { option_map view result ≡ get_member name.now (members_view members.entries) }
+{
+    let mut members = members;
+    members.remove(name)
 }
 
 #[tactic(auto, unfolding(crate::specs::Commands::command_for))]
@@ -100,17 +118,6 @@ fn put_of(alloc: Global, value: &Value) -> Result<Command, LineFault>
     let at = moment_at(value, "at")?;
     let alerts = alerts_at(alloc, value)?;
     Ok(Command::Put { at, alerts })
-}
-
-fn posted_text(alloc: Global, body: &Value) -> Result<Text, AllocError>
-    ensures { IfOk result (IsBodyText (view body.now)) }
-{
-    match body.as_str() {
-        Some(text) => Text::from_str(alloc, text),
-        None => Ok(Text {
-            text: body.to_string(alloc)?,
-        }),
-    }
 }
 
 #[tactic(auto, unfolding(crate::specs::Commands::command_for))]

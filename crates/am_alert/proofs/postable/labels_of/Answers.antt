@@ -1,4 +1,4 @@
-use Rattle.std.proofs.Common.{◌≡◌, Some, ap, sym, ◌∙◌, rules}
+use Rattle.std.proofs.Common.{Some, ap, sym, ◌∙◌}
 use Rattle.std.specs.Prelude.{filter, option_map, option_and_then}
 use Rattle.serde_json.specs.View.{view}
 use Rattle.am_labels.specs.LabelSets.{last_holds}

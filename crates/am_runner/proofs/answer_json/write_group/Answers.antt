@@ -1,14 +1,9 @@
-use Rattle.std.proofs.Common.{rules, ◌≡◌, ◌∙◌, ◌++◌, ◌∷◌, [], List, ap, codes, sym}
+use Rattle.std.proofs.Common.{rules, ◌≡◌, ◌∙◌, ◌++◌, ◌∷◌, [], List, codes}
 use Rattle.std.proofs.lemmas.Result.{IfOk-weaker}
-use Rattle.json.specs.Json.{boolean, null, object, string}
+use Rattle.json.specs.Json.{string}
 use Rattle.json.specs.Token.{Token, end_object}
-use Rattle.json.specs.Tree.{members_tokens}
-use Rattle.am_script.specs.JsonLines.{alert_members, labels_json, named, whole}
-use Rattle.am_script.specs.ScriptTexts.{verb_text}
-use Rattle.am_script.specs.declared.command.Verb.TheVariants as verb
+use Rattle.am_script.specs.JsonLines.{labels_json, named, whole}
 use Rattle.am_script.proofs.JsonLines.{and_then}
-use Rattle.am_runner.specs.declared.answer.Answer.{Answer}
-use Rattle.am_runner.specs.PrintingJson.{answer_members}
 use Rattle.am_runner.proofs.answer_json.write_group.Goals as goal
 
 pub returns : goal.returns

@@ -1,9 +1,9 @@
 use Rattle.std.proofs.Common.{rules, ◌≡◌, ◌∙◌, ◌++◌, ◌∷◌, [], List, ap, codes, sym}
 use Rattle.std.proofs.lemmas.Result.{IfOk-weaker}
-use Rattle.json.specs.Json.{boolean, null, object, string}
+use Rattle.json.specs.Json.{object, string}
 use Rattle.json.specs.Token.{Token, end_object}
 use Rattle.json.specs.Tree.{members_tokens}
-use Rattle.am_script.specs.JsonLines.{alert_members, labels_json, named, whole}
+use Rattle.am_script.specs.JsonLines.{alert_members, named, whole}
 use Rattle.am_script.specs.ScriptTexts.{verb_text}
 use Rattle.am_script.specs.declared.command.Verb.TheVariants as verb
 use Rattle.am_script.proofs.JsonLines.{and_then}

@@ -1,10 +1,7 @@
-use Rattle.std.proofs.Common.{◌≡◌, ◌∙◌, ◌+◌, ◌++◌, ◌∷◌, ◌<◌, [], ℕ, List, ap, sym, subst, map, vec_len, rules}
+use Rattle.std.proofs.Common.{◌≡◌, ◌∙◌, ◌+◌, ◌∷◌, [], ℕ, List, ap, sym, subst, map, vec_len, rules}
 use mathlib.Core.List.{IsPrefix}
-use Rattle.std.specs.List.{All}
 use Rattle.std.proofs.lemmas.List.{map-append}
-use Rattle.am_history.specs.Fronts.{FrontView}
 use Rattle.am_provider.specs.Callers.{IsNewCaller}
-use Rattle.am_provider.specs.Histories.{EntryView}
 use Rattle.am_runner.specs.Sessions.{setting_of}
 use Rattle.am_runner.specs.Turning.{order_of}
 use Rattle.am_runner.specs.Working.{AreWork, IsWorkUnder, none, one_more_thread, outcome_of}

@@ -1,8 +1,5 @@
 use Rattle.std.proofs.Common.{◌≡◌, ◌≢◌, List, Result, IfOk, sym, subst, rules}
-use mathlib.Core.List.{IsPrefix}
 use Rattle.std.specs.Global.{Vec}
-use Rattle.am_history.specs.Fronts.{FrontView}
-use Rattle.am_provider.specs.Histories.{EntryView}
 use Rattle.am_runner.specs.Sessions.{setting_of, SessionView}
 use Rattle.am_runner.specs.Turning.{order_of}
 use Rattle.am_runner.specs.Working.{LooksOn, RunsLine, own, others}

@@ -1,5 +1,4 @@
 use Rattle.std.proofs.Common.{◌≡◌, ◌∙◌, ◌+◌, ℕ, [], length, ap, subst}
-use Rattle.std.specs.Global.{Vec}
 use Rattle.am_runner.specs.Sessions.{SessionView, new_session, setting_of}
 use Rattle.am_runner.specs.Turning.{IsTurn, order_of}
 use Rattle.am_runner.specs.Working.{Works}

@@ -1,20 +1,21 @@
-use Rattle.std.proofs.Common.{[], ap}
+use Rattle.std.proofs.Common.{ap, []}
 use Rattle.serde_json.specs.View.{view}
+use Rattle.am_alert.specs.declared.body.Body.TheVariants.{Text}
 use Rattle.am_script.specs.Commands.{command_for}
 use Rattle.am_script.proofs.line_reader.command_for.Goals as goal
 
 pub returns-in-Close : goal.returns-in-Close
 unfolding command_for
-returns-in-Close c = (tt, ap (λ v. command_for [] (view c.args.value.now) v) c.in-Close.is)
+returns-in-Close c = (tt, ap (λ v. command_for (Text []) (view c.args.value) v) c.in-Close.is)
 
 pub returns-in-Trim : goal.returns-in-Trim
 unfolding command_for
-returns-in-Trim c = (tt, ap (λ v. command_for [] (view c.args.value.now) v) c.in-Trim.is)
+returns-in-Trim c = (tt, ap (λ v. command_for (Text []) (view c.args.value) v) c.in-Trim.is)
 
 pub returns-in-Stored : goal.returns-in-Stored
 unfolding command_for
-returns-in-Stored c = (tt, ap (λ v. command_for [] (view c.args.value.now) v) c.in-Stored.is)
+returns-in-Stored c = (tt, ap (λ v. command_for (Text []) (view c.args.value) v) c.in-Stored.is)
 
 pub returns-in-Routes : goal.returns-in-Routes
 unfolding command_for
-returns-in-Routes c = (tt, ap (λ v. command_for [] (view c.args.value.now) v) c.in-Routes.is)
+returns-in-Routes c = (tt, ap (λ v. command_for (Text []) (view c.args.value) v) c.in-Routes.is)

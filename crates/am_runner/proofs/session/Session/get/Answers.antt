@@ -1,4 +1,4 @@
-use Rattle.std.proofs.Common.{◌≡◌, ◌∙◌, ◌∷◌, [], List, Option, option_map, Ok, IfOk, ap, sym, subst}
+use Rattle.std.proofs.Common.{◌∷◌, [], option_map, sym, subst}
 use Rattle.std.specs.Arc.{arc_value}
 use Rattle.am_alert.specs.declared.alert.Alert.{Alert}
 use Rattle.am_store.specs.declared.call.Call.{Call}

@@ -1,4 +1,4 @@
-use Rattle.std.proofs.Common.{◌∙◌, ◌∷◌, [], List, sym, subst}
+use Rattle.std.proofs.Common.{◌∷◌, [], List, sym, subst}
 use Rattle.am_alert.specs.declared.alert.Alert.{Alert}
 use Rattle.am_store.specs.Shared.{alerts_in}
 use Rattle.am_store.specs.declared.call.Call.{Call}

@@ -1,0 +1,3 @@
+-- Definitions that only code of this crate cites.
+pub mod Rooms
+pub mod Given
