@@ -28,6 +28,13 @@ flipped : (x y : List ℕ) (b : Bool) → same_text x y ≡ b → same_text y x 
 flipped x y true is = (bytes_eq-Decides y x).1 (sym (same_name x y is))
 flipped x y false is = flipped_false x y (same_text y x) refl is
 
+-- a name is found in either order of the comparison
+found : (names : List (List ℕ)) (name : List ℕ) → list_any (same_text name) names ≡ has name names
+found [] name = refl
+found (other ∷ names) name =
+    ap (λ b. b || list_any (same_text name) names) (sym (flipped name other (same_text name other) refl))
+    ∙ ap (λ b. same_text other name || b) (found names name)
+
 has_step : (x y z : List ℕ) (zs : List (List ℕ)) (b : Bool) → same_text z y ≡ b → same_text y x ≡ false
     → has x (others y zs) ≡ has x zs
     → has x (cond (not b) (z ∷ others y zs) (others y zs)) ≡ (same_text z x || has x zs)
@@ -68,15 +75,9 @@ distinct-more [] name = refl
 distinct-more (first ∷ names) name =
     more_step first name (distinct names) (distinct (names ++ name ∷ [])) (same_text first name) (has name (distinct names)) refl refl (distinct-more names name)
 
--- a name that is there already
-pub distinct-again : (names kept : List (List ℕ)) (name : List ℕ)
-    → kept ≡ distinct names → has name kept ≡ true → kept ≡ distinct (names ++ name ∷ [])
-distinct-again names kept name so_far there =
-    so_far ∙ sym (distinct-more names name ∙ ap (λ b. cond b (distinct names) (distinct names ++ name ∷ [])) (ap (has name) (sym so_far) ∙ there))
-
--- a new name
-pub distinct-new : (names kept : List (List ℕ)) (name : List ℕ)
-    → kept ≡ distinct names → has name kept ≡ false → kept ++ name ∷ [] ≡ distinct (names ++ name ∷ [])
-distinct-new names kept name so_far missing =
-    ap (λ (front : List (List ℕ)). front ++ name ∷ []) so_far
-    ∙ sym (distinct-more names name ∙ ap (λ b. cond b (distinct names) (distinct names ++ name ∷ [])) (ap (has name) (sym so_far) ∙ missing))
+-- the names so far, and one more that is added where it isn't there
+pub distinct-added : (names kept : List (List ℕ)) (name : List ℕ)
+    → kept ≡ distinct names → cond (list_any (same_text name) kept) kept (kept ++ name ∷ []) ≡ distinct (names ++ name ∷ [])
+distinct-added names kept name so_far =
+    ap (λ b. cond b kept (kept ++ name ∷ [])) (found kept name)
+    ∙ (ap (λ (front : List (List ℕ)). cond (has name front) front (front ++ name ∷ [])) so_far ∙ sym (distinct-more names name))

@@ -5,7 +5,7 @@ ghost use Rattle.std.specs.List.{list_any};
 ghost use Rattle.std.specs.FinMap.{retain_keys};
 ghost use Rattle.am_labels.specs.Texts.{same_text};
 
-use crate::label_names::LabelNames;
+use crate::group_names::GroupNames;
 use am_labels::{LabelSet, label_set_laws};
 use std::alloc::{AllocError, Global};
 
@@ -15,7 +15,7 @@ pub enum GroupBy {
     /// By all labels that an alert has: `group_by` holds `...`.
     All,
     /// By these, each named once.
-    Names(LabelNames),
+    Names(GroupNames),
 }
 
 impl GroupBy {
@@ -31,13 +31,13 @@ impl GroupBy {
         }
     }
 
-    /// A copy.
-    pub fn copy(&self, alloc: Global) -> Result<GroupBy, AllocError>
+    /// The same once more. It takes no memory, and fails only if there are 2^63 copies already.
+    pub fn copy(&self) -> Result<GroupBy, AllocError>
         ensures { IfOk result (λ copy. copy ≡ self.now) }
     {
         Ok(match self {
             GroupBy::All => GroupBy::All,
-            GroupBy::Names(names) => GroupBy::Names(names.copy(alloc)?),
+            GroupBy::Names(names) => GroupBy::Names(names.copy()?),
         })
     }
 }
@@ -46,7 +46,7 @@ impl GroupBy {
 fn labels_named(
     alloc: Global,
     labels: &LabelSet,
-    names: &LabelNames,
+    names: &GroupNames,
 ) -> Result<LabelSet, AllocError>
     ensures { IfOk result (λ named.
         named ≡ retain_keys labels.now (λ name. list_any (same_text name) names.now)) }
@@ -54,7 +54,7 @@ fn labels_named(
     label_set_laws();
     let mut named = Vec::new(alloc);
     for (name, value) in labels.names_and_values() {
-        if names.contains(name.as_str()) {
+        if names.contains(name) {
             named.push((name.copy()?, value.copy()?))?;
         }
     }

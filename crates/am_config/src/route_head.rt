@@ -4,12 +4,12 @@ ghost use Rattle.std.specs.Prelude.{◌≡◌, option_copied, IfOk};
 ghost use Rattle.std.specs.List.{list_any};
 ghost use Rattle.serde_json.specs.View.{view, items_view};
 ghost use Rattle.am_config.specs.Members.{ReadsMember};
-ghost use Rattle.am_config.specs.RouteHeads.{distinct, grouped_by, grouping_of, head_of};
+ghost use Rattle.am_config.specs.RouteHeads.{grouped_by, grouping_of, head_of};
 ghost use Rattle.am_config.specs.RouteHeads.{matcher_texts_of, receiver_of, tail_of};
 
 use crate::fault::ConfigFault;
 use crate::group_by::GroupBy;
-use crate::label_names::LabelNames;
+use crate::group_names::GroupNames;
 use crate::members::{array_member, flag_member, member_text, refuse_deprecated, texts_member};
 use crate::path::Path;
 use crate::texts::Texts;
@@ -88,10 +88,8 @@ fn grouping_of(
         return Ok(grouped_by(alloc, own)?);
     }
     match above {
-        Some(above) => Ok(above.group_by.copy(alloc)?),
-        None => Ok(GroupBy::Names(LabelNames {
-            names: Vec::new(alloc),
-        })),
+        Some(above) => Ok(above.group_by.copy()?),
+        None => Ok(grouped_by(alloc, own)?),
     }
 }
 
@@ -101,20 +99,7 @@ fn grouped_by(alloc: Global, names: Texts) -> Result<GroupBy, AllocError>
     if names.has("...") {
         return Ok(GroupBy::All);
     }
-    Ok(GroupBy::Names(distinct(alloc, names)?))
-}
-
-// The names, each once, at its first index.
-fn distinct(alloc: Global, names: Texts) -> Result<LabelNames, AllocError>
-    ensures { IfOk result (λ kept. kept ≡ distinct names) }
-{
-    let mut kept = Vec::with_capacity(alloc, names.texts.len())?;
-    for name in names.texts {
-        if !kept.contains(&name) {
-            kept.push(name)?;
-        }
-    }
-    Ok(LabelNames { names: kept })
+    Ok(GroupBy::Names(GroupNames::of(alloc, names)?))
 }
 
 #[tactic(auto, unfolding(crate::specs::RouteHeads::matcher_texts_of))]

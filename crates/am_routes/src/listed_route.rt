@@ -71,7 +71,7 @@ fn list_one(
         depth,
         receiver: route.receiver.copy()?,
         matchers: MatcherTexts::of(alloc, &route.matchers)?,
-        group_by: route.group_by.copy(alloc)?,
+        group_by: route.group_by.copy()?,
         continues: route.continues,
     })
 }
