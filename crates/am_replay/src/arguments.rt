@@ -132,7 +132,7 @@ with a command as `do`, a `thread` from 0 to 7, and the command's own members:
   close                        closes the log: no more posts and subscribers
   trim                         discards the calls that no subscription needs any more
   groups     sub               prints the dispatcher's groups
-  sweep      sub, at           removes from the groups what is resolved by then
+  sweep      sub, at           drops what is resolved from the groups or inhibitor
   mutes      sub, at, labels   asks the inhibitor whether it mutes such an alert
   stored                       prints all stored alerts
   get        labels            prints the stored alert of these labels

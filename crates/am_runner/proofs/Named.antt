@@ -30,7 +30,7 @@ on_index name word does opened index other after answers here done =
 pub fresh_took : (config : Config) (kind : Kind) → IfSome (fresh_consumer config kind) (HasTaken [])
 fresh_took config Plain = tt
 fresh_took config Dispatch = ([], refl, refl)
-fresh_took config Inhibit = refl
+fresh_took config Inhibit = ([], refl, refl)
 
 pub subscribed_so : (config : Config) (setting : Setting) (old new : SessionView) (name : List ℕ) (kind : Kind) (made : OpenView) (lane opening : ℕ)
     → made.name ≡ name → SeesCall old.front new.front (AnswersSubscribe (Ok made.subscription)) → made.consumer ≡ fresh_consumer config kind

@@ -78,6 +78,7 @@ last_stays old new answer.TakeRefused none next = absurd next
 last_stays old new (answer.Group r c l a) none next = absurd next
 last_stays old new (answer.Member a) none next = absurd next
 last_stays old new (answer.Swept s) none next = absurd next
+last_stays old new (answer.Forgotten n) none next = absurd next
 last_stays old new (answer.Muted r b) none next = absurd next
 last_stays old new answer.NotMuted none next = absurd next
 last_stays old new answer.MutesRefused none next = absurd next

@@ -1,16 +1,18 @@
 -- A consumer that took what its subscription has taken still does after a call.
 use Rattle.std.proofs.Common.{◌≡◌, ℕ, Bool, true, false, List, [], ◌∷◌, ◌++◌, Option, Some, None, IfSome, refl, ap, sym, subst, ◌∙◌, append-nil, take}
+use Rattle.std.specs.List.{filter_map}
 use Rattle.std.proofs.lemmas.Bool.{false≢true}
 use Rattle.std.proofs.lemmas.List.Elements.{filter_map-append}
 use Rattle.am_alert.specs.declared.alert.Alert.{Alert}
 use Rattle.am_provider.specs.Subscriptions.{SubscriptionView, taken}
 use Rattle.am_cast.specs.Cursors as cast
 use Rattle.am_provider.specs.Showings.{ShowsItem, ShowsNone}
+use Rattle.am_inhibit.specs.KeptAlerts as keeping
 use Rattle.am_inhibit.specs.LastAlerts.{last_alerts}
-use Rattle.am_inhibit.specs.InhibitionLaws.{LastAlertsGoOn}
+use Rattle.am_inhibit.specs.InhibitionLaws.{KeptAlertsGoOn}
 use Rattle.am_routes.specs.Groups.{Take, Sweep}
 use Rattle.am_runner.specs.Answers.{is_item}
-use Rattle.am_runner.specs.Consuming.{HasTaken, TakesAlert, IsSwept, swept, no_dispatcher, alert_taken}
+use Rattle.am_runner.specs.Consuming.{HasTaken, TakesAlert, IsSwept, swept, forgot, alert_kept, alert_taken}
 use Rattle.am_runner.specs.Reading.{OpenView, NextIs, IsTaken, ReadsOne, takes, misses, ends, TookAll, TakenBeside, AsksBeside, asks, none_beside}
 use Rattle.am_runner.specs.declared.answer.Answer.{Answer}
 use Rattle.am_runner.specs.declared.answer.Answer.TheVariants as answer
@@ -18,36 +20,45 @@ use Rattle.am_runner.specs.declared.consumer.Consumer.{Consumer}
 use Rattle.am_runner.specs.declared.consumer.Consumer.TheVariants.{Dispatcher, Inhibitor}
 
 -- one alert more was taken
-pub one_taken : LastAlertsGoOn → (alerts : List Alert) (alert : Alert) (old new : Consumer) → TakesAlert alert old new → HasTaken alerts old → HasTaken (alerts ++ alert ∷ []) new
+pub one_taken : KeptAlertsGoOn → (alerts : List Alert) (alert : Alert) (old new : Consumer) → TakesAlert alert old new → HasTaken alerts old → HasTaken (alerts ++ alert ∷ []) new
 one_taken go_on alerts alert (Dispatcher old) (Dispatcher new) follows (events, are, groups) =
     (events ++ Take alert ∷ [], filter_map-append alert_taken events (Take alert ∷ []) ∙ ap (λ (taken : List Alert). taken ++ alert ∷ []) are, follows.1 events groups)
-one_taken go_on alerts alert (Inhibitor old) (Inhibitor new) same is =
-    ap (λ one. one.alerts) same ∙ (ap (λ (taken : List Alert). last_alerts (taken ++ alert ∷ [])) is ∙ go_on alerts alert)
+one_taken go_on alerts alert (Inhibitor old) (Inhibitor new) same (events, are, keeps) =
+    let more : filter_map alert_kept (events ++ keeping.Take alert ∷ []) ≡ alerts ++ alert ∷ [] =
+    filter_map-append alert_kept events (keeping.Take alert ∷ []) ∙ ap (λ (taken : List Alert). taken ++ alert ∷ []) are in (
+      events ++ keeping.Take alert ∷ [],
+      more,
+      ap (λ one. one.alerts) same ∙ (ap (λ (before : List Alert). last_alerts (before ++ alert ∷ [])) keeps ∙ sym ((go_on events).0 alert)),
+    )
 one_taken go_on alerts alert (Dispatcher old) (Inhibitor new) never is = absurd never
 one_taken go_on alerts alert (Inhibitor old) (Dispatcher new) never is = absurd never
 
 -- a sweep takes nothing
-pub sweep_takes_none : (alerts : List Alert) (now : ℕ) (old new : Consumer) (given : Answer) → IsSwept now old new given → HasTaken alerts old → HasTaken alerts new
-sweep_takes_none alerts now (Dispatcher old) (Dispatcher new) given (swept gone follows counted groups_gone) (events, are, groups) =
+pub sweep_takes_none : KeptAlertsGoOn → (alerts : List Alert) (now : ℕ) (old new : Consumer) (given : Answer) → IsSwept now old new given → HasTaken alerts old → HasTaken alerts new
+sweep_takes_none go_on alerts now (Dispatcher old) (Dispatcher new) given (swept gone follows counted groups_gone) (events, are, groups) =
     (events ++ Sweep now ∷ [], filter_map-append alert_taken events (Sweep now ∷ []) ∙ (append-nil _ ∙ are), follows.1 events groups)
-sweep_takes_none alerts now (Inhibitor old) (Inhibitor new) given no_dispatcher is = is
-sweep_takes_none alerts now (Dispatcher old) (Inhibitor new) given never is = elim never [ ]
-sweep_takes_none alerts now (Inhibitor old) (Dispatcher new) given never is = elim never [ ]
+sweep_takes_none go_on alerts now (Inhibitor old) (Inhibitor _) given (forgot gone counted) (events, are, keeps) = (
+  events ++ keeping.Sweep now ∷ [],
+  filter_map-append alert_kept events (keeping.Sweep now ∷ []) ∙ (append-nil _ ∙ are),
+  ap (keeping.unresolved now) keeps ∙ sym ((go_on events).1 now),
+)
+sweep_takes_none go_on alerts now (Dispatcher old) (Inhibitor new) given never is = elim never [ ]
+sweep_takes_none go_on alerts now (Inhibitor old) (Dispatcher new) given never is = elim never [ ]
 
-pub beside_taken : LastAlertsGoOn → (alerts : List Alert) (alert : Alert) (old new : Option Consumer) → TakenBeside alert old new → IfSome old (HasTaken alerts) → IfSome new (HasTaken (alerts ++ alert ∷ []))
+pub beside_taken : KeptAlertsGoOn → (alerts : List Alert) (alert : Alert) (old new : Option Consumer) → TakenBeside alert old new → IfSome old (HasTaken alerts) → IfSome new (HasTaken (alerts ++ alert ∷ []))
 beside_taken go_on alerts alert None None did took = tt
 beside_taken go_on alerts alert (Some old) (Some new) did took = one_taken go_on alerts alert old new did took
 beside_taken go_on alerts alert (Some old) None did took = absurd did
 beside_taken go_on alerts alert None (Some new) did took = absurd did
 
-pub beside_swept : (alerts : List Alert) (now : ℕ) (without given : Answer) (old new : Option Consumer) → AsksBeside (IsSwept now) without old given new → IfSome old (HasTaken alerts) → IfSome new (HasTaken alerts)
-beside_swept alerts now without given (Some old) (Some new) (asks does) took = sweep_takes_none alerts now old new given does took
-beside_swept alerts now without given None None none_beside took = tt
-beside_swept alerts now without given None (Some new) never took = elim never [ ]
-beside_swept alerts now without given (Some old) None never took = elim never [ ]
+pub beside_swept : KeptAlertsGoOn → (alerts : List Alert) (now : ℕ) (without given : Answer) (old new : Option Consumer) → AsksBeside (IsSwept now) without old given new → IfSome old (HasTaken alerts) → IfSome new (HasTaken alerts)
+beside_swept go_on alerts now without given (Some old) (Some new) (asks does) took = sweep_takes_none go_on alerts now old new given does took
+beside_swept go_on alerts now without given None None none_beside took = tt
+beside_swept go_on alerts now without given None (Some new) never took = elim never [ ]
+beside_swept go_on alerts now without given (Some old) None never took = elim never [ ]
 
 -- an alert was shown, and taken beside
-pub took_one : LastAlertsGoOn → (old new : SubscriptionView) (alert : Alert) (before after : Option Consumer) (missed : Bool) → ShowsItem old alert new → TakenBeside alert before after → TookAll old before missed → TookAll new after missed
+pub took_one : KeptAlertsGoOn → (old new : SubscriptionView) (alert : Alert) (before after : Option Consumer) (missed : Bool) → ShowsItem old alert new → TakenBeside alert before after → TookAll old before missed → TookAll new after missed
 took_one go_on old new alert before after missed shows did took none =
     subst (λ (alerts : List Alert). IfSome after (HasTaken alerts)) (sym shows.taken) (beside_taken go_on (taken old) alert before after did (took none))
 
@@ -66,7 +77,7 @@ module _ (old new : SubscriptionView) (before after : Option Consumer) (missed g
       (subst (λ (alerts : List Alert). IfSome before (HasTaken alerts)) (sym same) (took none))
 
   -- an answer of `next` was taken: what was taken beside goes on from what it was
-  pub took_shown : LastAlertsGoOn → (given : Answer) → NextIs old given new → IsTaken given before goes_on after → TookAll old before missed → TookAll new after missed
+  pub took_shown : KeptAlertsGoOn → (given : Answer) → NextIs old given new → IsTaken given before goes_on after → TookAll old before missed → TookAll new after missed
   took_shown law (answer.Item alert) next taken_it took = took_one law old new alert before after missed next taken_it.1 took
   took_shown law answer.Pending next kept took = after_none (none_taken old.closed_told next.0 next.1.taken) kept.1 took
   took_shown law answer.SawClosed next kept took = after_none (none_taken true next.0 next.1.taken) kept.1 took
@@ -88,6 +99,7 @@ module _ (old new : SubscriptionView) (before after : Option Consumer) (missed g
   took_shown law (answer.Group r c l a) next kept took = absurd next
   took_shown law (answer.Member a) next kept took = absurd next
   took_shown law (answer.Swept s) next kept took = absurd next
+  took_shown law (answer.Forgotten n) next kept took = absurd next
   took_shown law (answer.Muted r b) next kept took = absurd next
   took_shown law answer.NotMuted next kept took = absurd next
   took_shown law answer.MutesRefused next kept took = absurd next
@@ -137,6 +149,7 @@ module _ (old new : SubscriptionView) (before after : Option Consumer) (missed g
   reads_shown name answers (answer.Group r c l a) next kept = absurd next
   reads_shown name answers (answer.Member a) next kept = absurd next
   reads_shown name answers (answer.Swept s) next kept = absurd next
+  reads_shown name answers (answer.Forgotten n) next kept = absurd next
   reads_shown name answers (answer.Muted r b) next kept = absurd next
   reads_shown name answers answer.NotMuted next kept = absurd next
   reads_shown name answers answer.MutesRefused next kept = absurd next
@@ -172,6 +185,7 @@ module _ (old new : SubscriptionView) (before after : Option Consumer) (missed g
   reads_missed name answers (answer.Group r c l a) is next kept = absurd (false≢true is)
   reads_missed name answers (answer.Member a) is next kept = absurd (false≢true is)
   reads_missed name answers (answer.Swept s) is next kept = absurd (false≢true is)
+  reads_missed name answers (answer.Forgotten n) is next kept = absurd (false≢true is)
   reads_missed name answers (answer.Muted r b) is next kept = absurd (false≢true is)
   reads_missed name answers answer.NotMuted is next kept = absurd (false≢true is)
   reads_missed name answers answer.MutesRefused is next kept = absurd (false≢true is)

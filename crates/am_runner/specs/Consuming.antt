@@ -1,8 +1,9 @@
 -- What stands beside a subscription, a dispatcher or an inhibitor: what it takes of what the
 -- subscription shows, and what it answers.
 use Rattle.std.specs.Prelude.{◌≡◌, ℕ, ◌^◌, ◌-◌, min, List, [], ◌∷◌, ◌++◌, map, length, flat_map, Option, Some}
-use Rattle.std.specs.Prelude.{None}
+use Rattle.std.specs.Prelude.{None, count_by}
 use Rattle.std.specs.List.{filter_map}
+use Rattle.am_alert.specs.Merging.{is_resolved_at}
 use Rattle.am_alert.specs.declared.alert.Alert.{Alert}
 use Rattle.am_labels.specs.LabelSets.{Labels}
 use Rattle.am_routes.specs.Groups.{DispatchEvent, DispatcherView, GroupView, Follows, Take, Sweep, groups_of}
@@ -11,6 +12,7 @@ use Rattle.am_config.specs.RouteLists.{root_of}
 use Rattle.am_config.specs.declared.config.Config.{Config}
 use Rattle.am_routes.specs.declared.dispatcher.Swept.{Swept}
 use Rattle.am_inhibit.specs.Inhibitors.{InhibitorView, having_looked}
+use Rattle.am_inhibit.specs.KeptAlerts as keeping
 use Rattle.am_inhibit.specs.LastAlerts.{last_alerts}
 use Rattle.am_inhibit.specs.Muting.{candidates_seen, muted}
 use Rattle.am_script.specs.declared.kind.Kind.{Kind}
@@ -46,26 +48,32 @@ alert_taken (Sweep now) = None
 abbrev pub alerts_taken : List DispatchEvent → List Alert
 alerts_taken events = filter_map alert_taken events
 
--- a consumer took these alerts and no others: the groups of a dispatcher are those of them, in their
--- order, with its sweeps somewhere between; the alerts of an inhibitor are the last ones of their label
--- sets
+-- the alert that an inhibitor takes by an event
+abbrev pub alert_kept : keeping.InhibitorEvent → Option Alert
+alert_kept (keeping.Take alert) = Some alert
+alert_kept (keeping.Sweep now) = None
+
+-- a consumer took these alerts and no others, in their order, with its sweeps somewhere between: the groups
+-- of a dispatcher and the alerts of an inhibitor are those of its takes and sweeps
 abbrev pub HasTaken : List Alert → Consumer → Type 0
 HasTaken alerts (Dispatcher dispatcher) = (events : List DispatchEvent)
     × (alerts_taken events ≡ alerts) × (dispatcher.groups ≡ groups_of dispatcher.tree events)
-HasTaken alerts (Inhibitor inhibitor) = inhibitor.alerts ≡ last_alerts alerts
+HasTaken alerts (Inhibitor inhibitor) = (events : List keeping.InhibitorEvent)
+    × (filter_map alert_kept events ≡ alerts) × (inhibitor.alerts ≡ keeping.kept_alerts events)
 
 -- where the numbers of alerts that are counted for an answer stop
 abbrev pub most_counted : ℕ
 most_counted = 2 ^ 64 - 1
 
--- a dispatcher is swept; an inhibitor can't be
+-- a dispatcher or an inhibitor is swept
 pub data IsSwept (now : ℕ) : Consumer → Consumer → Answer → Type 0 where
   swept : {old new : DispatcherView} (gone : Swept) → Follows (Sweep now) old new
       → gone.alerts ≡ min (removed_alerts now old.groups) most_counted
       → gone.groups ≡ removed_groups now old.groups
       → IsSwept now (Dispatcher old) (Dispatcher new) (answer.Swept gone)
-  no_dispatcher : {inhibitor : InhibitorView}
-      → IsSwept now (Inhibitor inhibitor) (Inhibitor inhibitor) (answer.NotOpen verb.Sweep)
+  forgot : {old : InhibitorView} (gone : ℕ) → gone ≡ count_by (is_resolved_at now) old.alerts
+      → IsSwept now (Inhibitor old) (Inhibitor (record old { alerts = keeping.unresolved now old.alerts }))
+      (answer.Forgotten gone)
 
 -- what is answered of the rule that mutes a target and the label set by which it does, if there is one
 abbrev pub muting_answer : Option (ℕ × Labels) → Answer

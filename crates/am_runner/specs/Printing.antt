@@ -75,6 +75,7 @@ answer_text answer.TakeRefused = codes "take refused E0 NoMemory"
 answer_text (answer.Group route receiver labels alerts) = group_text route receiver labels alerts
 answer_text (answer.Member alert) = codes "member " ++ alert_text alert
 answer_text (answer.Swept swept) = swept_text swept
+answer_text (answer.Forgotten alerts) = codes "sweep alerts " ++ decimal alerts
 answer_text (answer.Muted rule by) = muted_text rule by
 answer_text answer.NotMuted = codes "not muted"
 answer_text (answer.StoredCount count) = codes "stored " ++ decimal count

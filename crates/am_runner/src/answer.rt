@@ -68,6 +68,8 @@ pub enum Answer {
     /// An alert of the last group before it.
     Member(Alert),
     Swept(Swept),
+    /// A sweep of an inhibitor dropped so many alerts.
+    Forgotten(u64),
     /// A target is muted by the rule of this number, and by the alert of this label set.
     Muted {
         rule: u64,
@@ -149,6 +151,7 @@ impl fmt::Display for Answer {
             } => write_group(*route, receiver, labels, *alerts, f),
             Answer::Member(alert) => write!(f, "member {alert}"),
             Answer::Swept(swept) => write_swept(*swept, f),
+            Answer::Forgotten(alerts) => write!(f, "sweep alerts {alerts}"),
             Answer::Muted { rule, by } => write!(f, "muted rule {rule} by {by}"),
             Answer::NotMuted => f.write_str("not muted"),
             Answer::StoredCount(count) => write!(f, "stored {count}"),

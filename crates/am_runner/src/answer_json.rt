@@ -118,6 +118,10 @@ fn write_members(line: &mut JsonLine, answer: &Answer) -> Result<(), AllocError>
             line.alert("alert", alert)
         }
         Answer::Swept(swept) => write_swept(line, *swept),
+        Answer::Forgotten(alerts) => {
+            line.text("answer", "sweep_alerts")?;
+            line.number("alerts", *alerts)
+        }
         Answer::Muted { rule, by } => {
             line.text("answer", "muted")?;
             line.number("rule", *rule)?;

@@ -59,13 +59,13 @@ impl<'c> Consumer<'c> {
         }
     }
 
-    /// A dispatcher drops what is resolved at a moment.
+    /// Drops what is resolved at a moment.
     pub fn sweep(&mut self, now: Moment) -> Answer
         ensures { IsSwept now self.old self.new result }
     {
         match self {
             Consumer::Dispatcher(dispatcher) => Answer::Swept(dispatcher.sweep(now)),
-            Consumer::Inhibitor(_) => Answer::NotOpen(Verb::Sweep),
+            Consumer::Inhibitor(inhibitor) => Answer::Forgotten(inhibitor.sweep(now)),
         }
     }
 

@@ -12,7 +12,7 @@ ghost use Rattle.am_runner.specs.Reading.{ReadsOne, TakenBeside, TookAll, groups
 use crate::answer::{Answer, one};
 use crate::consumer::Consumer;
 use am_alert::{Alert, Moment};
-use am_inhibit::inhibition_laws;
+use am_inhibit::kept_laws;
 use am_labels::{LabelSet, Text};
 use am_provider::{Origin, Step, Subscription};
 use am_script::Verb;
@@ -119,10 +119,11 @@ impl<'p, 'c, N: Origin> OpenSubscription<'p, 'c, N> {
         }
     }
 
-    /// The dispatcher beside it drops what is resolved at a moment.
+    /// What stands beside it drops what is resolved at a moment.
     pub fn sweep(&mut self, now: Moment) -> Answer
         ensures { Asks (IsSwept now) (Answer.NotOpen Verb.Sweep) self.old result self.new }
     {
+        kept_laws();
         sweep_beside(&mut self.consumer, now)
     }
 
@@ -162,7 +163,7 @@ fn read_beside<N: Origin>(
         answers.old.items goes_on answers.new.items
         (record { name = name; subscription = subscription.new; consumer = consumer.new; missed = missed.new })) }
 {
-    inhibition_laws();
+    kept_laws();
     let answer = match next_answer(subscription) {
         Ok(answer) => answer,
         Err(error) => {

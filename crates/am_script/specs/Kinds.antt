@@ -16,6 +16,12 @@ is_inhibit Plain = false
 is_inhibit Dispatch = false
 is_inhibit Inhibit = true
 
+-- whether it is a consumer
+abbrev pub is_consumer : Kind → Bool
+is_consumer Plain = false
+is_consumer Dispatch = true
+is_consumer Inhibit = true
+
 -- whether there is one, and it is a dispatcher
 abbrev pub is_some_dispatch : Option Kind → Bool
 is_some_dispatch None = false
@@ -25,6 +31,11 @@ is_some_dispatch (Some kind) = is_dispatch kind
 abbrev pub is_some_inhibit : Option Kind → Bool
 is_some_inhibit None = false
 is_some_inhibit (Some kind) = is_inhibit kind
+
+-- whether there is one, and it is a consumer
+abbrev pub is_some_consumer : Option Kind → Bool
+is_some_consumer None = false
+is_some_consumer (Some kind) = is_consumer kind
 
 -- the kind of a word
 abbrev pub kind_named : List ℕ → Option Kind

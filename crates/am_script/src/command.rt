@@ -45,7 +45,7 @@ pub enum Command {
     Groups {
         name: Text,
     },
-    /// Its dispatcher removes what is resolved at the moment.
+    /// Its dispatcher or inhibitor drops what is resolved at the moment.
     Sweep {
         name: Text,
         at: Moment,

@@ -1,6 +1,6 @@
 //! Reading the input from any reader, to its end or to the first excess over a script's limits.
 
-ghost use Rattle.std.specs.Prelude.{◌≡◌, ◌<◌, ◌≤◌, IfOk, length, take};
+ghost use Rattle.std.specs.Prelude.{◌≡◌, ◌≢◌, ◌<◌, ◌≤◌, IfOk, IfErr, length, take};
 ghost use Rattle.std.specs.Io.KnownBytes.{Consumes, IsAtEnd};
 ghost use Rattle.am_script.specs.Inputs.{IsReadOf};
 
@@ -17,7 +17,8 @@ pub(crate) const CHUNK: usize = 4_096;
 /// when a read fails, nor how far an input with an excess is read. Tests check that it doesn't fail
 /// without cause, and reads no further chunk.
 pub fn read_input<R: Read>(alloc: Global, input: &mut R) -> Result<Vec<u8>, Failure>
-    ensures { IfOk result (λ text. IsReadOf (R.remaining input.old) text.items) }
+    ensures text { IfOk result (λ text. IsReadOf (R.remaining input.old) text.items) }
+    ensures err { IfErr result (λ failure. failure ≢ Failure.Write) }
 {
     let mut counter = LineCounter::new(alloc);
     let mut chunk = [0u8; CHUNK];
@@ -41,6 +42,7 @@ fn read_some<R: Read>(input: &mut R, chunk: &mut [u8]) -> Result<usize, Failure>
     ensures read { IfOk result (λ count.
         Consumes (R.remaining input.old) (R.remaining input.new) (take count chunk.new)) }
     ensures end { IfOk result (λ count. count ≡ 0 → IsAtEnd (R.remaining input.new)) }
+    ensures err { IfErr result (λ failure. failure ≡ Failure.Read) }
 {
     for _try in 0..TRIES {
         match input.read(chunk) {

@@ -5,7 +5,7 @@ ghost use Rattle.std.specs.Prelude.{IfOk, OnErr};
 ghost use Rattle.std.specs.Bool.{OnFalse, OnTrue};
 ghost use Rattle.std.specs.BTreeMap.{get, IsUnchanged, Updates};
 ghost use Rattle.am_script.specs.Names.{name_cmp, HoldsNames};
-ghost use Rattle.am_script.specs.Kinds.{is_some_dispatch, is_some_inhibit};
+ghost use Rattle.am_script.specs.Kinds.{is_some_consumer, is_some_dispatch, is_some_inhibit};
 ghost use Rattle.am_script.specs.Script.{is_well_named};
 
 use crate::command::{Command, Line};
@@ -30,9 +30,8 @@ pub(crate) fn follow(names: &mut Names, line: &Line) -> Result<bool, AllocError>
         Command::Subscribe { name, kind } => subscribe(names, (thread, name.copy()?), *kind),
         Command::Leave { name } => Ok(names.remove(&(thread, name.copy()?)).is_some()),
         Command::Read { name, max: _ } => Ok(names.contains_key(&(thread, name.copy()?))),
-        Command::Groups { name } | Command::Sweep { name, at: _ } => {
-            Ok(has_dispatcher(names, &(thread, name.copy()?)))
-        }
+        Command::Groups { name } => Ok(has_dispatcher(names, &(thread, name.copy()?))),
+        Command::Sweep { name, at: _ } => Ok(has_consumer(names, &(thread, name.copy()?))),
         Command::Mutes { name, .. } => Ok(has_inhibitor(names, &(thread, name.copy()?))),
         Command::Post { .. }
         | Command::Put { .. }
@@ -67,6 +66,16 @@ fn has_dispatcher(names: &Names, name: &(Thread, Text)) -> bool
 {
     match names.get(name) {
         Some(kind) => kind.is_dispatch(),
+        None => false,
+    }
+}
+
+// Whether the name is subscribed with a dispatcher or an inhibitor.
+fn has_consumer(names: &Names, name: &(Thread, Text)) -> bool
+    ensures { result ≡ is_some_consumer (get name_cmp names.now name.now) }
+{
+    match names.get(name) {
+        Some(kind) => kind.is_consumer(),
         None => false,
     }
 }

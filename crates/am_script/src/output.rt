@@ -1,6 +1,6 @@
 //! Writing the output to any writer.
 
-ghost use Rattle.std.specs.Prelude.{◌≡◌, ◌≤◌, ◌<◌, IfOk, OnErr, length, take};
+ghost use Rattle.std.specs.Prelude.{◌≡◌, ◌≤◌, ◌<◌, IfOk, IfErr, OnErr, length, take};
 ghost use Rattle.std.specs.Io.KnownBytes.{Appends, Keeps};
 ghost use Rattle.am_script.specs.Outputs.{WritesText};
 
@@ -11,7 +11,8 @@ use std::io::{ErrorKind, Write};
 /// Writes the whole text. If a write fails, a prefix of it has been written. No contract says when a
 /// write fails; tests check that it doesn't fail without cause.
 pub fn write_text<W: Write>(out: &mut W, text: &[u8]) -> Result<(), Failure>
-    ensures { WritesText (W.contents out.old) (W.contents out.new) result text.now }
+    ensures written { WritesText (W.contents out.old) (W.contents out.new) result text.now }
+    ensures err { IfErr result (λ failure. failure ≡ Failure.Write) }
 {
     let mut rest = text;
     while !rest.is_empty() {
@@ -28,7 +29,8 @@ fn write_some<W: Write>(out: &mut W, bytes: &[u8]) -> Result<usize, Failure>
     ensures some { IfOk result (λ count. (0 < count) × (count ≤ length bytes.now)) }
     ensures written { IfOk result
         (λ count. Appends (W.contents out.old) (W.contents out.new) (take count bytes.now)) }
-    ensures err { OnErr result (Keeps (W.contents out.old) (W.contents out.new)) }
+    ensures kept { OnErr result (Keeps (W.contents out.old) (W.contents out.new)) }
+    ensures err { IfErr result (λ failure. failure ≡ Failure.Write) }
 {
     for _ in 0..TRIES {
         match out.write(bytes) {

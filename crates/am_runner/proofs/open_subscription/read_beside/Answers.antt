@@ -6,11 +6,11 @@ use Rattle.am_runner.proofs.open_subscription.read_beside.Goals as goal
 
 pub returns-in_err-push-in-Ok-take_shown-clause-took : goal.returns-in_err-push-in-Ok-take_shown-clause-took
 returns-in_err-push-in-Ok-take_shown-clause-took g c took none =
-    took_shown c.args.subscription.now c.next_answer.new.subscription c.args.consumer.now c.take_shown.new.consumer c.args.missed.now c.in-Ok-take_shown.goes_on c.inhibition_laws.ensures.last_alerts c.in-Ok.answer c.in-Ok.ensures c.in-Ok-take_shown.ensures.taken took none
+    took_shown c.args.subscription.now c.next_answer.new.subscription c.args.consumer.now c.take_shown.new.consumer c.args.missed.now c.in-Ok-take_shown.goes_on c.kept_laws.ensures.go_on c.in-Ok.answer c.in-Ok.ensures c.in-Ok-take_shown.ensures.taken took none
 
 pub returns-in_ok-push-in-Ok-take_shown-clause-took : goal.returns-in_ok-push-in-Ok-take_shown-clause-took
 returns-in_ok-push-in-Ok-take_shown-clause-took g c took none =
-    took_shown c.args.subscription.now c.next_answer.new.subscription c.args.consumer.now c.take_shown.new.consumer c.args.missed.now c.in-Ok-take_shown.goes_on c.inhibition_laws.ensures.last_alerts c.in-Ok.answer c.in-Ok.ensures c.in-Ok-take_shown.ensures.taken took none
+    took_shown c.args.subscription.now c.next_answer.new.subscription c.args.consumer.now c.take_shown.new.consumer c.args.missed.now c.in-Ok-take_shown.goes_on c.kept_laws.ensures.go_on c.in-Ok.answer c.in-Ok.ensures c.in-Ok-take_shown.ensures.taken took none
 
 pub returns-in_ok-push-in-Ok-take_shown-clause-reads : goal.returns-in_ok-push-in-Ok-take_shown-clause-reads
 returns-in_ok-push-in-Ok-take_shown-clause-reads g c name =

@@ -9,7 +9,7 @@ use Rattle.am_serve.proofs.serving.serve_line.Goals as goal
 
 pub returns-in_err-write_text-clause-err : goal.returns-in_err-write_text-clause-err
 returns-in_err-write_text-clause-err g c =
-    let part = c.in_err-write_text.ensures in
+    let part = c.in_err-write_text.ensures.written in
     let text = c.as_bytes.result.now in
     let answered : Answers c.args.context.now.config.now (setting_of g.N.Recorded.places g.N.Recorded.policy c.args.context.now.provider.now.resolve_timeout) c.args.form c.args.number c.args.bytes.now c.args.session.now text c.answer_line.new.session =
     subst (λ (printed : List ℕ). Answers c.args.context.now.config.now (setting_of g.N.Recorded.places g.N.Recorded.policy c.args.context.now.provider.now.resolve_timeout) c.args.form c.args.number c.args.bytes.now c.args.session.now printed c.answer_line.new.session) (sym c.as_bytes.ensures.value) c.in_ok-text.ensures in
@@ -26,5 +26,5 @@ returns-clause-err g c =
     subst (λ (printed : List ℕ). Answers c.args.context.now.config.now (setting_of g.N.Recorded.places g.N.Recorded.policy c.args.context.now.provider.now.resolve_timeout) c.args.form c.args.number c.args.bytes.now c.args.session.now printed c.answer_line.new.session) (sym c.as_bytes.ensures.value) c.in_ok-text.ensures in (
       text,
       inr (c.args.bytes.now, [], c.answer_line.new.session, subst (λ (printed : List ℕ). Answers c.args.context.now.config.now (setting_of g.N.Recorded.places g.N.Recorded.policy c.args.context.now.provider.now.resolve_timeout) c.args.form c.args.number c.args.bytes.now c.args.session.now printed c.answer_line.new.session) (sym (append-nil text)) answered),
-      appends_kept (g.O.Write.contents c.args.out.now) (g.O.Write.contents c.write_text.new.out) (g.O.Write.contents c.flush.new.self) text c.in_ok-write_text.ensures c.in-Err.ensures.bytes,
+      appends_kept (g.O.Write.contents c.args.out.now) (g.O.Write.contents c.write_text.new.out) (g.O.Write.contents c.flush.new.self) text c.in_ok-write_text.ensures.written c.in-Err.ensures.bytes,
     )

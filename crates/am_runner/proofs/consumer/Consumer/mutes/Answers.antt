@@ -19,4 +19,4 @@ returns-in-Inhibitor-clause-asked c =
 pub returns-in-Inhibitor-clause-took : goal.returns-in-Inhibitor-clause-took
 returns-in-Inhibitor-clause-took c alerts took =
     let before = subst (HasTaken alerts) c.in-Inhibitor.is took in
-    c.muting_answer.ensures.alerts ∙ before
+    (before.0, before.1, c.muting_answer.ensures.alerts ∙ before.2)

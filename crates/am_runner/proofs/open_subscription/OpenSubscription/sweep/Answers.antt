@@ -6,4 +6,4 @@ use Rattle.am_runner.proofs.open_subscription.OpenSubscription.sweep.Goals as go
 
 pub invariant_of-self : goal.invariant_of-self
 invariant_of-self g c none =
-    beside_swept (taken c.self.inside.subscription) c.args.now (NotOpen Sweep) c.sweep_beside.result c.self.inside.consumer c.sweep_beside.new.consumer c.sweep_beside.ensures (c.self.invariant none)
+    beside_swept c.kept_laws.ensures.go_on (taken c.self.inside.subscription) c.args.now (NotOpen Sweep) c.sweep_beside.result c.self.inside.consumer c.sweep_beside.new.consumer c.sweep_beside.ensures (c.self.invariant none)
