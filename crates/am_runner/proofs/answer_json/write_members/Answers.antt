@@ -89,3 +89,12 @@ returns-in_ok-write_refused-in-OutOfMemory c =
     IfOk-weaker c.text-in-OutOfMemory.result _ _ (λ _ last. and_then c.write_refused-in-OutOfMemory.new.line c.text-in-OutOfMemory.new.self part-1 (end_object ∷ []) last
     ∙ (and_then c.args.line.now c.write_refused-in-OutOfMemory.new.line part-0 _ step-0
     ∙ ap (λ (answer : Answer). c.args.line.now ++ members_tokens (answer_members answer)) (sym c.in-OutOfMemory.is))) c.text-in-OutOfMemory.ensures
+
+pub returns-in_ok-text-in-Forgotten : goal.returns-in_ok-text-in-Forgotten
+returns-in_ok-text-in-Forgotten c =
+    let part-0 : List Token = named (codes "answer") (string (codes "sweep_alerts")) in
+    let step-0 : c.text-in-Forgotten.new.self ≡ c.args.line.now ++ part-0 = c.in_ok-text-in-Forgotten.ensures in
+    let part-1 : List Token = named (codes "alerts") (whole c.in-Forgotten.alerts) in
+    IfOk-weaker c.number-in-Forgotten.result _ _ (λ _ last. and_then c.text-in-Forgotten.new.self c.number-in-Forgotten.new.self part-1 (end_object ∷ []) last
+    ∙ (and_then c.args.line.now c.text-in-Forgotten.new.self part-0 _ step-0
+    ∙ ap (λ (answer : Answer). c.args.line.now ++ members_tokens (answer_members answer)) (sym c.in-Forgotten.is))) c.number-in-Forgotten.ensures

@@ -14,5 +14,5 @@ returns-in-Dispatcher c =
 pub returns-in-Inhibitor : goal.returns-in-Inhibitor
 returns-in-Inhibitor c =
     subst (λ (old : Consumer). IsSwept c.args.now old (Inhibitor c.sweep-in-Inhibitor.new.self) (answer.Forgotten c.sweep-in-Inhibitor.result)) (sym c.in-Inhibitor.is)
-    (subst (λ (new : InhibitorView). IsSwept c.args.now (Inhibitor c.in-Inhibitor.inhibitor.now) (Inhibitor new) (answer.Forgotten c.sweep-in-Inhibitor.result)) (sym c.sweep-in-Inhibitor.ensures.swept)
+    (subst (λ (new : InhibitorView). IsSwept c.args.now (Inhibitor c.in-Inhibitor.inhibitor) (Inhibitor new) (answer.Forgotten c.sweep-in-Inhibitor.result)) (sym c.sweep-in-Inhibitor.ensures.swept)
     (forgot c.sweep-in-Inhibitor.result c.sweep-in-Inhibitor.ensures.dropped))
