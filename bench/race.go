@@ -1,5 +1,6 @@
 // An alert provider of Alertmanager under the load of bench/race. It prints how many subscriptions it made, how many of
-// them were told an alert twice and how many missed one, then how many merges it made and how many of them were lost.
+// them were told an alert twice and how many missed one, then how many merges it made and how many of them were lost, and
+// how many readers were cut off: these get what is stored once more, and not what came in between.
 // The file race_mem.go or race_sinnoraku.go next to it says which provider it is.
 //
 //	race POSTERS EACH READERS TURNS MERGES
@@ -90,10 +91,10 @@ func read(provider provider.Alerts, most int) []*types.Alert {
 	return told
 }
 
-func subscriptions(posters, each, readers, turns int) (twice, missed int) {
+func subscriptions(posters, each, readers, turns int) (twice, missed, cut int) {
 	running, stop := context.WithCancel(context.Background())
 	defer stop()
-	provider := newProvider(running)
+	provider, cuts := newProvider(running)
 	for label := 0; label < labelSets; label++ {
 		check(provider.Put(alert(strconv.Itoa(label), -20*time.Second, -10*time.Second, -1, label)))
 	}
@@ -126,14 +127,14 @@ func subscriptions(posters, each, readers, turns int) (twice, missed int) {
 		}()
 	}
 	work.Wait()
-	return twice, missed
+	return twice, missed, cuts()
 }
 
 // merges has two posters extend each alert, one to an earlier start and one to a later end.
 func merges(count int) (lost int) {
 	running, stop := context.WithCancel(context.Background())
 	defer stop()
-	provider := newProvider(running)
+	provider, _ := newProvider(running)
 	for label := 0; label < count; label++ {
 		check(provider.Put(alert(strconv.Itoa(label), 0, time.Hour, 0, 0)))
 	}
@@ -165,6 +166,6 @@ func merges(count int) (lost int) {
 
 func main() {
 	posters, each, readers, turns, count := number(1), number(2), number(3), number(4), number(5)
-	twice, missed := subscriptions(posters, each, readers, turns)
-	fmt.Println(readers*turns, twice, missed, count, merges(count))
+	twice, missed, cut := subscriptions(posters, each, readers, turns)
+	fmt.Println(readers*turns, twice, missed, count, merges(count), cut)
 }
