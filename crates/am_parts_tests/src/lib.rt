@@ -13,6 +13,8 @@ mod configurations;
 #[cfg(test)]
 mod expectation;
 #[cfg(test)]
+mod group_names;
+#[cfg(test)]
 mod groups;
 #[cfg(test)]
 mod inhibitor;
