@@ -8,7 +8,7 @@ use crate::failure::Failure;
 use crate::printed::Printed;
 use crate::words::number;
 use am_cast::{
-    Begun, Cast, Cursor, Feed, LANES, MAX_PLACES, Parts, Pass, Refused, Step, Writer, begin, end,
+    Begun, Cast, Cursor, Feed, LANES, MAX_PLACES, Parts, Pass, Refused, Slice, Writer, begin, end,
 };
 use am_segment::SegmentBuilder;
 use std::alloc::{AllocError, Global};
@@ -154,13 +154,15 @@ fn read_all<N: Feed, R: Clock>(rt: &R, cursor: &mut Option<Cursor<'_, u64, u64, 
         return shown;
     };
     for _turn in 0..u64::MAX {
-        match cursor.next() {
-            Step::Item(item) => {
-                shown.items = shown.items.wrapping_add(1);
-                shown.sum = shown.sum.wrapping_add(*item);
+        match cursor.next_slice() {
+            Slice::Items(items) => {
+                shown.items = shown.items.wrapping_add(items.len() as u64);
+                for item in items {
+                    shown.sum = shown.sum.wrapping_add(*item);
+                }
             }
-            Step::Pending => nap(rt),
-            Step::Closed | Step::Cut => return shown,
+            Slice::Pending => nap(rt),
+            Slice::Closed | Slice::Cut => return shown,
         }
     }
     shown

@@ -11,6 +11,7 @@ pub mod Lanes
 pub mod Notes
 pub mod Seats
 pub mod Shown
+pub mod Rests
 pub mod Runs
 pub mod Slots
 pub mod Splits

@@ -1,10 +1,12 @@
--- What an answer of `next` says of the cursor. `Pending`, `Closed` and `Cut` are `Empty`, `Closed` and
+-- What an answer of `next` or `next_slice` says of the cursor. `Pending`, `Closed` and `Cut` are `Empty`, `Closed` and
 -- `Lagged` of tokio's `broadcast::Receiver::try_recv`, but a cut lane stays cut.
-use Rattle.std.specs.Prelude.{◌≡◌, ◌+◌, ◌-◌, List, [], ◌∷◌, ◌++◌, Some, true, false, length, slice_get}
+use Rattle.std.specs.Prelude.{◌≡◌, ℕ, ◌+◌, ◌-◌, ◌≤◌, List, [], ◌∷◌, ◌++◌, Some, true, false, drop, length, slice_get}
 use mathlib.Core.List.{IsPrefix}
 use Rattle.am_cast.specs.declared.batch_view.BatchView.{BatchView}
 use Rattle.am_cast.specs.declared.lends.Step.{Step}
 use Rattle.am_cast.specs.declared.lends.Step.TheVariants as step
+use Rattle.am_cast.specs.declared.lends.Slice.{Slice}
+use Rattle.am_cast.specs.declared.lends.Slice.TheVariants as slice
 use Rattle.am_cast.specs.declared.lends.Moved.{Moved}
 use Rattle.am_cast.specs.declared.lends.Moved.TheVariants as moved
 use Rattle.am_cast.specs.Cursors.{CursorView, shown_items, items_at, HasCut, HasEnded}
@@ -57,6 +59,30 @@ module _ {T P A : Type 0} where
   Lends c d step.Pending = IsPending c d
   Lends c d step.Closed = IsClosed c d
   Lends c d step.Cut = IsCut c d
+
+  -- these items were shown at once: of one place, all that was left of it or all that it has
+  pub record IsRest (c d : CursorView T P A) (items : List T) : Type 0 where
+    pub some : 1 ≤ length items
+    pub of_one : length items ≤ length (items_at d.lane.front d.lane.passed)
+    pub all : d.shown ≡ length (items_at d.lane.front d.lane.passed)
+    pub held : d.lane.held ≡ true
+    pub taken : shown_items d ≡ shown_items c ++ items
+    pub was_open : HasEnded c → ⊥
+    pub was_uncut : HasCut c → ⊥
+
+  -- what an answer says of the cursor, if the items that were shown are those in hand from an index on
+  abbrev pub MovesSlice : CursorView T P A → CursorView T P A → Moved → ℕ → Type 0
+  MovesSlice c d moved.One index =
+      (index ≤ length (items_at d.lane.front d.lane.passed))
+      × IsRest c d (drop index (items_at d.lane.front d.lane.passed))
+  MovesSlice c d other index = Moves c d other
+
+  -- what an answer that lends many items says of the cursor
+  abbrev pub LendsSlice : CursorView T P A → CursorView T P A → Slice T → Type 0
+  LendsSlice c d (slice.Items items) = IsRest c d items.now
+  LendsSlice c d slice.Pending = IsPending c d
+  LendsSlice c d slice.Closed = IsClosed c d
+  LendsSlice c d slice.Cut = IsCut c d
 
   -- if nothing is left, all that the pass knew was seen
   abbrev pub LendsPast : List (BatchView T P) → CursorView T P A → Step T → Type 0

@@ -1,5 +1,5 @@
 //! A lane's reader. It takes no lock and no memory.
-ghost use Rattle.std.specs.Prelude.{◌≡◌, ◌+◌, ◌<◌, ◌≤◌, true, false, length, None, Some, []};
+ghost use Rattle.std.specs.Prelude.{◌≡◌, ◌+◌, ◌<◌, ◌≤◌, true, false, drop, length, None, Some, []};
 ghost use mathlib.Core.List.{IsPrefix};
 ghost use Rattle.am_cast.specs.declared.limits.TheConstants.{LANES, WORDS};
 ghost use Rattle.am_cast.specs.Rule.{bit};
@@ -72,6 +72,23 @@ impl<'a, T, P, A, N: Feed> Cursor<'a, T, P, A, N> {
         }
         self.shown += 1;
         true
+    }
+
+    // All items of the place in hand are shown. Answers the index of the one that was shown last.
+    pub(crate) fn show_rest(&mut self) -> usize
+        requires { self.old.lane.held ≡ true }
+        ensures last { (result + 1 ≡ self.old.shown)
+            × (result < length (items_at self.old.lane.front self.old.lane.passed)) }
+        ensures all { self.new ≡ record self.old {
+          shown = length (items_at self.old.lane.front self.old.lane.passed);
+        } }
+    {
+        let Some(key) = &self.hand else {
+            unreachable!()
+        };
+        let last = self.shown - 1;
+        self.shown = key.len();
+        last
     }
 
     // The key in hand goes home, and its place is passed.

@@ -1,10 +1,10 @@
 //! How a cursor moves on, and `next`, which lends the item. Their file isn't the cursor's, since
 //! the clause of `next` names the type of `Cursor`.
-ghost use Rattle.std.specs.Prelude.{◌≡◌, ◌<◌, ◌≤◌, true, false, length, IfSome, IfNone};
+ghost use Rattle.std.specs.Prelude.{◌≡◌, ◌<◌, ◌≤◌, true, false, drop, length, IfSome, IfNone};
 ghost use Rattle.std.specs.Borrow.{sem};
 ghost use Rattle.am_cast.specs.Lending.{AfterTheLoan};
-ghost use Rattle.am_cast.specs.Cursors.{GoesOn};
-ghost use Rattle.am_cast.specs.Lent.{Moves, MovesPast, Lends, LendsPast, IsInHand};
+ghost use Rattle.am_cast.specs.Cursors.{GoesOn, items_at};
+ghost use Rattle.am_cast.specs.Lent.{Moves, MovesPast, MovesSlice, Lends, LendsPast, LendsSlice, IsInHand};
 ghost use Rattle.am_cast.specs.inside.Moving.{TriesTake, AfterLook, NeedsLook, AreAllSeen, LendsInHand, without_item};
 
 use crate::cursor::Cursor;
@@ -16,6 +16,19 @@ use crate::pass::Pass;
 pub enum Step<'s, T> {
     /// The next item. It is lent until the next call.
     Item(&'s T),
+    /// Nothing is there that wasn't shown, and more may come.
+    Pending,
+    /// All was shown, and no more will come.
+    Closed,
+    /// The lane was too slow for the log, and was cut.
+    Cut,
+}
+
+/// An answer of `next_slice`.
+#[derive(Drop)]
+pub enum Slice<'s, T> {
+    /// The next items, of which there is one at least. They are lent until the next call.
+    Items(&'s [T]),
     /// Nothing is there that wasn't shown, and more may come.
     Pending,
     /// All was shown, and no more will come.
@@ -47,6 +60,18 @@ impl<'a, T, P, A, N: Feed> Cursor<'a, T, P, A, N> {
             unreachable!()
         };
         item
+    }
+
+    /// The items of the place in hand, from an index on.
+    pub fn in_hand_from(&self, index: usize) -> &[T]
+        requires { (self.now.lane.held ≡ true)
+            × (index ≤ length (items_at self.now.lane.front self.now.lane.passed)) }
+        ensures { result.now ≡ drop index (items_at self.now.lane.front self.now.lane.passed) }
+    {
+        let Some(key) = &self.hand else {
+            unreachable!()
+        };
+        &key.as_slice()[index..]
     }
 
     // The key of the next place, or that the lane was cut.
@@ -158,5 +183,32 @@ impl<'a, T, P, A, N: Feed> Cursor<'a, T, P, A, N> {
     {
         let moved = self.advance_past(pass);
         self.lend(moved)
+    }
+
+    /// `next_slice` in two halves, for a caller that moves on before it lends: the items are those in
+    /// hand from an index on, or the answer says why there are none.
+    pub fn advance_slice(&mut self) -> (Moved, usize)
+        ensures on { GoesOn self.old self.new }
+        ensures moves { MovesSlice self.old self.new result.0 result.1 }
+    {
+        match self.advance() {
+            Moved::One => (Moved::One, self.show_rest()),
+            other => (other, 0),
+        }
+    }
+
+    /// The next items: what is left of the batch in hand, or the whole of the next one. They are lent
+    /// until the next call.
+    pub fn next_slice(&mut self) -> Slice<'_, T>
+        ensures* lender { sem 𝓛 (AfterTheLoan T.row P.row A.row N.row N.Feed self.entry
+            (λ cursor. GoesOn self.old cursor × LendsSlice self.old cursor result)) }
+    {
+        let (moved, from) = self.advance_slice();
+        match moved {
+            Moved::One => Slice::Items(self.in_hand_from(from)),
+            Moved::Pending => Slice::Pending,
+            Moved::Closed => Slice::Closed,
+            Moved::Cut => Slice::Cut,
+        }
     }
 }

@@ -51,7 +51,7 @@
 //! match cursor.next() {                                        // no lock, no memory, no waiting
 //!     Step::Item(alert) => ..,                                 // lent until the next call
 //!     Step::Pending | Step::Closed | Step::Cut => ..,
-//! }
+//! }                                                            // next_slice: the rest of a batch at once
 //! writer.retire(&cast, cursor);                                // a cursor must be given back
 //! end(cast, writer);                                           // all lanes idle: all is freed
 //! ```
@@ -77,7 +77,7 @@ pub use batch_view::{BatchView, SegmentKeys};
 pub use cursor::{Cast, Cursor};
 pub use faults::{AdmitFault, AlreadyClosed, PublishFault, Refused};
 pub use feed::Feed;
-pub use lends::{Moved, Step};
+pub use lends::{Moved, Slice, Step};
 pub use limits::{LANES, LONGEST_LOG, MAX_PLACES};
 pub use parts::{Begun, Parts, begin, end};
 pub use pass::Pass;

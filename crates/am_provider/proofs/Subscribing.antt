@@ -6,7 +6,7 @@ use Rattle.std.proofs.lemmas.List.{append_assoc, append-nil}
 use Rattle.am_alert.specs.declared.alert.Alert.{Alert}
 use Rattle.am_cast.specs.Cursors.{GoesOn, HasCut, HasEnded}
 use Rattle.am_cast.specs.Cursors as cast
-use Rattle.am_cast.specs.Lent.{IsItem, IsInHand, Moves}
+use Rattle.am_cast.specs.Lent.{IsInHand, Moves}
 use Rattle.am_cast.specs.declared.lends.Moved.{Moved}
 use Rattle.am_cast.specs.declared.lends.Moved.TheVariants as moved
 use Rattle.am_store.proofs.Journals.{take_more}
@@ -20,32 +20,32 @@ use Rattle.am_provider.specs.Showings.{Shows, ShowsItem, ShowsNone, ShowsPast}
 use Rattle.am_provider.specs.inside.Advances.{Advances, AdvancesPast, IsShown, Notes}
 use Rattle.am_provider.specs.inside.Subscribed.{IsFresh, IsSubscription}
 
--- one alert more, as far as a u64 counts
-one_more : (count next : ℕ) (xs ys : List Alert) → count ≡ length xs % 2 ^ 64 → next ≡ (count + 1) % 2 ^ 64 → length ys ≡ length xs + 1 → next ≡ length ys % 2 ^ 64
-one_more count next xs ys was is long = let l = length xs in let m = length ys in omega arith
+-- so many alerts more, as far as a u64 counts
+pub some_more : (count next more : ℕ) (xs ys : List Alert) → count ≡ length xs % 2 ^ 64 → next ≡ (count + more) % 2 ^ 64 → length ys ≡ length xs + more → next ≡ length ys % 2 ^ 64
+some_more count next more xs ys was is long = let l = length xs in let m = length ys in omega arith
 
-pub took_one : (old new : SubscriptionView) (alert : Alert) → new.opening ≡ old.opening → new.shown ≡ old.shown → cast.shown_items new.cursor ≡ cast.shown_items old.cursor ++ alert ∷ [] → taken new ≡ taken old ++ alert ∷ []
-took_one old new alert opening shown took =
+pub took_more : (old new : SubscriptionView) (alerts : List Alert) → new.opening ≡ old.opening → new.shown ≡ old.shown → cast.shown_items new.cursor ≡ cast.shown_items old.cursor ++ alerts → taken new ≡ taken old ++ alerts
+took_more old new alerts opening shown took =
     let front : take new.shown new.opening ≡ take old.shown old.opening = ap (take new.shown) opening ∙ ap (λ n. take n old.opening) shown in
-    ap (λ xs. xs ++ cast.shown_items new.cursor) front ∙ (ap (λ xs. take old.shown old.opening ++ xs) took ∙ sym (append_assoc (take old.shown old.opening) (cast.shown_items old.cursor) (alert ∷ [])))
+    ap (λ xs. xs ++ cast.shown_items new.cursor) front ∙ (ap (λ xs. take old.shown old.opening ++ xs) took ∙ sym (append_assoc (take old.shown old.opening) (cast.shown_items old.cursor) alerts))
 
--- the log showed one alert more
-pub logged_one : (old new : SubscriptionView) (count next : ℕ) (alert : Alert) → IsSubscription old count → length old.opening ≤ old.shown
-    → new ≡ record old { cursor = new.cursor } → GoesOn old.cursor new.cursor → IsItem old.cursor new.cursor → IsInHand new.cursor alert → next ≡ (count + 1) % 2 ^ 64
+-- the log showed these alerts
+pub logged_more : (old new : SubscriptionView) (count next : ℕ) (alerts : List Alert) → IsSubscription old count → length old.opening ≤ old.shown
+    → new ≡ record old { cursor = new.cursor } → GoesOn old.cursor new.cursor → (HasEnded old.cursor → ⊥)
+    → cast.shown_items new.cursor ≡ cast.shown_items old.cursor ++ alerts → next ≡ (count + length alerts) % 2 ^ 64
     → IsSubscription new next
-logged_one old new count next alert was past same on item here counts =
+logged_more old new count next alerts was past same on ongoing took counts =
     let opening : new.opening ≡ old.opening = ap (λ (s : SubscriptionView). s.opening) same in
     let shown : new.shown ≡ old.shown = ap (λ (s : SubscriptionView). s.shown) same in
     let at : new.at ≡ old.at = ap (λ (s : SubscriptionView). s.at) same in
     let told : new.closed_told ≡ old.closed_told = ap (λ (s : SubscriptionView). s.closed_told) same in
-    let took = took_one old new alert opening shown (item.taken alert here) in
     let within = was.within in
     record {
       within = omega (arith, ap length opening);
       first = λ less. absurd (omega (arith, ap length opening));
       note = on.2 ∙ (was.note ∙ (ap (λ a. Some (record { at = a; opening = old.opening })) (sym at) ∙ ap (λ o. Some (record { at = new.at; opening = o })) (sym opening)));
-      told = λ yes. absurd (item.was_open (was.told (sym told ∙ yes)).0);
-      counted = one_more count next (taken old) (taken new) was.counted counts (ap length took ∙ length-append (taken old) (alert ∷ []));
+      told = λ yes. absurd (ongoing (was.told (sym told ∙ yes)).0);
+      counted = some_more count next (length alerts) (taken old) (taken new) was.counted counts (ap length (took_more old new alerts opening shown took) ∙ length-append (taken old) alerts);
     }
 
 -- an alert more of the opening was shown
@@ -78,7 +78,7 @@ shown_one old new alert moved here =
     let shown : new.shown ≡ old.shown = ap (λ (s : SubscriptionView). s.shown) rest in
     let told : new.closed_told ≡ old.closed_told = ap (λ (s : SubscriptionView). s.closed_told) rest in
     record {
-      taken = took_one old new alert opening shown (moved.2.taken alert here);
+      taken = took_more old new (alert ∷ []) opening shown (moved.2.taken alert here);
       at = ap (λ (s : SubscriptionView). s.at) rest;
       opening = opening;
       on = moved.0.on;
@@ -88,7 +88,7 @@ shown_one old new alert moved here =
 
 module _ (old new : SubscriptionView) (count next : ℕ) where
   -- where the opening was shown, the end is told of a log that was ended
-  still_untold : IsSubscription old count → (HasEnded old.cursor → ⊥) → old.closed_told ≡ false
+  pub still_untold : IsSubscription old count → (HasEnded old.cursor → ⊥) → old.closed_told ≡ false
   still_untold was ongoing = untold old.closed_told refl
     where
       untold : (told : Bool) → old.closed_told ≡ told → told ≡ false
@@ -125,7 +125,7 @@ module _ (old new : SubscriptionView) (count next : ℕ) where
       let rest : new ≡ record old { cursor = new.cursor } = same ∙ ap (λ (t : Bool). record old { cursor = new.cursor; closed_told = t }) notes.3 in
       let past : length old.opening ≤ old.shown = omega (arith, shown) in
       let none : ShowsNone old old.closed_told new = record { shown = shown; rest = rest; on = on } in
-      (logged_one old new count next notes.0.0 was past rest on item notes.0.1 notes.2, subst (λ (a : Advance). Advances old a new) (sym notes.1) (none, told, item))
+      (logged_more old new count next (notes.0.0 ∷ []) was past rest on item.was_open (item.taken notes.0.0 notes.0.1) notes.2, subst (λ (a : Advance). Advances old a new) (sym notes.1) (none, told, item))
   noted moved.Pending given was shown same on pending notes =
       let told = still_untold was pending.was_open in
       let none : ShowsNone old old.closed_told new = record { shown = shown; rest = same ∙ ap (λ (t : Bool). record old { cursor = new.cursor; closed_told = t }) notes.2; on = on } in

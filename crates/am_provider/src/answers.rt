@@ -1,7 +1,8 @@
 //! What the calls of a provider answer. Why one is refused is in `faults.rt`.
 
+use crate::item::Item;
 use am_alert::{Alert, Faults};
-use am_store::LaneSet;
+use am_store::{LaneSet, SharedAlert};
 
 /// What a post does if the log is full: a subscriber lags by as many batches as the log has places.
 #[derive(Clone, Copy, Debug, PartialEq, Eq, Drop)]
@@ -39,6 +40,21 @@ pub struct PostedIf {
 pub enum Step<'a> {
     /// The next alert, lent until the next call.
     Item(&'a Alert),
+    /// All that there is was shown, and more may come.
+    Pending,
+    /// All that there is was shown, and no more will come.
+    Closed,
+    /// The subscriber was too slow and was cut off: nothing else is shown.
+    Cut,
+}
+
+/// What a subscription shows next, as many alerts as lie together.
+#[derive(Clone, Copy, Debug)]
+pub enum Slice<'a> {
+    /// What is left of the alerts that were stored at the subscription, lent until the next call.
+    Stored(&'a [SharedAlert]),
+    /// What is left of a post's batch, or all of the next one, lent until the next call.
+    Posted(&'a [Item]),
     /// All that there is was shown, and more may come.
     Pending,
     /// All that there is was shown, and no more will come.

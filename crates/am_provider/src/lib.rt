@@ -26,7 +26,7 @@
 //!     let mut subscription = book.subscribe(&cast)?;
 //!     book.post(&cast, &mut passes[0], post, now)?;
 //!     while let Step::Item(alert) = subscription.next() {       // no lock, no memory, no waiting
-//!         ..
+//!         ..                                                    // next_slice: as many as lie together
 //!     }
 //!     let ended = book.leave(&cast, subscription);
 //!
@@ -61,7 +61,7 @@ mod settled;
 mod subscription;
 
 pub use am_cast::{AlreadyClosed, MAX_PLACES};
-pub use answers::{Counts, Ended, Policy, Posted, PostedIf, Step};
+pub use answers::{Counts, Ended, Policy, Posted, PostedIf, Slice, Step};
 pub use book::Book;
 pub use caller::Caller;
 pub use entry::Entry;

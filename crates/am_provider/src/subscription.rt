@@ -1,12 +1,13 @@
 //! A subscriber's place. It reads without the provider: no lock, no memory, no waiting.
 
-ghost use Rattle.std.specs.Prelude.{◌≡◌, ◌+◌, ◌<◌, ◌^◌, Some, false, true, length};
+ghost use Rattle.std.specs.Prelude.{◌≡◌, ◌+◌, ◌<◌, ◌^◌, IfNone, IfSome, Some, false, true, length};
 ghost use Rattle.am_provider.specs.Subscriptions.{taken};
 ghost use Rattle.am_provider.specs.inside.Advances.{Advances, AdvancesPast, CanShow, IsShown, Notes};
+ghost use Rattle.am_provider.specs.inside.Slices.{AdvancesSlice, CanShowFrom, IsSliceShown, ShowsOpening};
 ghost use Rattle.am_provider.specs.Posts.{HasMet};
 ghost use Rattle.am_provider.specs.inside.Subscribed.{IsFresh, IsSubscription};
 
-use crate::answers::Step;
+use crate::answers::{Slice, Step};
 use crate::feed::{Cast, Cursor, Origin};
 use crate::pass::Pass;
 use am_cast::Moved;
@@ -167,6 +168,57 @@ impl<'a, N: Origin> Subscription<'a, N> {
         note(moved, &self.cursor, &mut self.count, &mut self.closed_told)
     }
 
+    // The rest of the opening is shown, if there is any. Answers at which index it begins.
+    fn show_whole_opening(&mut self) -> Option<usize>
+        ensures some { IfSome result (λ from. ShowsOpening self.old from self.new) }
+        ensures none { IfNone result
+            ((self.old.shown ≡ length self.old.opening) × (self.new ≡ self.old)) }
+    {
+        let all = self.opening.as_slice().len();
+        let from = self.shown;
+        if from >= all {
+            return None;
+        }
+        self.shown = all;
+        self.count = self.count.wrapping_add((all - from) as u64);
+        Some(from)
+    }
+
+    // As `advance`, but all that lies together counts as shown: the rest of the opening or of a batch.
+    // Answers with it at which index that begins.
+    fn advance_slice(&mut self) -> (Advance, usize)
+        ensures { AdvancesSlice self.old result.0 result.1 self.new }
+    {
+        if let Some(from) = self.show_whole_opening() {
+            return (Advance::Opened, from);
+        }
+        match self.cursor.advance_slice() {
+            (Moved::One, from) => {
+                let shown = self.cursor.in_hand_from(from).len();
+                self.count = self.count.wrapping_add(shown as u64);
+                (Advance::Logged, from)
+            }
+            (other, from) => {
+                let advance = note(other, &self.cursor, &mut self.count, &mut self.closed_told);
+                (advance, from)
+            }
+        }
+    }
+
+    // What such an advance shows.
+    fn shown_from(&self, advance: Advance, from: usize) -> Slice<'_>
+        requires { CanShowFrom advance from self.now }
+        ensures { IsSliceShown self.now advance from result }
+    {
+        match advance {
+            Advance::Opened => Slice::Stored(&self.opening.as_slice()[from..]),
+            Advance::Logged => Slice::Posted(self.cursor.in_hand_from(from)),
+            Advance::Pending => Slice::Pending,
+            Advance::Closed => Slice::Closed,
+            Advance::Cut => Slice::Cut,
+        }
+    }
+
     /// Each own post of the pass that the subscription has seen is at its place there, and the
     /// pass knows at least as much of the log as the subscription.
     pub fn meet(&mut self, cast: &Cast<N>, pass: &mut Pass<N>)
@@ -217,6 +269,22 @@ impl<'a, N: Origin> Subscription<'a, N> {
     {
         let advance = self.advance_past(pass);
         self.shown(advance)
+    }
+}
+
+impl<'a, N: Origin> Subscription<'a, N> {
+    ghost use Rattle.std.specs.Borrow.{sem};
+    ghost use Rattle.am_provider.specs.Lending.{AfterTheLoan};
+    ghost use Rattle.am_provider.specs.Showings.{ShowsSlice};
+
+    /// The next alerts, as many as lie together: what is left of those that were stored at the
+    /// subscription, or of a post's batch. They are taken by this call, and lent until the next one.
+    pub fn next_slice(&mut self) -> Slice<'_>
+        ensures* lender { sem 𝓛 (AfterTheLoan N.row N.Feed N.Ledger self.entry
+            (λ subscription. ShowsSlice self.old result subscription)) }
+    {
+        let (advance, from) = self.advance_slice();
+        self.shown_from(advance, from)
     }
 }
 

@@ -44,7 +44,14 @@ impl<T> SegKey<T> {
     pub fn get(&self, index: usize) -> Option<&T>
         ensures { option_copied result ≡ slice_get self.now.items index }
     {
-        self.part.items(self.len).get(index)
+        self.as_slice().get(index)
+    }
+
+    /// The items, in order.
+    pub fn as_slice(&self) -> &[T]
+        ensures { result.now ≡ self.now.items }
+    {
+        self.part.items(self.len)
     }
 }
 

@@ -30,6 +30,7 @@ impl<B, K, A> Split<View<B, K, A>> for Deal {
 }
 
 /// The lane begins at the next place. Its seat is cut off from the writer's.
+#[inline(never)]
 pub(crate) fn admit_lane<B, K, A, R: Keyed<B, K>, X: Noted<A>>(
     top: &AnyTop<B, K, A, R>,
     seat: &mut AnySeat<B, K, A>,

@@ -15,6 +15,7 @@ impl<B, K, A> Play<Option<K>, View<B, K, A>> for Close {
     ghost then = { Closes };
 }
 
+#[inline(never)]
 pub(crate) fn close_log<B, K, A, R: Keyed<B, K>>(
     top: &AnyTop<B, K, A, R>,
     seat: &mut AnySeat<B, K, A>,

@@ -18,6 +18,7 @@ impl<B, K, A> Play<Option<K>, View<B, K, A>> for Leave {
 }
 
 /// The lane is left, with no key in hand.
+#[inline(never)]
 pub(crate) fn leave_bare<B, K, A, R: Keyed<B, K>>(
     top: &AnyTop<B, K, A, R>,
     seat: &mut AnySeat<B, K, A>,
@@ -34,6 +35,7 @@ pub(crate) fn leave_bare<B, K, A, R: Keyed<B, K>>(
 }
 
 /// The key in hand goes home, and the lane is left.
+#[inline(never)]
 pub(crate) fn leave_with_key<B, K, A, R: Keyed<B, K>>(
     top: &AnyTop<B, K, A, R>,
     seat: &mut AnySeat<B, K, A>,

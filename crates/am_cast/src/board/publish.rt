@@ -20,6 +20,7 @@ impl<B, K, A, N: NewBatch<B>> Play<Option<K>, View<B, K, A>> for Publish<N> {
 }
 
 /// The place is there. What the batch is made of is a tag, of any type.
+#[inline(never)]
 pub(crate) fn publish_batch<B, K, A, R: Keyed<B, K>, X: NewBatch<B>, E>(
     top: &AnyTop<B, K, A, R>,
     seat: &mut AnySeat<B, K, A>,

@@ -1,0 +1,205 @@
+//! Slices: alerts that lie together are shown at once, as many as a post may have, whatever was shown of
+//! them one by one before.
+
+use crate::bodies::{Report, moment};
+use crate::days::{Day, Settings, Stopped, spend};
+use crate::stage::Stage;
+use am_alert::{MAX_ALERTS, Moment};
+use am_provider::{Caller, Ended, Policy, Recorded, Slice, Step, Subscription};
+use am_store::SharedAlert;
+use std::alloc::{AllocError, Global};
+use std::sync::Wait;
+use std::test::Fail;
+
+const MOST: u32 = MAX_ALERTS as u32;
+
+/// What a slice showed: how many alerts, and the starts of the first and the last one.
+#[derive(Clone, Copy, Debug, PartialEq, Eq, Drop)]
+enum Shown {
+    Stored(usize, Moment, Moment),
+    Posted(usize, Moment, Moment),
+    Pending,
+    Closed,
+    Cut,
+}
+
+fn start_of(alert: Option<&SharedAlert>) -> Moment {
+    match alert {
+        Some(alert) => alert.start,
+        None => Moment::MAX,
+    }
+}
+
+// Notes the next slice of a subscription.
+fn note_slice<N: Recorded>(
+    shown: &mut Vec<Shown>,
+    subscription: &mut Subscription<'_, N>,
+) -> Result<(), AllocError> {
+    shown.push(slice(subscription))?;
+    Ok(())
+}
+
+// The next slice of a subscription.
+fn slice<N: Recorded>(subscription: &mut Subscription<'_, N>) -> Shown {
+    match subscription.next_slice() {
+        Slice::Stored(alerts) => Shown::Stored(
+            alerts.len(),
+            start_of(alerts.first()),
+            start_of(alerts.last()),
+        ),
+        Slice::Posted(items) => {
+            let mut first = Moment::MAX;
+            let mut last = Moment::MAX;
+            for (at, item) in items.iter().enumerate() {
+                if at == 0 {
+                    first = item.alert().start;
+                }
+                last = item.alert().start;
+            }
+            Shown::Posted(items.len(), first, last)
+        }
+        Slice::Pending => Shown::Pending,
+        Slice::Closed => Shown::Closed,
+        Slice::Cut => Shown::Cut,
+    }
+}
+
+// Shows alerts one by one, up to so many, and answers how many there were.
+fn one_by_one<N: Recorded>(subscription: &mut Subscription<'_, N>, most: u32) -> u32 {
+    for count in 0..most {
+        match subscription.next() {
+            Step::Item(_) => {}
+            _ => return count,
+        }
+    }
+    most
+}
+
+// So many reports, each of its own label set, from a number on. Each starts at its number.
+fn reports_from(alloc: Global, first: u32, count: u32) -> Result<Vec<Report>, AllocError> {
+    let mut reports = Vec::new(alloc);
+    for number in first..first.saturating_add(count) {
+        reports.push(Report::new(number, number, 4_000_000))?;
+    }
+    Ok(reports)
+}
+
+fn post_from<N: Recorded, R: Wait>(
+    stage: &Stage<'_, N, R>,
+    caller: &mut Caller<N>,
+    first: u32,
+    count: u32,
+) -> Result<(), Stopped> {
+    let reports = reports_from(stage.alloc, first, count)?;
+    stage.post_reports(caller, reports.as_slice(), 10)?;
+    Ok(())
+}
+
+/// What the slices of a subscription showed, and what it came to.
+type Read = (Vec<Shown>, Ended);
+
+// Reads to the end of the log, some of it one by one.
+fn read<N: Recorded, R: Wait>(
+    stage: &Stage<'_, N, R>,
+    caller: &mut Caller<N>,
+    subscription: &mut Subscription<'_, N>,
+) -> Result<Vec<Shown>, Stopped> {
+    let mut shown = Vec::new(stage.alloc);
+    one_by_one(subscription, 2);
+    note_slice(&mut shown, subscription)?;
+    note_slice(&mut shown, subscription)?;
+    post_from(stage, caller, MOST, MOST)?;
+    post_from(stage, caller, 2 * MOST, 1)?;
+    note_slice(&mut shown, subscription)?;
+    note_slice(&mut shown, subscription)?;
+    post_from(stage, caller, 0, MOST)?;
+    one_by_one(subscription, MOST - 1);
+    note_slice(&mut shown, subscription)?;
+    note_slice(&mut shown, subscription)?;
+    stage.provider.close(stage.rt, caller)?;
+    note_slice(&mut shown, subscription)?;
+    Ok(shown)
+}
+
+#[derive(Clone, Copy, Drop)]
+struct Whole;
+
+impl Day for Whole {
+    type Outcome = Read;
+
+    fn spend<N: Recorded, R: Wait>(
+        &self,
+        stage: &Stage<'_, N, R>,
+        caller: &mut Caller<N>,
+    ) -> Result<Read, Stopped> {
+        post_from(stage, caller, 0, MOST)?;
+        let mut subscription = stage.provider.subscribe(stage.rt, caller)?;
+        let shown = read(stage, caller, &mut subscription);
+        let ended = stage.provider.leave(stage.rt, caller, subscription);
+        Ok((shown?, ended))
+    }
+}
+
+#[test]
+fn slices_of_the_most_alerts(rt: HostRuntime) -> Result<(), Fail> {
+    let ((shown, ended), _settled) = spend(&rt, rt.alloc(), Settings::of(4, 1), &Whole)?;
+    let most = MAX_ALERTS;
+    let wanted = [
+        Shown::Stored(most - 2, moment(2), moment(MOST - 1)),
+        Shown::Pending,
+        Shown::Posted(most, moment(MOST), moment(2 * MOST - 1)),
+        Shown::Posted(1, moment(2 * MOST), moment(2 * MOST)),
+        Shown::Posted(1, moment(MOST - 1), moment(MOST - 1)),
+        Shown::Pending,
+        Shown::Closed,
+    ];
+    assert_eq!(rt; shown.as_slice(), wanted.as_slice());
+    assert_eq!(rt; ended.taken, u64::from(3 * MOST + 1));
+    assert!(rt; ended.closed && !ended.cut);
+    Ok(())
+}
+
+#[derive(Clone, Copy, Drop)]
+struct Cutting;
+
+impl Day for Cutting {
+    type Outcome = Read;
+
+    fn spend<N: Recorded, R: Wait>(
+        &self,
+        stage: &Stage<'_, N, R>,
+        caller: &mut Caller<N>,
+    ) -> Result<Read, Stopped> {
+        let mut subscription = stage.provider.subscribe(stage.rt, caller)?;
+        let shown = read_cut(stage, caller, &mut subscription);
+        let ended = stage.provider.leave(stage.rt, caller, subscription);
+        Ok((shown?, ended))
+    }
+}
+
+// The log has one place: a batch in hand is shown to its end after the next post has cut the reader.
+fn read_cut<N: Recorded, R: Wait>(
+    stage: &Stage<'_, N, R>,
+    caller: &mut Caller<N>,
+    subscription: &mut Subscription<'_, N>,
+) -> Result<Vec<Shown>, Stopped> {
+    let mut shown = Vec::new(stage.alloc);
+    post_from(stage, caller, 0, 3)?;
+    one_by_one(subscription, 1);
+    post_from(stage, caller, 3, 3)?;
+    note_slice(&mut shown, subscription)?;
+    note_slice(&mut shown, subscription)?;
+    Ok(shown)
+}
+
+#[test]
+fn a_slice_of_a_reader_that_is_cut(rt: HostRuntime) -> Result<(), Fail> {
+    let mut settings = Settings::of(1, 1);
+    settings.policy = Policy::Cut;
+    let ((shown, ended), _settled) = spend(&rt, rt.alloc(), settings, &Cutting)?;
+    let wanted = [Shown::Posted(2, moment(1), moment(2)), Shown::Cut];
+    assert_eq!(rt; shown.as_slice(), wanted.as_slice());
+    assert_eq!(rt; ended.taken, 3);
+    assert!(rt; ended.cut);
+    Ok(())
+}
