@@ -27,7 +27,7 @@ opening_taken old new from shows =
     let none = shows.fresh.taken in
     let here : taken old ≡ take old.shown all = ap (λ xs. take old.shown all ++ xs) none ∙ append-nil (take old.shown all) in
     let whole : taken new ≡ all =
-        ap taken shows.all ∙ (ap (λ xs. take (length all) all ++ xs) none ∙ (append-nil (take (length all) all) ∙ take_all (length all) all (omega arith))) in
+    ap taken shows.all ∙ (ap (λ xs. take (length all) all ++ xs) none ∙ (append-nil (take (length all) all) ∙ take_all (length all) all (omega arith))) in
     whole ∙ (sym (take-append-drop old.shown all) ∙ (ap (λ xs. xs ++ drop old.shown all) (sym here) ∙ ap (λ n. taken old ++ drop n all) (sym shows.is_next)))
 
 -- it is one again
@@ -67,8 +67,8 @@ pub lends_opening : (s : SubscriptionView) (given : Advance) (from : ℕ) (alert
 lends_opening s given from alerts shared is lent opening =
     let long : length (drop from shared) ≡ length shared - from = length-drop from shared in
     let here : alerts_in alerts.now ≡ drop from s.opening =
-        ap alerts_in (lent ∙ take_all (length shared - from) (drop from shared) (omega (arith, long)))
-        ∙ (sym (drop-map arc_value from shared) ∙ ap (drop from) opening) in
+    ap alerts_in (lent ∙ take_all (length shared - from) (drop from shared) (omega (arith, long)))
+    ∙ (sym (drop-map arc_value from shared) ∙ ap (drop from) opening) in
     subst (λ (a : Advance). IsSliceShown s a from (slice.Stored alerts)) (sym is) here
 
 -- what is lent after such an advance is what the call shows
