@@ -17,7 +17,6 @@ impl<B, K, A> Play<Option<K>, View<B, K, A>> for Cut {
 }
 
 /// The lane is cut, if its word is still `old`. Answers the word that was found.
-#[inline(never)]
 pub(crate) fn cut_lane<B, K, A, R: Keyed<B, K>>(
     top: &AnyTop<B, K, A, R>,
     seat: &mut AnySeat<B, K, A>,

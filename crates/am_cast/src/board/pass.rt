@@ -18,7 +18,6 @@ impl<B, K, A> Play<Option<K>, View<B, K, A>> for PassPlace {
 }
 
 /// The key goes home, and its place is passed. Answers whether the lane was cut.
-#[inline(never)]
 pub(crate) fn pass_place<B, K, A, R: Keyed<B, K>>(
     top: &AnyTop<B, K, A, R>,
     seat: &mut AnySeat<B, K, A>,

@@ -20,7 +20,6 @@ impl<B, K, A, R: Keyed<B, K>> Play<Option<K>, View<B, K, A>> for Take<R> {
 }
 
 /// The key of the next place comes into the hand. `None` says that the lane was cut.
-#[inline(never)]
 pub(crate) fn take_key<B, K, A, R: Keyed<B, K>>(
     top: &AnyTop<B, K, A, R>,
     seat: &mut AnySeat<B, K, A>,
