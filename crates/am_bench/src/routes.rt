@@ -1,5 +1,6 @@
 //! Routes and groups: a tree of 101 routes (ten teams with nine routes below each, a third of them
-//! with a pattern) and alerts of five labels. `bench/routes` runs it.
+//! with a pattern), or a root with any number of routes at one level, each for one service. They are
+//! asked about alerts of five labels. `bench/routes` runs it.
 
 use crate::failure::Failure;
 use crate::printed::Printed;
@@ -19,12 +20,14 @@ enum RouteWork {
     Takes,
 }
 
-/// How many alerts there are, and how many rounds of them.
+/// How many alerts there are, and how many rounds of them. The tree is the one of teams, if it has no
+/// width, or else it has so many routes at one level.
 #[derive(Clone, Copy, Debug)]
 pub(crate) struct Load {
     work: RouteWork,
     alerts: u32,
     rounds: u32,
+    width: u32,
 }
 
 impl Load {
@@ -38,6 +41,7 @@ impl Load {
             work,
             alerts: small_number(words, 1)?,
             rounds: small_number(words, 2)?,
+            width: small_number(words, 3).unwrap_or(0),
         })
     }
 
@@ -47,23 +51,43 @@ impl Load {
             work: RouteWork::Takes,
             alerts: 10,
             rounds: 2,
+            width: 0,
         }
     }
 }
 
-fn config_text(alloc: Global) -> Result<String, AllocError> {
+fn config_text(alloc: Global, width: u32) -> Result<String, AllocError> {
     let mut text = String::from_str(
         alloc,
         r#"{"route":{"receiver":"root","group_by":["instance"],"routes":["#,
     )?;
+    if width == 0 {
+        add_teams(&mut text)?;
+    } else {
+        add_services(&mut text, width)?;
+    }
+    text.push_str("]}}")?;
+    Ok(text)
+}
+
+fn add_teams(text: &mut String) -> Result<(), AllocError> {
     for team in 0..10u32 {
         if team > 0 {
             text.push_str(",")?;
         }
-        add_team(&mut text, team)?;
+        add_team(text, team)?;
     }
-    text.push_str("]}}")?;
-    Ok(text)
+    Ok(())
+}
+
+fn add_services(text: &mut String, width: u32) -> Result<(), AllocError> {
+    for service in 0..width {
+        if service > 0 {
+            text.push_str(",")?;
+        }
+        write!(text, "{{\"matchers\":[\"service=s{service}-web\"]}}")?;
+    }
+    Ok(())
 }
 
 fn add_team(text: &mut String, team: u32) -> Result<(), AllocError> {
@@ -95,10 +119,19 @@ fn pair(alloc: Global, name: &str, value: String) -> Result<(String, String), Al
     Ok((String::from_str(alloc, name)?, value))
 }
 
+// The service of the alert of that number. At one level those of all routes come, in no order.
+fn service_of(number: u32, width: u32) -> u32 {
+    if width == 0 {
+        number / 10 % 9
+    } else {
+        number.wrapping_mul(7_919) % width
+    }
+}
+
 // The labels of the alert of that number.
-fn labels_of(alloc: Global, number: u32) -> Result<LabelSet, AllocError> {
+fn labels_of(alloc: Global, number: u32, width: u32) -> Result<LabelSet, AllocError> {
     let team = number % 10;
-    let service = number / 10 % 9;
+    let service = service_of(number, width);
     let rack = number / 250;
     let host = number % 250;
     let mut pairs = Vec::new(alloc);
@@ -114,9 +147,9 @@ fn labels_of(alloc: Global, number: u32) -> Result<LabelSet, AllocError> {
     LabelSet::from_pairs(alloc, pairs)
 }
 
-fn alert_of(alloc: Global, number: u32) -> Result<Alert, AllocError> {
+fn alert_of(alloc: Global, number: u32, width: u32) -> Result<Alert, AllocError> {
     Ok(Alert {
-        labels: labels_of(alloc, number)?,
+        labels: labels_of(alloc, number, width)?,
         annotations: LabelSet::new(),
         start: Moment::MAX,
         end: Moment::MAX,
@@ -126,10 +159,10 @@ fn alert_of(alloc: Global, number: u32) -> Result<Alert, AllocError> {
     })
 }
 
-fn alerts(alloc: Global, count: u32) -> Result<Vec<Alert>, AllocError> {
+fn alerts(alloc: Global, count: u32, width: u32) -> Result<Vec<Alert>, AllocError> {
     let mut alerts = Vec::new(alloc);
     for number in 0..count {
-        alerts.push(alert_of(alloc, number)?)?;
+        alerts.push(alert_of(alloc, number, width)?)?;
     }
     Ok(alerts)
 }
@@ -169,9 +202,9 @@ fn takes(
 
 // How many routes the rounds found, or how many groups there are after them.
 fn run(alloc: Global, load: Load) -> Result<u64, Failure> {
-    let text = config_text(alloc)?;
+    let text = config_text(alloc, load.width)?;
     let config = Config::read(alloc, text.as_bytes())?;
-    let alerts = alerts(alloc, load.alerts)?;
+    let alerts = alerts(alloc, load.alerts, load.width)?;
     Ok(match load.work {
         RouteWork::Matches => matches(alloc, &config.tree, &alerts, load.rounds)?,
         RouteWork::Takes => takes(alloc, &config.tree, &alerts, load.rounds)?,

@@ -1,4 +1,4 @@
-//! Asking a tree: each call once, and a tree of real size.
+//! Asking a tree: each call once, its index, and trees of real size.
 
 use crate::configurations::{configuration, labels};
 use crate::expectation::expect;
@@ -12,6 +12,16 @@ const NESTED: &str = r#"{"route":{"receiver":"root","continue":true,"routes":[
     {"matchers":["a=1"],"continue":true,"routes":[{"matchers":["b=1"],"continue":true},{"matchers":["c=1"]},{"matchers":["b=1"]}]},
     {"matchers":["a=1","b=1"],"routes":[{"matchers":["c=2"]}]},
     {}]}}"#;
+
+// Routes of which some have an equality matcher and some don't: a pattern before an equal value, an
+// empty value, and one after which the next ones are asked.
+const MIXED: &str = r#"{"route":{"receiver":"root","routes":[
+    {"matchers":["a=~\"1|2\""]},
+    {"matchers":["a=1"]},
+    {"matchers":["c=\"\"","d=1"]},
+    {"matchers":["b=1"],"continue":true},
+    {"matchers":["c=1"]},
+    {"matchers":["b=1"]}]}}"#;
 
 fn are_numbered(found: &[RouteId], numbers: &[u64]) -> bool {
     found.len() == numbers.len()
@@ -60,6 +70,22 @@ fn asked_again(rt: HostRuntime) -> Result<(), Fail> {
     expect(same, "other routes are found")
 }
 
+fn come_past_the_index(alloc: Global, tree: &RouteTree) -> Result<(), Fail> {
+    come_to(alloc, tree, "a=1", &[1])?;
+    come_to(alloc, tree, "d=1", &[3])?;
+    come_to(alloc, tree, "c= d=1", &[3])?;
+    come_to(alloc, tree, "c=2 d=1", &[0])?;
+    come_to(alloc, tree, "b=1 c=1", &[4, 5])?;
+    come_to(alloc, tree, "b=1 c=2", &[4, 6])
+}
+
+// Routes that are found by an index come in their place among the others.
+#[test]
+fn indexed_among_others(rt: HostRuntime) -> Result<(), Fail> {
+    let config = configuration(rt.alloc(), MIXED)?;
+    come_past_the_index(rt.alloc(), &config.tree)
+}
+
 // A root with 1,000 routes below it, all but the first with a pattern each.
 fn wide(alloc: Global) -> Result<String, AllocError> {
     let mut text = String::from_str(
@@ -92,4 +118,38 @@ fn thousand_routes(rt: HostRuntime) -> Result<(), Fail> {
     let text = wide(rt.alloc())?;
     let config = configuration(rt.alloc(), text.as_str())?;
     finds_all_or_one(rt.alloc(), &config.tree)
+}
+
+// A root with 10,000 routes below it, each for one team.
+fn teams(alloc: Global) -> Result<String, AllocError> {
+    let mut text = String::from_str(
+        alloc,
+        r#"{"route":{"receiver":"root","routes":[{"matchers":["team=t0"]}"#,
+    )?;
+    for number in 1..10_000u32 {
+        write!(text, ",{{\"matchers\":[\"team=t{number}\"]}}")?;
+    }
+    text.push_str("]}}")?;
+    Ok(text)
+}
+
+fn looks_at(alloc: Global, tree: &RouteTree, of: &str, looked: u64) -> Result<(), Fail> {
+    let labels = labels(alloc, of)?;
+    let mut tree = PreparedTree::new(alloc, tree)?;
+    expect(tree.looked(&labels)? == looked, "others are looked at")
+}
+
+fn finds_one_of_many(alloc: Global, tree: &RouteTree) -> Result<(), Fail> {
+    come_to(alloc, tree, "team=t9999", &[10_000])?;
+    come_to(alloc, tree, "team=t10000", &[0])?;
+    looks_at(alloc, tree, "team=t9999", 1)?;
+    looks_at(alloc, tree, "team=t10000", 0)
+}
+
+// Of 10,000 routes at one level the one of the label set's team alone is looked at.
+#[test]
+fn ten_thousand_routes(rt: HostRuntime) -> Result<(), Fail> {
+    let text = teams(rt.alloc())?;
+    let config = configuration(rt.alloc(), text.as_str())?;
+    finds_one_of_many(rt.alloc(), &config.tree)
 }

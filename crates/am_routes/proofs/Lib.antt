@@ -1,6 +1,7 @@
 pub mod Cases
 pub mod InOrder
 pub mod Groups
+pub mod ChildIndexes
 pub mod Searching
 pub mod Listings
 pub mod Joins

@@ -1,30 +1,39 @@
 -- A tree's searches in pre-order, and what asking them one after another comes to.
-use Rattle.std.proofs.Common.{◌≡◌, ◌≢◌, ℕ, zero, suc, ◌+◌, ◌-◌, ◌<◌, ◌≤◌, true, false, cond, List, [], ◌∷◌, ◌++◌, length, take, drop, get_or, set, refl, sym, ap, subst, ◌∙◌, arith, length-append}
-use Rattle.std.proofs.lemmas.List.{append_assoc, append-nil, drop_more, drop-drop, drop_at, take_more, set_at, get_or_at}
+use Rattle.std.proofs.Common.{◌≡◌, ◌≢◌, ℕ, zero, suc, ◌+◌, ◌-◌, ◌<◌, ◌≤◌, Bool, true, false, not, ◌&&◌, cond, List, [], ◌∷◌, ◌++◌, Option, Some, None, length, take, drop, get_or, set, refl, sym, ap, subst, ◌∙◌, arith, length-append}
+use Rattle.std.proofs.lemmas.List.{append_assoc, append-nil, drop_more, drop-drop, drop_at, take_more, set_at, get_or_at, set-get_or}
+use Rattle.std.specs.List.{slice_get}
+use Rattle.std.specs.Option.{IfSome}
+use Rattle.std.proofs.lemmas.Option.{slice_get_within}
+use Rattle.am_routes.specs.declared.child_index.Child.{Child}
 use Rattle.am_routes.specs.declared.matching.RouteSearch.{RouteSearch}
 use Rattle.am_config.specs.declared.route.Route.{Route}
-use Rattle.std.proofs.lemmas.List.{set-get_or}
 use Rattle.am_labels.specs.LabelSets.{Labels}
 use Rattle.am_labels.specs.Matchers.{MatcherView, all_admitted}
 use Rattle.am_config.specs.Routes.{RouteView, Forest, no_routes, route, count_of}
 use Rattle.am_config.specs.RouteLists.{route_view, forest_of}
 use Rattle.am_routes.specs.RouteAnswers.{Node, own_answer, joined_with, answer_of}
+use Rattle.am_routes.specs.Looking.{first_equality, may_match, looked_from, routes_looked_at}
+use Rattle.am_routes.specs.inside.ChildIndexes.{ChildView, children_from, filings, drop_routes, offset_at, IsChildOf, IsNextChild}
 use Rattle.am_routes.specs.inside.Searches.{searches_of, BeginAt}
+use Rattle.am_routes.proofs.Cases.{by_bool}
+use Rattle.am_routes.proofs.ChildIndexes.{filed-fails}
 
 pub length-searches : (f : Forest) → length (searches_of f) ≡ count_of f
 length-searches no_routes = refl
 length-searches (route first below others) =
     omega (arith, length-append (searches_of below) (searches_of others), length-searches below, length-searches others)
 
-pub searches-push : (rs : List Route) (r : Route)
-    → searches_of (forest_of (rs ++ r ∷ [])) ≡ searches_of (forest_of rs) ++ (record { matchers = r.matchers; below = count_of r.children } ∷ searches_of r.children)
-searches-push [] r =
-    let search : RouteSearch = record { matchers = r.matchers; below = count_of r.children } in
-    ap (λ rest. search ∷ rest) (append-nil (searches_of r.children))
+pub searches-push : (rs : List Route) (r : Route) → searches_of (forest_of (rs ++ r ∷ [])) ≡ searches_of (forest_of rs) ++ searches_of (forest_of (r ∷ []))
+searches-push [] r = refl
 searches-push (one ∷ rs) r =
-    let search : RouteSearch = record { matchers = one.matchers; below = count_of one.children } in
+    let search : RouteSearch = record { matchers = one.matchers; children = one.children } in
     ap (λ rest. search ∷ (searches_of one.children ++ rest)) (searches-push rs r)
-    ∙ ap (λ rest. search ∷ rest) (sym (append_assoc (searches_of one.children) (searches_of (forest_of rs)) (record { matchers = r.matchers; below = count_of r.children } ∷ searches_of r.children)))
+    ∙ ap (λ rest. search ∷ rest) (sym (append_assoc (searches_of one.children) (searches_of (forest_of rs)) (searches_of (forest_of (r ∷ [])))))
+
+-- the routes so far have the searches of one more
+pub searches-more : (rs : List Route) (i : ℕ) (r : Route) → i < length rs → r ≡ get_or rs i r → searches_of (forest_of (take i rs)) ++ searches_of (forest_of (r ∷ [])) ≡ searches_of (forest_of (take (i + 1) rs))
+searches-more rs i r early is =
+    sym (ap (λ l. searches_of (forest_of l)) (take_more rs i r early ∙ ap (λ one. take i rs ++ one ∷ []) (sym is)) ∙ searches-push (take i rs) r)
 
 -- a route has fewer below it than there are in a list that it is of
 pub count-below : (rs : List Route) (i : ℕ) (d : Route) → i < length rs → count_of (get_or rs i d).children < count_of (forest_of rs)
@@ -41,15 +50,18 @@ head_at (suc at) (one ∷ searches) tail search d e =
     (rest.0, here ∙ rest.1, omega (arith, rest.2))
 
 module _ (at : ℕ) (first : RouteView) (below others : Forest) (searches : List RouteSearch) (begins : BeginAt at (searches_of (route first below others)) searches) where
-  pub search-first : (d : RouteSearch) → get_or searches at d ≡ record { matchers = first.matchers; below = count_of below }
-  search-first d = (head_at at searches ((searches_of below ++ searches_of others) ++ begins.0) (record { matchers = first.matchers; below = count_of below }) d begins.1).0
+  abbrev own : RouteSearch
+  own = record { matchers = first.matchers; children = below }
+
+  pub search-first : (d : RouteSearch) → get_or searches at d ≡ record { matchers = first.matchers; children = below }
+  search-first d = (head_at at searches ((searches_of below ++ searches_of others) ++ begins.0) own d begins.1).0
 
   after : drop (at + 1) searches ≡ (searches_of below ++ searches_of others) ++ begins.0
-  after = (head_at at searches ((searches_of below ++ searches_of others) ++ begins.0) (record { matchers = first.matchers; below = count_of below }) (record { matchers = first.matchers; below = count_of below }) begins.1).1
+  after = (head_at at searches ((searches_of below ++ searches_of others) ++ begins.0) own own begins.1).1
 
   pub search-bound : at + 1 + count_of below ≤ length searches
   search-bound =
-      let long = (head_at at searches ((searches_of below ++ searches_of others) ++ begins.0) (record { matchers = first.matchers; below = count_of below }) (record { matchers = first.matchers; below = count_of below }) begins.1).2 in
+      let long = (head_at at searches ((searches_of below ++ searches_of others) ++ begins.0) own own begins.1).2 in
       omega (arith, long, length-append (searches_of below ++ searches_of others) begins.0, length-append (searches_of below) (searches_of others), length-searches below)
 
   pub search-below : BeginAt (at + 1) (searches_of below) searches
@@ -63,122 +75,336 @@ module _ (at : ℕ) (first : RouteView) (below others : Forest) (searches : List
         ∙ drop_at (searches_of below) (searches_of others ++ begins.0) (count_of below) (length-searches below)),
   )
 
+  pub search-alone : BeginAt at (searches_of (route first below no_routes)) searches
+  search-alone = (
+    searches_of others ++ begins.0,
+    begins.1
+        ∙ (ap (λ l. own ∷ l) (append_assoc (searches_of below) (searches_of others) begins.0)
+        ∙ ap (λ l. own ∷ (l ++ (searches_of others ++ begins.0))) (sym (append-nil (searches_of below)))),
+  )
+
+-- the searches of a route below one begin as far after its own as the route comes
+pub child-begins : (number offset : ℕ) (f : Forest) (at : ℕ) (child : ChildView) (searches : List RouteSearch) → BeginAt (number + offset) (searches_of f) searches → slice_get (children_from offset f) at ≡ Some child
+    → BeginAt (number + child.offset) (searches_of (route child.first child.below no_routes)) searches
+child-begins number offset no_routes at child searches begins is = absurd (cc)
+child-begins number offset (route first below others) zero child searches begins is =
+    let here : record { offset = offset; first = first; below = below } ≡ child = (cc) in
+    subst (λ (child : ChildView). BeginAt (number + child.offset) (searches_of (route child.first child.below no_routes)) searches) here (search-alone (number + offset) first below others searches begins)
+child-begins number offset (route first below others) (suc at) child searches begins is =
+    let on : number + offset + 1 + count_of below ≡ number + (offset + 1 + count_of below) = omega arith in
+    child-begins number (offset + 1 + count_of below) others at child searches (subst (λ n. BeginAt n (searches_of others) searches) on (search-others (number + offset) first below others searches begins)) is
+
 -- the routes from an index on
 pub forest-drop : (rs : List Route) (i : ℕ) (r : Route) → i < length rs → r ≡ get_or rs i r → forest_of (drop i rs) ≡ route (route_view r) r.children (forest_of (drop (i + 1) rs))
 forest-drop rs i r h is = ap forest_of (drop_more rs i r h ∙ ap (λ one. one ∷ drop (i + 1) rs) (sym is))
 
-pub begins-drop : (rs : List Route) (i : ℕ) (r : Route) (at : ℕ) (searches : List RouteSearch) → i < length rs → r ≡ get_or rs i r
-    → BeginAt at (searches_of (forest_of (drop i rs))) searches → BeginAt at (searches_of (route (route_view r) r.children (forest_of (drop (i + 1) rs)))) searches
-begins-drop rs i r at searches h is begins = subst (λ f. BeginAt at (searches_of f) searches) (forest-drop rs i r h is) begins
-
 -- a search that is asked stays as it is
-pub asked : (searches : List RouteSearch) (at : ℕ) (search : RouteSearch) (matchers : List MatcherView) → matchers ≡ (get_or searches at search).matchers
-    → set searches at (record { matchers = matchers; below = (get_or searches at search).below }) ≡ searches
-asked searches at search matchers same =
-    ap (λ matchers. set searches at (record { matchers = matchers; below = (get_or searches at search).below })) same
-    ∙ set-get_or searches at search
+pub asked : (searches : List RouteSearch) (at : ℕ) (one : RouteSearch) (matchers : List MatcherView) → matchers ≡ (get_or searches at one).matchers
+    → set searches at (record { matchers = matchers; children = (get_or searches at one).children }) ≡ searches
+asked searches at one matchers same =
+    ap (λ matchers. set searches at (record { matchers = matchers; children = (get_or searches at one).children })) same
+    ∙ set-get_or searches at one
 
 -- ---- what one route adds
 
+joined_nothing : (own : List Node) (continues : Bool) → joined_with own continues [] ≡ own
+joined_nothing [] continues = refl
+joined_nothing (node ∷ nodes) continues = elim continues as (λ b. node ∷ nodes ++ cond b [] [] ≡ node ∷ nodes) [ true ↦ append-nil (node ∷ nodes) | false ↦ append-nil (node ∷ nodes) ]
+
 module _ (labels : Labels) (at : ℕ) (first : RouteView) (below others : Forest) where
-  pub passed_over : all_admitted first.matchers labels ≡ false → answer_of labels at (route first below others) ≡ answer_of labels (at + 1 + count_of below) others
-  passed_over refused =
-      let rest = answer_of labels (at + 1 + count_of below) others in
-      ap (λ own. joined_with own first.continues rest) (none (answer_of labels (at + 1) below))
+  abbrev rest : List Node
+  rest = answer_of labels (at + 1 + count_of below) others
+
+  abbrev alone : List Node
+  alone = answer_of labels at (route first below no_routes)
+
+  abbrev found : List Node
+  found = answer_of labels (at + 1) below
+
+  own_alone : alone ≡ own_answer labels at first found
+  own_alone = joined_nothing (own_answer labels at first found) first.continues
+
+  -- a route whose matchers fail answers nothing
+  pub alone-fails : all_admitted first.matchers labels ≡ false → answer_of labels at (route first below no_routes) ≡ []
+  alone-fails refused = own_alone ∙ none found
     where
       none : (found : List Node) → own_answer labels at first found ≡ []
       none [] = ap (λ b. cond b (record { number = at; route = first } ∷ []) []) refused
       none (node ∷ nodes) = ap (λ b. cond b (node ∷ nodes) []) refused
 
-  pub own-itself : all_admitted first.matchers labels ≡ true → answer_of labels (at + 1) below ≡ [] → own_answer labels at first (answer_of labels (at + 1) below) ≡ record { number = at; route = first } ∷ []
-  own-itself admits none = ap (own_answer labels at first) none ∙ ap (λ b. cond b (record { number = at; route = first } ∷ []) []) admits
+  -- one that matches answers what those below it do, or itself
+  pub alone-itself : all_admitted first.matchers labels ≡ true → answer_of labels (at + 1) below ≡ [] → answer_of labels at (route first below no_routes) ≡ record { number = at; route = first } ∷ []
+  alone-itself admits none = own_alone ∙ (ap (own_answer labels at first) none ∙ ap (λ b. cond b (record { number = at; route = first } ∷ []) []) admits)
 
-  pub own-below : all_admitted first.matchers labels ≡ true → 0 < length (answer_of labels (at + 1) below) → own_answer labels at first (answer_of labels (at + 1) below) ≡ answer_of labels (at + 1) below
-  own-below admits some = same (answer_of labels (at + 1) below) some
+  pub alone-below : all_admitted first.matchers labels ≡ true → 0 < length (answer_of labels (at + 1) below) → answer_of labels at (route first below no_routes) ≡ answer_of labels (at + 1) below
+  alone-below admits some = own_alone ∙ same found some
     where
       same : (found : List Node) → 0 < length found → own_answer labels at first found ≡ found
       same [] h = absurd (omega arith)
       same (node ∷ nodes) h = ap (λ b. cond b (node ∷ nodes) []) admits
 
-  pub goes-on : first.continues ≡ true → answer_of labels at (route first below others) ≡ own_answer labels at first (answer_of labels (at + 1) below) ++ answer_of labels (at + 1 + count_of below) others
-  goes-on continues = joined (own_answer labels at first (answer_of labels (at + 1) below))
-    where
-      joined : (own : List Node) → joined_with own first.continues (answer_of labels (at + 1 + count_of below) others) ≡ own ++ answer_of labels (at + 1 + count_of below) others
-      joined [] = refl
-      joined (node ∷ nodes) = ap (λ b. node ∷ nodes ++ cond b (answer_of labels (at + 1 + count_of below) others) []) continues
+  own_some : all_admitted first.matchers labels ≡ true → (found : List Node) → 0 < length (own_answer labels at first found)
+  own_some admits [] = let e : length (own_answer labels at first []) ≡ 1 = ap (λ b. length {A = Node} (cond b (record { number = at; route = first } ∷ []) [])) admits in omega arith
+  own_some admits (node ∷ nodes) = let e : length (own_answer labels at first (node ∷ nodes)) ≡ suc (length nodes) = ap (λ b. length (cond b (node ∷ nodes) [])) admits in omega arith
 
-  pub stops-here : first.continues ≡ false → 0 < length (own_answer labels at first (answer_of labels (at + 1) below)) → answer_of labels at (route first below others) ≡ own_answer labels at first (answer_of labels (at + 1) below)
-  stops-here last some = joined (own_answer labels at first (answer_of labels (at + 1) below)) some
+  -- after one that matches and doesn't continue no more are asked
+  pub alone-stops : all_admitted first.matchers labels ≡ true → first.continues ≡ false → answer_of labels at (route first below others) ≡ answer_of labels at (route first below no_routes)
+  alone-stops admits last = stops (own_answer labels at first found) (own_some admits found) ∙ sym own_alone
     where
-      joined : (own : List Node) → 0 < length own → joined_with own first.continues (answer_of labels (at + 1 + count_of below) others) ≡ own
-      joined [] h = absurd (omega arith)
-      joined (node ∷ nodes) h = ap (λ b. node ∷ nodes ++ cond b (answer_of labels (at + 1 + count_of below) others) []) last ∙ append-nil (node ∷ nodes)
+      stops : (own : List Node) → 0 < length own → joined_with own first.continues rest ≡ own
+      stops [] h = absurd (omega arith)
+      stops (node ∷ nodes) h = ap (λ b. node ∷ nodes ++ cond b rest []) last ∙ append-nil (node ∷ nodes)
 
--- ---- a step of asking routes in order
+  -- after any other the next ones are
+  pub alone-goes_on : (all_admitted first.matchers labels && not first.continues) ≡ false → answer_of labels at (route first below others) ≡ answer_of labels at (route first below no_routes) ++ answer_of labels (at + 1 + count_of below) others
+  alone-goes_on more =
+      by_bool {P = answer_of labels at (route first below others) ≡ alone ++ rest} (all_admitted first.matchers labels)
+      (λ admits.
+      let continues : first.continues ≡ true = on first.continues (sym (ap (λ b. b && not first.continues) admits) ∙ more) in
+      goes_on (own_answer labels at first found) continues ∙ ap (λ own. own ++ rest) (sym own_alone))
+      (λ refused.
+      let none : own_answer labels at first found ≡ [] = sym own_alone ∙ alone-fails refused in
+      ap (λ own. joined_with own first.continues rest) none ∙ ap (λ own. own ++ rest) (sym (alone-fails refused)))
+    where
+      on : (b : Bool) → not b ≡ false → b ≡ true
+      on true e = refl
+      on false e = absurd (cc)
+
+      goes_on : (own : List Node) → first.continues ≡ true → joined_with own first.continues rest ≡ own ++ rest
+      goes_on [] continues = refl
+      goes_on (node ∷ nodes) continues = ap (λ b. node ∷ nodes ++ cond b rest []) continues
+
+-- ---- passing over routes that can't match
+
+pub drop-none : (f : Forest) → drop_routes 0 f ≡ f
+drop-none no_routes = refl
+drop-none (route first below others) = refl
+
+offset_none : (offset : ℕ) (f : Forest) → offset_at 0 offset f ≡ offset
+offset_none offset no_routes = refl
+offset_none offset (route first below others) = refl
+
+-- the answer of the routes from an index on
+abbrev pub answer_from : Labels → ℕ → ℕ → Forest → ℕ → List Node
+answer_from labels number offset f at = answer_of labels (number + offset_at at offset f) (drop_routes at f)
+
+pub answer-first : (labels : Labels) (number offset : ℕ) (f : Forest) → answer_from labels number offset f 0 ≡ answer_of labels (number + offset) f
+answer-first labels number offset f = ap (λ n. answer_of labels (number + n) (drop_routes 0 f)) (offset_none offset f) ∙ ap (answer_of labels (number + offset)) (drop-none f)
+
+-- the route at an index, and those after it
+pub at-child : (offset : ℕ) (f : Forest) (at : ℕ) (child : ChildView) → slice_get (children_from offset f) at ≡ Some child
+    → (drop_routes at f ≡ route child.first child.below (drop_routes (suc at) f)) × (offset_at at offset f ≡ child.offset) × (offset_at (suc at) offset f ≡ child.offset + 1 + count_of child.below)
+at-child offset no_routes at child is = absurd (cc)
+at-child offset (route first below others) zero child is =
+    let here : record { offset = offset; first = first; below = below } ≡ child = (cc) in
+    subst (λ (child : ChildView). (route first below others ≡ route child.first child.below (drop_routes 0 others)) × (offset ≡ child.offset) × (offset_at 0 (offset + 1 + count_of below) others ≡ child.offset + 1 + count_of child.below)) here
+    (ap (route first below) (sym (drop-none others)), refl, offset_none (offset + 1 + count_of below) others)
+at-child offset (route first below others) (suc at) child is = at-child (offset + 1 + count_of below) others at child is
+
+-- one that can't match adds nothing
+pub answer-passed : (labels : Labels) (number offset : ℕ) (f : Forest) (at : ℕ) → ((filing : Option MatcherView) → slice_get (filings f) at ≡ Some filing → may_match labels filing ≡ false)
+    → answer_from labels number offset f at ≡ answer_from labels number offset f (suc at)
+answer-passed labels number offset no_routes at fails = refl
+answer-passed labels number offset (route first below others) zero fails =
+    let refused : all_admitted first.matchers labels ≡ false = filed-fails labels first.matchers (fails (first_equality first.matchers) refl) in
+    let goes : (all_admitted first.matchers labels && not first.continues) ≡ false = ap (λ b. b && not first.continues) refused in
+    let on : number + offset + 1 + count_of below ≡ number + (offset + 1 + count_of below) = omega arith in
+    alone-goes_on labels (number + offset) first below others goes
+    ∙ (ap (λ own. own ++ answer_of labels (number + offset + 1 + count_of below) others) (alone-fails labels (number + offset) first below others refused)
+    ∙ (ap (λ n. answer_of labels n others) on
+    ∙ sym (answer-first labels number (offset + 1 + count_of below) others)))
+answer-passed labels number offset (route first below others) (suc at) fails = answer-passed labels number (offset + 1 + count_of below) others at fails
+
+pub looked-passed : (labels : Labels) (f : Forest) (at : ℕ) → ((filing : Option MatcherView) → slice_get (filings f) at ≡ Some filing → may_match labels filing ≡ false)
+    → looked_from labels (drop_routes at f) ≡ looked_from labels (drop_routes (suc at) f)
+looked-passed labels no_routes at fails = refl
+looked-passed labels (route first below others) zero fails =
+    let past = looked_from labels others in
+    let here = 1 + (cond (all_admitted first.matchers labels) (looked_from labels below) 0 + cond (all_admitted first.matchers labels && not first.continues) 0 past) in
+    ap (λ b. cond b here past) (fails (first_equality first.matchers) refl) ∙ ap (looked_from labels) (sym (drop-none others))
+looked-passed labels (route first below others) (suc at) fails = looked-passed labels others at fails
+
+-- no more than there are, those below them counted too
+pub filings-le-count : (f : Forest) → length (filings f) ≤ count_of f
+filings-le-count no_routes = omega arith
+filings-le-count (route first below others) = let rest : length (filings others) ≤ count_of others = filings-le-count others in omega arith
+
+-- what stays the same at each step is the same at the end
+pub same-along : {X : Type 0} (F : ℕ → X) (from steps : ℕ) → ((k : ℕ) → from ≤ k → k < from + steps → F k ≡ F (suc k)) → F from ≡ F (from + steps)
+same-along F from zero step = let here : from ≡ from + 0 = omega arith in ap F here
+same-along F from (suc steps) step =
+    let on : suc (from + steps) ≡ from + suc steps = omega arith in
+    same-along F from steps (λ k h less. step k h (omega arith)) ∙ (step (from + steps) (omega arith) (omega arith) ∙ ap F on)
+
+pub drop-past : (f : Forest) (at : ℕ) → length (filings f) ≤ at → drop_routes at f ≡ no_routes
+drop-past no_routes at past = refl
+drop-past (route first below others) zero past = absurd (omega arith)
+drop-past (route first below others) (suc at) past = drop-past others at (omega arith)
+
+-- ---- the route that is asked next
+
+-- what it and those after it answer
+abbrev pub pending_answer : Labels → ℕ → Forest → Option Child → List Node
+pending_answer labels number below None = []
+pending_answer labels number below (Some child) = answer_of labels (number + child.offset) (drop_routes child.at below)
+
+-- how many of them are looked at
+abbrev pub pending_looked : Labels → Forest → Option Child → ℕ
+pending_looked labels below None = 0
+pending_looked labels below (Some child) = looked_from labels (drop_routes child.at below)
+
+-- it is one of the routes, and it may match
+abbrev pub IsPending : Labels → Forest → Option Child → Type 0
+IsPending labels below next = IfSome next (λ child. IsChildOf below child × (may_match labels (first_equality child.route.now.matchers) ≡ true))
+
+-- how many routes may be asked yet
+abbrev pub pending_count : Forest → Option Child → ℕ
+pending_count below None = 0
+pending_count below (Some child) = length (filings below) - child.at
+
+filing_of_child : (offset : ℕ) (f : Forest) (at : ℕ) (child : ChildView) → slice_get (children_from offset f) at ≡ Some child → slice_get (filings f) at ≡ Some (first_equality child.first.matchers)
+filing_of_child offset no_routes at child is = absurd (cc)
+filing_of_child offset (route first below others) zero child is =
+    let here : record { offset = offset; first = first; below = below } ≡ child = (cc) in
+    ap (λ (child : ChildView). Some (first_equality child.first.matchers)) here
+filing_of_child offset (route first below others) (suc at) child is = filing_of_child (offset + 1 + count_of below) others at child is
+
+abbrev view_of : Child → ChildView
+view_of child = record { offset = child.offset; first = route_view child.route.now; below = child.route.now.children }
+
+-- the routes from an index on come to what the next one does with those after it
+pub next-answer : (labels : Labels) (number : ℕ) (f : Forest) (from : ℕ) (next : Option Child) → IsNextChild labels from f next → answer_from labels number 1 f from ≡ pending_answer labels number f next
+next-answer labels number f from None is =
+    let end = from + length (filings f) in
+    same-along (answer_from labels number 1 f) from (length (filings f)) (λ k h less. answer-passed labels number 1 f k (λ filing got. is.0 k filing h got))
+    ∙ ap (answer_of labels (number + offset_at end 1 f)) (drop-past f end (omega arith))
+next-answer labels number f from (Some child) is =
+    let steps = child.at - from in
+    let on : from + steps ≡ child.at = omega (arith, is.0.0) in
+    let here = at-child 1 f child.at (view_of child) is.1 in
+    same-along (answer_from labels number 1 f) from steps (λ k h less. answer-passed labels number 1 f k (λ filing got. is.0.2 k filing h (omega arith) got))
+    ∙ (ap (answer_from labels number 1 f) on ∙ ap (λ n. answer_of labels (number + n) (drop_routes child.at f)) here.1)
+
+pub next-looked : (labels : Labels) (f : Forest) (from : ℕ) (next : Option Child) → IsNextChild labels from f next → looked_from labels (drop_routes from f) ≡ pending_looked labels f next
+next-looked labels f from None is =
+    same-along (λ k. looked_from labels (drop_routes k f)) from (length (filings f)) (λ k h less. looked-passed labels f k (λ filing got. is.0 k filing h got))
+    ∙ ap (looked_from labels) (drop-past f (from + length (filings f)) (omega arith))
+next-looked labels f from (Some child) is =
+    let steps = child.at - from in
+    let on : from + steps ≡ child.at = omega (arith, is.0.0) in
+    same-along (λ k. looked_from labels (drop_routes k f)) from steps (λ k h less. looked-passed labels f k (λ filing got. is.0.2 k filing h (omega arith) got))
+    ∙ ap (λ k. looked_from labels (drop_routes k f)) on
+
+pub next-pending : (labels : Labels) (f : Forest) (from : ℕ) (next : Option Child) → IsNextChild labels from f next → IsPending labels f next
+next-pending labels f from None is = tt
+next-pending labels f from (Some child) is =
+    let same : Some is.0.1.0 ≡ Some (first_equality child.route.now.matchers) = sym is.0.1.1 ∙ filing_of_child 1 f child.at (view_of child) is.1 in
+    let filing : is.0.1.0 ≡ first_equality child.route.now.matchers = (cc) in
+    (is.1, ap (may_match labels) (sym filing) ∙ is.0.1.2)
+
+-- one that is asked has a route at its index
+pub child-within : (f : Forest) (child : Child) → IsChildOf f child → child.at < length (filings f)
+child-within f child one = slice_get_within (filings f) child.at (first_equality child.route.now.matchers) (filing_of_child 1 f child.at (view_of child) one)
+
+pub some-left : (f : Forest) (child : Child) → IsChildOf f child → 0 < pending_count f (Some child)
+some-left f child one = let within : child.at < length (filings f) = child-within f child one in omega arith
+
+-- and has fewer below it than there are
+pub child-fewer : (offset : ℕ) (f : Forest) (at : ℕ) (child : ChildView) → slice_get (children_from offset f) at ≡ Some child → count_of child.below < count_of f
+child-fewer offset no_routes at child is = absurd (cc)
+child-fewer offset (route first below others) zero child is =
+    let here : record { offset = offset; first = first; below = below } ≡ child = (cc) in
+    subst (λ (child : ChildView). count_of child.below < count_of (route first below others)) here (omega arith)
+child-fewer offset (route first below others) (suc at) child is =
+    let rest : count_of child.below < count_of others = child-fewer (offset + 1 + count_of below) others at child is in omega arith
+
+-- fewer are left after an index
+pub next-fewer : (labels : Labels) (f : Forest) (child : Child) (next : Option Child) → IsChildOf f child → IsNextChild labels (child.at + 1) f next → pending_count f next < pending_count f (Some child)
+next-fewer labels f child None one is =
+    let within : child.at < length (filings f) = child-within f child one in
+    omega arith
+next-fewer labels f child (Some next) one is =
+    let within : child.at < length (filings f) = child-within f child one in
+    let after : child.at + 1 ≤ next.at = is.0.0 in
+    omega arith
+
+-- ---- a step of asking the routes below one
+
+module _ (labels : Labels) (number : ℕ) (f : Forest) (child : Child) (is : IsChildOf f child) where
+  abbrev pub r : Route
+  r = child.route.now
+
+  abbrev others : Forest
+  others = drop_routes (suc child.at) f
+
+  here : (drop_routes child.at f ≡ route (route_view r) r.children others) × (offset_at child.at 1 f ≡ child.offset) × (offset_at (suc child.at) 1 f ≡ child.offset + 1 + count_of r.children)
+  here = at-child 1 f child.at (view_of child) is
+
+  -- the last one that is asked
+  pub answer-stops : all_admitted r.matchers labels ≡ true → r.continues ≡ false → pending_answer labels number f (Some child) ≡ answer_of labels (number + child.offset) (forest_of (r ∷ []))
+  answer-stops admits last =
+      ap (answer_of labels (number + child.offset)) here.0
+      ∙ alone-stops labels (number + child.offset) (route_view r) r.children others admits last
+
+  -- one after which the next is asked
+  pub answer-goes_on : (next : Option Child) → (all_admitted r.matchers labels && not r.continues) ≡ false → IsNextChild labels (child.at + 1) f next
+      → pending_answer labels number f (Some child) ≡ answer_of labels (number + child.offset) (forest_of (r ∷ [])) ++ pending_answer labels number f next
+  answer-goes_on next more following =
+      let own = answer_of labels (number + child.offset) (forest_of (r ∷ [])) in
+      let on : number + child.offset + 1 + count_of r.children ≡ number + offset_at (suc child.at) 1 f = omega (arith, here.2) in
+      let index : suc child.at ≡ child.at + 1 = omega arith in
+      ap (answer_of labels (number + child.offset)) here.0
+      ∙ (alone-goes_on labels (number + child.offset) (route_view r) r.children others more
+      ∙ (ap (λ n. own ++ answer_of labels n others) on
+      ∙ (ap (λ k. own ++ answer_from labels number 1 f k) index
+      ∙ ap (λ l. own ++ l) (next-answer labels number f (child.at + 1) next following))))
+
+  pub looked-stops : may_match labels (first_equality r.matchers) ≡ true → (all_admitted r.matchers labels && not r.continues) ≡ true → pending_looked labels f (Some child) ≡ 1 + routes_looked_at labels (forest_of (r ∷ []))
+  looked-stops may last =
+      let own = cond (all_admitted r.matchers labels) (looked_from labels r.children) 0 in
+      let past = looked_from labels others in
+      let none : 1 + (own + 0) ≡ 1 + own = omega arith in
+      ap (looked_from labels) here.0
+      ∙ (ap (λ b. cond b (1 + (own + cond (all_admitted r.matchers labels && not r.continues) 0 past)) past) may
+      ∙ (ap (λ b. 1 + (own + cond b 0 past)) last ∙ none))
+
+  pub looked-goes_on : (next : Option Child) → may_match labels (first_equality r.matchers) ≡ true → (all_admitted r.matchers labels && not r.continues) ≡ false → IsNextChild labels (child.at + 1) f next
+      → pending_looked labels f (Some child) ≡ 1 + (routes_looked_at labels (forest_of (r ∷ [])) + pending_looked labels f next)
+  looked-goes_on next may more following =
+      let own = cond (all_admitted r.matchers labels) (looked_from labels r.children) 0 in
+      let past = looked_from labels others in
+      let index : suc child.at ≡ child.at + 1 = omega arith in
+      ap (looked_from labels) here.0
+      ∙ (ap (λ b. cond b (1 + (own + cond (all_admitted r.matchers labels && not r.continues) 0 past)) past) may
+      ∙ (ap (λ b. 1 + (own + cond b 0 past)) more
+      ∙ (ap (λ k. 1 + (own + looked_from labels (drop_routes k f))) index
+      ∙ ap (λ n. 1 + (own + n)) (next-looked labels f (child.at + 1) next following))))
+
+-- ---- what a route adds after those below it were asked
 
 no_more_found : (old below : List Node) (new : List Node) → new ≡ old ++ below → length new ≡ length old → below ≡ []
 no_more_found old [] new e same = refl
 no_more_found old (node ∷ nodes) new e same = absurd (let l : length new ≡ length old + length (node ∷ nodes) = ap length e ∙ length-append old (node ∷ nodes) in omega arith)
 
-module _ (labels : Labels) (at : ℕ) (r : Route) (others : Forest) (old new : List Node) (found : new ≡ old ++ answer_of labels (at + 1) r.children) (admits : all_admitted r.matchers labels ≡ true) where
-  pub own-pushed : length new ≡ length old → new ++ (record { number = at; route = route_view r } ∷ []) ≡ old ++ own_answer labels at (route_view r) (answer_of labels (at + 1) r.children)
+module _ (labels : Labels) (at : ℕ) (r : Route) (old new : List Node) (found : new ≡ old ++ answer_of labels (at + 1) r.children) (admits : all_admitted r.matchers labels ≡ true) where
+  pub own-pushed : length new ≡ length old → new ++ (record { number = at; route = route_view r } ∷ []) ≡ old ++ answer_of labels at (forest_of (r ∷ []))
   own-pushed same =
       let none = no_more_found old (answer_of labels (at + 1) r.children) new found same in
       let node : Node = record { number = at; route = route_view r } in
       ap (λ l. l ++ node ∷ []) (found ∙ (ap (λ b. old ++ b) none ∙ append-nil old))
-      ∙ ap (λ own. old ++ own) (sym (own-itself labels at (route_view r) r.children others admits none))
+      ∙ ap (λ own. old ++ own) (sym (alone-itself labels at (route_view r) r.children no_routes admits none))
 
-  pub own-kept : length new ≢ length old → new ≡ old ++ own_answer labels at (route_view r) (answer_of labels (at + 1) r.children)
+  pub own-kept : length new ≢ length old → new ≡ old ++ answer_of labels at (forest_of (r ∷ []))
   own-kept more =
       let some : 0 < length (answer_of labels (at + 1) r.children) = omega (arith, ap length found ∙ length-append old (answer_of labels (at + 1) r.children), more) in
-      found ∙ ap (λ own. old ++ own) (sym (own-below labels at (route_view r) r.children others admits some))
+      found ∙ ap (λ own. old ++ own) (sym (alone-below labels at (route_view r) r.children no_routes admits some))
 
-module _ (labels : Labels) (rs : List Route) (i : ℕ) (r : Route) (early : i < length rs) (is : r ≡ get_or rs i r) (at : ℕ) (old total : List Node)
-    (so_far : old ++ answer_of labels at (forest_of (drop i rs)) ≡ total) where
-  others : Forest
-  others = forest_of (drop (i + 1) rs)
-
-  pub step-past : all_admitted r.matchers labels ≡ false → old ++ answer_of labels (at + 1 + count_of r.children) (forest_of (drop (i + 1) rs)) ≡ total
-  step-past refused =
-      ap (λ rest. old ++ rest) (sym (ap (answer_of labels at) (forest-drop rs i r early is) ∙ passed_over labels at (route_view r) r.children (forest_of (drop (i + 1) rs)) refused)) ∙ so_far
-
-  pub step-on : (new : List Node) → new ≡ old ++ own_answer labels at (route_view r) (answer_of labels (at + 1) r.children) → r.continues ≡ true
-      → new ++ answer_of labels (at + 1 + count_of r.children) (forest_of (drop (i + 1) rs)) ≡ total
-  step-on new own continues =
-      let rest = answer_of labels (at + 1 + count_of r.children) (forest_of (drop (i + 1) rs)) in
-      ap (λ l. l ++ rest) own
-      ∙ (append_assoc old (own_answer labels at (route_view r) (answer_of labels (at + 1) r.children)) rest
-      ∙ (ap (λ l. old ++ l) (sym (ap (answer_of labels at) (forest-drop rs i r early is) ∙ goes-on labels at (route_view r) r.children (forest_of (drop (i + 1) rs)) continues)) ∙ so_far))
-
-  pub step-end : (new : List Node) → new ≡ old ++ own_answer labels at (route_view r) (answer_of labels (at + 1) r.children) → r.continues ≡ false
-      → 0 < length (own_answer labels at (route_view r) (answer_of labels (at + 1) r.children)) → new ≡ total
-  step-end new own last some =
-      own ∙ (ap (λ l. old ++ l) (sym (ap (answer_of labels at) (forest-drop rs i r early is) ∙ stops-here labels at (route_view r) r.children (forest_of (drop (i + 1) rs)) last some)) ∙ so_far)
-
--- a route that admits the label set answers something
-pub own-some : (labels : Labels) (at : ℕ) (first : RouteView) (found : List Node) → all_admitted first.matchers labels ≡ true → 0 < length (own_answer labels at first found)
-own-some labels at first [] admits = let e : length (own_answer labels at first []) ≡ 1 = ap (λ b. length {A = Node} (cond b (record { number = at; route = first } ∷ []) [])) admits in omega arith
-own-some labels at first (node ∷ nodes) admits = let e : length (own_answer labels at first (node ∷ nodes)) ≡ suc (length nodes) = ap (λ b. length (cond b (node ∷ nodes) [])) admits in omega arith
-
--- a route's search, once it is written where its next one stands
-pub search-written : (before : List RouteSearch) (matchers : List MatcherView) (below : Forest) (search : RouteSearch) (at count : ℕ) → at ≡ length before
-    → search ≡ get_or ((before ++ record { matchers = matchers; below = 0 } ∷ []) ++ searches_of below) at search
-    → count ≡ length ((before ++ record { matchers = matchers; below = 0 } ∷ []) ++ searches_of below) - at - 1
-    → set ((before ++ record { matchers = matchers; below = 0 } ∷ []) ++ searches_of below) at (record { matchers = search.matchers; below = count })
-    ≡ before ++ (record { matchers = matchers; below = count_of below } ∷ searches_of below)
-search-written before matchers below search at count on is counted =
-    let one : RouteSearch = record { matchers = matchers; below = 0 } in
+-- a route's search, once the index of those below it is written
+pub search-written : (before : List RouteSearch) (one : RouteSearch) (below : Forest) (d : RouteSearch) (at : ℕ) → at ≡ length before → d ≡ get_or ((before ++ one ∷ []) ++ searches_of below) at d
+    → set ((before ++ one ∷ []) ++ searches_of below) at (record { matchers = d.matchers; children = below }) ≡ before ++ (record { matchers = one.matchers; children = below } ∷ searches_of below)
+search-written before one below d at on is =
     let all = append_assoc before (one ∷ []) (searches_of below) in
-    let here : search ≡ one = is ∙ (ap (λ l. get_or l at search) all ∙ get_or_at before one (searches_of below) search at (sym on)) in
-    let many : count ≡ count_of below = omega (arith, counted, on, length-searches below, length-append (before ++ one ∷ []) (searches_of below), length-append before (one ∷ [])) in
-    ap (λ (m : List MatcherView). set ((before ++ one ∷ []) ++ searches_of below) at (record { matchers = m; below = count })) (ap (λ (s : RouteSearch). s.matchers) here)
-    ∙ (ap (λ n. set ((before ++ one ∷ []) ++ searches_of below) at (record { matchers = matchers; below = n })) many
-    ∙ (ap (λ l. set l at (record { matchers = matchers; below = count_of below })) all
-    ∙ set_at before one (searches_of below) (record { matchers = matchers; below = count_of below }) at (sym on)))
-
--- and the routes have one search more
-pub searches-more : (old : List RouteSearch) (rs : List Route) (i : ℕ) (r : Route) → i < length rs → r ≡ get_or rs i r
-    → (old ++ searches_of (forest_of (take i rs))) ++ (record { matchers = r.matchers; below = count_of r.children } ∷ searches_of r.children) ≡ old ++ searches_of (forest_of (take (i + 1) rs))
-searches-more old rs i r early is =
-    append_assoc old (searches_of (forest_of (take i rs))) (record { matchers = r.matchers; below = count_of r.children } ∷ searches_of r.children)
-    ∙ ap (λ l. old ++ l) (sym (ap (λ l. searches_of (forest_of l)) (take_more rs i r early ∙ ap (λ one. take i rs ++ one ∷ []) (sym is)) ∙ searches-push (take i rs) r))
+    let here : d ≡ one = is ∙ (ap (λ l. get_or l at d) all ∙ get_or_at before one (searches_of below) d at (sym on)) in
+    ap (λ (m : List MatcherView). set ((before ++ one ∷ []) ++ searches_of below) at (record { matchers = m; children = below })) (ap (λ (s : RouteSearch). s.matchers) here)
+    ∙ (ap (λ l. set l at (record { matchers = one.matchers; children = below })) all
+    ∙ set_at before one (searches_of below) (record { matchers = one.matchers; children = below }) at (sym on))

@@ -7,6 +7,7 @@ pub use Rattle.am_config.specs.Routes
 pub use Rattle.am_config.specs.RouteLists
 pub use Rattle.am_config.specs.GroupLabels
 pub mod RouteAnswers
+pub mod Looking
 pub mod InOrder
 pub mod Groups
 pub mod Listings

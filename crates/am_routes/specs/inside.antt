@@ -1,4 +1,5 @@
 -- Definitions that only code of this crate cites.
+pub mod ChildIndexes
 pub mod Searches
 pub mod GroupLists
 pub mod GroupChanges

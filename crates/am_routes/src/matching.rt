@@ -1,16 +1,18 @@
 //! Asking a routing tree which of its routes a label set matches.
 
-ghost use Rattle.std.specs.Prelude.{◌≡◌, ◌++◌, IfOk, OnOk};
+ghost use Rattle.std.specs.Prelude.{◌≡◌, ◌+◌, [], ◌∷◌, ◌++◌, min, IfOk, OnOk};
+ghost use Rattle.am_labels.specs.Matchers.{all_admitted};
 ghost use Rattle.am_config.specs.RouteLists.{forest_of, root_of};
+ghost use Rattle.am_routes.specs.Looking.{routes_looked_at};
 ghost use Rattle.am_routes.specs.RouteAnswers.{answer_of, IsAnswerOf};
 ghost use Rattle.am_routes.specs.inside.Searches.{nodes_in, searches_of, BeginAt};
 
+use crate::child_index::ChildIndex;
 use crate::route_id::RouteId;
 use am_config::{Route, RouteTree};
 use am_labels::{LabelSet, PreparedMatchers};
 use std::alloc::{AllocError, Global};
 use std::marker::Model;
-use std::slice;
 
 /// A routing tree made ready to be asked many times: its matchers' searches are kept, so that
 /// asking compiles no pattern. Contracts see it as the tree's routes.
@@ -47,7 +49,7 @@ impl<'t> PreparedTree<'t> {
         ensures { IfOk result (λ prepared. prepared ≡ root_of tree.now) }
     {
         let mut searches = Vec::new(alloc);
-        prepare_each(alloc, slice::from_ref(&tree.root), &mut searches)?;
+        prepare(alloc, &tree.root, &mut searches)?;
         Ok(PreparedTree { tree, searches })
     }
 
@@ -66,14 +68,39 @@ impl<'t> PreparedTree<'t> {
         Ok(ids)
     }
 
+    /// How many of the routes below the root `matches` looks at for a label set. A route that asks for
+    /// another value by its first equality matcher isn't looked at. The count stops at the greatest
+    /// u64.
+    pub fn looked(&mut self, labels: &LabelSet) -> Result<u64, AllocError>
+        ensures looked { IfOk result (λ looked.
+            looked ≡ min (routes_looked_at labels.now self.old) u64.MAX) }
+        ensures same { self.new ≡ self.old }
+    {
+        Ok(self.search(labels)?.looked)
+    }
+
     /// As `matches`, with the routes themselves.
     pub(crate) fn find(&mut self, labels: &LabelSet) -> Result<Vec<FoundRoute<'t>>, AllocError>
         ensures found { IfOk result (λ found.
             nodes_in found.items ≡ answer_of labels.now 0 self.old) }
         ensures same { self.new ≡ self.old }
     {
-        let mut found = Vec::new(*self.searches.allocator());
-        let root = slice::from_ref(&self.tree.root);
+        Ok(self.search(labels)?.routes)
+    }
+
+    // The routes that a label set matches, and how many were looked at for them.
+    fn search(&mut self, labels: &LabelSet) -> Result<Found<'t>, AllocError>
+        ensures routes { IfOk result (λ found.
+            nodes_in found.routes.items ≡ answer_of labels.now 0 self.old) }
+        ensures looked { IfOk result (λ found.
+            min found.looked u64.MAX ≡ min (routes_looked_at labels.now self.old) u64.MAX) }
+        ensures same { self.new ≡ self.old }
+    {
+        let mut found = Found {
+            routes: Vec::new(*self.searches.allocator()),
+            looked: 0,
+        };
+        let root = &self.tree.root;
         ask(&mut self.searches, root, 0, labels, &mut found)?;
         Ok(found)
     }
@@ -98,63 +125,80 @@ pub(crate) struct FoundRoute<'t> {
     pub(crate) route: &'t Route,
 }
 
-// What is kept to ask one route: its matchers with their searches, and the size of its subtree.
+// What a search through the routes found so far.
+#[derive(Drop)]
+pub(crate) struct Found<'t> {
+    routes: Vec<FoundRoute<'t>>,
+    // How many routes below others it looked at. The count stops at the greatest u64.
+    looked: u64,
+}
+
+// What is kept to ask one route: its matchers with their searches, and the index of those below it.
 #[derive(Drop)]
 pub(crate) struct RouteSearch<'t> {
     matchers: PreparedMatchers<'t>,
-    // How many routes are below it.
-    below: usize,
+    children: ChildIndex<'t>,
 }
 
-// Adds the searches of routes, each before those of the routes below it.
-fn prepare_each<'t>(
+// Adds the searches of a route and of those below it, in pre-order.
+fn prepare<'t>(
     alloc: Global,
-    routes: &'t [Route],
+    route: &'t Route,
     searches: &mut Vec<RouteSearch<'t>>,
 ) -> Result<(), AllocError>
     ensures { OnOk result
-        (searches.new.items ≡ searches.old.items ++ searches_of (forest_of routes.now)) }
+        (searches.new.items ≡ searches.old.items ++ searches_of (forest_of (route.now ∷ []))) }
 {
-    for route in routes {
-        let at = searches.len();
-        let matchers = route.matchers.prepare(alloc)?;
-        searches.push(RouteSearch { matchers, below: 0 })?;
-        prepare_each(alloc, route.children.as_slice(), searches)?;
-        searches[at].below = searches.len() - at - 1;
+    let number = searches.len();
+    let children = route.children.as_slice();
+    searches.push(RouteSearch {
+        matchers: route.matchers.prepare(alloc)?,
+        children: ChildIndex::none(alloc),
+    })?;
+    let mut offsets = Vec::with_capacity(alloc, children.len())?;
+    for child in children {
+        offsets.push(searches.len() - number)?;
+        prepare(alloc, child, searches)?;
     }
+    searches[number].children = ChildIndex::new(alloc, children, offsets)?;
     Ok(())
 }
 
-// Asks routes in order, the first of which has the number, and adds those that a label set matches.
+// Asks a route, which has the number, and those below it, and adds those that a label set matches.
+// It answers whether the route's own matchers admit the label set.
 fn ask<'t>(
     searches: &mut [RouteSearch<'t>],
-    routes: &'t [Route],
-    first: usize,
+    route: &'t Route,
+    number: usize,
     labels: &LabelSet,
-    found: &mut Vec<FoundRoute<'t>>,
-) -> Result<(), AllocError>
-    requires { BeginAt first (searches_of (forest_of routes.now)) searches.old }
-    ensures found { OnOk result
-        (nodes_in found.new.items
-        ≡ nodes_in found.old.items ++ answer_of labels.now first (forest_of routes.now)) }
+    found: &mut Found<'t>,
+) -> Result<bool, AllocError>
+    requires { BeginAt number (searches_of (forest_of (route.now ∷ []))) searches.old }
+    ensures admits { IfOk result (λ admits. admits ≡ all_admitted route.now.matchers labels.now) }
+    ensures found { OnOk result (nodes_in found.new.routes.items
+        ≡ nodes_in found.old.routes.items
+        ++ answer_of labels.now number (forest_of (route.now ∷ []))) }
+    ensures looked { OnOk result (min found.new.looked u64.MAX
+        ≡ min (found.old.looked + routes_looked_at labels.now (forest_of (route.now ∷ []))) u64.MAX) }
     ensures same { searches.new ≡ searches.old }
 {
-    let mut at = first;
-    for route in routes {
-        let search = &mut searches[at];
-        let next = at + 1 + search.below;
-        if search.matchers.admits(labels) {
-            let had = found.len();
-            ask(searches, route.children.as_slice(), at + 1, labels, found)?;
-            if found.len() == had {
-                let id = RouteId(at as u64);
-                found.push(FoundRoute { id, route })?;
-            }
-            if !route.continues {
-                return Ok(());
-            }
-        }
-        at = next;
+    if !searches[number].matchers.admits(labels) {
+        return Ok(false);
     }
-    Ok(())
+    let had = found.routes.len();
+    let mut next = searches[number].children.next(labels, 0);
+    while let Some(child) = next {
+        found.looked = found.looked.saturating_add(1);
+        let admits = ask(searches, child.route, number + child.offset, labels, found)?;
+        next = if admits && !child.route.continues {
+            None
+        } else {
+            searches[number].children.next(labels, child.at + 1)
+        };
+    }
+    if found.routes.len() == had {
+        let id = RouteId(number as u64);
+        found.routes.push(FoundRoute { id, route })?;
+    }
+    Ok(true)
 }

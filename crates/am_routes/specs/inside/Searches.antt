@@ -2,7 +2,7 @@
 use Rattle.std.specs.Prelude.{◌≡◌, ℕ, List, [], ◌∷◌, ◌++◌, map, drop}
 use Rattle.am_routes.specs.declared.matching.FoundRoute.{FoundRoute}
 use Rattle.am_routes.specs.declared.matching.RouteSearch.{RouteSearch}
-use Rattle.am_config.specs.Routes.{Forest, no_routes, route, count_of}
+use Rattle.am_config.specs.Routes.{Forest, no_routes, route}
 use Rattle.am_config.specs.RouteLists.{route_view}
 use Rattle.am_routes.specs.RouteAnswers.{Node}
 
@@ -18,7 +18,7 @@ nodes_in found = map node_of found
 abbrev pub searches_of : Forest → List RouteSearch
 searches_of no_routes = []
 searches_of (route first below others) =
-    record { matchers = first.matchers; below = count_of below } ∷ (searches_of below ++ searches_of others)
+    record { matchers = first.matchers; children = below } ∷ (searches_of below ++ searches_of others)
 
 -- some searches are those from an index on
 abbrev pub BeginAt : ℕ → List RouteSearch → List RouteSearch → Type 0

@@ -1,100 +1,219 @@
-use Rattle.std.proofs.Common.{rules, ◌≡◌, ◌++◌, ◌+◌, ◌<◌, ◌≤◌, length, drop, true, get_or, sym, ap, subst, ◌∙◌, arith}
-use Rattle.am_routes.specs.declared.matching.RouteSearch.{RouteSearch}
-use Rattle.am_config.specs.Routes.{count_of}
+use Rattle.std.proofs.Common.{rules, ◌≡◌, ◌++◌, ◌∷◌, [], ℕ, ◌+◌, ◌<◌, ◌≤◌, Bool, true, false, not, ◌&&◌, cond, None, Some, List, length, get_or, min, sym, ap, subst, ◌∙◌, arith}
+use Rattle.std.proofs.lemmas.List.{append_assoc, append-nil, length-map, map-append}
+use Rattle.am_config.specs.declared.route.Route.{Route}
+use Rattle.am_config.specs.Routes.{no_routes, count_of}
 use Rattle.am_config.specs.RouteLists.{route_view, forest_of}
-use Rattle.am_routes.specs.RouteAnswers.{answer_of, own_answer}
-use Rattle.am_routes.specs.inside.Searches.{node_of, nodes_in, searches_of, BeginAt}
-use Rattle.am_routes.proofs.Searching.{search-first, search-bound, search-below, search-others, begins-drop, asked, count-below, own-pushed, own-kept, step-past, step-on}
+use Rattle.am_labels.specs.LabelSets.{Labels}
 use Rattle.am_labels.specs.Matchers.{all_admitted}
-use Rattle.std.proofs.Common.{Vec, Global}
-use Rattle.std.proofs.lemmas.List.{length-map, map-append}
-use Rattle.am_routes.specs.declared.matching.FoundRoute.{FoundRoute}
+use Rattle.am_routes.specs.declared.child_index.Child.{Child}
+use Rattle.am_routes.specs.declared.matching.RouteSearch.{RouteSearch}
+use Rattle.am_routes.specs.RouteAnswers.{answer_of}
+use Rattle.am_routes.specs.Looking.{looked_from, routes_looked_at}
+use Rattle.am_routes.specs.inside.ChildIndexes.{IsChildOf, IsNextChild}
+use Rattle.am_routes.specs.inside.Searches.{node_of, nodes_in, searches_of, BeginAt}
+use Rattle.am_routes.proofs.Searching.{search-first, search-bound, search-below, asked, child-begins, child-fewer, child-within, filings-le-count, drop-none, answer-first, pending_answer, pending_looked, pending_count, IsPending, some-left, next-answer, next-looked, next-pending, next-fewer, answer-stops, answer-goes_on, looked-stops, looked-goes_on, own-pushed, own-kept}
 use Rattle.am_routes.proofs.matching.+ask.Goals as goal
-use Rattle.am_routes.proofs.matching.+ask.Goals.{then-admits+in_ok-ask+else-not-route, then-len-had+in_ok-push, else-len-had, else-admits}
+use Rattle.am_routes.proofs.matching.+ask.Goals.{else-admits-via-then-admits+else-not-child, else-admits-via-else-admits}
 
--- src/matching.rt:64:20
-pub overflow_add-next-in-loop-route : goal.overflow_add-next-in-loop-route
-overflow_add-next-in-loop-route t c =
-    let r = c.route-item.result in
-    let rs = c.args.routes.now in
-    let i = c.loop-route.route-index in
-    let others = forest_of (drop (i + 1) rs) in
-    let begins = begins-drop rs i r c.loop-route.at c.loop-route.searches (omega arith) c.route-item.is c.loop-route.invariant.here in
-    let bound : c.loop-route.at + 1 + count_of r.children ≤ length c.loop-route.searches = search-bound c.loop-route.at (route_view r) r.children others c.loop-route.searches begins in
-    let below : (get_or c.loop-route.searches c.loop-route.at c.index-searches-at.result).below ≡ count_of r.children =
-    ap (λ (s : RouteSearch). s.below) (search-first c.loop-route.at (route_view r) r.children others c.loop-route.searches begins c.index-searches-at.result) in
+-- the routes below the one that is asked, as its search keeps them
+kids : (number : ℕ) (r : Route) (searches now : List RouteSearch) (d : RouteSearch) → BeginAt number (searches_of (forest_of (r ∷ []))) searches → now ≡ searches → (get_or now number d).children ≡ r.children
+kids number r searches now d begins same =
+    ap (λ l. (get_or l number d).children) same
+    ∙ ap (λ (s : RouteSearch). s.children) (search-first number (route_view r) r.children no_routes searches begins d)
+
+-- where a route below it has its search
+child_at : (number : ℕ) (r : Route) (child : Child) (searches now : List RouteSearch) → BeginAt number (searches_of (forest_of (r ∷ []))) searches → now ≡ searches → IsChildOf r.children child
+    → BeginAt (number + child.offset) (searches_of (forest_of (child.route.now ∷ []))) now
+child_at number r child searches now begins same one =
+    subst (BeginAt (number + child.offset) (searches_of (forest_of (child.route.now ∷ [])))) (sym same)
+    (child-begins number 1 r.children child.at (record { offset = child.offset; first = route_view child.route.now; below = child.route.now.children }) searches
+    (search-below number (route_view r) r.children no_routes searches begins) one)
+
+pub loop-next-init : goal.loop-next-init
+loop-next-init t c =
+    let labels = c.args.labels.now in
+    let f = c.args.route.now.children in
+    let same = asked c.args.searches.now c.args.number c.index-searches-number.result c.admits.new.self c.admits.ensures.same in
+    let next : IsNextChild labels 0 f c.next-next.result =
+    subst (λ f. IsNextChild labels 0 f c.next-next.result) (kids c.args.number c.args.route.now c.args.searches.now _ c.index-searches-number-2.result c.requires same) c.next-next.ensures in
+    record {
+      pending = next-pending labels f 0 c.next-next.result next;
+      found = ap (λ l. nodes_in c.args.found.now.routes.items ++ l) (sym (next-answer labels c.args.number f 0 c.next-next.result next) ∙ answer-first labels c.args.number 1 f);
+      looked = ap (λ n. min (c.args.found.now.looked + n) 18446744073709551615) (sym (next-looked labels f 0 c.next-next.result next) ∙ ap (looked_from labels) (drop-none f));
+      same = same;
+    }
+
+pub overflow_add-number : goal.overflow_add-number
+overflow_add-number t c =
+    let child = c.in-Some.child in
+    let r = child.route.now in
+    let pending = subst (IsPending c.args.labels.now c.args.route.now.children) c.in-Some.is c.loop-next.invariant.pending in
+    let begins = child_at c.args.number c.args.route.now child c.args.searches.now c.loop-next.searches c.requires c.loop-next.invariant.same pending.0 in
+    let bound : c.args.number + child.offset + 1 + count_of r.children ≤ length c.loop-next.searches = search-bound (c.args.number + child.offset) (route_view r) r.children no_routes c.loop-next.searches begins in
     let small = c.well_formed.0.0 in
-    let long : length c.loop-route.searches ≡ length c.args.searches.now = c.loop-route.auto.searches in
-    let fits : c.loop-route.at + 1 + (get_or c.loop-route.searches c.loop-route.at c.index-searches-at.result).below < 18446744073709551616 = omega arith in
+    let long : length c.loop-next.searches ≡ length c.args.searches.now = ap length c.loop-next.invariant.same in
+    let fits : c.args.number + child.offset < 18446744073709551616 = omega arith in
     search rules
 
--- src/matching.rt:67:13
 pub ask-requires : goal.ask-requires
 ask-requires t c =
-    let r = c.route-item.result in
-    let rs = c.args.routes.now in
-    let i = c.loop-route.route-index in
-    let others = forest_of (drop (i + 1) rs) in
-    let begins = begins-drop rs i r c.loop-route.at c.loop-route.searches (omega arith) c.route-item.is c.loop-route.invariant.here in
-    let fewer : count_of r.children < count_of (forest_of rs) = subst (λ (one : Rattle.am_config.specs.declared.route.Route.Route). count_of one.children < count_of (forest_of rs)) (sym c.route-item.is) (count-below rs i r (omega arith)) in
-    let falls : count_of (forest_of c.as_slice.result.now) < t = let e : count_of (forest_of c.as_slice.result.now) ≡ count_of r.children = ap count_of c.as_slice.ensures in let d : count_of (forest_of rs) ≡ t = c.decreases in omega arith in
-    let same = asked c.loop-route.searches c.loop-route.at c.index-searches-at.result c.admits.new.self c.admits.ensures.same in
-    let there : BeginAt (c.loop-route.at + 1) (searches_of (forest_of c.as_slice.result.now)) c.loop-route.searches =
-    subst (λ f. BeginAt (c.loop-route.at + 1) (searches_of f) c.loop-route.searches) (sym c.as_slice.ensures) (search-below c.loop-route.at (route_view r) r.children others c.loop-route.searches begins) in
-    (falls, subst (λ all. BeginAt (c.loop-route.at + 1) (searches_of (forest_of c.as_slice.result.now)) all) (sym same) there)
+    let child = c.in-Some.child in
+    let r = child.route.now in
+    let f = c.args.route.now.children in
+    let pending = subst (IsPending c.args.labels.now f) c.in-Some.is c.loop-next.invariant.pending in
+    let fewer : count_of r.children < count_of f = child-fewer 1 f child.at (record { offset = child.offset; first = route_view r; below = r.children }) pending.0 in
+    let d : count_of f ≡ t = c.decreases in
+    let falls : count_of r.children < t = omega arith in
+    (falls, child_at c.args.number c.args.route.now child c.args.searches.now c.loop-next.searches c.requires c.loop-next.invariant.same pending.0)
 
--- src/matching.rt:62:5
-pub loop-route-preserved : goal.loop-route-preserved
-loop-route-preserved t c =
-    let r = c.route-item.result in
-    let rs = c.args.routes.now in
-    let i = c.loop-route.route-index in
-    let at = c.loop-route.at in
+pub overflow_add-child : goal.overflow_add-child
+overflow_add-child t c =
+    let child = c.in-Some.child in
+    let f = c.args.route.now.children in
+    let pending = subst (IsPending c.args.labels.now f) c.in-Some.is c.loop-next.invariant.pending in
+    let bound : c.args.number + 1 + count_of f ≤ length c.args.searches.now = search-bound c.args.number (route_view c.args.route.now) f no_routes c.args.searches.now c.requires in
+    let small = c.well_formed.0.0 in
+    let fits : child.at + 1 < 18446744073709551616 = omega (arith, child-within f child pending.0, filings-le-count f) in
+    search rules
+
+pub loop-next-preserved-then-not-child : goal.loop-next-preserved-then-not-child
+loop-next-preserved-then-not-child t c =
     let labels = c.args.labels.now in
-    let searches = c.loop-route.searches in
-    let others = forest_of (drop (i + 1) rs) in
-    let early : i < length rs = omega arith in
-    let begins = begins-drop rs i r at searches early c.route-item.is c.loop-route.invariant.here in
-    let same = asked searches at c.index-searches-at.result c.admits.new.self c.admits.ensures.same in
-    let first = search-first at (route_view r) r.children others searches begins c.index-searches-at.result in
-    let below : (get_or searches at c.index-searches-at.result).below ≡ count_of r.children = ap (λ (s : RouteSearch). s.below) first in
-    let answer : c.admits.result ≡ all_admitted r.matchers labels = c.admits.ensures.answer ∙ ap (λ (s : RouteSearch). all_admitted s.matchers labels) first in
-    let next : BeginAt (at + 1 + count_of r.children) (searches_of others) searches = search-others at (route_view r) r.children others searches begins in
-    let so_far = c.loop-route.invariant.so_far in
-    elim c.if-admits.branch [
-      | then-admits+in_ok-ask+else-not-route w ↦
-          let unchanged : c.if-admits.searches ≡ searches = w.searches-is ∙ (w.in_ok-ask.ensures.same ∙ same) in
-          let on : c.if-admits.at ≡ at + 1 + count_of r.children = w.at-is ∙ ap (λ n. at + 1 + n) below in
-          let admits : all_admitted r.matchers labels ≡ true = sym answer ∙ w.if-admits.true in
-          let found : nodes_in w.ask.new.found.items ≡ nodes_in c.loop-route.found.items ++ answer_of labels (at + 1) r.children =
-          w.in_ok-ask.ensures.found ∙ ap (λ f. nodes_in c.loop-route.found.items ++ answer_of labels (at + 1) f) w.as_slice.ensures in
-          let long_new : length (nodes_in w.ask.new.found.items) ≡ w.len.result = length-map w.ask.new.found.items node_of ∙ (sym w.ask.new.found.ok.0 ∙ sym w.len.ensures) in
-          let long_old : length (nodes_in c.loop-route.found.items) ≡ w.len-had.result = length-map c.loop-route.found.items node_of ∙ (sym c.loop-route.found.ok.0 ∙ sym w.len-had.ensures) in
-          let own : nodes_in c.if-admits.found.items ≡ nodes_in c.loop-route.found.items ++ own_answer labels at (route_view r) (answer_of labels (at + 1) r.children) =
-          ap (λ (v : Vec FoundRoute Global). nodes_in v.items) w.found-is ∙ elim w.if-len-had.branch [
-            | then-len-had+in_ok-push w' ↦
-                ap (λ (v : Vec FoundRoute Global). nodes_in v.items) w'.found-is
-                ∙ (ap nodes_in w'.in_ok-push.ensures.items
-                ∙ (map-append node_of w.ask.new.found.items _
-                ∙ own-pushed labels at r others (nodes_in c.loop-route.found.items) (nodes_in w.ask.new.found.items) found admits (long_new ∙ (w'.if-len-had.true ∙ sym long_old))))
-            | else-len-had w' ↦
-                ap (λ (v : Vec FoundRoute Global). nodes_in v.items) w'.found-is
-                ∙ own-kept labels at r others (nodes_in c.loop-route.found.items) (nodes_in w.ask.new.found.items) found admits (λ e. w'.if-len-had.false (sym long_new ∙ (e ∙ long_old)))
-          ] in
-          record {
-            here = subst (λ n. BeginAt n (searches_of others) c.if-admits.searches) (sym on) (subst (BeginAt (at + 1 + count_of r.children) (searches_of others)) (sym unchanged) next);
-            so_far = ap (λ n. nodes_in c.if-admits.found.items ++ answer_of labels n others) on
-                ∙ step-on labels rs i r early c.route-item.is at (nodes_in c.loop-route.found.items) _ so_far (nodes_in c.if-admits.found.items) own w.if-not-route.false;
-            same = unchanged ∙ c.loop-route.invariant.same;
-          }
-      | else-admits w ↦
-          let unchanged : c.if-admits.searches ≡ searches = w.searches-is ∙ same in
-          let on : c.if-admits.at ≡ at + 1 + count_of r.children = w.at-is ∙ ap (λ n. at + 1 + n) below in
-          record {
-            here = subst (λ n. BeginAt n (searches_of others) c.if-admits.searches) (sym on) (subst (BeginAt (at + 1 + count_of r.children) (searches_of others)) (sym unchanged) next);
-            so_far = ap (λ (v : Vec FoundRoute Global). nodes_in v.items ++ answer_of labels c.if-admits.at others) w.found-is
-                ∙ (ap (λ n. nodes_in c.loop-route.found.items ++ answer_of labels n others) on
-                ∙ step-past labels rs i r early c.route-item.is at (nodes_in c.loop-route.found.items) _ so_far (sym answer ∙ w.if-admits.false));
-            same = unchanged ∙ c.loop-route.invariant.same;
-          }
-    ]
+    let number = c.args.number in
+    let child = c.in-Some.child in
+    let r = child.route.now in
+    let f = c.args.route.now.children in
+    let pending = subst (IsPending labels f) c.in-Some.is c.loop-next.invariant.pending in
+    let old = nodes_in c.loop-next.found.routes.items in
+    let admits : all_admitted r.matchers labels ≡ true = search rules in
+    let last : r.continues ≡ false = search rules in
+    let stops = answer-stops labels number f child pending.0 admits last in
+    let both : (all_admitted r.matchers labels && not r.continues) ≡ true = ap (λ b. b && not r.continues) admits ∙ ap not last in
+    let counted : pending_looked labels f (Some child) ≡ 1 + routes_looked_at labels (forest_of (r ∷ [])) = looked-stops labels number f child pending.0 pending.1 both in
+    let before : min (c.loop-next.found.looked + pending_looked labels f (Some child)) 18446744073709551615 ≡ min (c.args.found.now.looked + looked_from labels f) 18446744073709551615 =
+    ap (λ n. min (c.loop-next.found.looked + pending_looked labels f n) 18446744073709551615) (sym c.in-Some.is) ∙ c.loop-next.invariant.looked in
+    let own : min c.ask.new.found.looked 18446744073709551615 ≡ min (c.saturating_add-found.result + routes_looked_at labels (forest_of (r ∷ []))) 18446744073709551615 = c.in_ok-admits.ensures.looked in
+    let one : c.saturating_add-found.result ≡ min (c.loop-next.found.looked + 1) 18446744073709551615 = c.saturating_add-found.ensures in
+    record {
+      pending = tt;
+      found = append-nil (nodes_in c.ask.new.found.routes.items)
+          ∙ (c.in_ok-admits.ensures.found
+          ∙ (ap (λ l. old ++ l) (sym stops)
+          ∙ (ap (λ n. old ++ pending_answer labels number f n) (sym c.in-Some.is) ∙ c.loop-next.invariant.found)));
+      looked = omega (arith, counted, before, own, one);
+      same = c.in_ok-admits.ensures.same ∙ c.loop-next.invariant.same;
+    }
+
+pub loop-next-preserved : goal.loop-next-preserved
+loop-next-preserved t c =
+    let labels = c.args.labels.now in
+    let number = c.args.number in
+    let child = c.in-Some.child in
+    let r = child.route.now in
+    let f = c.args.route.now.children in
+    let pending = subst (IsPending labels f) c.in-Some.is c.loop-next.invariant.pending in
+    let old = nodes_in c.loop-next.found.routes.items in
+    let same = c.in_ok-admits.ensures.same ∙ c.loop-next.invariant.same in
+    let after = c.next-next-else-admits.result in
+    let next : IsNextChild labels (child.at + 1) f after =
+    subst (λ f. IsNextChild labels (child.at + 1) f after) (kids number c.args.route.now c.args.searches.now c.ask.new.searches c.index-searches-number-else-admits.result c.requires same) c.next-next-else-admits.ensures in
+    let more : (all_admitted r.matchers labels && not r.continues) ≡ false =
+    elim c.else-admits.branch [
+      | else-admits-via-then-admits+else-not-child w ↦ search rules
+      | else-admits-via-else-admits w ↦ search rules
+    ] in
+    let goes = answer-goes_on labels number f child pending.0 after more next in
+    let own = answer_of labels (number + child.offset) (forest_of (r ∷ [])) in
+    let counted : pending_looked labels f (Some child) ≡ 1 + (routes_looked_at labels (forest_of (r ∷ [])) + pending_looked labels f after) = looked-goes_on labels number f child pending.0 after pending.1 more next in
+    let before : min (c.loop-next.found.looked + pending_looked labels f (Some child)) 18446744073709551615 ≡ min (c.args.found.now.looked + looked_from labels f) 18446744073709551615 =
+    ap (λ n. min (c.loop-next.found.looked + pending_looked labels f n) 18446744073709551615) (sym c.in-Some.is) ∙ c.loop-next.invariant.looked in
+    let asked : min c.ask.new.found.looked 18446744073709551615 ≡ min (c.saturating_add-found.result + routes_looked_at labels (forest_of (r ∷ []))) 18446744073709551615 = c.in_ok-admits.ensures.looked in
+    let one : c.saturating_add-found.result ≡ min (c.loop-next.found.looked + 1) 18446744073709551615 = c.saturating_add-found.ensures in
+    record {
+      pending = next-pending labels f (child.at + 1) after next;
+      found = ap (λ l. l ++ pending_answer labels number f after) c.in_ok-admits.ensures.found
+          ∙ (append_assoc old own (pending_answer labels number f after)
+          ∙ (ap (λ l. old ++ l) (sym goes)
+          ∙ (ap (λ n. old ++ pending_answer labels number f n) (sym c.in-Some.is) ∙ c.loop-next.invariant.found)));
+      looked = omega (arith, counted, before, asked, one);
+      same = same;
+    }
+
+pub loop-next-smaller-then-not-child : goal.loop-next-smaller-then-not-child
+loop-next-smaller-then-not-child t c =
+    let child = c.in-Some.child in
+    let f = c.args.route.now.children in
+    let pending = subst (IsPending c.args.labels.now f) c.in-Some.is c.loop-next.invariant.pending in
+    subst (λ next. 0 < pending_count f next) (sym c.in-Some.is) (some-left f child pending.0)
+
+pub loop-next-smaller : goal.loop-next-smaller
+loop-next-smaller t c =
+    let labels = c.args.labels.now in
+    let number = c.args.number in
+    let child = c.in-Some.child in
+    let f = c.args.route.now.children in
+    let pending = subst (IsPending labels f) c.in-Some.is c.loop-next.invariant.pending in
+    let same = c.in_ok-admits.ensures.same ∙ c.loop-next.invariant.same in
+    let after = c.next-next-else-admits.result in
+    let next : IsNextChild labels (child.at + 1) f after =
+    subst (λ f. IsNextChild labels (child.at + 1) f after) (kids number c.args.route.now c.args.searches.now c.ask.new.searches c.index-searches-number-else-admits.result c.requires same) c.next-next-else-admits.ensures in
+    subst (λ one. pending_count f after < pending_count f one) (sym c.in-Some.is) (next-fewer labels f child after pending.0 next)
+
+-- that the route's own matchers admit the label set
+admitted_route : (number : ℕ) (r : Route) (labels : Labels) (searches : List RouteSearch) (d : RouteSearch) (b : Bool) → BeginAt number (searches_of (forest_of (r ∷ []))) searches → b ≡ all_admitted (get_or searches number d).matchers labels → b ≡ true → all_admitted r.matchers labels ≡ true
+admitted_route number r labels searches d b begins is true_is =
+    sym (ap (λ (s : RouteSearch). all_admitted s.matchers labels) (search-first number (route_view r) r.children no_routes searches begins d)) ∙ (sym is ∙ true_is)
+
+pub returns-in_ok-push-clause-looked : goal.returns-in_ok-push-clause-looked
+returns-in_ok-push-clause-looked t c =
+    let labels = c.args.labels.now in
+    let r = c.args.route.now in
+    let admits = admitted_route c.args.number r labels c.args.searches.now c.index-searches-number.result c.admits.result c.requires c.admits.ensures.answer c.if-not-admits.false in
+    let none : c.loop-next.next ≡ None = search rules in
+    let here : min (c.loop-next.found.looked + 0) 18446744073709551615 ≡ min (c.args.found.now.looked + looked_from labels r.children) 18446744073709551615 =
+    ap (λ n. min (c.loop-next.found.looked + pending_looked labels r.children n) 18446744073709551615) (sym none) ∙ c.loop-next.invariant.looked in
+    let looked : min c.loop-next.found.looked 18446744073709551615 ≡ min (c.args.found.now.looked + looked_from labels r.children) 18446744073709551615 = omega (arith, here) in
+    looked ∙ ap (λ b. min (c.args.found.now.looked + cond b (looked_from labels r.children) 0) 18446744073709551615) (sym admits)
+
+pub returns-else-len-had-clause-looked : goal.returns-else-len-had-clause-looked
+returns-else-len-had-clause-looked t c =
+    let labels = c.args.labels.now in
+    let r = c.args.route.now in
+    let admits = admitted_route c.args.number r labels c.args.searches.now c.index-searches-number.result c.admits.result c.requires c.admits.ensures.answer c.if-not-admits.false in
+    let none : c.loop-next.next ≡ None = search rules in
+    let here : min (c.loop-next.found.looked + 0) 18446744073709551615 ≡ min (c.args.found.now.looked + looked_from labels r.children) 18446744073709551615 =
+    ap (λ n. min (c.loop-next.found.looked + pending_looked labels r.children n) 18446744073709551615) (sym none) ∙ c.loop-next.invariant.looked in
+    let looked : min c.loop-next.found.looked 18446744073709551615 ≡ min (c.args.found.now.looked + looked_from labels r.children) 18446744073709551615 = omega (arith, here) in
+    looked ∙ ap (λ b. min (c.args.found.now.looked + cond b (looked_from labels r.children) 0) 18446744073709551615) (sym admits)
+
+pub returns-in_ok-push-clause-found : goal.returns-in_ok-push-clause-found
+returns-in_ok-push-clause-found t c =
+    let labels = c.args.labels.now in
+    let number = c.args.number in
+    let r = c.args.route.now in
+    let old = c.args.found.now.routes in
+    let new = c.loop-next.found.routes in
+    let admits = admitted_route number r labels c.args.searches.now c.index-searches-number.result c.admits.result c.requires c.admits.ensures.answer c.if-not-admits.false in
+    let none : c.loop-next.next ≡ None = search rules in
+    let found : nodes_in new.items ≡ nodes_in old.items ++ answer_of labels (number + 1) r.children =
+    sym (append-nil (nodes_in new.items)) ∙ (ap (λ n. nodes_in new.items ++ pending_answer labels number r.children n) (sym none) ∙ c.loop-next.invariant.found) in
+    let long_new : length (nodes_in new.items) ≡ c.len.result = length-map new.items node_of ∙ (sym new.ok.0 ∙ sym c.len.ensures) in
+    let long_old : length (nodes_in old.items) ≡ c.len-had.result = length-map old.items node_of ∙ (sym old.ok.0 ∙ sym c.len-had.ensures) in
+    ap nodes_in c.in_ok-push.ensures.items
+    ∙ (map-append node_of new.items _
+    ∙ own-pushed labels number r (nodes_in old.items) (nodes_in new.items) found admits (long_new ∙ (c.if-len-had.true ∙ sym long_old)))
+
+pub returns-else-len-had-clause-found : goal.returns-else-len-had-clause-found
+returns-else-len-had-clause-found t c =
+    let labels = c.args.labels.now in
+    let number = c.args.number in
+    let r = c.args.route.now in
+    let old = c.args.found.now.routes in
+    let new = c.loop-next.found.routes in
+    let admits = admitted_route number r labels c.args.searches.now c.index-searches-number.result c.admits.result c.requires c.admits.ensures.answer c.if-not-admits.false in
+    let none : c.loop-next.next ≡ None = search rules in
+    let found : nodes_in new.items ≡ nodes_in old.items ++ answer_of labels (number + 1) r.children =
+    sym (append-nil (nodes_in new.items)) ∙ (ap (λ n. nodes_in new.items ++ pending_answer labels number r.children n) (sym none) ∙ c.loop-next.invariant.found) in
+    let long_new : length (nodes_in new.items) ≡ c.len.result = length-map new.items node_of ∙ (sym new.ok.0 ∙ sym c.len.ensures) in
+    let long_old : length (nodes_in old.items) ≡ c.len-had.result = length-map old.items node_of ∙ (sym old.ok.0 ∙ sym c.len-had.ensures) in
+    own-kept labels number r (nodes_in old.items) (nodes_in new.items) found admits (λ e. c.if-len-had.false (sym long_new ∙ (e ∙ long_old)))

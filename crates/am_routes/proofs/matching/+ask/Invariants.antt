@@ -1,18 +1,24 @@
-use Rattle.std.proofs.Common.{◌≡◌, ◌++◌, drop}
+use Rattle.std.proofs.Common.{◌≡◌, ◌++◌, ◌+◌, min}
 use Rattle.am_config.specs.Routes.{count_of}
-use Rattle.am_config.specs.RouteLists.{forest_of}
 use Rattle.am_routes.specs.RouteAnswers.{answer_of}
-use Rattle.am_routes.specs.inside.Searches.{nodes_in, searches_of, BeginAt}
+use Rattle.am_routes.specs.Looking.{looked_from}
+use Rattle.am_routes.specs.inside.Searches.{nodes_in}
+use Rattle.am_routes.proofs.Searching.{pending_answer, pending_looked, pending_count, IsPending}
 use Rattle.am_routes.proofs.matching.+ask.Given as goal
 
 abbrev pub decreases-ask : goal.decreases-ask
-decreases-ask l = count_of (forest_of l.routes.now)
+decreases-ask l = count_of l.route.now.children
 
--- what was found, with what the routes that are left answer, is the whole answer
-abbrev pub invariant-loop-route : goal.invariant-loop-route
-invariant-loop-route l = record {
-  here : BeginAt l.at (searches_of (forest_of (drop l.route-index l.routes))) l.searches;
-  so_far : nodes_in l.found.items ++ answer_of l.labels l.at (forest_of (drop l.route-index l.routes))
-      ≡ nodes_in l.initial.found.items ++ answer_of l.labels l.first (forest_of l.routes);
-  same : l.searches ≡ l.initial.searches;
+-- what was found, with what the routes that are left answer, is the whole answer, and so is what was looked at
+abbrev pub invariant-loop-next : goal.invariant-loop-next
+invariant-loop-next l = record {
+  pending : IsPending l.labels l.route.children l.next;
+  found : nodes_in l.found.routes.items ++ pending_answer l.labels l.number l.route.children l.next
+      ≡ nodes_in l.initial.found.routes.items ++ answer_of l.labels (l.number + 1) l.route.children;
+  looked : min (l.found.looked + pending_looked l.labels l.route.children l.next) 18446744073709551615
+      ≡ min (l.initial.found.looked + looked_from l.labels l.route.children) 18446744073709551615;
+  same : l.searches ≡ l.fn.searches;
 }
+
+abbrev pub decreases-loop-next : goal.decreases-loop-next
+decreases-loop-next l = pending_count l.route.children l.next

@@ -1,0 +1,351 @@
+-- What an index of routes finds, and that it passes over no route that may match.
+use Rattle.std.proofs.Common.{◌≡◌, ℕ, zero, suc, ◌+◌, ◌<◌, ◌≤◌, Bool, true, false, cond, ◌&&◌, ◌||◌, List, [], ◌∷◌, ◌++◌, Option, Some, None, length, get_or, take, nat_lt, nat_le, bytes_eq, refl, sym, ap, subst, ◌∙◌, arith}
+use Rattle.std.proofs.lemmas.List.{take_more, length-take-le}
+use Rattle.std.specs.Cmp.Lexicographic.{bytes_decides}
+use Rattle.std.specs.List.{AllByRecursion, find, list_any, list_all, slice_get}
+use Rattle.std.specs.List.Sorted.{IsNonDecreasing}
+use Rattle.am_labels.specs.declared.operator.Operator.{Operator}
+use Rattle.am_labels.specs.declared.operator.Operator.TheVariants.{Equal, NotEqual, MatchRegexp, MatchNotRegexp}
+use Rattle.am_labels.specs.LabelSets.{Labels, value_of}
+use Rattle.am_labels.specs.Matchers.{MatcherView, accepts, admitted, all_admitted}
+use Rattle.am_config.specs.declared.route.Route.{Route}
+use Rattle.am_config.specs.Routes.{Forest, no_routes, route, count_of}
+use Rattle.am_config.specs.RouteLists.{route_view, forest_of}
+use Rattle.am_routes.specs.declared.name_index.NameIndex.{NameIndex}
+use Rattle.am_routes.specs.Looking.{is_equal, first_equality, may_match}
+use Rattle.am_routes.specs.inside.ChildIndexes.{children_from, offsets_from, filings, places_from, is_unfiled, is_filed, has_name, is_found, is_met, IsFirstFrom, earlier}
+use Rattle.am_routes.proofs.Cases.{by_bool}
+
+-- ---- places
+
+pub places-push : {X : Type 0} (test : X → Bool) (at : ℕ) (xs : List X) (x : X) → places_from test at (xs ++ x ∷ []) ≡ places_from test at xs ++ cond (test x) ((at + length xs) ∷ []) []
+places-push test at [] x = let here : at ≡ at + 0 = omega arith in ap (λ n. cond (test x) (n ∷ []) []) here
+places-push test at (first ∷ xs) x =
+    let last = λ (n : ℕ). cond (test x) (n ∷ []) [] in
+    let along : at + 1 + length xs ≡ at + length (first ∷ xs) = omega arith in
+    let rest : places_from test (at + 1) (xs ++ x ∷ []) ≡ places_from test (at + 1) xs ++ last (at + length (first ∷ xs)) =
+    places-push test (at + 1) xs x ∙ ap (λ n. places_from test (at + 1) xs ++ last n) along in
+    elim (test first) as (λ b. cond b (at ∷ places_from test (at + 1) (xs ++ x ∷ [])) (places_from test (at + 1) (xs ++ x ∷ [])) ≡ cond b (at ∷ places_from test (at + 1) xs) (places_from test (at + 1) xs) ++ last (at + length (first ∷ xs))) [ true ↦ ap (λ l. at ∷ l) rest | false ↦ rest ]
+
+least_first : (at : ℕ) (rest : List ℕ) → ((i d : ℕ) → i < length rest → at + 1 ≤ get_or rest i d) → (i d : ℕ) → i < length (at ∷ rest) → at ≤ get_or (at ∷ rest) i d
+least_first at rest later zero d h = omega arith
+least_first at rest later (suc i) d h = let above : at + 1 ≤ get_or rest i d = later i d (omega arith) in omega arith
+
+at_least : {X : Type 0} (test : X → Bool) (at : ℕ) (xs : List X) (i d : ℕ) → i < length (places_from test at xs) → at ≤ get_or (places_from test at xs) i d
+at_least test at [] i d = λ h. absurd (omega arith)
+at_least test at (x ∷ xs) i d =
+    let rest = places_from test (at + 1) xs in
+    let later : (i d : ℕ) → i < length rest → at + 1 ≤ get_or rest i d = at_least test (at + 1) xs in
+    elim (test x) as (λ b. i < length (cond b (at ∷ rest) rest) → at ≤ get_or (cond b (at ∷ rest) rest) i d) [
+      | true ↦ least_first at rest later i d
+      | false ↦ λ h. let above : at + 1 ≤ get_or rest i d = later i d h in omega arith
+    ]
+
+rises_first : (at : ℕ) (rest : List ℕ) → ((i d : ℕ) → i < length rest → at + 1 ≤ get_or rest i d) → IsNonDecreasing rest → IsNonDecreasing (at ∷ rest)
+rises_first at rest later rise zero zero d h k = omega arith
+rises_first at rest later rise zero (suc j) d h k = let above : at + 1 ≤ get_or rest j d = later j d (omega arith) in omega arith
+rises_first at rest later rise (suc i) zero d h k = absurd (omega arith)
+rises_first at rest later rise (suc i) (suc j) d h k = rise i j d (omega arith) (omega arith)
+
+-- indexes rise
+pub places-rise : {X : Type 0} (test : X → Bool) (at : ℕ) (xs : List X) → IsNonDecreasing (places_from test at xs)
+places-rise test at [] = λ i j d h k. absurd (omega arith)
+places-rise test at (x ∷ xs) =
+    let rest = places_from test (at + 1) xs in
+    let later : (i d : ℕ) → i < length rest → at + 1 ≤ get_or rest i d = at_least test (at + 1) xs in
+    let rise : IsNonDecreasing rest = places-rise test (at + 1) xs in
+    elim (test x) as (λ b. IsNonDecreasing (cond b (at ∷ rest) rest)) [ true ↦ rises_first at rest later rise | false ↦ rise ]
+
+-- what fails before an index and passes there is found there
+pub found-at : {X : Type 0} (test : X → Bool) (xs : List X) (i : ℕ) → ((k : ℕ) (d : X) → k < i → test (get_or xs k d) ≡ false) → ((d : X) → i < length xs → test (get_or xs i d) ≡ true) → slice_get xs i ≡ find test xs
+found-at test [] i before at = refl
+found-at test (x ∷ xs) zero before at = sym (ap (λ b. cond b (Some x) (find test xs)) (at x (omega arith)))
+found-at test (x ∷ xs) (suc i) before at =
+    found-at test xs i (λ k d h. before (suc k) d (omega arith)) (λ d h. at d (omega arith))
+    ∙ sym (ap (λ b. cond b (Some x) (find test xs)) (before 0 x (omega arith)))
+
+-- ---- the first from an index on
+
+-- the first among elements that are counted from a number
+abbrev IsFound : {X : Type 0} → (X → Bool) → ℕ → ℕ → List X → Option ℕ → Type 0
+IsFound {X} test from n xs None = (j : ℕ) → (x : X) → from ≤ n + j → slice_get xs j ≡ Some x → test x ≡ false
+IsFound {X} test from n xs (Some at) =
+    (j : ℕ) × (at ≡ n + j) × (from ≤ at) × ((x : X) × (slice_get xs j ≡ Some x) × (test x ≡ true))
+    × ((i : ℕ) → (x : X) → from ≤ n + i → i < j → slice_get xs i ≡ Some x → test x ≡ false)
+
+later_found : {X : Type 0} (test : X → Bool) (from n : ℕ) (x : X) (xs : List X) (found : Option ℕ) → (from ≤ n → test x ≡ false) → IsFound test from (n + 1) xs found → IsFound test from n (x ∷ xs) found
+later_found {X} test from n x xs None fails rest = none
+  where
+    none : (j : ℕ) → (y : X) → from ≤ n + j → slice_get (x ∷ xs) j ≡ Some y → test y ≡ false
+    none zero y h is = let same : x ≡ y = (cc) in subst (λ z. test z ≡ false) same (fails (omega arith))
+    none (suc j) y h is = rest j y (omega arith) is
+later_found {X} test from n x xs (Some at) fails rest = (suc rest.0, omega (arith, rest.1), rest.2, rest.3, before)
+  where
+    before : (i : ℕ) → (y : X) → from ≤ n + i → i < suc rest.0 → slice_get (x ∷ xs) i ≡ Some y → test y ≡ false
+    before zero y h k is = let same : x ≡ y = (cc) in subst (λ z. test z ≡ false) same (fails (omega arith))
+    before (suc i) y h k is = rest.4 i y (omega arith) (omega arith) is
+
+is_found_from : {X : Type 0} (test : X → Bool) (from n : ℕ) (xs : List X) → IsFound test from n xs (find (nat_le from) (places_from test n xs))
+is_found_from test from n [] = λ j x h is. absurd (cc)
+is_found_from {X} test from n (x ∷ xs) =
+    let rest = is_found_from test from (n + 1) xs in
+    let next = find (nat_le from) (places_from test (n + 1) xs) in
+    by_bool {P = IsFound test from n (x ∷ xs) (find (nat_le from) (places_from test n (x ∷ xs)))} (test x)
+    (λ t. subst (λ (b : Bool). IsFound test from n (x ∷ xs) (find (nat_le from) (cond b (n ∷ places_from test (n + 1) xs) (places_from test (n + 1) xs)))) (sym t)
+    (by_bool {P = IsFound test from n (x ∷ xs) (cond (nat_le from n) (Some n) next)} (nat_le from n)
+    (λ low. subst (λ (b : Bool). IsFound test from n (x ∷ xs) (cond b (Some n) next)) (sym low) (0, omega arith, reached from n low, (x, refl, t), λ i y h k is. absurd (omega arith)))
+    (λ high. subst (λ (b : Bool). IsFound test from n (x ∷ xs) (cond b (Some n) next)) (sym high) (later_found test from n x xs next (λ h. absurd (passed from n high h)) rest))))
+    (λ f. subst (λ (b : Bool). IsFound test from n (x ∷ xs) (find (nat_le from) (cond b (n ∷ places_from test (n + 1) xs) (places_from test (n + 1) xs)))) (sym f) (later_found test from n x xs next (λ h. f) rest))
+  where
+    reached : (a b : ℕ) → nat_le a b ≡ true → a ≤ b
+    reached a b t = grind arith
+
+    passed : (a b : ℕ) → nat_le a b ≡ false → a ≤ b → ⊥
+    passed a b f h = grind arith
+
+-- the first of the indexes of what passes, from one on
+pub first-place : {X : Type 0} (test : X → Bool) (from : ℕ) (xs : List X) → IsFirstFrom test from xs (find (nat_le from) (places_from test 0 xs))
+first-place {X} test from xs = counted (find (nat_le from) (places_from test 0 xs)) (is_found_from test from 0 xs)
+  where
+    counted : (found : Option ℕ) → IsFound test from 0 xs found → IsFirstFrom test from xs found
+    counted None none = λ k x h is. none k x (omega arith) is
+    counted (Some at) some =
+        let here : some.0 ≡ at = omega (arith, some.1) in
+        (some.2, (some.3.0, ap (slice_get xs) (sym here) ∙ some.3.1, some.3.2), λ k x h less is. some.4 k x (omega arith) (omega (arith, here, less)) is)
+
+pub first-alike : {X : Type 0} (one other : X → Bool) (from : ℕ) (xs : List X) (found : Option ℕ) → ((k : ℕ) (x : X) → slice_get xs k ≡ Some x → one x ≡ other x) → IsFirstFrom one from xs found → IsFirstFrom other from xs found
+first-alike one other from xs None alike first = λ k x h is. sym (alike k x is) ∙ first k x h is
+first-alike one other from xs (Some at) alike first =
+    (first.0, (first.1.0, first.1.1, sym (alike at first.1.0 first.1.1) ∙ first.1.2), λ k x h less is. sym (alike k x is) ∙ first.2 k x h less is)
+
+neither : (a b : Bool) → a ≡ false → b ≡ false → (a || b) ≡ false
+neither false false s t = refl
+neither true b s t = absurd (cc)
+neither false true s t = absurd (cc)
+
+left_holds : (a b : Bool) → a ≡ true → (a || b) ≡ true
+left_holds true b s = refl
+left_holds false b s = absurd (cc)
+
+right_holds : (a b : Bool) → b ≡ true → (a || b) ≡ true
+right_holds true b s = refl
+right_holds false b s = s
+
+-- of two tests
+pub first-either : {X : Type 0} (one other : X → Bool) (from : ℕ) (xs : List X) (a b : Option ℕ) → IsFirstFrom one from xs a → IsFirstFrom other from xs b → IsFirstFrom (λ x. one x || other x) from xs (earlier a b)
+first-either one other from xs None None p q = λ k x h is. neither (one x) (other x) (p k x h is) (q k x h is)
+first-either one other from xs None (Some at) p q =
+    (q.0, (q.1.0, q.1.1, right_holds (one q.1.0) (other q.1.0) q.1.2), λ k x h less is. neither (one x) (other x) (p k x h is) (q.2 k x h less is))
+first-either one other from xs (Some at) None p q =
+    (p.0, (p.1.0, p.1.1, left_holds (one p.1.0) (other p.1.0) p.1.2), λ k x h less is. neither (one x) (other x) (p.2 k x h less is) (q k x h is))
+first-either one other from xs (Some a) (Some b) p q =
+    by_bool {P = IsFirstFrom (λ x. one x || other x) from xs (cond (nat_lt b a) (Some b) (Some a))} (nat_lt b a)
+    (λ t. subst (λ (c : Bool). IsFirstFrom (λ x. one x || other x) from xs (cond c (Some b) (Some a))) (sym t)
+    (let below : b < a = grind arith in
+    (q.0, (q.1.0, q.1.1, right_holds (one q.1.0) (other q.1.0) q.1.2), λ k x h less is. neither (one x) (other x) (p.2 k x h (omega arith) is) (q.2 k x h less is))))
+    (λ f. subst (λ (c : Bool). IsFirstFrom (λ x. one x || other x) from xs (cond c (Some b) (Some a))) (sym f)
+    (let above : a ≤ b = grind arith in
+    (p.0, (p.1.0, p.1.1, left_holds (one p.1.0) (other p.1.0) p.1.2), λ k x h less is. neither (one x) (other x) (p.2 k x h less is) (q.2 k x h (omega arith) is))))
+
+-- ---- what routes are filed under
+
+pub filings-push : (rs : List Route) (r : Route) → filings (forest_of (rs ++ r ∷ [])) ≡ filings (forest_of rs) ++ first_equality r.matchers ∷ []
+filings-push [] r = refl
+filings-push (one ∷ rs) r = ap (λ l. first_equality one.matchers ∷ l) (filings-push rs r)
+
+pub filings-more : (rs : List Route) (i : ℕ) (r : Route) → i < length rs → r ≡ get_or rs i r → filings (forest_of (take (i + 1) rs)) ≡ filings (forest_of (take i rs)) ++ first_equality r.matchers ∷ []
+filings-more rs i r early is =
+    ap (λ l. filings (forest_of l)) (take_more rs i r early ∙ ap (λ one. take i rs ++ one ∷ []) (sym is))
+    ∙ filings-push (take i rs) r
+
+pub length-filings : (rs : List Route) → length (filings (forest_of rs)) ≡ length rs
+length-filings [] = refl
+length-filings (r ∷ rs) = let rest : length (filings (forest_of rs)) ≡ length rs = length-filings rs in omega arith
+
+-- a route more adds its index, if it passes
+pub places-step : (test : Option MatcherView → Bool) (rs : List Route) (i : ℕ) (r : Route) → i < length rs → r ≡ get_or rs i r
+    → places_from test 0 (filings (forest_of (take (i + 1) rs))) ≡ places_from test 0 (filings (forest_of (take i rs))) ++ cond (test (first_equality r.matchers)) (i ∷ []) []
+places-step test rs i r early is =
+    let before = filings (forest_of (take i rs)) in
+    let long : 0 + length before ≡ i = omega (arith, length-filings (take i rs), length-take-le i rs (omega arith)) in
+    ap (places_from test 0) (filings-more rs i r early is)
+    ∙ (places-push test 0 before (first_equality r.matchers)
+    ∙ ap (λ n. places_from test 0 before ++ cond (test (first_equality r.matchers)) (n ∷ []) []) long)
+
+equality_is_equal : (matchers : List MatcherView) (m : MatcherView) → first_equality matchers ≡ Some m → is_equal m.operator ≡ true
+equality_is_equal [] m is = absurd (cc)
+equality_is_equal (one ∷ matchers) m is =
+    by_bool {P = is_equal m.operator ≡ true} (is_equal one.operator)
+    (λ t.
+    let here : Some one ≡ Some m = sym (ap (λ b. cond b (Some one) (first_equality matchers)) t) ∙ is in
+    let same : one ≡ m = (cc) in
+    subst (λ (one : MatcherView). is_equal one.operator ≡ true) same t)
+    (λ f. equality_is_equal matchers m (sym (ap (λ b. cond b (Some one) (first_equality matchers)) f) ∙ is))
+
+-- a route is filed under a matcher that asks for one value
+pub filed-equal : (f : Forest) (k : ℕ) (m : MatcherView) → slice_get (filings f) k ≡ Some (Some m) → is_equal m.operator ≡ true
+filed-equal no_routes k m is = absurd (cc)
+filed-equal (route first below others) zero m is = let same : first_equality first.matchers ≡ Some m = (cc) in equality_is_equal first.matchers m same
+filed-equal (route first below others) (suc k) m is = filed-equal others k m is
+
+-- a route whose first equality matcher fails doesn't match
+pub filed-fails : (labels : Labels) (matchers : List MatcherView) → may_match labels (first_equality matchers) ≡ false → all_admitted matchers labels ≡ false
+filed-fails labels [] fails = absurd (cc)
+filed-fails labels (one ∷ matchers) fails =
+    by_bool {P = all_admitted (one ∷ matchers) labels ≡ false} (is_equal one.operator)
+    (λ t. ap (λ b. b && all_admitted matchers labels) (sym (ap (λ b. may_match labels (cond b (Some one) (first_equality matchers))) t) ∙ fails))
+    (λ f.
+    let rest : all_admitted matchers labels ≡ false = filed-fails labels matchers (sym (ap (λ b. may_match labels (cond b (Some one) (first_equality matchers))) f) ∙ fails) in
+    elim (admitted one labels) as (λ b. (b && all_admitted matchers labels) ≡ false) [ true ↦ rest | false ↦ refl ])
+
+-- ---- which are found
+
+all_get : {X : Type 0} (test : X → Bool) (xs : List X) (k : ℕ) (x : X) → list_all test xs ≡ true → slice_get xs k ≡ Some x → test x ≡ true
+all_get test [] k x all is = absurd (cc)
+all_get test (y ∷ xs) zero x all is =
+    let same : y ≡ x = (cc) in
+    subst (λ z. test z ≡ true) same (by_bool {P = test y ≡ true} (test y) (λ t. t) (λ f. absurd (let no : false ≡ true = sym (ap (λ b. b && list_all test xs) f) ∙ all in (cc))))
+all_get test (y ∷ xs) (suc k) x all is =
+    all_get test xs k x (by_bool {P = list_all test xs ≡ true} (test y) (λ t. sym (ap (λ b. b && list_all test xs) t) ∙ all) (λ f. absurd (let no : false ≡ true = sym (ap (λ b. b && list_all test xs) f) ∙ all in (cc)))) is
+
+-- the index of a name keeps for the label's value exactly what asks for it
+met_by : (labels : Labels) (m : MatcherView) (indexes : List NameIndex)
+    → list_any (λ index. is_filed index.name.now (value_of labels index.name.now) (Some m)) indexes ≡ (has_name m.name indexes && bytes_eq (value_of labels m.name) m.value)
+met_by labels m [] = refl
+met_by labels m (index ∷ indexes) =
+    by_bool {P = list_any (λ (index : NameIndex). is_filed index.name.now (value_of labels index.name.now) (Some m)) (index ∷ indexes) ≡ (has_name m.name (index ∷ indexes) && bytes_eq (value_of labels m.name) m.value)} (bytes_eq m.name index.name.now)
+    (λ t.
+    let same : m.name ≡ index.name.now = (bytes_decides m.name index.name.now).0 t in
+    let value : bytes_eq (value_of labels index.name.now) m.value ≡ bytes_eq (value_of labels m.name) m.value = ap (λ name. bytes_eq (value_of labels name) m.value) (sym same) in
+    let rest = met_by labels m indexes in
+    ap (λ b. (b && bytes_eq (value_of labels index.name.now) m.value) || list_any (λ (index : NameIndex). is_filed index.name.now (value_of labels index.name.now) (Some m)) indexes) t
+    ∙ (ap (λ b. b || list_any (λ (index : NameIndex). is_filed index.name.now (value_of labels index.name.now) (Some m)) indexes) value
+    ∙ (ap (λ b. bytes_eq (value_of labels m.name) m.value || b) rest
+    ∙ (absorbed (has_name m.name indexes) (bytes_eq (value_of labels m.name) m.value)
+    ∙ sym (ap (λ b. (b || has_name m.name indexes) && bytes_eq (value_of labels m.name) m.value) t)))))
+    (λ f.
+    let rest = met_by labels m indexes in
+    ap (λ b. (b && bytes_eq (value_of labels index.name.now) m.value) || list_any (λ (index : NameIndex). is_filed index.name.now (value_of labels index.name.now) (Some m)) indexes) f
+    ∙ (rest ∙ sym (ap (λ b. (b || has_name m.name indexes) && bytes_eq (value_of labels m.name) m.value) f)))
+  where
+    absorbed : (a b : Bool) → (b || (a && b)) ≡ b
+    absorbed true true = refl
+    absorbed true false = refl
+    absorbed false true = refl
+    absorbed false false = refl
+
+admitted_equal : (labels : Labels) (m : MatcherView) → is_equal m.operator ≡ true → admitted m labels ≡ bytes_eq (value_of labels m.name) m.value
+admitted_equal labels m is = equal m.operator is
+  where
+    equal : (op : Operator) → is_equal op ≡ true → accepts op m.value (value_of labels m.name) ≡ bytes_eq (value_of labels m.name) m.value
+    equal Equal is = refl
+    equal NotEqual is = absurd (cc)
+    equal MatchRegexp is = absurd (cc)
+    equal MatchNotRegexp is = absurd (cc)
+
+-- what is found is what may match
+pub met-may_match : (labels : Labels) (indexes : List NameIndex) (f : Forest) (k : ℕ) (filing : Option MatcherView) → list_all (is_found indexes) (filings f) ≡ true → slice_get (filings f) k ≡ Some filing → is_met labels indexes filing ≡ may_match labels filing
+met-may_match labels indexes f k None all is = refl
+met-may_match labels indexes f k (Some m) all is =
+    met_by labels m indexes
+    ∙ (ap (λ b. b && bytes_eq (value_of labels m.name) m.value) (all_get (is_found indexes) (filings f) k (Some m) all is)
+    ∙ sym (admitted_equal labels m (filed-equal f k m is)))
+
+-- ---- a route at an index
+
+pub child-at : (offset : ℕ) (rs : List Route) (at : ℕ) (r : Route) (own : ℕ) → at < length rs → r ≡ get_or rs at r → own ≡ get_or (offsets_from offset (forest_of rs)) at own
+    → slice_get (children_from offset (forest_of rs)) at ≡ Some (record { offset = own; first = route_view r; below = r.children })
+child-at offset [] at r own early is comes = absurd (omega arith)
+child-at offset (one ∷ rs) zero r own early is comes =
+    ap (λ (r : Route). Some (record { offset = offset; first = route_view r; below = r.children })) (sym is)
+    ∙ ap (λ (n : ℕ). Some (record { offset = n; first = route_view r; below = r.children })) (sym comes)
+child-at offset (one ∷ rs) (suc at) r own early is comes = child-at (offset + 1 + count_of one.children) rs at r own (omega arith) is comes
+
+pub length-offsets : (offset : ℕ) (rs : List Route) → length (offsets_from offset (forest_of rs)) ≡ length rs
+length-offsets offset [] = refl
+length-offsets offset (r ∷ rs) = let rest : length (offsets_from (offset + 1 + count_of r.children) (forest_of rs)) ≡ length rs = length-offsets (offset + 1 + count_of r.children) rs in omega arith
+
+pub offsets-push : (offset : ℕ) (rs : List Route) (r : Route) → offsets_from offset (forest_of (rs ++ r ∷ [])) ≡ offsets_from offset (forest_of rs) ++ (offset + count_of (forest_of rs)) ∷ []
+offsets-push offset [] r = let here : offset ≡ offset + 0 = omega arith in ap (λ n. n ∷ []) here
+offsets-push offset (one ∷ rs) r =
+    let along : offset + 1 + count_of one.children + count_of (forest_of rs) ≡ offset + count_of (forest_of (one ∷ rs)) = omega arith in
+    ap (λ l. offset ∷ l) (offsets-push (offset + 1 + count_of one.children) rs r ∙ ap (λ n. offsets_from (offset + 1 + count_of one.children) (forest_of rs) ++ n ∷ []) along)
+
+pub offsets-more : (offset : ℕ) (rs : List Route) (i : ℕ) (r : Route) → i < length rs → r ≡ get_or rs i r
+    → offsets_from offset (forest_of (take (i + 1) rs)) ≡ offsets_from offset (forest_of (take i rs)) ++ (offset + count_of (forest_of (take i rs))) ∷ []
+offsets-more offset rs i r early is =
+    ap (λ l. offsets_from offset (forest_of l)) (take_more rs i r early ∙ ap (λ one. take i rs ++ one ∷ []) (sym is))
+    ∙ offsets-push offset (take i rs) r
+
+-- ---- keeping indexes
+
+pub all_by-push : {X : Type 0} (P : X → Type 0) (xs : List X) (x : X) → AllByRecursion P xs → P x → AllByRecursion P (xs ++ x ∷ [])
+all_by-push P [] x all one = (one, tt)
+all_by-push P (y ∷ xs) x all one = (all.0, all_by-push P xs x all.1 one)
+
+pub all_by-get : {X : Type 0} (P : X → Type 0) (xs : List X) (i : ℕ) (d : X) → AllByRecursion P xs → i < length xs → P (get_or xs i d)
+all_by-get P [] i d all early = absurd (omega arith)
+all_by-get P (x ∷ xs) zero d all early = all.0
+all_by-get P (x ∷ xs) (suc i) d all early = all_by-get P xs i d all.1 (omega arith)
+
+list_any-push : {X : Type 0} (test : X → Bool) (xs : List X) (x : X) → list_any test (xs ++ x ∷ []) ≡ (list_any test xs || test x)
+list_any-push test [] x = elim (test x) as (λ b. (b || false) ≡ b) [ true ↦ refl | false ↦ refl ]
+list_any-push test (y ∷ xs) x =
+    let rest = list_any-push test xs x in
+    elim (test y) as (λ b. (b || list_any test (xs ++ x ∷ [])) ≡ ((b || list_any test xs) || test x)) [ true ↦ refl | false ↦ rest ]
+
+list_all-push : {X : Type 0} (test : X → Bool) (xs : List X) (x : X) → list_all test xs ≡ true → test x ≡ true → list_all test (xs ++ x ∷ []) ≡ true
+list_all-push test [] x all one = ap (λ b. b && true) one
+list_all-push test (y ∷ xs) x all one =
+    let first : test y ≡ true = all_get test (y ∷ xs) 0 y all refl in
+    let rest : list_all test xs ≡ true = sym (ap (λ b. b && list_all test xs) first) ∙ all in
+    ap (λ b. b && list_all test (xs ++ x ∷ [])) first ∙ list_all-push test xs x rest one
+
+pub named-more : (name : List ℕ) (indexes : List NameIndex) (index : NameIndex) → has_name name indexes ≡ true → has_name name (indexes ++ index ∷ []) ≡ true
+named-more name indexes index is = list_any-push (λ (index : NameIndex). bytes_eq name index.name.now) indexes index ∙ left_holds (has_name name indexes) (bytes_eq name index.name.now) is
+
+pub named-push : (name : List ℕ) (indexes : List NameIndex) (index : NameIndex) → index.name.now ≡ name → has_name name (indexes ++ index ∷ []) ≡ true
+named-push name indexes index is =
+    let same : bytes_eq name index.name.now ≡ true = (bytes_decides name index.name.now).1 (sym is) in
+    list_any-push (λ (index : NameIndex). bytes_eq name index.name.now) indexes index ∙ right_holds (has_name name indexes) (bytes_eq name index.name.now) same
+
+-- what is found stays found with an index more
+found_more : (indexes : List NameIndex) (index : NameIndex) (all : List (Option MatcherView)) → list_all (is_found indexes) all ≡ true → list_all (is_found (indexes ++ index ∷ [])) all ≡ true
+found_more indexes index [] found = refl
+found_more indexes index (filing ∷ all) found =
+    let first : is_found indexes filing ≡ true = all_get (is_found indexes) (filing ∷ all) 0 filing found refl in
+    let rest : list_all (is_found indexes) all ≡ true = sym (ap (λ b. b && list_all (is_found indexes) all) first) ∙ found in
+    ap (λ b. b && list_all (is_found (indexes ++ index ∷ [])) all) (still filing first) ∙ found_more indexes index all rest
+  where
+    still : (filing : Option MatcherView) → is_found indexes filing ≡ true → is_found (indexes ++ index ∷ []) filing ≡ true
+    still None is = refl
+    still (Some m) is = named-more m.name indexes index is
+
+-- a route whose name is found already
+pub found-step : (indexes : List NameIndex) (rs : List Route) (i : ℕ) (r : Route) → i < length rs → r ≡ get_or rs i r → list_all (is_found indexes) (filings (forest_of (take i rs))) ≡ true → is_found indexes (first_equality r.matchers) ≡ true
+    → list_all (is_found indexes) (filings (forest_of (take (i + 1) rs))) ≡ true
+found-step indexes rs i r early is found one =
+    ap (list_all (is_found indexes)) (filings-more rs i r early is)
+    ∙ list_all-push (is_found indexes) (filings (forest_of (take i rs))) (first_equality r.matchers) found one
+
+-- one whose name begins an index
+pub found-begins : (indexes : List NameIndex) (index : NameIndex) (rs : List Route) (i : ℕ) (r : Route) → i < length rs → r ≡ get_or rs i r → list_all (is_found indexes) (filings (forest_of (take i rs))) ≡ true → is_found (indexes ++ index ∷ []) (first_equality r.matchers) ≡ true
+    → list_all (is_found (indexes ++ index ∷ [])) (filings (forest_of (take (i + 1) rs))) ≡ true
+found-begins indexes index rs i r early is found one = found-step (indexes ++ index ∷ []) rs i r early is (found_more indexes index (filings (forest_of (take i rs))) found) one
+
+-- the first of the places that are kept
+pub kept-first : {X : Type 0} (test : X → Bool) (places : List ℕ) (from : ℕ) (xs : List X) (found : Option ℕ) → (IsNonDecreasing places → found ≡ find (nat_le from) places) → places ≡ places_from test 0 xs → IsFirstFrom test from xs found
+kept-first test places from xs found answer are =
+    let is : found ≡ find (nat_le from) (places_from test 0 xs) = answer (subst IsNonDecreasing (sym are) (places-rise test 0 xs)) ∙ ap (find (nat_le from)) are in
+    subst (IsFirstFrom test from xs) (sym is) (first-place test from xs)
+
+-- without any index those are met that have no equality matcher
+pub met-none : (labels : Labels) (filing : Option MatcherView) → is_unfiled filing ≡ is_met labels [] filing
+met-none labels filing = elim (is_unfiled filing) as (λ b. b ≡ (b || false)) [ true ↦ refl | false ↦ refl ]
+
+-- with one more those too that it keeps for the label's value
+pub met-more : (labels : Labels) (indexes : List NameIndex) (index : NameIndex) (filing : Option MatcherView)
+    → (is_met labels indexes filing || is_filed index.name.now (value_of labels index.name.now) filing) ≡ is_met labels (indexes ++ index ∷ []) filing
+met-more labels indexes index filing =
+    let test = λ (index : NameIndex). is_filed index.name.now (value_of labels index.name.now) filing in
+    elim (is_unfiled filing) as (λ b. ((b || list_any test indexes) || test index) ≡ (b || list_any test (indexes ++ index ∷ []))) [ true ↦ refl | false ↦ sym (list_any-push test indexes index) ]

@@ -1,0 +1,161 @@
+//! How the routes below a route are found that may match a label set.
+
+ghost use Rattle.std.specs.Prelude.{◌≡◌, IfOk};
+ghost use Rattle.am_config.specs.Routes.{no_routes};
+ghost use Rattle.am_config.specs.RouteLists.{forest_of};
+ghost use Rattle.am_routes.specs.Looking.{may_match};
+ghost use Rattle.am_routes.specs.inside.ChildIndexes.{earlier, filings, has_name, is_unfiled};
+ghost use Rattle.am_routes.specs.inside.ChildIndexes.{offsets_from, places_from};
+ghost use Rattle.am_routes.specs.inside.ChildIndexes.{AreIndexesOf, IsFirstFrom, IsNextChild};
+
+use crate::name_index::{NameIndex, first_equality, place_from};
+use am_config::Route;
+use am_labels::LabelSet;
+use std::alloc::{AllocError, Global};
+use std::marker::Model;
+
+/// An index of the routes below a route by their first equality matchers. Contracts see it as these
+/// routes.
+#[derive(Drop)]
+pub(crate) struct ChildIndex<'t> {
+    routes: &'t [Route],
+    // How far after the route above it each route comes in pre-order.
+    offsets: Vec<usize>,
+    // The indexes of the routes without an equality matcher.
+    unfiled: Vec<usize>,
+    // The others, by the name that they are filed under, and then by the value.
+    names: Vec<NameIndex<'t>>,
+}
+
+/// One of the routes.
+#[derive(Clone, Copy)]
+pub(crate) struct Child<'t> {
+    /// Its index among them.
+    pub(crate) at: usize,
+    /// How far after the route above it comes in pre-order.
+    pub(crate) offset: usize,
+    pub(crate) route: &'t Route,
+}
+
+impl<'t> Model for ChildIndex<'t> {
+    ghost use Rattle.am_config.specs.contracts.route.Routes as forests;
+    ghost use Rattle.am_config.specs.Routes.{Forest};
+
+    ghost Value = { Forest };
+
+    ghost coded = { forests.the_row.coded };
+
+    ghost use Rattle.am_config.specs.RouteLists.{forest_of};
+    ghost use Rattle.am_routes.specs.inside.ChildIndexes.{AreKeptOf};
+
+    ghost view = { λ c. forest_of c.routes.now };
+
+    ghost invariant = { λ c. AreKeptOf (forest_of c.routes.now) c.offsets.items c.unfiled.items c.names.items };
+}
+
+impl<'t> ChildIndex<'t> {
+    /// The index of no routes. It takes no memory.
+    pub(crate) fn none(alloc: Global) -> ChildIndex<'t>
+        ensures { result ≡ no_routes }
+    {
+        ChildIndex {
+            routes: &[],
+            offsets: Vec::new(alloc),
+            unfiled: Vec::new(alloc),
+            names: Vec::new(alloc),
+        }
+    }
+
+    /// The index of routes that come so far after the one above.
+    pub(crate) fn new(
+        alloc: Global,
+        routes: &'t [Route],
+        offsets: Vec<usize>,
+    ) -> Result<ChildIndex<'t>, AllocError>
+        requires { offsets.items ≡ offsets_from 1 (forest_of routes.now) }
+        ensures { IfOk result (λ index. index ≡ forest_of routes.now) }
+    {
+        Ok(ChildIndex {
+            routes,
+            offsets,
+            unfiled: unfiled(alloc, routes)?,
+            names: index_names(alloc, routes)?,
+        })
+    }
+
+    /// The first route from an index on that may match a label set: its first equality matcher, if it
+    /// has any, admits it.
+    pub(crate) fn next(&self, labels: &LabelSet, from: usize) -> Option<Child<'t>>
+        ensures { IsNextChild labels.now from self.now result }
+    {
+        let at = self.next_place(labels, from)?;
+        Some(Child {
+            at,
+            offset: self.offsets[at],
+            route: &self.routes[at],
+        })
+    }
+
+    // The index of that route.
+    fn next_place(&self, labels: &LabelSet, from: usize) -> Option<usize>
+        ensures { IsFirstFrom (may_match labels.now) from (filings self.now) result }
+    {
+        let mut first = place_from(&self.unfiled, from);
+        for index in &self.names {
+            first = earlier(first, index.next(labels, from));
+        }
+        first
+    }
+}
+
+// The lower of two indexes.
+fn earlier(one: Option<usize>, other: Option<usize>) -> Option<usize>
+    ensures { result ≡ earlier one other }
+{
+    match (one, other) {
+        (Some(at), Some(other)) => Some(at.min(other)),
+        (None, place) | (place, None) => place,
+    }
+}
+
+// The indexes of the routes without an equality matcher.
+fn unfiled(alloc: Global, routes: &[Route]) -> Result<Vec<usize>, AllocError>
+    ensures { IfOk result (λ places.
+        places.items ≡ places_from is_unfiled 0 (filings (forest_of routes.now))) }
+{
+    let mut places = Vec::new(alloc);
+    for at in 0..routes.len() {
+        if first_equality(routes[at].matchers.as_slice()).is_none() {
+            places.push(at)?;
+        }
+    }
+    Ok(places)
+}
+
+// An index for each name that a route is filed under.
+fn index_names<'t>(alloc: Global, routes: &'t [Route]) -> Result<Vec<NameIndex<'t>>, AllocError>
+    ensures { IfOk result (λ indexes.
+        AreIndexesOf (filings (forest_of routes.now)) indexes.items) }
+{
+    let mut indexes = Vec::new(alloc);
+    for route in routes {
+        if let Some(matcher) = first_equality(route.matchers.as_slice()) {
+            if !is_of(&indexes, matcher.name()) {
+                indexes.push(NameIndex::of(alloc, matcher.name(), routes)?)?;
+            }
+        }
+    }
+    Ok(indexes)
+}
+
+// Whether one of some indexes is of a name.
+fn is_of(indexes: &[NameIndex<'_>], name: &str) -> bool
+    ensures { result ≡ has_name name.now indexes.now }
+{
+    for index in indexes {
+        if name == index.name() {
+            return true;
+        }
+    }
+    false
+}
