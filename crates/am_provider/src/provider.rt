@@ -33,8 +33,12 @@ use am_history::{Front, HistoryTable, Opened, open};
 use am_labels::LabelSet;
 use am_store::{SharedAlert, StoredAlerts};
 use std::alloc::{AllocError, Global};
-use std::sync::{Mutex, Wait};
+use std::sync::{Mutex, MutexGuard, Wait};
 use std::time::Duration;
+
+// How often a call tries to take the lock before its thread sleeps. A post has it for less time than a
+// thread takes to fall asleep and to wake.
+const TRIES: u32 = 500;
 
 /// The alert provider for threads. It is ended by `settle`.
 pub struct Provider<N: Recorded> {
@@ -132,7 +136,7 @@ impl<N: Recorded> Provider<N> {
             AddsOwn caller.old.pass now post.valid posted.place caller.new.pass) }
         ensures err { OnErr result (caller.new.pass ≡ caller.old.pass) }
     {
-        let mut book = self.book.lock(rt);
+        let mut book = self.lock(rt);
         gate.held(rt);
         book.post(&self.cast, &self.table, caller, post, now)
     }
@@ -154,7 +158,7 @@ impl<N: Recorded> Provider<N> {
         ensures { AnswersPostIf F.FnMut accepts N.policy N.places now post
             caller.old.pass caller.new.pass caller.old.front caller.new.front result }
     {
-        let mut book = self.book.lock(rt);
+        let mut book = self.lock(rt);
         gate.held(rt);
         book.post_if(&self.cast, &self.table, caller, post, now, accepts)
     }
@@ -168,7 +172,7 @@ impl<N: Recorded> Provider<N> {
         ensures sees { SeesCall caller.old.front caller.new.front (AnswersSubscribe result) }
         ensures pass { caller.new.pass ≡ caller.old.pass }
     {
-        let mut book = self.book.lock(rt);
+        let mut book = self.lock(rt);
         book.subscribe(&self.cast, &self.table, caller)
     }
 
@@ -192,8 +196,7 @@ impl<N: Recorded> Provider<N> {
             (AnswersLeave subscription.entry result) }
         ensures pass { caller.new.pass ≡ caller.old.pass }
     {
-        self.book
-            .lock(rt)
+        self.lock(rt)
             .leave(&self.cast, &self.table, caller, subscription)
     }
 
@@ -207,9 +210,7 @@ impl<N: Recorded> Provider<N> {
         ensures sees { SeesCall caller.old.front caller.new.front (AnswersCollect now result) }
         ensures pass { caller.new.pass ≡ caller.old.pass }
     {
-        self.book
-            .lock(rt)
-            .collect_resolved(&self.table, caller, now)
+        self.lock(rt).collect_resolved(&self.table, caller, now)
     }
 
     /// Removes the stored alerts that are resolved, and answers them, in the order in which they were
@@ -223,7 +224,7 @@ impl<N: Recorded> Provider<N> {
         ensures sees { SeesCall caller.old.front caller.new.front (AnswersTake now result) }
         ensures pass { caller.new.pass ≡ caller.old.pass }
     {
-        self.book.lock(rt).take_resolved(&self.table, caller, now)
+        self.lock(rt).take_resolved(&self.table, caller, now)
     }
 
     /// Ends the log: no post and no subscription is accepted from now on.
@@ -231,7 +232,7 @@ impl<N: Recorded> Provider<N> {
         ensures sees { SeesCall caller.old.front caller.new.front (AnswersClose result) }
         ensures pass { caller.new.pass ≡ caller.old.pass }
     {
-        self.book.lock(rt).close(&self.cast, &self.table, caller)
+        self.lock(rt).close(&self.cast, &self.table, caller)
     }
 
     /// Discards the calls of the journal that no open subscription needs, and answers how many.
@@ -239,7 +240,7 @@ impl<N: Recorded> Provider<N> {
         ensures sees { SeesCall caller.old.front caller.new.front (AnswersTrim result) }
         ensures pass { caller.new.pass ≡ caller.old.pass }
     {
-        self.book.lock(rt).trim(&self.table, caller)
+        self.lock(rt).trim(&self.table, caller)
     }
 
     /// What is stored, in order (`provider.Alerts`' GetPending). It adds nothing to the history and
@@ -252,7 +253,7 @@ impl<N: Recorded> Provider<N> {
         ensures sees { SeesCall caller.old.front caller.new.front (AnswersStored result) }
         ensures pass { caller.new.pass ≡ caller.old.pass }
     {
-        self.book.lock(rt).stored(&self.table, caller)
+        self.lock(rt).stored(&self.table, caller)
     }
 
     /// The stored alert of a label set (`provider.Alerts`' Get). It adds nothing to the history, takes
@@ -266,7 +267,7 @@ impl<N: Recorded> Provider<N> {
         ensures sees { SeesCall caller.old.front caller.new.front (AnswersGet labels.now result) }
         ensures pass { caller.new.pass ≡ caller.old.pass }
     {
-        self.book.lock(rt).get(&self.table, caller, labels)
+        self.lock(rt).get(&self.table, caller, labels)
     }
 
     /// A front for an onlooker of the calls, who makes none. It has seen as much of the history as the
@@ -284,7 +285,7 @@ impl<N: Recorded> Provider<N> {
         ensures sees { SeesWhole caller.old.front caller.new.front onlooker.old onlooker.new }
         ensures pass { caller.new.pass ≡ caller.old.pass }
     {
-        self.book.lock(rt).look(&self.table, caller, onlooker);
+        self.lock(rt).look(&self.table, caller, onlooker);
     }
 
     /// Ends the provider. Each pass's posts stand at rising places, in the order in which it posted
@@ -298,6 +299,16 @@ impl<N: Recorded> Provider<N> {
     {
         let (cast, table, book) = self.into_parts();
         book.settle(rt, cast, &table, callers)
+    }
+
+    // The Book, once no other call has it.
+    fn lock<R: Wait>(&self, rt: &R) -> MutexGuard<'_, RecordedBook<N>> {
+        for _try in 0..TRIES {
+            if let Some(book) = self.book.try_lock() {
+                return book;
+            }
+        }
+        self.book.lock(rt)
     }
 
     fn into_parts(self) -> (Cast<N>, HistoryTable<Entry, N>, RecordedBook<N>) {
