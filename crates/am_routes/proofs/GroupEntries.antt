@@ -10,7 +10,8 @@ use Rattle.am_labels.specs.LabelSets.{Labels, same_labels}
 use Rattle.am_labels.specs.LabelLaws.{labels_decide}
 use Rattle.am_alert.specs.declared.alert.Alert.{Alert}
 use Rattle.am_routes.specs.inside.GroupLists.{alerts_with}
-use Rattle.am_routes.specs.inside.GroupChanges.{kept_in, AreKeyedByLabels, with_old}
+use Rattle.am_routes.specs.inside.GroupChanges.{kept_in, AreKeyedByLabels}
+use Rattle.am_routes.specs.Undoing.{with_old}
 use Rattle.am_routes.proofs.Cases.{by_bool}
 
 -- an insertion sets the alert in its label set's place, else at the end

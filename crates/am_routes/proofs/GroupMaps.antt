@@ -5,7 +5,7 @@ use Rattle.std.specs.List.{slice_get, position, list_all, count_by, cons_option}
 use Rattle.std.specs.Map.{keys_of, values_of}
 use Rattle.std.specs.Map as map_of
 use Rattle.std.proofs.lemmas.Bool.Decides.{Decides-eqb}
-use Rattle.std.specs.Prelude.{Result, Ok, Err, OnErr, OnOk}
+use Rattle.std.specs.Prelude.{Result, Ok, Err, OnErr}
 use Rattle.std.proofs.lemmas.List.Sums.{length-filter}
 use Rattle.std.proofs.lemmas.List.{length-map, drop_more, take_more, set_at, length-take-le, map-append, append_assoc, get_or_at}
 use Rattle.indexmap.specs.IndexMap.{insert_entry, set_value_at}
@@ -19,8 +19,8 @@ use Rattle.am_routes.specs.declared.group.AlertChange.{AlertChange}
 use Rattle.am_routes.specs.RouteAnswers.{Node}
 use Rattle.am_routes.specs.Groups.{GroupView, some_of, is_empty, removed_groups}
 use Rattle.am_routes.specs.inside.GroupLists.{alerts_with, joined, with_members, is_group, with_member, unresolved, swept_group, swept, without_resolved}
-use Rattle.am_routes.specs.inside.GroupChanges.{alerts_before}
-use Rattle.am_routes.specs.inside.GroupMaps.{groups_in, AreKeyedByGroups, changed_back, groups_before, all_before}
+use Rattle.am_routes.specs.inside.GroupMaps.{groups_in, AreKeyedByGroups}
+use Rattle.am_routes.specs.Undoing.{alerts_before, all_before, changed_back, groups_before}
 use Rattle.am_routes.specs.declared.dispatcher.GroupChange.{GroupChange}
 use Rattle.am_routes.proofs.Cases.{by_bool}
 
@@ -229,7 +229,3 @@ pub length-written : (entries : List (GroupKey × GroupView)) (at : ℕ) (group 
 length-written [] at group = refl
 length-written (entry ∷ entries) zero group = refl
 length-written (entry ∷ entries) (suc at) group = ap suc (length-written entries at group)
-
-pub ok_map : {T E : Type 0} (r : Result T E) (P Q : Type 0) → (P → Q) → OnOk r P → OnOk r Q
-ok_map (Ok x) P Q f h = f h
-ok_map (Err e) P Q f h = h

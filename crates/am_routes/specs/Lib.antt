@@ -10,6 +10,7 @@ pub mod RouteAnswers
 pub mod Looking
 pub mod InOrder
 pub mod Groups
+pub mod Undoing
 pub mod Listings
 pub mod Printing
 pub mod DispatchLaws

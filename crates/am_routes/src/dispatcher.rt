@@ -5,7 +5,7 @@ ghost use Rattle.std.specs.List.{count_by};
 ghost use Rattle.am_routes.specs.Groups.{Take, Sweep, is_empty, removed_alerts};
 ghost use Rattle.am_routes.specs.inside.Searches.{node_of, nodes_in};
 ghost use Rattle.am_routes.specs.inside.GroupLists.{joined, with_members, without_resolved};
-ghost use Rattle.am_routes.specs.inside.GroupMaps.{all_before, groups_before};
+ghost use Rattle.am_routes.specs.Undoing.{all_before, groups_before};
 ghost use Rattle.am_routes.specs.inside.GroupMaps.{groups_in, AreKeyedByGroups};
 
 use crate::group::{AlertChange, Group};
@@ -35,6 +35,12 @@ pub(crate) enum GroupChange {
     Begun,
     /// It changed the group at this index.
     Changed(usize, AlertChange),
+}
+
+/// What an alert that was taken changed, kept to undo it.
+#[derive(Drop)]
+pub struct Noted {
+    changes: Vec<GroupChange>,
 }
 
 /// How much a sweep removed.
@@ -73,6 +79,7 @@ impl<'t> Model for Dispatcher<'t> {
 impl<'t> Dispatcher<'t> {
     ghost use Rattle.am_config.specs.RouteLists.{root_of};
     ghost use Rattle.am_routes.specs.Groups.{Follows, removed_alerts, removed_groups};
+    ghost use Rattle.am_routes.specs.Undoing.{undone};
 
     /// A dispatcher without groups. It borrows the tree, and has its own searches of the tree's
     /// patterns: none is compiled again.
@@ -92,8 +99,27 @@ impl<'t> Dispatcher<'t> {
         ensures taken { OnOk result (Follows (Take alert.now) self.old self.new) }
         ensures err { OnErr result (self.new ≡ self.old) }
     {
+        let _noted = self.take_noted(alert)?;
+        Ok(())
+    }
+
+    /// Takes an alert as `take` does, and returns what `undo` needs to undo it. If memory runs out,
+    /// nothing changes.
+    pub fn take_noted(&mut self, alert: &Alert) -> Result<Noted, AllocError>
+        ensures taken { OnOk result (Follows (Take alert.now) self.old self.new) }
+        ensures undo { IfOk result (λ noted. undone noted self.new ≡ self.old) }
+        ensures err { OnErr result (self.new ≡ self.old) }
+    {
         let found = self.tree.find(&alert.labels)?;
-        join_all(&mut self.groups, &found, alert)
+        let changes = join_all(&mut self.groups, &found, alert)?;
+        Ok(Noted { changes })
+    }
+
+    /// Undoes the last alert that was taken, by what it changed. It takes no memory.
+    pub fn undo(&mut self, noted: Noted)
+        ensures { self.new ≡ undone noted self.old }
+    {
+        undo_all(&mut self.groups, noted.changes);
     }
 
     /// The groups, in the order in which they began.
@@ -120,10 +146,12 @@ fn join_all<'t>(
     groups: &mut GroupMap<'t>,
     found: &[FoundRoute<'t>],
     alert: &Alert,
-) -> Result<(), AllocError>
+) -> Result<Vec<GroupChange>, AllocError>
     requires { AreKeyedByGroups groups.old.entries }
     ensures joined { OnOk result (groups_in groups.new.entries
         ≡ with_members (nodes_in found.now) alert.now (groups_in groups.old.entries)) }
+    ensures undo { IfOk result (λ changes. all_before changes.items (groups_in groups.new.entries)
+        ≡ groups_in groups.old.entries) }
     ensures kept { AreKeyedByGroups groups.new.entries }
     ensures err { OnErr result
         (groups_in groups.new.entries ≡ groups_in groups.old.entries) }
@@ -138,7 +166,7 @@ fn join_all<'t>(
             }
         }
     }
-    Ok(())
+    Ok(changes)
 }
 
 // Puts an alert into a group of a route.

@@ -4,7 +4,8 @@ ghost use Rattle.std.specs.Prelude.{◌≡◌, [], ◌∷◌, IfOk, OnErr, not, 
 ghost use Rattle.am_alert.specs.Merging.{is_resolved_at};
 ghost use Rattle.am_routes.specs.Groups.{is_empty};
 ghost use Rattle.am_routes.specs.inside.GroupLists.{alerts_with, unresolved};
-ghost use Rattle.am_routes.specs.inside.GroupChanges.{alerts_before, kept_in, AreKeyedByLabels};
+ghost use Rattle.am_routes.specs.inside.GroupChanges.{kept_in, AreKeyedByLabels};
+ghost use Rattle.am_routes.specs.Undoing.{alerts_before};
 
 use crate::matching::FoundRoute;
 use crate::route_id::RouteId;

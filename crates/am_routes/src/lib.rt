@@ -31,7 +31,7 @@ mod matching;
 mod name_index;
 mod route_id;
 
-pub use dispatcher::{Dispatcher, Swept};
+pub use dispatcher::{Dispatcher, Noted, Swept};
 pub use group::Group;
 pub use laws::dispatch_laws;
 pub use listed_route::{ListedRoute, list_routes};

@@ -2,7 +2,8 @@ use Rattle.std.proofs.Common.{◌≡◌, [], ◌∷◌, ◌++◌, ◌+◌, lengt
 use Rattle.std.proofs.lemmas.List.{map-append}
 use Rattle.am_routes.specs.inside.Searches.{node_of, nodes_in}
 use Rattle.am_routes.specs.inside.GroupLists.{joined, with_members}
-use Rattle.am_routes.specs.inside.GroupMaps.{groups_in, all_before}
+use Rattle.am_routes.specs.inside.GroupMaps.{groups_in}
+use Rattle.am_routes.specs.Undoing.{all_before}
 use Rattle.std.proofs.Common.{length-drop}
 use Rattle.std.proofs.lemmas.List.{take_more}
 use Rattle.am_routes.specs.declared.matching.FoundRoute.{FoundRoute}

@@ -1,7 +1,8 @@
 use Rattle.std.proofs.Common.{◌≡◌, ◌+◌, ◌≤◌, take, drop, length, vec_len, vec_capacity}
 use Rattle.am_routes.specs.inside.Searches.{nodes_in}
 use Rattle.am_routes.specs.inside.GroupLists.{with_members}
-use Rattle.am_routes.specs.inside.GroupMaps.{all_before, groups_in, AreKeyedByGroups}
+use Rattle.am_routes.specs.inside.GroupMaps.{groups_in, AreKeyedByGroups}
+use Rattle.am_routes.specs.Undoing.{all_before}
 use Rattle.am_routes.proofs.dispatcher.join_all.Given as goal
 
 -- the alert stands in a group of each route so far, and the changes lead back

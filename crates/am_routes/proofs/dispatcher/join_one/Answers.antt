@@ -13,10 +13,10 @@ use Rattle.am_config.specs.GroupLabels.{group_labels}
 use Rattle.am_routes.specs.Groups.{GroupView}
 use Rattle.am_routes.specs.inside.Searches.{node_of}
 use Rattle.am_routes.specs.inside.GroupLists.{alerts_with}
-use Rattle.am_routes.specs.inside.GroupMaps.{groups_in, AreKeyedByGroups, changed_back}
+use Rattle.am_routes.specs.inside.GroupMaps.{groups_in, AreKeyedByGroups}
 use Rattle.am_routes.proofs.GroupEntries.{take_last}
 use Rattle.am_routes.proofs.GroupMaps.{same_key, IsKeyOf, member_begins, member_joins, keys_kept, group_written, written_same, written_kept, change_undone, nothing, err_holds}
-use Rattle.am_routes.specs.inside.GroupChanges.{alerts_before}
+use Rattle.am_routes.specs.Undoing.{alerts_before, changed_back}
 use Rattle.am_routes.proofs.dispatcher.join_one.Goals as goal
 
 begun : Node → Alert → Labels → GroupView

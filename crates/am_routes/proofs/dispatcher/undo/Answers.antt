@@ -3,7 +3,8 @@ use Rattle.std.proofs.lemmas.List.{length-map, take-map}
 use Rattle.indexmap.specs.IndexMap.{set_value_at}
 use Rattle.am_routes.specs.declared.dispatcher.GroupKey.{GroupKey}
 use Rattle.am_routes.specs.Groups.{GroupView}
-use Rattle.am_routes.specs.inside.GroupMaps.{groups_in, AreKeyedByGroups, groups_before}
+use Rattle.am_routes.specs.inside.GroupMaps.{groups_in, AreKeyedByGroups}
+use Rattle.am_routes.specs.Undoing.{groups_before}
 use Rattle.am_routes.proofs.GroupMaps.{written_kept, change_back, change_nowhere, keys_taken}
 use Rattle.am_routes.proofs.dispatcher.undo.Goals as goal
 

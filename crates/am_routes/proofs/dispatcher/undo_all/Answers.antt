@@ -1,5 +1,6 @@
 use Rattle.std.proofs.Common.{◌≡◌, ◌++◌, ◌∷◌, [], sym, ap, ◌∙◌, rules}
-use Rattle.am_routes.specs.inside.GroupMaps.{all_before, groups_before, groups_in}
+use Rattle.am_routes.specs.inside.GroupMaps.{groups_in}
+use Rattle.am_routes.specs.Undoing.{all_before, groups_before}
 use Rattle.am_routes.proofs.GroupMaps.{all_before_last}
 use Rattle.am_routes.proofs.dispatcher.undo_all.Goals as goal
 

@@ -1,5 +1,6 @@
 use Rattle.std.proofs.Common.{◌≡◌}
-use Rattle.am_routes.specs.inside.GroupMaps.{all_before, groups_in, AreKeyedByGroups}
+use Rattle.am_routes.specs.inside.GroupMaps.{groups_in, AreKeyedByGroups}
+use Rattle.am_routes.specs.Undoing.{all_before}
 use Rattle.am_routes.proofs.dispatcher.undo_all.Given as goal
 
 -- the changes that are left lead back to the same groups

@@ -8,7 +8,8 @@ use Rattle.indexmap.proofs.CallerLemmas.{insert_entry-new}
 use Rattle.am_labels.specs.LabelSets.{Labels, same_labels}
 use Rattle.am_alert.specs.declared.alert.Alert.{Alert}
 use Rattle.am_routes.specs.inside.GroupLists.{alerts_with}
-use Rattle.am_routes.specs.inside.GroupChanges.{kept_in, AreKeyedByLabels, with_old}
+use Rattle.am_routes.specs.inside.GroupChanges.{kept_in, AreKeyedByLabels}
+use Rattle.am_routes.specs.Undoing.{with_old}
 use Rattle.am_routes.proofs.GroupEntries.{kept_inserted, still_kept, written_at, take_last, replaced_back}
 use Rattle.am_routes.proofs.group.put_alert.Goals as goal
 

@@ -5,7 +5,8 @@ use Rattle.std.proofs.lemmas.List.{length-map, take-map}
 use Rattle.indexmap.specs.IndexMap.{set_value_at}
 use Rattle.am_labels.specs.LabelSets.{Labels, same_labels}
 use Rattle.am_alert.specs.declared.alert.Alert.{Alert}
-use Rattle.am_routes.specs.inside.GroupChanges.{alerts_before, kept_in, AreKeyedByLabels}
+use Rattle.am_routes.specs.inside.GroupChanges.{kept_in, AreKeyedByLabels}
+use Rattle.am_routes.specs.Undoing.{alerts_before}
 use Rattle.am_routes.proofs.GroupEntries.{kept_inserted, still_kept, written_at, has, looked_up, old_back, none_back, still_taken}
 use Rattle.am_routes.proofs.group.put_back.Goals as goal
 
