@@ -1,11 +1,11 @@
-//! Groups at real size, and of two dispatchers of one tree.
+//! Groups at real size, of two dispatchers of one tree, and after an alert that is undone.
 
 use crate::configurations::{configuration, labels};
 use crate::expectation::expect;
 use am_alert::{Alert, Moment};
 use am_config::RouteTree;
 use am_labels::{LabelSet, SharedText};
-use am_routes::{Dispatcher, Swept};
+use am_routes::{Dispatcher, Noted, Swept};
 use std::alloc::{AllocError, Global};
 use std::test::Fail;
 
@@ -86,6 +86,33 @@ fn two_dispatchers_of_one_tree(rt: HostRuntime) -> Result<(), Fail> {
     expect(
         goes_from_one(&mut one, &mut other),
         "the groups of one changed with the other's",
+    )
+}
+
+// The same of an alert that may be undone.
+fn take_noted(dispatcher: &mut Dispatcher<'_>, alert: &Alert) -> Result<Noted, AllocError> {
+    match dispatcher.take_noted(alert) {
+        Err(AllocError) => dispatcher.take_noted(alert),
+        Ok(noted) => Ok(noted),
+    }
+}
+
+// Whether the alert has two groups of its own until it is undone.
+fn comes_and_goes(alloc: Global, dispatcher: &mut Dispatcher<'_>) -> Result<bool, AllocError> {
+    let noted = take_noted(dispatcher, &alert(alloc, "job=b severity=crit team=db", 6)?)?;
+    let taken = dispatcher.groups().len();
+    dispatcher.undo(noted);
+    Ok(taken == 4 && dispatcher.groups().len() == 2)
+}
+
+#[test]
+fn undone_alert_leaves_no_group(rt: HostRuntime) -> Result<(), Fail> {
+    let config = configuration(rt.alloc(), TEAMS)?;
+    let mut one = dispatcher(rt.alloc(), &config.tree)?;
+    take_one(rt.alloc(), &mut one)?;
+    expect(
+        comes_and_goes(rt.alloc(), &mut one)?,
+        "an alert that was undone has groups",
     )
 }
 
