@@ -125,23 +125,23 @@ The first line of a script is the configuration. Each further one is a JSON obje
 with a command as `do`, a `thread` from 0 to 7, and the command's own members:
   post       at, body          posts alerts
   put        at, alerts        posts alerts that carry their own moments
-  subscribe  sub, kind         subscribes; `dispatch` adds a dispatcher, `inhibit` an inhibitor
+  subscribe  sub, kind         subscribes; `dispatch` adds a dispatcher, `inhibit` an inhibitor, `notify` both
   read       sub, max          prints what the subscription delivers next
   leave      sub               leaves the subscription
   collect    at                removes the alerts that are resolved by then
   close                        closes the log: no more posts and subscribers
   trim                         discards the calls that no subscription needs any more
-  groups     sub               prints the dispatcher's groups
-  sweep      sub, at           drops what is resolved from the groups or inhibitor
+  groups     sub, at           prints the dispatcher's groups, and with `at` what mutes their alerts then
+  sweep      sub, at           drops what is resolved from the groups and the inhibitor
   mutes      sub, at, labels   asks the inhibitor whether it mutes such an alert
   stored                       prints all stored alerts
   get        labels            prints the stored alert of these labels
   routes                       prints the routing tree
   route      labels            prints the routes that these labels match
 
-`at` is a moment as 2024-01-01T10:00:00Z; `sub` is the subscription's name. `kind`
-is `plain`, `dispatch` or `inhibit`, and `plain` if it is missing. `max` is from 1
-to 65536, and 1 if it is missing.
+`at` is a moment as 2024-01-01T10:00:00Z, and `groups` needs none; `sub` is the
+subscription's name. `kind` is `plain`, `dispatch`, `inhibit` or `notify`, and `plain`
+if it is missing. `max` is from 1 to 65536, and 1 if it is missing.
 
 With --mode live the lines are answered one by one as they come, `thread` isn't
 needed, and a line that can't be read is answered by its fault.";

@@ -1,5 +1,6 @@
 pub mod Lines
 pub mod Named
+pub mod Notifying
 pub mod Owed
 pub mod Results
 pub mod Taking

@@ -1,5 +1,12 @@
 -- What is done to the subscription of a name.
-use Rattle.std.proofs.Common.{◌≡◌, ℕ, List, [], ◌∷◌, ◌++◌, Some, Ok, IfSome, refl, ap, sym, subst, ◌∙◌, length, get_or, slice_get, slice_set}
+use Rattle.std.proofs.Common.{◌≡◌, ◌+◌, ◌<◌, ℕ, Bool, true, false, cond, List, [], ◌∷◌, ◌++◌, Some, None, Ok, IfSome, refl, ap, sym, subst, ◌∙◌, length, get_or, slice_get, slice_set, arith}
+use Rattle.std.proofs.Math.Dec.{ltb}
+use Rattle.std.proofs.lemmas.Bool.{le-ltb, lt-ltb}
+use Rattle.std.specs.List.{position, position_or_len}
+use Rattle.std.proofs.lemmas.List.{get_or_default}
+use Rattle.std.proofs.lemmas.List.Sums.{position_or_len_is}
+use mathlib.Core.Logic.{dite}
+use native.Mathlib.Decide.{ℕ_discrete}
 use Rattle.std.proofs.lemmas.List.{length-set}
 use Rattle.std.proofs.lemmas.List.Quantifiers.{position-Some}
 use Rattle.std.proofs.lemmas.Option.{slice_get-get_or}
@@ -10,27 +17,49 @@ use Rattle.am_config.specs.declared.config.Config.{Config}
 use Rattle.am_script.specs.declared.command.Command.TheVariants.{Subscribe}
 use Rattle.am_script.specs.declared.command.Verb.{Verb}
 use Rattle.am_script.specs.declared.kind.Kind.{Kind}
-use Rattle.am_script.specs.declared.kind.Kind.TheVariants.{Plain, Dispatch, Inhibit}
+use Rattle.am_script.specs.declared.kind.Kind.TheVariants.{Plain, Dispatch, Inhibit, Notify}
 use Rattle.am_runner.specs.Consuming.{HasTaken, fresh_consumer}
 use Rattle.am_runner.specs.Reading.{OpenView}
 use Rattle.am_runner.specs.Sessions.{Setting, SessionView, Does, subscribed, OnNamed, one_named, none_named, index_named}
 use Rattle.am_runner.specs.declared.answer.Answer.{Answer}
 use Rattle.am_runner.specs.declared.answer.Answer.TheVariants.{Subscribed}
 
-pub there : (name : List ℕ) (opened : List OpenView) (index : ℕ) (found : OpenView) → index_named name opened ≡ Some index → found ≡ get_or opened index found → slice_get opened index ≡ Some found
-there name opened index found here is =
-    slice_get-get_or opened index found (position-Some (λ (other : OpenView). bytes_eq other.name name) opened index found here).0 ∙ ap Some (sym is)
+-- none of the first so many passes, nor does the next
+pub none_more : {A : Type 0} (p : A → Bool) (xs : List A) (i : ℕ) (one : A) → ((k : ℕ) (d : A) → k < i → p (get_or xs k d) ≡ false) → i < length xs → one ≡ get_or xs i one → p one ≡ false
+    → (k : ℕ) (d : A) → k < i + 1 → p (get_or xs k d) ≡ false
+none_more p xs i one none inside is not_it k d below =
+    dite (ℕ_discrete k i)
+    (λ same. ap p (ap (λ (n : ℕ). get_or xs n d) same ∙ (get_or_default xs i d one inside ∙ sym is)) ∙ not_it)
+    (λ other. none k d (omega (arith, below, other)))
 
--- the same of one that is lent to be changed
+-- the one after them does: it is the first
+pub first_is : {A : Type 0} (p : A → Bool) (xs : List A) (i : ℕ) (one : A) → ((k : ℕ) (d : A) → k < i → p (get_or xs k d) ≡ false) → i < length xs → one ≡ get_or xs i one → p one ≡ true → Some i ≡ position p xs
+first_is p xs i one none inside is passes =
+    let at : position_or_len p xs ≡ i = position_or_len_is p xs i one (omega (arith, inside)) (λ k below. none k one below) (λ _. ap p (sym is) ∙ passes) in
+    subst (λ (n : ℕ). Some i ≡ cond (ltb n (length xs)) (Some n) None) (sym at) (ap (λ (b : Bool). cond b (Some i) None) (sym (lt-ltb i (length xs) inside)))
+
+-- none of all passes
+pub none_is : {A : Type 0} (p : A → Bool) (xs : List A) (i : ℕ) → ((k : ℕ) (d : A) → k < i → p (get_or xs k d) ≡ false) → i ≡ length xs → None ≡ position p xs
+none_is p [] i none whole = refl
+none_is p (first ∷ xs) i none whole =
+    let all = first ∷ xs in
+    let at : position_or_len p all ≡ length all = position_or_len_is p all (length all) first (omega arith) (λ k below. none k first (omega (arith, below, whole))) (λ inside. absurd (omega (arith, inside))) in
+    subst (λ (n : ℕ). None ≡ cond (ltb n (length all)) (Some n) None) (sym at) (ap (λ (b : Bool). cond b (Some (length all)) None) (sym (le-ltb (length all) (length all) (omega arith))))
+
+-- the subscription of a name, which is lent to be changed
+pub lent : (name : List ℕ) (opened : List OpenView) (index : ℕ) (other : OpenView) → index_named name opened ≡ Some index → slice_get opened index ≡ Some (get_or opened index other)
+lent name opened index other here = slice_get-get_or opened index other (position-Some (λ (each : OpenView). bytes_eq each.name name) opened index other here).0
+
 pub on_index : (name : List ℕ) (word : Verb) (does : OpenView → List Answer → OpenView → Type 0) (opened : List OpenView) (index : ℕ) (other after : OpenView) (answers : List Answer)
     → index_named name opened ≡ Some index → does (get_or opened index other) answers after → OnNamed name word does opened answers (slice_set opened index after)
 on_index name word does opened index other after answers here done =
-    one_named here (slice_get-get_or opened index other (position-Some (λ (each : OpenView). bytes_eq each.name name) opened index other here).0) done
+    one_named here (lent name opened index other here) done
 
 pub fresh_took : (config : Config) (kind : Kind) → IfSome (fresh_consumer config kind) (HasTaken [])
 fresh_took config Plain = tt
 fresh_took config Dispatch = ([], refl, refl)
 fresh_took config Inhibit = ([], refl, refl)
+fresh_took config Notify = ([], refl, refl, refl)
 
 pub subscribed_so : (config : Config) (setting : Setting) (old new : SessionView) (name : List ℕ) (kind : Kind) (made : OpenView) (lane opening : ℕ)
     → made.name ≡ name → SeesCall old.front new.front (AnswersSubscribe (Ok made.subscription)) → made.consumer ≡ fresh_consumer config kind

@@ -198,7 +198,7 @@ module _ (law : StaysFrontOfDue) (entries : List EntryView) where
   on_named name word changes old new answers back (does.none_named here) owed = owed
 
   -- a consumer alone was changed
-  asked : (changes : _) (without : Answer) (before after : OpenView) (given : Answer) → Asks changes without before given after → IsOwed after → IsOwed before
+  asked : {A : Type 0} (changes : _) (without : A) (before after : OpenView) (given : A) → Asks changes without before given after → IsOwed after → IsOwed before
   asked changes without before after given it owed = subst IsFrontly (ap (λ (one : OpenView). one.subscription) it.1) owed
     where
       IsFrontly : SubscriptionView → Type 0
@@ -292,7 +292,7 @@ module _ (law : StaysFrontOfDue) (entries : List EntryView) where
   does_back config setting old new command given (does.groups is) owed = owed
   does_back config setting old new command given (does.swept {name = name} {at = at} {answers = answers} {opened = opened} it) owed = record {
     seen = owed.seen;
-    owed = on_named name verb.Sweep _ old.opened opened answers (asked_one (IsSwept at) (answer.NotOpen verb.Sweep)) it owed.owed;
+    owed = on_named name verb.Sweep _ old.opened opened answers (asked (IsSwept at) (answer.NotOpen verb.Sweep ∷ [])) it owed.owed;
   }
   does_back config setting old new command given (does.mutes {name = name} {at = at} {labels = labels} {answers = answers} {opened = opened} it) owed = record {
     seen = owed.seen;

@@ -1,23 +1,26 @@
 -- A consumer that took what its subscription has taken still does after a call.
-use Rattle.std.proofs.Common.{◌≡◌, ℕ, Bool, true, false, List, [], ◌∷◌, ◌++◌, Option, Some, None, IfSome, refl, ap, sym, subst, ◌∙◌, append-nil, take}
+use Rattle.std.proofs.Common.{◌≡◌, ℕ, Bool, true, false, List, [], ◌∷◌, ◌++◌, map, Option, Some, None, IfSome, Result, Ok, Err, IfOk, OnErr, refl, ap, sym, subst, ◌∙◌, append-nil, take}
+use Rattle.std.specs.Global.{Vec}
 use Rattle.std.specs.List.{filter_map}
 use Rattle.std.proofs.lemmas.Bool.{false≢true}
+use Rattle.std.proofs.lemmas.List.{map-append}
 use Rattle.std.proofs.lemmas.List.Elements.{filter_map-append}
 use Rattle.am_alert.specs.declared.alert.Alert.{Alert}
 use Rattle.am_provider.specs.Subscriptions.{SubscriptionView, taken}
 use Rattle.am_cast.specs.Cursors as cast
 use Rattle.am_provider.specs.Showings.{ShowsItem, ShowsNone}
 use Rattle.am_inhibit.specs.KeptAlerts as keeping
+use Rattle.am_inhibit.specs.Inhibitors.{InhibitorView}
 use Rattle.am_inhibit.specs.LastAlerts.{last_alerts}
 use Rattle.am_inhibit.specs.InhibitionLaws.{KeptAlertsGoOn}
-use Rattle.am_routes.specs.Groups.{Take, Sweep}
+use Rattle.am_routes.specs.Groups.{DispatcherView, Take, Sweep, Follows}
 use Rattle.am_runner.specs.Answers.{is_item}
-use Rattle.am_runner.specs.Consuming.{HasTaken, TakesAlert, IsSwept, swept, forgot, alert_kept, alert_taken}
+use Rattle.am_runner.specs.Consuming.{HasTaken, TakesAlert, IsSwept, swept, forgot, both_swept, alert_kept, alert_taken, same_event}
 use Rattle.am_runner.specs.Reading.{OpenView, NextIs, IsTaken, ReadsOne, takes, misses, ends, TookAll, TakenBeside, AsksBeside, asks, none_beside}
 use Rattle.am_runner.specs.declared.answer.Answer.{Answer}
 use Rattle.am_runner.specs.declared.answer.Answer.TheVariants as answer
 use Rattle.am_runner.specs.declared.consumer.Consumer.{Consumer}
-use Rattle.am_runner.specs.declared.consumer.Consumer.TheVariants.{Dispatcher, Inhibitor}
+use Rattle.am_runner.specs.declared.consumer.Consumer.TheVariants.{Dispatcher, Inhibitor, Notifier}
 
 -- one alert more was taken
 pub one_taken : KeptAlertsGoOn → (alerts : List Alert) (alert : Alert) (old new : Consumer) → TakesAlert alert old new → HasTaken alerts old → HasTaken (alerts ++ alert ∷ []) new
@@ -30,11 +33,29 @@ one_taken go_on alerts alert (Inhibitor old) (Inhibitor new) same (events, are, 
       more,
       ap (λ one. one.alerts) same ∙ (ap (λ (before : List Alert). last_alerts (before ++ alert ∷ [])) keeps ∙ sym ((go_on events).0 alert)),
     )
+one_taken go_on alerts alert (Notifier old) (Notifier new) (follows, same) (events, are, groups, keeps) = (
+  events ++ Take alert ∷ [],
+  filter_map-append alert_taken events (Take alert ∷ []) ∙ ap (λ (taken : List Alert). taken ++ alert ∷ []) are,
+  follows.1 events groups,
+  ap (λ one. one.alerts) same
+      ∙ (ap (λ (before : List Alert). last_alerts (before ++ alert ∷ [])) keeps
+      ∙ (sym ((go_on (map same_event events)).0 alert) ∙ ap keeping.kept_alerts (sym (map-append same_event events (Take alert ∷ []))))),
+)
 one_taken go_on alerts alert (Dispatcher old) (Inhibitor new) never is = absurd never
+one_taken go_on alerts alert (Dispatcher old) (Notifier new) never is = absurd never
 one_taken go_on alerts alert (Inhibitor old) (Dispatcher new) never is = absurd never
+one_taken go_on alerts alert (Inhibitor old) (Notifier new) never is = absurd never
+one_taken go_on alerts alert (Notifier old) (Dispatcher new) never is = absurd never
+one_taken go_on alerts alert (Notifier old) (Inhibitor new) never is = absurd never
+
+dispatcher_swept : (now : ℕ) (old new : DispatcherView) (given : List Answer) → IsSwept now (Dispatcher old) (Dispatcher new) given → Follows (Sweep now) old new
+dispatcher_swept now old new given (swept gone follows counted groups_gone) = follows
+
+inhibitor_swept : (now : ℕ) (old new : InhibitorView) (given : List Answer) → IsSwept now (Inhibitor old) (Inhibitor new) given → new ≡ record old { alerts = keeping.unresolved now old.alerts }
+inhibitor_swept now old _ given (forgot gone counted) = refl
 
 -- a sweep takes nothing
-pub sweep_takes_none : KeptAlertsGoOn → (alerts : List Alert) (now : ℕ) (old new : Consumer) (given : Answer) → IsSwept now old new given → HasTaken alerts old → HasTaken alerts new
+pub sweep_takes_none : KeptAlertsGoOn → (alerts : List Alert) (now : ℕ) (old new : Consumer) (given : List Answer) → IsSwept now old new given → HasTaken alerts old → HasTaken alerts new
 sweep_takes_none go_on alerts now (Dispatcher old) (Dispatcher new) given (swept gone follows counted groups_gone) (events, are, groups) =
     (events ++ Sweep now ∷ [], filter_map-append alert_taken events (Sweep now ∷ []) ∙ (append-nil _ ∙ are), follows.1 events groups)
 sweep_takes_none go_on alerts now (Inhibitor old) (Inhibitor _) given (forgot gone counted) (events, are, keeps) = (
@@ -42,8 +63,20 @@ sweep_takes_none go_on alerts now (Inhibitor old) (Inhibitor _) given (forgot go
   filter_map-append alert_kept events (keeping.Sweep now ∷ []) ∙ (append-nil _ ∙ are),
   ap (keeping.unresolved now) keeps ∙ sym ((go_on events).1 now),
 )
+sweep_takes_none go_on alerts now (Notifier old) (Notifier new) given (both_swept groups_swept alerts_swept) (events, are, groups, keeps) = (
+  events ++ Sweep now ∷ [],
+  filter_map-append alert_taken events (Sweep now ∷ []) ∙ (append-nil _ ∙ are),
+  (dispatcher_swept now old.dispatcher new.dispatcher _ groups_swept).1 events groups,
+  ap (λ one. one.alerts) (inhibitor_swept now old.inhibitor new.inhibitor _ alerts_swept)
+      ∙ (ap (keeping.unresolved now) keeps
+      ∙ (sym ((go_on (map same_event events)).1 now) ∙ ap keeping.kept_alerts (sym (map-append same_event events (Sweep now ∷ []))))),
+)
 sweep_takes_none go_on alerts now (Dispatcher old) (Inhibitor new) given never is = elim never [ ]
+sweep_takes_none go_on alerts now (Dispatcher old) (Notifier new) given never is = elim never [ ]
 sweep_takes_none go_on alerts now (Inhibitor old) (Dispatcher new) given never is = elim never [ ]
+sweep_takes_none go_on alerts now (Inhibitor old) (Notifier new) given never is = elim never [ ]
+sweep_takes_none go_on alerts now (Notifier old) (Dispatcher new) given never is = elim never [ ]
+sweep_takes_none go_on alerts now (Notifier old) (Inhibitor new) given never is = elim never [ ]
 
 pub beside_taken : KeptAlertsGoOn → (alerts : List Alert) (alert : Alert) (old new : Option Consumer) → TakenBeside alert old new → IfSome old (HasTaken alerts) → IfSome new (HasTaken (alerts ++ alert ∷ []))
 beside_taken go_on alerts alert None None did took = tt
@@ -51,11 +84,17 @@ beside_taken go_on alerts alert (Some old) (Some new) did took = one_taken go_on
 beside_taken go_on alerts alert (Some old) None did took = absurd did
 beside_taken go_on alerts alert None (Some new) did took = absurd did
 
-pub beside_swept : KeptAlertsGoOn → (alerts : List Alert) (now : ℕ) (without given : Answer) (old new : Option Consumer) → AsksBeside (IsSwept now) without old given new → IfSome old (HasTaken alerts) → IfSome new (HasTaken alerts)
+beside_swept : KeptAlertsGoOn → (alerts : List Alert) (now : ℕ) (without given : List Answer) (old new : Option Consumer) → AsksBeside (IsSwept now) without old given new → IfSome old (HasTaken alerts) → IfSome new (HasTaken alerts)
 beside_swept go_on alerts now without given (Some old) (Some new) (asks does) took = sweep_takes_none go_on alerts now old new given does took
 beside_swept go_on alerts now without given None None none_beside took = tt
 beside_swept go_on alerts now without given None (Some new) never took = elim never [ ]
 beside_swept go_on alerts now without given (Some old) None never took = elim never [ ]
+
+-- nor does a sweep that had no memory for its answers, and changed nothing
+pub result_swept : {E : Type 0} → KeptAlertsGoOn → (alerts : List Alert) (now : ℕ) (without : List Answer) (old new : Option Consumer) (result : Result (Vec Answer) E)
+    → IfOk result (λ answers. AsksBeside (IsSwept now) without old answers.items new) → OnErr result (new ≡ old) → IfSome old (HasTaken alerts) → IfSome new (HasTaken alerts)
+result_swept go_on alerts now without old new (Ok answers) done same took = beside_swept go_on alerts now without answers.items old new done took
+result_swept go_on alerts now without old new (Err error) done same took = subst (λ (consumer : Option Consumer). IfSome consumer (HasTaken alerts)) (sym same) took
 
 -- an alert was shown, and taken beside
 pub took_one : KeptAlertsGoOn → (old new : SubscriptionView) (alert : Alert) (before after : Option Consumer) (missed : Bool) → ShowsItem old alert new → TakenBeside alert before after → TookAll old before missed → TookAll new after missed

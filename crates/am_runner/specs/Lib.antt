@@ -2,6 +2,7 @@ pub mod Answers
 pub mod Printing
 pub mod PrintingJson
 pub mod Forms
+pub mod Notifiers
 pub mod Consuming
 pub mod Asking
 pub mod Owed

@@ -75,20 +75,20 @@ pub data ReadAnswers (old : OpenView) (max : ℕ) : List Answer → OpenView →
       → ReadsSome old count before mid → ReadsOne mid before false answers new
       → ReadAnswers old max answers new
 
--- what is answered of the groups of the dispatcher beside a subscription
-abbrev pub groups_beside : Option Consumer → List Answer
-groups_beside (Some consumer) = answers_of_groups consumer
-groups_beside None = answer.NotOpen verb.Groups ∷ []
+-- what is answered of the groups of the dispatcher beside a subscription, at a moment if one is given
+abbrev pub groups_beside : Option ℕ → Option Consumer → List Answer
+groups_beside at (Some consumer) = answers_of_groups at consumer
+groups_beside at None = answer.NotOpen verb.Groups ∷ []
 
 -- what a consumer, if there is one, does and answers; where there is none, nothing is done
-pub data AsksBeside (does : Consumer → Consumer → Answer → Type 0) (without_one : Answer)
-    : Option Consumer → Answer → Option Consumer → Type 0 where
-  asks : {before after : Consumer} {given : Answer} → does before after given
+pub data AsksBeside {A : Type 0} (does : Consumer → Consumer → A → Type 0) (without_one : A)
+    : Option Consumer → A → Option Consumer → Type 0 where
+  asks : {before after : Consumer} {given : A} → does before after given
       → AsksBeside does without_one (Some before) given (Some after)
   none_beside : AsksBeside does without_one None without_one None
 
 -- the consumer beside a subscription is asked, and nothing else of it changes
-abbrev pub Asks : (Consumer → Consumer → Answer → Type 0) → Answer → OpenView → Answer → OpenView → Type 0
+abbrev pub Asks : {A : Type 0} → (Consumer → Consumer → A → Type 0) → A → OpenView → A → OpenView → Type 0
 Asks does without_one old given new =
     AsksBeside does without_one old.consumer given new.consumer
     × (new ≡ record old { consumer = new.consumer })

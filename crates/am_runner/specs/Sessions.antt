@@ -130,19 +130,20 @@ abbrev pub ReadsNamed : List ℕ → ℕ → List OpenView → List Answer → L
 ReadsNamed name max old answers new =
     OnNamed name verb.Read (λ before given after. ReadAnswers before max given after) old answers new
 
--- what is answered of the groups of the dispatcher beside a subscription, if there is that
-abbrev pub groups_told : Option OpenView → List Answer
-groups_told None = answer.NotOpen verb.Groups ∷ []
-groups_told (Some open_one) = groups_beside open_one.consumer
+-- what is answered of the groups of the dispatcher beside a subscription, if there is that, at a moment if
+-- one is given
+abbrev pub groups_told : Option ℕ → Option OpenView → List Answer
+groups_told at None = answer.NotOpen verb.Groups ∷ []
+groups_told at (Some open_one) = groups_beside at open_one.consumer
 
 -- the subscription of a name
 abbrev pub named_in : List ℕ → List OpenView → Option OpenView
 named_in name opened = option_and_then (slice_get opened) (index_named name opened)
 
--- the dispatcher beside it is swept
+-- what consumes its alerts is swept
 abbrev pub SweepsNamed : List ℕ → ℕ → List OpenView → List Answer → List OpenView → Type 0
 SweepsNamed name at old answers new = OnNamed name verb.Sweep (λ before given after.
-    IsOne (λ one. Asks (IsSwept at) (answer.NotOpen verb.Sweep) before one after) given) old answers new
+    Asks (IsSwept at) (answer.NotOpen verb.Sweep ∷ []) before given after) old answers new
 
 -- the inhibitor beside it is asked of a target
 abbrev pub AsksNamed : List ℕ → Labels → ℕ → List OpenView → List Answer → List OpenView → Type 0
@@ -213,9 +214,9 @@ pub data Does (config : Config) (setting : Setting) (old : SessionView)
   trim_refused : {error : AllocError} {front : FrontView EntryView}
       → SeesCall old.front front (AnswersTrim (Err error))
       → Does config setting old Trim (answer.TrimRefused ∷ []) (record old { front = front })
-  groups : {name : List ℕ} {answers : List Answer}
-      → answers ≡ groups_told (named_in name old.opened)
-      → Does config setting old (Groups name) answers old
+  groups : {name : List ℕ} {at : Option ℕ} {answers : List Answer}
+      → answers ≡ groups_told at (named_in name old.opened)
+      → Does config setting old (Groups name at) answers old
   swept : {name : List ℕ} {at : ℕ} {answers : List Answer} {opened : List OpenView}
       → SweepsNamed name at old.opened answers opened
       → Does config setting old (Sweep name at) answers (record old { opened = opened })

@@ -1,12 +1,14 @@
-//! What may stand beside a subscription, a dispatcher or an inhibitor. It takes what the subscription
+//! The consumer of a subscription: a dispatcher, an inhibitor or both. It takes what the subscription
 //! shows, and knows of no provider.
 
-ghost use Rattle.std.specs.Prelude.{◌≡◌, ◌++◌, ◌∷◌, List, IfOk, OnOk, OnErr, flat_map, map};
+ghost use Rattle.std.specs.Prelude.{◌≡◌, ◌⊎◌, ◌++◌, ◌∷◌, [], List, IfOk, OnOk, OnErr, flat_map, length, map};
 ghost use Rattle.am_runner.specs.Consuming.{answers_of_group, answers_of_groups, fresh_consumer};
-ghost use Rattle.am_runner.specs.Consuming.{AsksInhibitor, HasTaken, IsAsked, IsSwept, TakesAlert};
+ghost use Rattle.am_runner.specs.Consuming.{AsksInhibitor, HasTaken, IsAsked, IsSwept, TakesAlert, muting_at};
+ghost use Rattle.am_runner.specs.Notifiers.{unasked};
 ghost use Rattle.am_alert.specs.declared.alert.Alert.{Alert};
 
 use crate::answer::{Answer, one};
+use crate::notifier::Notifier;
 use am_alert::{Alert, Moment};
 use am_config::Config;
 use am_inhibit::Inhibitor;
@@ -20,6 +22,7 @@ use std::alloc::{AllocError, Global};
 pub enum Consumer<'c> {
     Dispatcher(Dispatcher<'c>),
     Inhibitor(Inhibitor<'c>),
+    Notifier(Notifier<'c>),
 }
 
 impl<'c> Consumer<'c> {
@@ -35,6 +38,7 @@ impl<'c> Consumer<'c> {
             Kind::Plain => Ok(None),
             Kind::Dispatch => Ok(Some(Consumer::Dispatcher(Dispatcher::new(alloc, &config.tree)?))),
             Kind::Inhibit => Ok(Some(Consumer::Inhibitor(Inhibitor::new(alloc, &config.rules)?))),
+            Kind::Notify => Ok(Some(Consumer::Notifier(Notifier::new(alloc, config)?))),
         }
     }
 
@@ -46,26 +50,32 @@ impl<'c> Consumer<'c> {
         match self {
             Consumer::Dispatcher(dispatcher) => dispatcher.take(alert),
             Consumer::Inhibitor(inhibitor) => inhibitor.take(alert),
+            Consumer::Notifier(notifier) => notifier.take(alert),
         }
     }
 
-    /// The groups of a dispatcher, each followed by its alerts.
-    pub fn groups(&self, alloc: Global) -> Result<Vec<Answer>, AllocError>
-        ensures { IfOk result (λ answers. answers.items ≡ answers_of_groups self.now) }
+    /// The groups of a dispatcher, each followed by its alerts. At a moment, if one is given, each alert
+    /// is followed by what mutes it then.
+    pub fn groups(&mut self, alloc: Global, at: Option<Moment>) -> Result<Vec<Answer>, AllocError>
+        ensures answers { IfOk result (λ answers. answers.items ≡ answers_of_groups at self.old) }
+        ensures same { self.new ≡ self.old }
     {
         match self {
-            Consumer::Dispatcher(dispatcher) => group_answers(alloc, dispatcher.groups()),
+            Consumer::Dispatcher(dispatcher) => unmuted_groups(alloc, dispatcher, at),
             Consumer::Inhibitor(_) => one(alloc, Answer::NotOpen(Verb::Groups)),
+            Consumer::Notifier(notifier) => notifier.groups(alloc, at),
         }
     }
 
-    /// Drops what is resolved at a moment.
-    pub fn sweep(&mut self, now: Moment) -> Answer
-        ensures { IsSwept now self.old self.new result }
+    /// Drops what is resolved at a moment. If memory runs out, all stays as it was.
+    pub fn sweep(&mut self, alloc: Global, now: Moment) -> Result<Vec<Answer>, AllocError>
+        ensures swept { IfOk result (λ answers. IsSwept now self.old self.new answers.items) }
+        ensures err { OnErr result (self.new ≡ self.old) }
     {
         match self {
-            Consumer::Dispatcher(dispatcher) => Answer::Swept(dispatcher.sweep(now)),
-            Consumer::Inhibitor(inhibitor) => Answer::Forgotten(inhibitor.sweep(now)),
+            Consumer::Dispatcher(dispatcher) => sweep_dispatcher(alloc, dispatcher, now),
+            Consumer::Inhibitor(inhibitor) => sweep_inhibitor(alloc, inhibitor, now),
+            Consumer::Notifier(notifier) => sweep_notifier(alloc, notifier, now),
         }
     }
 
@@ -77,18 +87,65 @@ impl<'c> Consumer<'c> {
         match self {
             Consumer::Dispatcher(_) => Ok(Answer::NotOpen(Verb::Mutes)),
             Consumer::Inhibitor(inhibitor) => muting_answer(inhibitor, labels, now),
+            Consumer::Notifier(notifier) => notifier.mutes(labels, now),
         }
     }
 }
 
+fn sweep_dispatcher(
+    alloc: Global,
+    dispatcher: &mut Dispatcher<'_>,
+    now: Moment,
+) -> Result<Vec<Answer>, AllocError>
+    ensures swept { IfOk result (λ answers. IsSwept now
+        (Consumer.Dispatcher dispatcher.old) (Consumer.Dispatcher dispatcher.new) answers.items) }
+    ensures err { OnErr result (dispatcher.new ≡ dispatcher.old) }
+{
+    let mut answers = Vec::with_capacity(alloc, 1)?;
+    answers.push_reserved(Answer::Swept(dispatcher.sweep(now)));
+    Ok(answers)
+}
+
+fn sweep_inhibitor(
+    alloc: Global,
+    inhibitor: &mut Inhibitor<'_>,
+    now: Moment,
+) -> Result<Vec<Answer>, AllocError>
+    ensures swept { IfOk result (λ answers. IsSwept now
+        (Consumer.Inhibitor inhibitor.old) (Consumer.Inhibitor inhibitor.new) answers.items) }
+    ensures err { OnErr result (inhibitor.new ≡ inhibitor.old) }
+{
+    let mut answers = Vec::with_capacity(alloc, 1)?;
+    answers.push_reserved(Answer::Forgotten(inhibitor.sweep(now)));
+    Ok(answers)
+}
+
+fn sweep_notifier(
+    alloc: Global,
+    notifier: &mut Notifier<'_>,
+    now: Moment,
+) -> Result<Vec<Answer>, AllocError>
+    ensures swept { IfOk result (λ answers. IsSwept now
+        (Consumer.Notifier notifier.old) (Consumer.Notifier notifier.new) answers.items) }
+    ensures err { OnErr result (notifier.new ≡ notifier.old) }
+{
+    let mut answers = Vec::with_capacity(alloc, 2)?;
+    let (swept, forgotten) = notifier.sweep(now);
+    answers.push_reserved(Answer::Swept(swept));
+    answers.push_reserved(Answer::Forgotten(forgotten));
+    Ok(answers)
+}
+
 // What mutes a target.
-fn muting_answer(
+pub(crate) fn muting_answer(
     inhibitor: &mut Inhibitor<'_>,
     labels: &LabelSet,
     now: Moment,
 ) -> Result<Answer, AllocError>
     ensures asks { IfOk result (AsksInhibitor labels.now now inhibitor.old inhibitor.new) }
-    ensures alerts { inhibitor.new.alerts ≡ inhibitor.old.alerts }
+    ensures answer { IfOk result (λ answer. (answer ≡ Answer.MutesRefused)
+        ⊎ (answer ≡ muting_at inhibitor.old now labels.now)) }
+    ensures same { unasked inhibitor.new ≡ unasked inhibitor.old }
 {
     match inhibitor.mutes(labels, now) {
         Ok(Some(muting)) => Ok(Answer::Muted {
@@ -100,8 +157,23 @@ fn muting_answer(
     }
 }
 
+// The groups of a dispatcher without an inhibitor, which can't say what mutes their alerts.
+fn unmuted_groups(
+    alloc: Global,
+    dispatcher: &Dispatcher<'_>,
+    at: Option<Moment>,
+) -> Result<Vec<Answer>, AllocError>
+    ensures { IfOk result (λ answers.
+        answers.items ≡ answers_of_groups at (Consumer.Dispatcher dispatcher.now)) }
+{
+    match at {
+        Some(_) => one(alloc, Answer::NotOpen(Verb::Mutes)),
+        None => group_answers(alloc, dispatcher.groups()),
+    }
+}
+
 // Each group, followed by its alerts.
-fn group_answers(alloc: Global, groups: &[Group<'_>]) -> Result<Vec<Answer>, AllocError>
+pub(crate) fn group_answers(alloc: Global, groups: &[Group<'_>]) -> Result<Vec<Answer>, AllocError>
     ensures { IfOk result (λ answers. answers.items ≡ flat_map answers_of_group groups.now) }
 {
     let mut answers = Vec::new(alloc);
@@ -115,15 +187,22 @@ fn add_group(answers: &mut Vec<Answer>, group: &Group<'_>) -> Result<(), AllocEr
     ensures { OnOk result
         (answers.new.items ≡ answers.old.items ++ answers_of_group group.now) }
 {
+    add_group_line(answers, group)?;
+    add_members(answers, group.alerts())
+}
+
+pub(crate) fn add_group_line(answers: &mut Vec<Answer>, group: &Group<'_>) -> Result<(), AllocError>
+    ensures { OnOk result (answers.new.items ≡ answers.old.items ++ Answer.Group
+        group.now.route group.now.receiver group.now.labels (length group.now.alerts) ∷ []) }
+{
     let alloc = *answers.allocator();
-    let alerts = group.alerts();
     answers.push(Answer::Group {
         route: group.route().0,
         receiver: Text::from_str(alloc, group.receiver())?,
         labels: group.labels().copy()?,
-        alerts: alerts.len() as u64,
+        alerts: group.alerts().len() as u64,
     })?;
-    add_members(answers, alerts)
+    Ok(())
 }
 
 fn add_members(answers: &mut Vec<Answer>, alerts: &[Alert]) -> Result<(), AllocError>

@@ -8,8 +8,8 @@
 //! > open cursor has not passed.
 //!
 //! `run_threads` starts the threads, and none runs a line before all are there. A thread has a pass and
-//! the subscriptions that its lines opened (`Session`), with a dispatcher or an inhibitor beside each
-//! that asks for one. When the threads' lines are run is up to the `Turns` that the caller passes: one
+//! the subscriptions that its lines opened (`Session`), each with a dispatcher, an inhibitor, both or
+//! neither, as its line asks. When the threads' lines are run is up to the `Turns` that the caller passes: one
 //! after another as they stand in the script (`InOrder`), or as the threads come to them (`Freely`).
 //! What comes back is what each line answered, and the passes, by which `Provider::settle` shows the
 //! journal.
@@ -24,6 +24,7 @@ mod context;
 mod form;
 mod laws;
 mod not_run;
+mod notifier;
 mod open_subscription;
 mod register;
 mod session;
@@ -39,6 +40,7 @@ pub use context::Context;
 pub use form::Form;
 pub use laws::{reading_laws, turn_laws};
 pub use not_run::NotRun;
+pub use notifier::Notifier;
 pub use open_subscription::OpenSubscription;
 pub use register::{Register, TurnsSeen};
 pub use session::Session;

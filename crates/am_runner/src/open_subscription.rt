@@ -1,6 +1,6 @@
-//! An open subscription of a script, with the consumer beside it, and what reading it answers.
+//! An open subscription of a script, with its consumer, and what reading it answers.
 
-ghost use Rattle.std.specs.Prelude.{◌≡◌, ℕ, List, false, true, [], IfOk, IfSome, OnErr, OnOk};
+ghost use Rattle.std.specs.Prelude.{◌≡◌, ◌∷◌, ℕ, List, false, true, [], IfOk, IfSome, OnErr, OnOk};
 ghost use Rattle.std.specs.Str.{bytes_eq};
 ghost use Rattle.am_provider.specs.Subscriptions.{taken};
 ghost use Rattle.am_runner.specs.Consuming.{HasTaken, IsAsked, IsSwept};
@@ -109,22 +109,23 @@ impl<'p, 'c, N: Origin> OpenSubscription<'p, 'c, N> {
         )
     }
 
-    /// The groups of the dispatcher beside it.
-    pub fn groups(&self, alloc: Global) -> Result<Vec<Answer>, AllocError>
-        ensures { IfOk result (λ answers. answers.items ≡ groups_beside self.now.consumer) }
+    /// The groups of its dispatcher, and at a moment, if one is given, what its inhibitor mutes their
+    /// alerts by.
+    pub fn groups(&mut self, alloc: Global, at: Option<Moment>) -> Result<Vec<Answer>, AllocError>
+        ensures answers { IfOk result (λ answers. answers.items ≡ groups_beside at self.old.consumer) }
+        ensures same { self.new ≡ self.old }
     {
-        match &self.consumer {
-            Some(consumer) => consumer.groups(alloc),
-            None => one(alloc, Answer::NotOpen(Verb::Groups)),
-        }
+        groups_beside(&mut self.consumer, alloc, at)
     }
 
-    /// What stands beside it drops what is resolved at a moment.
-    pub fn sweep(&mut self, now: Moment) -> Answer
-        ensures { Asks (IsSwept now) (Answer.NotOpen Verb.Sweep) self.old result self.new }
+    /// Its consumer drops what is resolved at a moment. If memory runs out, all stays as it was.
+    pub fn sweep(&mut self, alloc: Global, now: Moment) -> Result<Vec<Answer>, AllocError>
+        ensures swept { IfOk result (λ answers. Asks (IsSwept now)
+            (Answer.NotOpen Verb.Sweep ∷ []) self.old answers.items self.new) }
+        ensures err { OnErr result (self.new ≡ self.old) }
     {
         kept_laws();
-        sweep_beside(&mut self.consumer, now)
+        sweep_beside(&mut self.consumer, alloc, now)
     }
 
     /// By what the inhibitor beside it mutes a target.
@@ -199,12 +200,32 @@ fn take_shown(consumer: &mut Option<Consumer<'_>>, answer: &Answer) -> Result<bo
     }
 }
 
-fn sweep_beside(consumer: &mut Option<Consumer<'_>>, now: Moment) -> Answer
-    ensures { AsksBeside (IsSwept now) (Answer.NotOpen Verb.Sweep) consumer.old result consumer.new }
+fn groups_beside(
+    consumer: &mut Option<Consumer<'_>>,
+    alloc: Global,
+    at: Option<Moment>,
+) -> Result<Vec<Answer>, AllocError>
+    ensures answers { IfOk result (λ answers. answers.items ≡ groups_beside at consumer.old) }
+    ensures same { consumer.new ≡ consumer.old }
 {
     match consumer {
-        Some(consumer) => consumer.sweep(now),
-        None => Answer::NotOpen(Verb::Sweep),
+        Some(consumer) => consumer.groups(alloc, at),
+        None => one(alloc, Answer::NotOpen(Verb::Groups)),
+    }
+}
+
+fn sweep_beside(
+    consumer: &mut Option<Consumer<'_>>,
+    alloc: Global,
+    now: Moment,
+) -> Result<Vec<Answer>, AllocError>
+    ensures swept { IfOk result (λ answers. AsksBeside (IsSwept now)
+        (Answer.NotOpen Verb.Sweep ∷ []) consumer.old answers.items consumer.new) }
+    ensures err { OnErr result (consumer.new ≡ consumer.old) }
+{
+    match consumer {
+        Some(consumer) => consumer.sweep(alloc, now),
+        None => one(alloc, Answer::NotOpen(Verb::Sweep)),
     }
 }
 

@@ -140,7 +140,7 @@ impl<'p, 'c, N: Recorded> Session<'p, 'c, N> {
             Command::Collect { at } => one(alloc, self.collect(context, *at)),
             Command::Close => one(alloc, self.close(context)),
             Command::Trim => one(alloc, self.trim(context)),
-            Command::Groups { name } => self.groups(alloc, name),
+            Command::Groups { name, at } => self.groups(alloc, name, *at),
             Command::Sweep { name, at } => self.sweep(alloc, name, *at),
             Command::Mutes { name, at, labels } => self.mutes(alloc, name, labels, *at),
             Command::Stored => self.stored(context),
@@ -244,11 +244,16 @@ impl<'p, 'c, N: Recorded> Session<'p, 'c, N> {
         leave_one(context, &mut self.caller, &mut self.opened, index)
     }
 
-    fn groups(&self, alloc: Global, name: &Text) -> Result<Vec<Answer>, AllocError>
+    fn groups(
+        &mut self,
+        alloc: Global,
+        name: &Text,
+        at: Option<Moment>,
+    ) -> Result<Vec<Answer>, AllocError>
         ensures { IfOk result (λ answers. (config : Config) (setting : Setting) → Does config setting
-            self.now (Command.Groups name.now) answers.items self.now) }
+            self.old (Command.Groups name.now at) answers.items self.new) }
     {
-        groups_named(&self.opened, alloc, name)
+        groups_named(&mut self.opened, alloc, name, at)
     }
 
     fn sweep(&mut self, alloc: Global, name: &Text, at: Moment) -> Result<Vec<Answer>, AllocError>
@@ -405,15 +410,17 @@ fn read_named<N: Recorded>(
 }
 
 fn groups_named<N: Recorded>(
-    opened: &[OpenSubscription<'_, '_, N>],
+    opened: &mut [OpenSubscription<'_, '_, N>],
     alloc: Global,
     name: &Text,
+    at: Option<Moment>,
 ) -> Result<Vec<Answer>, AllocError>
-    ensures { IfOk result (λ answers.
-        answers.items ≡ groups_told (named_in name.now opened.now)) }
+    ensures answers { IfOk result (λ answers.
+        answers.items ≡ groups_told at (named_in name.now opened.old)) }
+    ensures same { opened.new ≡ opened.old }
 {
     match index_named(opened, name) {
-        Some(index) => opened[index].groups(alloc),
+        Some(index) => opened[index].groups(alloc, at),
         None => one(alloc, Answer::NotOpen(Verb::Groups)),
     }
 }
@@ -428,7 +435,7 @@ fn sweep_named<N: Recorded>(
         SweepsNamed name.now at opened.old answers.items opened.new) }
 {
     match index_named(opened, name) {
-        Some(index) => one(alloc, opened[index].sweep(at)),
+        Some(index) => opened[index].sweep(alloc, at),
         None => one(alloc, Answer::NotOpen(Verb::Sweep)),
     }
 }
@@ -453,7 +460,12 @@ fn ask_named<N: Recorded>(
 fn index_named<N: Recorded>(opened: &[OpenSubscription<'_, '_, N>], name: &Text) -> Option<usize>
     ensures { result ≡ index_named name.now opened.now }
 {
-    opened.iter().position(|open| open.has_name(name))
+    for index in 0..opened.len() {
+        if opened[index].has_name(name) {
+            return Some(index);
+        }
+    }
+    None
 }
 
 // That a post was accepted, its invalid alerts, and the lanes that it cut.

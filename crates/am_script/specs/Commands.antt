@@ -43,6 +43,11 @@ thread_of d = number_member (codes "thread") 0 7 d
 abbrev pub moment_of : Data → Option ℕ
 moment_of d = moment_at (codes "at") d
 
+-- the moment of `at`, if there is that member
+abbrev pub given_moment_of : Data → Option (Option ℕ)
+given_moment_of d =
+    if is_some (get (codes "at") d) then option_map Some (moment_of d) else Some None
+
 -- a text that isn't empty
 abbrev pub unless_empty : List ℕ → Option (List ℕ)
 unless_empty [] = None
@@ -117,7 +122,10 @@ command_for body d verb.Leave = option_map Leave (name_of d)
 command_for body d verb.Collect = option_map Collect (moment_of d)
 command_for body d verb.Close = Some Close
 command_for body d verb.Trim = Some Trim
-command_for body d verb.Groups = option_map Groups (name_of d)
+command_for body d verb.Groups = do
+  name ← name_of d
+  at ← given_moment_of d
+  Some (Groups name at)
 command_for body d verb.Sweep = do
   name ← name_of d
   at ← moment_of d
@@ -150,7 +158,7 @@ posted_body (Leave name) = Text []
 posted_body (Collect at) = Text []
 posted_body Close = Text []
 posted_body Trim = Text []
-posted_body (Groups name) = Text []
+posted_body (Groups name at) = Text []
 posted_body (Sweep name at) = Text []
 posted_body (Mutes name at labels) = Text []
 posted_body Stored = Text []
@@ -168,7 +176,7 @@ HasItsBody d (Leave name) = ⊤
 HasItsBody d (Collect at) = ⊤
 HasItsBody d Close = ⊤
 HasItsBody d Trim = ⊤
-HasItsBody d (Groups name) = ⊤
+HasItsBody d (Groups name at) = ⊤
 HasItsBody d (Sweep name at) = ⊤
 HasItsBody d (Mutes name at labels) = ⊤
 HasItsBody d Stored = ⊤

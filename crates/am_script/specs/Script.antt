@@ -3,7 +3,7 @@
 use Rattle.std.specs.Prelude.{◌≡◌, ◌⊎◌, ◌<◌, ◌≤◌, ◌+◌, ℕ, ◌&&◌, ◌==◌, Bool, true, false, if◌then◌else◌, List}
 use Rattle.std.specs.Prelude.{[], ◌∷◌, ◌++◌, length, fold, Option, Some, None, is_some, is_none, Result, Ok}
 use Rattle.std.specs.Prelude.{Err, ⊤}
-use Rattle.am_script.specs.Kinds.{is_some_consumer, is_some_dispatch, is_some_inhibit}
+use Rattle.am_script.specs.Kinds.{is_some_consumer, is_some_grouping, is_some_inhibit}
 use Rattle.am_script.specs.declared.kind.Kind.{Kind}
 use Rattle.am_script.specs.declared.limits.TheConstants.{LONGEST_LINE, MOST_LINES}
 use Rattle.std.specs.List.{onto_first}
@@ -43,7 +43,7 @@ subscribed_after here name before (Read other max) = before
 subscribed_after here name before (Collect at) = before
 subscribed_after here name before Close = before
 subscribed_after here name before Trim = before
-subscribed_after here name before (Groups other) = before
+subscribed_after here name before (Groups other at) = before
 subscribed_after here name before (Sweep other at) = before
 subscribed_after here name before (Mutes other at labels) = before
 subscribed_after here name before Stored = before
@@ -62,7 +62,7 @@ abbrev pub is_named_well : (List ℕ → Option Kind) → Command → Bool
 is_named_well subscribed (Subscribe name kind) = is_none (subscribed name)
 is_named_well subscribed (Leave name) = is_some (subscribed name)
 is_named_well subscribed (Read name max) = is_some (subscribed name)
-is_named_well subscribed (Groups name) = is_some_dispatch (subscribed name)
+is_named_well subscribed (Groups name at) = is_some_grouping at (subscribed name)
 is_named_well subscribed (Sweep name at) = is_some_consumer (subscribed name)
 is_named_well subscribed (Mutes name at labels) = is_some_inhibit (subscribed name)
 is_named_well subscribed (Post at body) = true

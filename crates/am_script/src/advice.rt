@@ -4,7 +4,9 @@
 
 use crate::command::{LineFault, Verb};
 use crate::limits::{LONGEST_LINE, MOST_LINES};
-use crate::members::{kind_at, labels_at, max_at, moment_at, name_at, thread_at, verb_at};
+use crate::members::{
+    given_moment_at, kind_at, labels_at, max_at, moment_at, name_at, thread_at, verb_at,
+};
 use crate::put_reader::alerts_at;
 use crate::script::{Fault, Refusal};
 use serde_json::Value;
@@ -16,6 +18,7 @@ enum Member {
     Thread,
     Verb,
     At,
+    GivenAt,
     Body,
     Alerts,
     Name,
@@ -29,7 +32,7 @@ impl Member {
         match self {
             Member::Thread => "thread",
             Member::Verb => "do",
-            Member::At => "at",
+            Member::At | Member::GivenAt => "at",
             Member::Body => "body",
             Member::Alerts => "alerts",
             Member::Name => "sub",
@@ -44,11 +47,11 @@ impl Member {
         match self {
             Member::Thread => "a whole number from 0 to 7",
             Member::Verb => "the word of a command, as ./replay --help lists them",
-            Member::At => "a moment, as \"2024-01-01T10:00:00Z\"",
+            Member::At | Member::GivenAt => "a moment, as \"2024-01-01T10:00:00Z\"",
             Member::Body => "a post's body: an array of alerts, or a text",
             Member::Alerts => "an array of alerts with their moments, as --json prints them",
             Member::Name => "the name of a subscription, a text that isn't empty",
-            Member::Kind => "\"plain\", \"dispatch\" or \"inhibit\"",
+            Member::Kind => "\"plain\", \"dispatch\", \"inhibit\" or \"notify\"",
             Member::Max => "a whole number from 1 to 65536",
             Member::Labels => "an object of texts",
         }
@@ -60,6 +63,7 @@ impl Member {
             Member::Thread => thread_at(value).map(drop),
             Member::Verb => verb_at(value).map(drop),
             Member::At => moment_at(value, "at").map(drop),
+            Member::GivenAt => given_moment_at(value).map(drop),
             Member::Body => match value.get("body") {
                 Some(_) => Ok(()),
                 None => Err(LineFault::BadLine),
@@ -80,7 +84,8 @@ fn members_of(verb: Verb) -> &'static [Member] {
         Verb::Put => &[Member::At, Member::Alerts],
         Verb::Subscribe => &[Member::Name, Member::Kind],
         Verb::Read => &[Member::Name, Member::Max],
-        Verb::Leave | Verb::Groups => &[Member::Name],
+        Verb::Leave => &[Member::Name],
+        Verb::Groups => &[Member::Name, Member::GivenAt],
         Verb::Collect => &[Member::At],
         Verb::Sweep => &[Member::Name, Member::At],
         Verb::Mutes => &[Member::Name, Member::At, Member::Labels],

@@ -41,11 +41,13 @@ pub enum Command {
     },
     Close,
     Trim,
-    /// The groups of a subscription's dispatcher.
+    /// The groups of a subscription's dispatcher. At a moment, if one is given, also what its inhibitor
+    /// mutes each of their alerts by.
     Groups {
         name: Text,
+        at: Option<Moment>,
     },
-    /// Its dispatcher or inhibitor drops what is resolved at the moment.
+    /// Its dispatcher and its inhibitor, those that it has, drop what is resolved at the moment.
     Sweep {
         name: Text,
         at: Moment,

@@ -12,14 +12,17 @@ pub enum Kind {
     Dispatch,
     /// An inhibitor.
     Inhibit,
+    /// A dispatcher and an inhibitor, which both take each alert.
+    Notify,
 }
 
 impl Kind {
+    /// Whether a dispatcher consumes the alerts.
     pub fn is_dispatch(self) -> bool
         ensures { result ≡ is_dispatch self }
     {
         match self {
-            Kind::Dispatch => true,
+            Kind::Dispatch | Kind::Notify => true,
             Kind::Plain | Kind::Inhibit => false,
         }
     }
@@ -29,16 +32,17 @@ impl Kind {
         ensures { result ≡ is_consumer self }
     {
         match self {
-            Kind::Dispatch | Kind::Inhibit => true,
+            Kind::Dispatch | Kind::Inhibit | Kind::Notify => true,
             Kind::Plain => false,
         }
     }
 
+    /// Whether an inhibitor consumes the alerts.
     pub fn is_inhibit(self) -> bool
         ensures { result ≡ is_inhibit self }
     {
         match self {
-            Kind::Inhibit => true,
+            Kind::Inhibit | Kind::Notify => true,
             Kind::Plain | Kind::Dispatch => false,
         }
     }

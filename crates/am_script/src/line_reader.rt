@@ -7,7 +7,9 @@ ghost use Rattle.am_script.specs.Commands.{command_for, command_of};
 ghost use Rattle.am_script.specs.Commands.{IsCommandOf, IsLineFrom, IsLineOf, ReadsCommand};
 
 use crate::command::{Command, Line, LineFault, Verb};
-use crate::members::{kind_at, labels_at, max_at, moment_at, name_at, thread_at, verb_at};
+use crate::members::{
+    given_moment_at, kind_at, labels_at, max_at, moment_at, name_at, thread_at, verb_at,
+};
 use crate::put_reader::alerts_at;
 use am_alert::Body;
 use serde_json::{Map, Value};
@@ -164,7 +166,8 @@ fn groups_of(alloc: Global, value: &Value) -> Result<Command, LineFault>
         (λ body. command_for body (view value.now) Verb.Groups) }
 {
     let name = name_at(alloc, value)?;
-    Ok(Command::Groups { name })
+    let at = given_moment_at(value)?;
+    Ok(Command::Groups { name, at })
 }
 
 #[tactic(auto, unfolding(crate::specs::Commands::command_for))]

@@ -3,7 +3,8 @@
 ghost use Rattle.std.specs.Prelude.{◌≡◌, ◌≤◌, IfOk, option_map};
 ghost use Rattle.serde_json.specs.View.{view, members_view};
 ghost use Rattle.am_script.specs.Commands.{kind_of, labels_at, max_of, name_of, number_member};
-ghost use Rattle.am_script.specs.Commands.{label_set_of, thread_of, verb_at, verb_of, IsReadAs};
+ghost use Rattle.am_script.specs.Commands.{given_moment_of, label_set_of, thread_of, verb_at, verb_of};
+ghost use Rattle.am_script.specs.Commands.{IsReadAs};
 ghost use Rattle.am_script.specs.Members.{moment_at, text_member};
 ghost use Rattle.am_script.specs.Kinds.{kind_named};
 
@@ -106,6 +107,8 @@ fn kind_named(word: &str) -> Option<Kind>
         Some(Kind::Dispatch)
     } else if word == "inhibit" {
         Some(Kind::Inhibit)
+    } else if word == "notify" {
+        Some(Kind::Notify)
     } else {
         None
     }
@@ -143,6 +146,16 @@ pub(crate) fn moment_at(value: &Value, name: &str) -> Result<Moment, LineFault>
         Ok(Some(moment)) => Ok(moment),
         Ok(None) | Err(TimeFault::BadTime) => Err(LineFault::BadLine),
         Err(TimeFault::NoMemory) => Err(LineFault::NoMemory),
+    }
+}
+
+// The moment of `at`, if there is that member.
+pub(crate) fn given_moment_at(value: &Value) -> Result<Option<Moment>, LineFault>
+    ensures { IsReadAs result (given_moment_of (view value.now)) }
+{
+    match value.get("at") {
+        Some(_) => Ok(Some(moment_at(value, "at")?)),
+        None => Ok(None),
     }
 }
 

@@ -1,4 +1,4 @@
-use Rattle.std.proofs.Common.{IfOk, sym, subst, ◌∙◌}
+use Rattle.std.proofs.Common.{IfOk, ap, sym, subst, ◌∙◌}
 use Rattle.am_runner.specs.Consuming.{IsAsked, HasTaken, asked, no_inhibitor}
 use Rattle.am_runner.specs.declared.answer.Answer.TheVariants as answer
 use Rattle.am_runner.specs.declared.consumer.Consumer.{Consumer}
@@ -19,4 +19,4 @@ returns-in-Inhibitor-clause-asked c =
 pub returns-in-Inhibitor-clause-took : goal.returns-in-Inhibitor-clause-took
 returns-in-Inhibitor-clause-took c alerts took =
     let before = subst (HasTaken alerts) c.in-Inhibitor.is took in
-    (before.0, before.1, c.muting_answer.ensures.alerts ∙ before.2)
+    (before.0, before.1, ap (λ one. one.alerts) c.muting_answer.ensures.same ∙ before.2)
