@@ -39,7 +39,7 @@ module _ {T P A : Type 0} where
       let in_hand : slice_get items (m.shown - 1) ≡ Some x = ap (λ (n : ℕ). slice_get items n) as_before ∙ there.1 in
       let upto : take m.shown items ≡ take last items ++ x ∷ [] = ap (λ (n : ℕ). take n items) (sym shown ∙ add-one last) ∙ take_get items last x there.1 in
       let had : before ++ take last items ≡ shown_items c =
-          append_cancel_right (before ++ take last items) (shown_items c) (x ∷ []) (append_assoc before (take last items) (x ∷ []) ∙ (ap (λ (l : List T). before ++ l) (sym upto) ∙ one.taken x in_hand)) in
+      append_cancel_right (before ++ take last items) (shown_items c) (x ∷ []) (append_assoc before (take last items) (x ∷ []) ∙ (ap (λ (l : List T). before ++ l) (sym upto) ∙ one.taken x in_hand)) in
       let long : length (drop last items) ≡ length items - last = length-drop last items in
       record {
         some = omega arith;

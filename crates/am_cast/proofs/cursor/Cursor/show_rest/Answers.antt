@@ -18,6 +18,6 @@ pub returns-clause-all : goal.returns-clause-all
 returns-clause-all g c =
     let h = in_hand_are c.self.inside.seat.me (lane_of c.self.inside.seat.me.0) c.self.inside.shown c.self.inside.hand c.in-Some.key c.in-Some.is c.self.invariant.hand_is in
     let long : c.len-self-inside.result ≡ length (items_at (lane_of c.self.inside.seat.me.0).front (lane_of c.self.inside.seat.me.0).passed) =
-        c.len-self-inside.ensures ∙ ap (λ (l : List g.row.T.Denot). length l) (sym h.0) in
+    c.len-self-inside.ensures ∙ ap (λ (l : List g.row.T.Denot). length l) (sym h.0) in
     ap (λ (n : ℕ). let v : CursorView g.row.T.Denot g.row.P.Denot g.row.A.Denot = record { lane = lane_of c.self.inside.seat.me.0; shown = n } in v) long
     ∙ ap (λ (v : CursorView g.row.T.Denot g.row.P.Denot g.row.A.Denot). let w : CursorView g.row.T.Denot g.row.P.Denot g.row.A.Denot = record { lane = v.lane; shown = length (items_at v.lane.front v.lane.passed) } in w) c.self.view_is
