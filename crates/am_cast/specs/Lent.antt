@@ -1,6 +1,7 @@
--- What an answer of `next` or `next_slice` says of the cursor. `Pending`, `Closed` and `Cut` are `Empty`, `Closed` and
--- `Lagged` of tokio's `broadcast::Receiver::try_recv`, but a cut lane stays cut.
-use Rattle.std.specs.Prelude.{◌≡◌, ℕ, ◌+◌, ◌-◌, ◌≤◌, List, [], ◌∷◌, ◌++◌, Some, true, false, drop, length, slice_get}
+-- What an answer of `next` or `next_slice` says of the cursor. `Pending`, `Closed` and `Cut` are `Empty`,
+-- `Closed` and `Lagged` of tokio's `broadcast::Receiver::try_recv`, but a cut lane stays cut.
+use Rattle.std.specs.Prelude.{◌≡◌, ℕ, ◌+◌, ◌-◌, ◌≤◌, List, [], ◌∷◌, ◌++◌, Some, true, false, drop, length}
+use Rattle.std.specs.Prelude.{slice_get}
 use mathlib.Core.List.{IsPrefix}
 use Rattle.am_cast.specs.declared.batch_view.BatchView.{BatchView}
 use Rattle.am_cast.specs.declared.lends.Step.{Step}
