@@ -3,7 +3,7 @@ use Rattle.std.proofs.Common.{◌≡◌, ◌≢◌, ℕ, zero, suc, ◌+◌, ◌
 use mathlib.Core.Logic.{dite}
 use Rattle.std.proofs.Math.Nat.{mod-lt}
 use native.Mathlib.Decide.{ℕ_discrete, dec_lt}
-use Rattle.am_segment.specs.Segments.{KeyView, AreAllKeys}
+use Rattle.am_segment.specs.Segments.{KeyView, AreAllKeys, MayJoin}
 use Rattle.am_cast.specs.inside.KeyRows.{RowView, BucketView, find_row, HasNoRow, AreApart, HaveRemainder, IsRowOf, MayTake, row_with, no_bucket, row_at, AreSorted}
 
 ne-eqb : (a b : ℕ) → a ≢ b → nat_eq a b ≡ false
@@ -240,14 +240,14 @@ module _ {X : Type 0} where
   all_home place rows k row new found out key a h is t e f full o =
       let keys_is : new.keys ≡ row.keys ++ key ∷ [] = ap (λ (r : RowView X). r.keys) e in
       let found_is : found ≡ new = f ∙ get_set rows k new found h.0 in let out_is : out ≡ new = o ∙ get_set rows k new out h.0 in
-      subst (λ (l : List (KeyView X)). AreAllKeys l) (sym (ap (λ (r : RowView X). r.keys) out_is ∙ keys_is)) ((taking place rows k row key a h is t).1 (is_last row.keys key (ap (λ (l : List (KeyView X)). nat_eq (length l) 8) (sym (ap (λ (r : RowView X). r.keys) found_is ∙ keys_is)) ∙ full)))
+      subst (λ (l : List (KeyView X)). AreAllKeys l) (sym (ap (λ (r : RowView X). r.keys) out_is ∙ keys_is)) ((taking place rows k row key a h is t).2 (is_last row.keys key (ap (λ (l : List (KeyView X)). nat_eq (length l) 8) (sym (ap (λ (r : RowView X). r.keys) found_is ∙ keys_is)) ∙ full)))
 
   pub found_full : (rows : List (RowView X)) (k : ℕ) (new found : RowView X) (b : Bool) → k < length rows → found ≡ get_or (set rows k new) k found → nat_eq (length found.keys) 8 ≡ b → nat_eq (length new.keys) 8 ≡ b
   found_full rows k new found b h f e = ap (λ (r : RowView X). nat_eq (length r.keys) 8) (sym (f ∙ get_set rows k new found h)) ∙ e
 
   -- the same, of rows known by another name
   pub may_add : (place : ℕ) (rows inside : List (RowView X)) (k : ℕ) (row : RowView X) (key : KeyView X) → inside ≡ rows → AreApart rows → IsRowOf place rows k → row ≡ get_or inside k row
-      → ((keys : List (KeyView X)) × (find_row place rows ≡ Some keys) × MayTake keys key) → length row.keys < 8
+      → ((keys : List (KeyView X)) × (find_row place rows ≡ Some keys) × MayTake keys key) → MayJoin row.keys key
   may_add place rows inside k row key same a h is t = (taking place rows k row key a h (is ∙ ap (λ (l : List (RowView X)). get_or l k row) same) t).0
 
   pub may_end : (place : ℕ) (rows inside : List (RowView X)) (k : ℕ) (row new found out : RowView X) (key : KeyView X) → inside ≡ rows → AreApart rows → IsRowOf place rows k → row ≡ get_or inside k row

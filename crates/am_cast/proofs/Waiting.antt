@@ -1,6 +1,7 @@
 -- Rows of keys and accounts: which keys are out after a step.
-use Rattle.std.proofs.Common.{◌≡◌, ◌≢◌, ℕ, zero, suc, ◌+◌, ◌<◌, ◌≤◌, ◌⊎◌, inl, inr, List, [], ◌∷◌, ◌++◌, length, length-append, get_or, refl, sym, ap, ◌∙◌, subst, arith, Option, Some, None, Bool, true, false, cond, nat_eq, nat_le, nat_lt, ◌&&◌, ◌||◌, count_by, get_or-set_same, get_or-set_other, eq-eqb}
-use Rattle.std.specs.List.{All}
+use Rattle.std.proofs.Common.{◌≡◌, ◌≢◌, ℕ, zero, suc, ◌+◌, ◌<◌, ◌≤◌, ◌⊎◌, inl, inr, List, [], ◌∷◌, ◌++◌, length, length-append, add-one, map, get_or, refl, sym, ap, ◌∙◌, subst, arith, Option, Some, None, Bool, true, false, cond, nat_eq, nat_le, nat_lt, ◌&&◌, ◌||◌, count_by, get_or-set_same, get_or-set_other, eq-eqb}
+use Rattle.std.specs.List.{All, range_with_len}
+use Rattle.std.proofs.lemmas.List.{append-nil, append_assoc}
 use Rattle.std.proofs.lemmas.Bool.{leb-true, le-leb, ltb-true, lt-ltb, eqb-true, false≢true}
 use Rattle.std.proofs.lemmas.List.Sums.{sum_by-append, sum_by-cons}
 use Rattle.std.proofs.lemmas.List.Elements.{All-append}
@@ -8,7 +9,7 @@ use mathlib.Core.Logic.{dite}
 use mathlib.Core.Option.{some, some-injective}
 use lib.ListN.{get_elem?}
 use native.Mathlib.Decide.{ℕ_discrete}
-use Rattle.am_segment.specs.Segments.{KeyView, AreAllKeys}
+use Rattle.am_segment.specs.Segments.{KeyView, AreAllKeys, MayJoin, MayJoinRest}
 use Rattle.am_cast.specs.declared.batch_view.BatchView.{BatchView}
 use Rattle.am_cast.specs.declared.views.Account.{Account}
 use Rattle.am_cast.specs.declared.views.WriterView.{WriterView}
@@ -219,6 +220,20 @@ module _ {T P : Type 0} (x : BatchView T P) where
     many = let long = length-append keys (key_of x n ∷ []) in let old = g.many in let b : bit (out n) ≡ 0 = ap bit home in omega arith;
   }
 
+  -- the keys of all lanes from the next on, none of which is out
+  pub gathered_rest : (out : ℕ → Bool) (n m : ℕ) (keys : List (KeyView T)) → Gathered x out n keys → ((l : ℕ) → n ≤ l → l < n + m → out l ≡ false)
+      → Gathered x out (n + m) (keys ++ map (key_of x) (range_with_len n m))
+  gathered_rest out n zero keys g home = subst (λ (z : ℕ × List (KeyView T)). Gathered x out z.0 z.1) (λ i. (same i, sym (append-nil keys) i)) g
+    where
+      same : n ≡ n + 0
+      same = omega arith
+  gathered_rest out n (suc m) keys g home =
+      let more = gathered_rest out (n + 1) m (keys ++ key_of x n ∷ []) (subst (λ (k : ℕ). Gathered x out k (keys ++ key_of x n ∷ [])) (sym (add-one n)) (gathered_more out n keys g (home n (omega arith) (omega arith)))) (λ l low high. home l (omega arith) (omega arith)) in
+      subst (λ (z : ℕ × List (KeyView T)). Gathered x out z.0 z.1) (λ i. (one_over i, append_assoc keys (key_of x n ∷ []) (map (key_of x) (range_with_len (n + 1) m)) i)) more
+    where
+      one_over : n + 1 + m ≡ n + suc m
+      one_over = omega arith
+
   -- the next lane's key is out
   pub gathered_skip : (out : ℕ → Bool) (n : ℕ) (keys : List (KeyView T)) → Gathered x out n keys → out n ≡ true → Gathered x out (suc n) keys
   gathered_skip out n keys g away = record {
@@ -240,6 +255,14 @@ module _ {T P : Type 0} (x : BatchView T P) where
     above = g.above;
     many = ap (λ (m : ℕ). length keys + m) (outs_same out out' n h) ∙ g.many;
   }
+
+  -- a lane's key that isn't among them may join them
+  pub gathered_joins : (out : ℕ → Bool) (l n : ℕ) (keys : List (KeyView T)) → Gathered x out n keys → length keys < 8 → count_by (λ k. nat_eq k.number l) keys ≡ 0 → MayJoin keys (key_of x l)
+  gathered_joins out l n keys g few new = record { of_one = g.each; new = new; few = few }
+
+  -- the keys of the lanes from the next on may join them
+  pub gathered_joins_rest : (out : ℕ → Bool) (n : ℕ) (keys : List (KeyView T)) → Gathered x out n keys → n < 8 → MayJoinRest keys (key_of x n)
+  gathered_joins_rest out n keys g small = let many = g.many in record { of_one = g.each; new = g.above 7 (omega arith); few = omega arith }
 
   -- all eight are all
   pub gathered_all : (out : ℕ → Bool) (keys : List (KeyView T)) → Gathered x out 8 keys → length keys ≡ 8 → AreAllKeys keys
@@ -318,7 +341,8 @@ module _ {T P A : Type 0} where
       → ((account_of q l).away ≡ true → (account_of q l).known < (account_of q l).cleared) → q' ≡ with_account l (clearing (account_of q l)) q
       → IsKeyAt key_of q.tail.log place l key → RowsFit q rows → (keys : List (KeyView T)) × (row_at rows place ≡ Some keys) × MayTake keys key
   may_bring q q' rows l place key inside small at in_slot low is k fits = let c = coming q rows l place key small at in_slot k fits in
-      (c.keys, c.row, (c.few, λ e. gathered_all c.x (λ l. is_out (account_of q' l) place) (c.keys ++ key ∷ []) (came q rows l place key q' c inside small at low is c) (length-append c.keys (key ∷ []) ∙ ap (λ (n : ℕ). n + 1) e)))
+      let gone : count_by (λ k. nat_eq k.number l) c.keys ≡ 0 = (let one = c.gathered.below l small in let b : bit (is_out (account_of q l) place) ≡ 1 = ap bit c.out in omega arith) in
+      (c.keys, c.row, (subst (λ (k : KeyView T). MayJoin c.keys k) (sym c.key_is) (gathered_joins c.x (λ m. is_out (account_of q m) place) l 8 c.keys c.gathered c.few gone), c.few, λ e. gathered_all c.x (λ l. is_out (account_of q' l) place) (c.keys ++ key ∷ []) (came q rows l place key q' c inside small at low is c) (length-append c.keys (key ∷ []) ∙ ap (λ (n : ℕ). n + 1) e)))
 
   pub brought : (q q' : WriterView (BatchView T P) (KeyView T) A) (rows rows' : List (BucketView T)) (l place : ℕ) (key : KeyView T) → l < length q.accounts → l < 8 → place ≡ (account_of q l).cleared → place < (account_of q l).stop
       → ((account_of q l).away ≡ true → (account_of q l).known < (account_of q l).cleared) → q' ≡ with_account l (clearing (account_of q l)) q

@@ -5,6 +5,7 @@ pub mod KeyRows
 pub mod LaneAccounts
 pub mod Moving
 pub mod Posters
+pub mod RingPlaces
 pub mod Starts
 pub mod Tags
 pub mod Waiting

@@ -10,6 +10,7 @@ use crate::batch_view::{Board, LogSeat};
 use crate::board;
 use crate::feed::Feed;
 use crate::pass::Pass;
+use crate::ring_place::RingPlace;
 use am_segment::SegKey;
 use std::marker::{Model, PhantomData};
 
@@ -27,8 +28,7 @@ pub struct Cursor<'a, T, P, A, N: Feed> {
     pub(crate) cast: &'a Cast<T, P, A, N>,
     pub(crate) seat: LogSeat<T, P, A>,
     pub(crate) number: usize,
-    pub(crate) places: u64,
-    pub(crate) passed: u64,
+    pub(crate) next: RingPlace,
     pub(crate) seen: u64,
     pub(crate) shown: usize,
     pub(crate) closed: bool,
@@ -45,7 +45,7 @@ impl<'a, T, P, A, N: Feed> Model for Cursor<'a, T, P, A, N> {
 
     ghost view = { λ c. record { lane = lane_of c.seat.me.0; shown = c.shown } };
 
-    ghost invariant = { λ c. CursorOk N.table c.seat.table_id c.seat.me c.number c.places c.passed c.seen c.shown c.closed c.cut c.hand };
+    ghost invariant = { λ c. CursorOk N.table c.seat.table_id c.seat.me c.number c.next.places c.next.number c.seen c.shown c.closed c.cut c.hand };
 }
 
 impl<'a, T, P, A, N: Feed> Cursor<'a, T, P, A, N> {
@@ -105,10 +105,10 @@ impl<'a, T, P, A, N: Feed> Cursor<'a, T, P, A, N> {
         ensures taken { shown_items self.new ≡ shown_items self.old }
     {
         if let Some(key) = self.hand.take() {
-            let at = board::slot_at(self.places, self.number, self.passed);
+            let at = self.next.slot(self.number);
             let top = &self.cast.board.shared;
             self.cut = board::pass_place(top, &mut self.seat, at, key, self.number);
-            self.passed += 1;
+            self.next.go_on();
             self.shown = 0;
         }
     }
@@ -131,9 +131,9 @@ impl<'a, T, P, A, N: Feed> Cursor<'a, T, P, A, N> {
         ensures cut { result ≡ false
             → self.new ≡ record { lane = cut_off self.old.lane; shown = 0 } }
     {
-        let at = board::slot_at(self.places, self.number, self.passed);
+        let at = self.next.slot(self.number);
         let top = &self.cast.board.shared;
-        match board::take_key(top, &mut self.seat, at, self.number, self.passed) {
+        match board::take_key(top, &mut self.seat, at, self.number, self.next.number()) {
             Some(key) => {
                 match self.hand.replace(key) {
                     None => {}
@@ -154,7 +154,7 @@ impl<'a, T, P, A, N: Feed> Cursor<'a, T, P, A, N> {
         ensures more { result ≡ true → self.now.lane.passed < length self.now.lane.front }
         ensures all { result ≡ false → self.now.lane.passed ≡ length self.now.lane.front }
     {
-        self.passed < self.seen
+        self.next.number() < self.seen
     }
 
     pub(crate) fn is_told(&self) -> bool
@@ -180,8 +180,7 @@ impl<'a, T, P, A, N: Feed> Cursor<'a, T, P, A, N> {
             cast,
             mut seat,
             number,
-            places,
-            passed,
+            next,
             seen: _,
             shown: _,
             closed: _,
@@ -191,7 +190,7 @@ impl<'a, T, P, A, N: Feed> Cursor<'a, T, P, A, N> {
         let top = &cast.board.shared;
         match hand {
             Some(key) => {
-                let at = board::slot_at(places, number, passed);
+                let at = next.slot(number);
                 board::leave_with_key(top, &mut seat, at, key, number);
                 (number, seat)
             }

@@ -7,9 +7,9 @@ ghost use Rattle.am_cast.specs.inside.KeyRows.{bucket_of, row_at, MayTake, row_w
 mod bucket;
 mod row;
 
-use am_segment::SegKey;
+use am_segment::{JoinedKeys, SegKey};
 pub(crate) use bucket::Bucket;
-pub(crate) use row::{EmptyRow, Row};
+pub(crate) use row::Row;
 use std::alloc::{AllocError, Global};
 use std::marker::Model;
 
@@ -17,9 +17,6 @@ use std::marker::Model;
 /// newer ones until its last key is home.
 pub(crate) struct KeyRows<T> {
     buckets: Vec<Bucket<T>>,
-    // The memory of rows that ended, which later rows use, so that a row takes no new memory. It has
-    // room for as many as there are buckets; further ones are freed.
-    spare: Vec<EmptyRow<T>>,
 }
 
 impl<T> Model for KeyRows<T> {
@@ -44,55 +41,28 @@ impl<T> KeyRows<T> {
         ensures none { IfOk result (λ rows. (p : ℕ) → row_at rows p ≡ None) }
     {
         let mut buckets = Vec::with_capacity(alloc, places)?;
-        let spare = match Vec::with_capacity(alloc, places) {
-            Ok(spare) => spare,
-            Err(error) => {
-                buckets.destroy_empty();
-                return Err(error);
-            }
-        };
         for _remainder in 0..places {
             buckets.push_reserved(Bucket::new(alloc));
         }
-        Ok(KeyRows { buckets, spare })
+        Ok(KeyRows { buckets })
     }
 
     /// The keys of the place that wait for others, if there are any.
-    pub(crate) fn keys(&self, place: u64) -> Option<&[SegKey<T>]>
+    pub(crate) fn keys(&self, place: u64) -> Option<&JoinedKeys<T>>
         ensures { option_copied result ≡ row_at self.now place }
     {
         let at = (place % self.buckets.len() as u64) as usize;
         self.buckets[at].keys(place)
     }
 
-    /// A row for the place, and room for it among the others.
-    pub(crate) fn reserve(&mut self, alloc: Global, place: u64) -> Result<Row<T>, AllocError>
+    /// Makes room for the place's row among the others.
+    pub(crate) fn reserve(&mut self, place: u64) -> Result<(), AllocError>
         ensures count { length self.new ≡ length self.old }
         ensures rows { (p : ℕ) → row_at self.new p ≡ row_at self.old p }
-        ensures row { IfOk result (λ row. row ≡ record { place = place; keys = [] }) }
         ensures room { OnOk result (1 ≤ (bucket_of self.new place).room) }
     {
         let at = (place % self.buckets.len() as u64) as usize;
-        self.buckets[at].reserve()?;
-        let empty = match self.spare.pop() {
-            Some(spare) => spare,
-            None => EmptyRow::new(alloc)?,
-        };
-        Ok(empty.for_place(place))
-    }
-
-    /// The memory of a row that ended is kept for one to come.
-    pub(crate) fn keep(&mut self, ended: Option<EmptyRow<T>>)
-        ensures { self.new ≡ self.old }
-    {
-        let Some(row) = ended else {
-            return;
-        };
-        if self.spare.len() < self.spare.capacity() {
-            self.spare.push_reserved(row);
-        } else {
-            row.discard();
-        }
+        self.buckets[at].reserve()
     }
 
     /// The key goes to the others of its place. The eighth ends its segment.
@@ -108,8 +78,7 @@ impl<T> KeyRows<T> {
         ensures room { (p : ℕ) → (bucket_of self.old p).room ≤ (bucket_of self.new p).room }
     {
         let at = (place % self.buckets.len() as u64) as usize;
-        let ended = self.buckets[at].bring(place, key);
-        self.keep(ended);
+        self.buckets[at].bring(place, key);
     }
 
     /// A row more, of a place that had none.
@@ -128,17 +97,10 @@ impl<T> KeyRows<T> {
     pub(crate) fn end(self)
         requires { (p : ℕ) → row_at self p ≡ None }
     {
-        let KeyRows {
-            mut buckets,
-            mut spare,
-        } = self;
+        let KeyRows { mut buckets } = self;
         while let Some(bucket) = buckets.pop() {
             bucket.end();
         }
         buckets.destroy_empty();
-        while let Some(row) = spare.pop() {
-            row.discard();
-        }
-        spare.destroy_empty();
     }
 }

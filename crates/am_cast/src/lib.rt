@@ -68,6 +68,7 @@ mod lends;
 mod limits;
 mod parts;
 mod pass;
+mod ring_place;
 pub mod rule;
 mod tag;
 pub mod views;

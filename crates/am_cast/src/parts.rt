@@ -127,7 +127,6 @@ pub fn begin<T: Drop, P, A, N: Feed>(
     let state = WriterState {
         seat,
         rows,
-        alloc,
         places,
         count: 0,
         closed: false,
@@ -160,7 +159,6 @@ pub fn end<T: Drop, P, A, N: Feed>(cast: Cast<T, P, A, N>, writer: Writer<T, P, 
     let WriterState {
         seat,
         rows,
-        alloc: _,
         places: _,
         count: _,
         closed: _,

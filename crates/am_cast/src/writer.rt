@@ -25,7 +25,7 @@ use crate::limits::LANES;
 use crate::pass::Pass;
 use crate::writer::lane_account::Stand;
 use crate::writer::state::WriterState;
-use am_segment::SegKey;
+use am_segment::JoinedKeys;
 use std::marker::Model;
 
 /// Contracts see it as what it knows of its log.
@@ -62,7 +62,7 @@ impl<T: Drop, P, A, N: Feed> Writer<T, P, A, N> {
 
     /// The keys of the place that the writer keeps until the others are home. It keeps none of a place that
     /// is freed.
-    pub fn kept(&self, place: u64) -> Option<&[SegKey<T>]>
+    pub fn kept(&self, place: u64) -> Option<&JoinedKeys<T>>
         ensures { Keeps self.now place (option_copied result) }
     {
         self.state.rows.keys(place)

@@ -9,7 +9,7 @@ use crate::log::{Log, begin_log, end_log};
 use am_cast::{
     Cast, Cursor, Feed, LANES, LONGEST_LOG, Parts, Pass, PublishFault, Refused, Step, Writer,
 };
-use am_segment::{SegKey, SegmentBuilder};
+use am_segment::{JoinedKeys, SegmentBuilder};
 use am_steps::{Event, Lane, State};
 use std::alloc::{AllocError, Global};
 use std::marker::Brand;
@@ -50,13 +50,11 @@ fn item_of(name: u64, at: u64) -> u64 {
 }
 
 // Whether they are keys of the batch of that name: those of six lanes that nobody takes, and at most one more.
-fn are_keys_of(keys: &[SegKey<u64>], name: u64) -> bool {
-    for key in keys {
-        if key.len() as u64 != count_of(name) || key.get(0) != Some(&item_of(name, 0)) {
-            return false;
-        }
-    }
-    keys.len() == 6 || keys.len() == 7
+fn are_keys_of(keys: &JoinedKeys<u64>, name: u64) -> bool {
+    let items = keys.as_slice();
+    items.len() as u64 == count_of(name)
+        && items.get(0) == Some(&item_of(name, 0))
+        && (keys.len() == 6 || keys.len() == 7)
 }
 
 fn batch_of(alloc: Global, name: u64) -> Result<SegmentBuilder<u64>, AllocError>

@@ -3,4 +3,5 @@ pub mod Crosses
 pub mod Fronts
 mod Keys
 mod Names
+mod Shares
 pub mod Values

@@ -1,5 +1,6 @@
 -- What contracts see of a segment while it is filled, and of its keys. This project's own.
-use Rattle.std.specs.Prelude.{◌≡◌, ℕ, ◌<◌, nat_eq, List, length, count_by, map, refl, slice_index_or}
+use Rattle.std.specs.Prelude.{◌≡◌, ℕ, ◌-◌, ◌<◌, ◌≤◌, nat_eq, List, length, count_by, map, refl}
+use Rattle.std.specs.Prelude.{slice_index_or}
 use Rattle.std.specs.List.{All, range_with_len}
 use Rattle.std.specs.Coded.{Coded, code_by, coded×, coded_list, coded_ℕ}
 
@@ -49,6 +50,23 @@ module _ {X : Type 0} where
   -- the keys of a new segment in order of their numbers, each of which shows the items
   abbrev pub keys_of : ℕ → ℕ → List X → List (KeyView X)
   keys_of segment count items = map (key_with segment count items) (range_with_len 0 count)
+
+  -- a key may join these: they are of its segment, and none has its number
+  pub record MayJoin (keys : List (KeyView X)) (key : KeyView X) : Type 0 where
+    pub of_one : All (λ other. other ≡ key_with key.segment key.keys key.items other.number) keys
+    pub new : count_by (λ other. nat_eq other.number key.number) keys ≡ 0
+    pub few : length keys < key.keys
+
+  -- the keys that are still to come, of which this is the next
+  abbrev pub rest_of : KeyView X → List (KeyView X)
+  rest_of next = map (key_with next.segment next.keys next.items)
+      (range_with_len next.number (next.keys - next.number))
+
+  -- the keys that are still to come may join these: they are of their segment, and the last isn't among them
+  pub record MayJoinRest (keys : List (KeyView X)) (next : KeyView X) : Type 0 where
+    pub of_one : All (λ other. other ≡ key_with next.segment next.keys next.items other.number) keys
+    pub new : count_by (λ other. nat_eq other.number (next.keys - 1)) keys ≡ 0
+    pub few : length keys ≤ next.number
 
 -- keys of one segment, in order of their numbers and as many as it has, are all of them
 abbrev pub OrderedAreAll : Type 0 → Type 0

@@ -4,7 +4,8 @@
 //! a `Part` that reads its items and can be split. All parts together give the block back for the
 //! claim. Numbers, keys and what a caller sees of a segment are not here.
 
-ghost use Rattle.std.specs.Prelude.{◌≡◌, ◌≢◌, ℕ, ◌+◌, ◌-◌, ◌^◌, ◌≤◌, ◌<◌, List, [], ◌∷◌, ◌++◌, length, IfOk};
+ghost use Rattle.std.specs.Prelude.{◌≡◌, ◌≢◌, ℕ, ◌+◌, ◌-◌, ◌^◌, ◌≤◌, ◌<◌, List, [], ◌∷◌, ◌++◌, length, drop, IfOk};
+ghost use Rattle.std.specs.List.{range_with_len};
 ghost use Rattle.std.specs.Vec.Ownership.{FitsInBlock};
 ghost use base.Fml.{ftrue};
 ghost use denote.RawPtr.{Ptr};
@@ -84,7 +85,7 @@ impl<T, A: Allocator> Block<T, A> {
             × (result.0.places ≡ self.places) × (result.0.alloc ≡ self.alloc) }
         ensures part { (result.1.segment ≡ result.0.segment) × (result.1.items ≡ self.items)
             × (result.1.places ≡ self.places) × (result.1.count ≡ 2 ^ 63) }
-        ensures key { (result.1.keys ≡ keys) × (result.1.number ≡ keys - 1) }
+        ensures key { (result.1.keys ≡ keys) × (result.1.numbers ≡ range_with_len 0 keys) }
     {
         let Block { ptr, by: _ } = self;
         (Claim { by: PhantomData }, Part { ptr })
@@ -137,8 +138,8 @@ pub(crate) struct Part<T> {
     pub(crate) ghost places: { ℕ },
     pub(crate) ghost segment: { ℕ },
     pub(crate) ghost count: { ℕ },
-    // Which of how many keys has it: no memory depends on it, so no key keeps it at run time.
-    pub(crate) ghost number: { ℕ },
+    // Which of how many keys it is of: no memory depends on it, so no key keeps it at run time.
+    pub(crate) ghost numbers: { List ℕ },
     pub(crate) ghost keys: { ℕ },
 }
 
@@ -164,8 +165,11 @@ impl<T> Part<T> {
     /// One part for the key of a number, and the others.
     pub(crate) fn split_one(self, number: usize) -> (Part<T>, Part<T>)
         requires { (1 < self.count) × (self.count ≤ 2 ^ 63) }
-        ensures one { result.0 ≡ record self { number = number; count = 1 } }
-        ensures others { result.1 ≡ record self { count = self.count - 1 } }
+        ensures one { result.0 ≡ record self { numbers = number ∷ []; count = 1 } }
+        ensures others { result.1 ≡ record self {
+          count = self.count - 1;
+          numbers = drop 1 self.numbers;
+        } }
     {
         let Part { ptr } = self;
         (Part { ptr }, Part { ptr })
@@ -182,14 +186,31 @@ impl<T> Part<T> {
         (Part { ptr }, Part { ptr: at })
     }
 
-    /// Two parts of one block as one.
+    /// Two parts of one block as one, at the first one's address.
     pub(crate) fn join(self, other: Part<T>) -> Part<T>
         requires same { other.segment ≡ self.segment }
         requires parts { (0 < self.count) × (self.count + other.count ≤ 2 ^ 63) }
-        ensures { result ≡ record self { count = self.count + other.count } }
+        ensures { result ≡ record self {
+          count = self.count + other.count;
+          numbers = self.numbers ++ other.numbers;
+        } }
     {
         let Part { ptr } = self;
         let Part { ptr: _ } = other;
+        Part { ptr }
+    }
+
+    /// The same, at the second one's address.
+    pub(crate) fn join_to(self, other: Part<T>) -> Part<T>
+        requires same { other.segment ≡ self.segment }
+        requires parts { (0 < self.count) × (self.count + other.count ≤ 2 ^ 63) }
+        ensures { result ≡ record other {
+          count = self.count + other.count;
+          numbers = self.numbers ++ other.numbers;
+        } }
+    {
+        let Part { ptr: _ } = self;
+        let Part { ptr } = other;
         Part { ptr }
     }
 }

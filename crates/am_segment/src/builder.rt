@@ -6,15 +6,15 @@ ghost use Rattle.am_segment.specs.Segments.{key_with, keys_of, AreAllKeys};
 
 use crate::block::Block;
 use crate::block_return::{BlockReturn, clear};
-use crate::key::{MAX_KEYS, SegKey, cut};
+use crate::key::{MAX_KEYS, SegKey};
 use crate::key_run::KeyRun;
 use crate::seal_fault::SealFault;
 use std::alloc::{AllocError, Global};
 use std::marker::Model;
 use std_alloc::room::may_hold;
 
-/// One block with places for items, of which the first ones are filled. It must be sealed or
-/// discarded.
+/// One block with places for items, of which the first ones are filled. Its keys must be handed out,
+/// as a list by `seal` or one by one, or it must be discarded.
 pub struct SegmentBuilder<T> {
     block: Block<T, Global>,
     places: usize,
@@ -94,26 +94,11 @@ impl<T> SegmentBuilder<T> {
 
         ensures err { IfErr result (λ fault. fault.builder ≡ self) }
     {
-        if keys > MAX_KEYS {
-            return Err(SealFault { builder: self });
-        }
         let made = match Vec::with_capacity(self.alloc, keys) {
             Ok(made) => made,
             Err(_) => return Err(SealFault { builder: self }),
         };
-        let SegmentBuilder {
-            block,
-            places,
-            count,
-            alloc,
-        } = self;
-        let (claim, whole) = block.share(keys);
-        let last = BlockReturn {
-            places,
-            claim,
-            alloc,
-        };
-        Ok(cut(count, keys, whole, last, made))
+        Ok(self.hand_out(keys).push_all(made))
     }
 
     /// So many keys to the items, handed out one by one. It takes no memory.

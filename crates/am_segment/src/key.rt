@@ -1,7 +1,6 @@
-//! A key to a segment's items, and how the keys of a new segment are made.
+//! A key to a segment's items.
 
-ghost use Rattle.std.specs.Prelude.{◌≡◌, ◌-◌, ◌^◌, ◌≤◌, [], length, option_copied, slice_get, vec_capacity};
-ghost use Rattle.am_segment.specs.Segments.{keys_of};
+ghost use Rattle.std.specs.Prelude.{◌≡◌, length, option_copied, slice_get};
 
 use crate::block::Part;
 use crate::block_return::BlockReturn;
@@ -53,40 +52,4 @@ impl<T> SegKey<T> {
     {
         self.part.items(self.len)
     }
-}
-
-/// Cuts a block's parts into so many keys.
-pub(crate) fn cut<T>(
-    len: usize,
-    keys: usize,
-    whole: Part<T>,
-    last: BlockReturn<T>,
-    made: Vec<SegKey<T>>,
-) -> Vec<SegKey<T>>
-    requires room { (made.items ≡ []) × (vec_capacity made ≡ keys) }
-    requires keys { (1 ≤ keys) × (keys ≤ 2 ^ 62) }
-    requires len { (len ≡ length whole.items) × (len ≤ whole.places) }
-    requires whole { (whole.count ≡ 2 ^ 63) × (whole.keys ≡ keys)
-        × (whole.number ≡ keys - 1) }
-    requires last { (last.claim.at ≡ whole.ptr) × (last.claim.items ≡ whole.items)
-        × (last.claim.segment ≡ whole.segment) }
-    ensures { result.items ≡ keys_of whole.segment keys whole.items }
-{
-    let mut made = made;
-    let mut rest = whole;
-    for number in 0..keys - 1 {
-        let (part, others) = rest.split_one(number);
-        rest = others;
-        made.push_reserved(SegKey {
-            part,
-            len,
-            last: None,
-        });
-    }
-    made.push_reserved(SegKey {
-        part: rest,
-        len,
-        last: Some(last),
-    });
-    made
 }

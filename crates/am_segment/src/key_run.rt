@@ -1,6 +1,7 @@
 //! The keys of a new segment, handed out one by one without a list of them.
 
-ghost use Rattle.std.specs.Prelude.{◌≡◌, ◌≢◌, ◌+◌, ◌<◌, MatchOption};
+ghost use Rattle.std.specs.Prelude.{◌≡◌, ◌≢◌, ◌+◌, ◌<◌, ◌≤◌, ◌++◌, length, vec_capacity, MatchOption};
+ghost use Rattle.am_segment.specs.Segments.{rest_of};
 
 use crate::block::Part;
 use crate::block_return::BlockReturn;
@@ -102,5 +103,20 @@ impl<T> KeyRun<T> {
             back,
         };
         (key, Some(run))
+    }
+
+    /// All of them, behind other keys in a list that has room.
+    pub(crate) fn push_all(self, keys: Vec<SegKey<T>>) -> Vec<SegKey<T>>
+        requires { length keys.items + length (rest_of self) ≤ vec_capacity keys }
+        ensures { result.items ≡ keys.items ++ rest_of self }
+    {
+        let mut keys = keys;
+        let mut rest = Some(self);
+        while let Some(run) = rest {
+            let (key, others) = run.next();
+            keys.push_reserved(key);
+            rest = others;
+        }
+        keys
     }
 }

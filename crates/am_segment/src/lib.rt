@@ -6,8 +6,9 @@
 //!
 //! ```text
 //! with_places, push, ..   [ item 0 | item 1 | .. | room ]      one block, one owner
-//! seal(3)                    ^        ^        ^
+//! seal(3), hand_out(3)       ^        ^        ^
 //!                          key 0    key 1    key 2             each reads every item
+//! JoinedKeys              keys 2 and 0, in the room of one
 //! reunite                 all three keys, in any order: the items are dropped, the block is freed
 //! ```
 //!
@@ -25,19 +26,28 @@
 //! keys[0].get(0);                                  // Some(&alert)
 //! reunite(keys);                                   // compiles where they are all of them
 //! ```
+//!
+//! The same without the memory of a list:
+//!
+//! ```text
+//! let (key, rest) = builder.hand_out(subscribers).next();      // and so on with the rest
+//! let mut home = JoinedKeys::new();
+//! home.add(key);                                   // and so with the others
+//! home.reunite();                                  // compiles where they are all of them
+//! ```
 #![tactic(auto)]
 
 mod block;
 mod block_return;
 mod builder;
-mod gathered;
+mod joined_keys;
 mod key;
 mod key_run;
 mod laws;
 mod seal_fault;
 
 pub use builder::SegmentBuilder;
-pub use gathered::{reunite, reunite_all_of};
+pub use joined_keys::{JoinedKeys, reunite};
 pub use key::{MAX_KEYS, SegKey};
 pub use key_run::KeyRun;
 pub use laws::keys_in_order_are_all;

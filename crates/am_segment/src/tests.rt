@@ -4,20 +4,61 @@
 ghost use Rattle.std.specs.Prelude.{◌≡◌, ◌≤◌, length, IfOk};
 ghost use Rattle.am_segment.specs.Segments.{AreAllKeys};
 
-use crate::{SealFault, SegKey, SegmentBuilder, reunite, reunite_all_of};
+use crate::{JoinedKeys, MAX_KEYS, SealFault, SegKey, SegmentBuilder, reunite};
 use std::alloc::{AllocError, Global};
 use std::mem::size_of;
 use std::sync::Arc;
 use std::test::Fail;
 use std::thread::{Threads, join};
 
-// All keys of one segment.
+// Both keys of a segment that has two.
+struct Pair<T> {
+    first: SegKey<T>,
+    second: SegKey<T>,
+    ghost two: { (first.number ≡ 0) × (first.keys ≡ 2) },
+    ghost same: { second ≡ record first { number = 1 } },
+}
+
+impl<T: Drop> Pair<T> {
+    // The keys come together in this order, or in the other.
+    fn end(self, in_order: bool) {
+        let Pair { first, second } = self;
+        let mut home = JoinedKeys::new();
+        if in_order {
+            home.add(first);
+            home.add(second);
+        } else {
+            home.add(second);
+            home.add(first);
+        }
+        home.reunite();
+    }
+}
+
+fn pair_of<T>(builder: SegmentBuilder<T>) -> Pair<T> {
+    let (first, rest) = builder.hand_out(2).next();
+    let Some(rest) = rest else { unreachable!() };
+    let (second, end) = rest.next();
+    let None = end else { unreachable!() };
+    Pair { first, second }
+}
+
+// All keys of one segment, in a list.
 struct Sealed<T> {
     keys: Vec<SegKey<T>>,
     ghost all: { AreAllKeys keys.items },
 }
 
 impl<T: Drop> Sealed<T> {
+    // The last key comes first.
+    fn reversed(self) -> Sealed<T>
+        ensures { length result.keys.items ≡ length self.keys.items }
+    {
+        let Sealed { mut keys } = self;
+        keys.reverse();
+        Sealed { keys }
+    }
+
     fn end(self) {
         let Sealed { keys } = self;
         reunite(keys);
@@ -62,20 +103,12 @@ fn read_in_threads<R: Threads>(
     alloc: Global,
     item: &Arc<u64>,
 ) -> Result<(bool, bool), AllocError> {
-    let Sealed { mut keys } = seal(filled(alloc, item)?, 2)?;
-    may_be_sent(&keys);
-    let Some(one) = keys.pop() else {
-        unreachable!()
-    };
-    let Some(other) = keys.pop() else {
-        unreachable!()
-    };
-    let (mine, theirs) = (&one, &other);
-    let (here, there) = join(rt, move || shows_filled(mine), move || shows_filled(theirs));
-    keys.push_reserved(other);
-    keys.push_reserved(one);
-    reunite(keys);
-    Ok((here, there))
+    let pair = pair_of(filled(alloc, item)?);
+    may_be_sent(&pair.first);
+    let (mine, theirs) = (&pair.first, &pair.second);
+    let shown = join(rt, move || shows_filled(mine), move || shows_filled(theirs));
+    pair.end(true);
+    Ok(shown)
 }
 
 #[test]
@@ -101,9 +134,54 @@ fn an_item_past_the_places_comes_back(rt: HostRuntime) -> Result<(), Fail> {
 #[test]
 fn no_item_is_dropped_before_the_last_key(rt: HostRuntime) -> Result<(), Fail> {
     let item = Arc::new(rt.alloc(), 7)?;
-    let sealed = seal(filled(rt.alloc(), &item)?, 8)?;
-    assert_eq!(rt; Arc::strong_count(&item), 2);
-    sealed.end();
+    for in_order in [true, false] {
+        let pair = pair_of(filled(rt.alloc(), &item)?);
+        let before = Arc::strong_count(&item);
+        pair.end(in_order);
+        assert_eq!(rt; (before, Arc::strong_count(&item)), (2, 1));
+    }
+    Ok(())
+}
+
+#[test]
+fn no_item_is_dropped_before_the_last_of_eight_keys(rt: HostRuntime) -> Result<(), Fail> {
+    let item = Arc::new(rt.alloc(), 7)?;
+    for in_order in [true, false] {
+        let sealed = seal(filled(rt.alloc(), &item)?, 8)?;
+        let sealed = if in_order { sealed } else { sealed.reversed() };
+        let before = Arc::strong_count(&item);
+        let shown = sealed.keys.iter().all(|key| shows_filled(key));
+        sealed.end();
+        assert!(rt; shown);
+        assert_eq!(rt; (before, Arc::strong_count(&item)), (2, 1));
+    }
+    Ok(())
+}
+
+// Whether a list of more keys than memory has room for is refused, and the builder kept its items.
+fn is_refused(builder: SegmentBuilder<Arc<u64>>, keys: usize) -> Result<bool, AllocError>
+    requires { 1 ≤ keys }
+{
+    match builder.seal(keys) {
+        Ok(keys) => {
+            reunite(keys);
+            Ok(false)
+        }
+        Err(SealFault { builder }) => {
+            let sealed = seal(builder, 1)?;
+            let shown = sealed.keys.iter().all(|key| shows_filled(key));
+            sealed.end();
+            Ok(shown)
+        }
+    }
+}
+
+#[test]
+fn without_memory_for_the_keys_the_builder_comes_back(rt: HostRuntime) -> Result<(), Fail> {
+    let item = Arc::new(rt.alloc(), 7)?;
+    assert!(rt; is_refused(filled(rt.alloc(), &item)?, MAX_KEYS + 1)?);
+    assert!(rt; is_refused(filled(rt.alloc(), &item)?, MAX_KEYS)?);
+    assert!(rt; is_refused(filled(rt.alloc(), &item)?, 1 << 57)?);
     assert_eq!(rt; Arc::strong_count(&item), 1);
     Ok(())
 }
@@ -111,56 +189,68 @@ fn no_item_is_dropped_before_the_last_key(rt: HostRuntime) -> Result<(), Fail> {
 #[test]
 fn one_key_to_no_item(rt: HostRuntime) -> Result<(), Fail> {
     let builder: SegmentBuilder<Arc<u64>> = SegmentBuilder::with_places(rt.alloc(), 1)?;
-    let sealed = seal(builder, 1)?;
-    sealed.end();
+    let (key, rest) = builder.hand_out(1).next();
+    let None = rest else { unreachable!() };
+    let mut home = JoinedKeys::new();
+    home.add(key);
+    let shown = home.as_slice().is_empty();
+    home.reunite();
+    assert!(rt; shown);
     Ok(())
 }
 
-// The same two keys as `seal` makes, handed out one by one.
-fn handed_out<T: Drop>(alloc: Global, builder: SegmentBuilder<T>) -> Result<Sealed<T>, AllocError> {
-    let mut keys = match Vec::with_capacity(alloc, 2) {
-        Ok(keys) => keys,
-        Err(error) => {
-            builder.discard();
-            return Err(error);
-        }
-    };
-    let (first, rest) = builder.hand_out(2).next();
-    let Some(rest) = rest else { unreachable!() };
-    let (second, end) = rest.next();
-    let None = end else { unreachable!() };
-    keys.push_reserved(first);
-    keys.push_reserved(second);
-    Ok(Sealed { keys })
+// A key that came home beside one that didn't. Answers how many are home, and whether all show their items.
+fn half_home(pair: Pair<Arc<u64>>) -> (usize, bool) {
+    let Pair { first, second } = pair;
+    let mut home = JoinedKeys::new();
+    let none = home.as_slice().is_empty();
+    home.add(first);
+    let count = home.len();
+    let shown = none && home.as_slice().len() == 2 && shows_filled(&second);
+    home.add(second);
+    home.reunite();
+    (count, shown)
 }
 
 #[test]
-fn keys_are_handed_out_one_by_one(rt: HostRuntime) -> Result<(), Fail> {
+fn keys_that_are_home_show_the_items(rt: HostRuntime) -> Result<(), Fail> {
     let item = Arc::new(rt.alloc(), 7)?;
-    let sealed = handed_out(rt.alloc(), filled(rt.alloc(), &item)?)?;
-    let shown = sealed.keys.iter().all(|key| shows_filled(key));
-    sealed.end();
-    assert!(rt; shown);
+    assert_eq!(rt; half_home(pair_of(filled(rt.alloc(), &item)?)), (1, true));
     assert_eq!(rt; Arc::strong_count(&item), 1);
     Ok(())
 }
 
-// The one key of a segment beside the one key of another. Answers whether both show their items.
-fn beside(first: Sealed<Arc<u64>>, second: SegmentBuilder<Arc<u64>>) -> bool
-    requires { length first.keys.items ≡ 1 }
-{
-    let Sealed { mut keys } = first;
-    let Some(key) = keys.pop() else {
-        unreachable!()
-    };
-    let (run, key) = second.hand_out(1).apart_from(key);
+// Three keys, of which the first is handed out. Answers whether it shows its items.
+fn join_two_at_once(builder: SegmentBuilder<Arc<u64>>) -> bool {
+    let (first, rest) = builder.hand_out(3).next();
+    let Some(rest) = rest else { unreachable!() };
+    let shown = shows_filled(&first);
+    let mut home = JoinedKeys::new();
+    home.add(first);
+    home.add_rest(rest);
+    home.reunite();
+    shown
+}
+
+#[test]
+fn keys_that_nobody_was_dealt_join_at_once(rt: HostRuntime) -> Result<(), Fail> {
+    let item = Arc::new(rt.alloc(), 7)?;
+    assert!(rt; join_two_at_once(filled(rt.alloc(), &item)?));
+    assert_eq!(rt; Arc::strong_count(&item), 1);
+    Ok(())
+}
+
+// The keys of a segment beside the one key of another. Answers whether all show their items.
+fn beside(pair: Pair<Arc<u64>>, builder: SegmentBuilder<Arc<u64>>) -> bool {
+    let Pair { first, second } = pair;
+    let (run, first) = builder.hand_out(1).apart_from(first);
     let (other, rest) = run.next();
     let None = rest else { unreachable!() };
-    let shown = shows_filled(&key) && shows_filled(&other);
-    keys.push_reserved(other);
-    reunite_all_of(&mut keys);
-    keys.push_reserved(key);
-    reunite(keys);
+    let shown = shows_filled(&first) && shows_filled(&second) && shows_filled(&other);
+    let mut home = JoinedKeys::new();
+    home.add(other);
+    home.reunite();
+    Pair { first, second }.end(false);
     shown
 }
 
@@ -168,33 +258,21 @@ fn beside(first: Sealed<Arc<u64>>, second: SegmentBuilder<Arc<u64>>) -> bool
 fn a_key_and_a_run_of_another_segment(rt: HostRuntime) -> Result<(), Fail> {
     let item = Arc::new(rt.alloc(), 7)?;
     let second = filled(rt.alloc(), &item)?;
-    let first = match filled(rt.alloc(), &item).and_then(|builder| seal(builder, 1)) {
+    let first = match filled(rt.alloc(), &item) {
         Ok(first) => first,
         Err(error) => {
             second.discard();
             return Err(error.into());
         }
     };
-    assert!(rt; beside(first, second));
-    assert_eq!(rt; Arc::strong_count(&item), 1);
-    Ok(())
-}
-
-#[test]
-fn the_list_of_the_keys_stays_with_its_memory(rt: HostRuntime) -> Result<(), Fail> {
-    let item = Arc::new(rt.alloc(), 7)?;
-    let Sealed { mut keys } = handed_out(rt.alloc(), filled(rt.alloc(), &item)?)?;
-    reunite_all_of(&mut keys);
-    let (left, room) = (keys.len(), keys.capacity());
-    keys.destroy_empty();
-    assert_eq!(rt; (left, room), (0, 2));
+    assert!(rt; beside(pair_of(first), second));
     assert_eq!(rt; Arc::strong_count(&item), 1);
     Ok(())
 }
 
 // One segment of the numbers below `count`, each in a text of its own.
-fn texts(alloc: Global, count: usize, keys: usize) -> Result<Sealed<Vec<usize>>, AllocError>
-    requires { (1 ≤ count) × (1 ≤ keys) }
+fn texts(alloc: Global, count: usize) -> Result<SegmentBuilder<Vec<usize>>, AllocError>
+    requires { 1 ≤ count }
 {
     let mut builder = SegmentBuilder::with_places(alloc, count)?;
     for number in 0..count {
@@ -204,48 +282,84 @@ fn texts(alloc: Global, count: usize, keys: usize) -> Result<Sealed<Vec<usize>>,
         };
         drop(builder.push(item));
     }
-    seal(builder, keys)
+    Ok(builder)
 }
 
-fn end_all(segments: Vec<Sealed<Vec<usize>>>) {
-    let mut segments = segments;
-    while let Some(sealed) = segments.pop() {
+// Two segments, of which one has eight keys in a list.
+struct Batch {
+    pair: Pair<Vec<usize>>,
+    sealed: Sealed<Vec<usize>>,
+}
+
+impl Batch {
+    fn new(alloc: Global, count: usize) -> Result<Batch, AllocError>
+        requires { 1 ≤ count }
+    {
+        let sealed = seal(texts(alloc, count)?, 8)?;
+        match texts(alloc, count) {
+            Ok(builder) => Ok(Batch {
+                pair: pair_of(builder),
+                sealed,
+            }),
+            Err(error) => {
+                sealed.end();
+                Err(error)
+            }
+        }
+    }
+
+    fn end(self) {
+        let Batch { pair, sealed } = self;
+        pair.end(false);
         sealed.end();
     }
-    segments.destroy_empty();
 }
 
-// So many segments of so many items, with eight keys each.
-fn log_of(alloc: Global, places: usize, count: usize) -> Result<Vec<Sealed<Vec<usize>>>, AllocError>
+fn end_all(batches: Vec<Batch>) {
+    let mut batches = batches;
+    while let Some(batch) = batches.pop() {
+        batch.end();
+    }
+    batches.destroy_empty();
+}
+
+// So many batches of so many items.
+fn log_of(alloc: Global, places: usize, count: usize) -> Result<Vec<Batch>, AllocError>
     requires { 1 ≤ count }
 {
-    let mut segments = Vec::with_capacity(alloc, places)?;
+    let mut batches = Vec::with_capacity(alloc, places)?;
     for _ in 0..places {
-        match texts(alloc, count, 8) {
-            Ok(sealed) => segments.push_reserved(sealed),
+        match Batch::new(alloc, count) {
+            Ok(batch) => batches.push_reserved(batch),
             Err(error) => {
-                end_all(segments);
+                end_all(batches);
                 return Err(error);
             }
         }
     }
-    Ok(segments)
+    Ok(batches)
+}
+
+// How many items a key shows, and the length of the last of 1,024.
+fn shown(key: &SegKey<Vec<usize>>) -> u64 {
+    let last = key.get(1_023).map(|item| item.len() as u64);
+    last.unwrap_or(0).wrapping_add(key.len() as u64)
 }
 
 #[test]
 fn whole_log_of_full_batches(rt: HostRuntime) -> Result<(), Fail> {
-    let segments = log_of(rt.alloc(), 256, 1_024)?;
+    let batches = log_of(rt.alloc(), 256, 1_024)?;
     let mut sum = 0u64;
-    for sealed in segments.iter() {
-        for key in sealed.keys.iter() {
-            let last = key.get(1_023).map(|item| item.len() as u64);
-            sum = sum
-                .wrapping_add(last.unwrap_or(0))
-                .wrapping_add(key.len() as u64);
+    for batch in batches.iter() {
+        for key in [&batch.pair.first, &batch.pair.second] {
+            sum = sum.wrapping_add(shown(key));
+        }
+        for key in batch.sealed.keys.iter() {
+            sum = sum.wrapping_add(shown(key));
         }
     }
-    end_all(segments);
-    assert_eq!(rt; sum, 256 * 8 * 1_025);
+    end_all(batches);
+    assert_eq!(rt; sum, 256 * 10 * 1_025);
     Ok(())
 }
 

@@ -2,7 +2,7 @@
 use Rattle.std.specs.Prelude.{◌≡◌, ◌≢◌, ℕ, ◌%◌, ◌<◌, nat_eq, List, [], ◌∷◌, ◌++◌, length, Option, Some, None}
 use Rattle.std.specs.Prelude.{cond, refl, slice_index_or}
 use Rattle.std.specs.Coded.{Coded, code_by, coded×, coded_list, coded_ℕ}
-use Rattle.am_segment.specs.Segments.{KeyView, coded_key, AreAllKeys}
+use Rattle.am_segment.specs.Segments.{KeyView, coded_key, AreAllKeys, MayJoin}
 use Rattle.am_cast.specs.declared.limits.TheConstants.{LANES}
 
 -- the keys of one place that are home
@@ -49,7 +49,8 @@ module _ {X : Type 0} where
 
   -- a place's row may take the key, as one of several or as the last of all
   abbrev pub MayTake : List (KeyView X) → KeyView X → Type 0
-  MayTake keys key = (length keys < LANES) × (length keys ≡ 7 → AreAllKeys (keys ++ key ∷ []))
+  MayTake keys key = MayJoin keys key × (length keys < LANES)
+      × (length keys ≡ 7 → AreAllKeys (keys ++ key ∷ []))
 
   -- a place's row with a key more: it ends with the eighth
   abbrev pub row_with : List (KeyView X) → KeyView X → Option (List (KeyView X))

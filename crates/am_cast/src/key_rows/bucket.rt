@@ -3,8 +3,8 @@ ghost use Rattle.std.specs.Prelude.{true, false, ◌≡◌, ◌≢◌, ℕ, ◌+
 ghost use Rattle.am_segment.specs.Segments.{KeyView};
 ghost use Rattle.am_cast.specs.inside.KeyRows.{RowView, find_row, HasNoRow, AreApart, MayTake, row_with, IsRowOf, HaveRemainder};
 
-use crate::key_rows::row::{EmptyRow, Row};
-use am_segment::SegKey;
+use crate::key_rows::row::Row;
+use am_segment::{JoinedKeys, SegKey};
 use std::alloc::{AllocError, Global};
 use std::marker::Model;
 
@@ -55,7 +55,7 @@ impl<T> Bucket<T> {
     }
 
     /// The keys of the place's row, if there is one.
-    pub(crate) fn keys(&self, place: u64) -> Option<&[SegKey<T>]>
+    pub(crate) fn keys(&self, place: u64) -> Option<&JoinedKeys<T>>
         requires { AreApart self.now.rows }
         ensures { option_copied result ≡ find_row place self.now.rows }
     {
@@ -65,8 +65,8 @@ impl<T> Bucket<T> {
         }
     }
 
-    /// The key goes to the others of its place. The eighth ends its segment, and the row's memory comes back.
-    pub(crate) fn bring(&mut self, place: u64, key: SegKey<T>) -> Option<EmptyRow<T>>
+    /// The key goes to the others of its place. The eighth ends its segment.
+    pub(crate) fn bring(&mut self, place: u64, key: SegKey<T>)
     where
         T: Drop,
         requires row { (keys : List (KeyView T)) × (find_row place self.old.rows ≡ Some keys)
@@ -85,9 +85,7 @@ impl<T> Bucket<T> {
         };
         self.rows[index].add(key);
         if self.rows[index].is_full() {
-            Some(self.rows.remove(index).end())
-        } else {
-            None
+            self.rows.remove(index).end();
         }
     }
 

@@ -15,6 +15,7 @@ use crate::cursor::{Cast, Cursor};
 use crate::faults::AdmitFault;
 use crate::feed::Feed;
 use crate::limits::LANES;
+use crate::ring_place::RingPlace;
 use crate::writer::Writer;
 use crate::writer::lane_account::{LaneAccount, Stand};
 use crate::writer::state::WriterState;
@@ -101,8 +102,7 @@ impl<T: Drop, P, A, N: Feed> WriterState<T, P, A, N> {
             cast,
             seat,
             number: lane,
-            places: self.places,
-            passed: self.count,
+            next: RingPlace::new(self.count, self.places),
             seen: self.count,
             closed: false,
             cut: false,

@@ -66,15 +66,15 @@ impl<T: Drop, P, A, N: Feed> Writer<T, P, A, N> {
                 batch,
             });
         }
-        let Ok(row) = self.state.reserve() else {
+        if self.state.reserve().is_err() {
             return Err(Refused {
                 fault: PublishFault::NoMemory,
                 batch,
             });
-        };
+        }
         let cut = self.state.make_all_room(cast);
         let place = self.len();
-        self.state.post(cast, batch, post, row, &mut pass.seat);
+        self.state.post(cast, batch, post, &mut pass.seat);
         pass.note(cast);
         Ok(Published { place, cut })
     }

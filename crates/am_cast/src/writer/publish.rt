@@ -2,6 +2,7 @@
 //! other keys wait in its row, and then the place is there.
 ghost use mathlib.Core.List.{IsPrefix};
 ghost use Rattle.std.specs.Prelude.{◌≡◌, ◌≢◌, ◌+◌, ◌<◌, ◌≤◌, true, false, length, None, Some, [], ℕ, IfOk, ◌++◌, ◌∷◌, IfErr, OnOk, OnErr};
+ghost use Rattle.am_segment.specs.Segments.{MayJoin};
 ghost use Rattle.am_cast.specs.declared.batch_view.BatchView.{BatchView};
 ghost use Rattle.am_cast.specs.Rule.{live};
 ghost use Rattle.am_cast.specs.Changes.{longer_tail, back, laying, longer, both_of, AreInLog, own_at};
@@ -109,11 +110,11 @@ impl<T: Drop, P, A, N: Feed> Writer<T, P, A, N> {
         ensures err { OnErr result ((self.new ≡ self.old) × (pass.new ≡ pass.old)) }
         ensures refused { IfErr result (λ back. back ≡ batch) }
     {
-        let Ok(row) = self.state.reserve() else {
+        if self.state.reserve().is_err() {
             return Err(batch);
-        };
+        }
         let place = self.len();
-        self.state.post(cast, batch, post, row, &mut pass.seat);
+        self.state.post(cast, batch, post, &mut pass.seat);
         pass.note(cast);
         Ok(place)
     }
@@ -121,12 +122,11 @@ impl<T: Drop, P, A, N: Feed> Writer<T, P, A, N> {
 
 impl<T: Drop, P, A, N: Feed> WriterState<T, P, A, N> {
     /// Makes the room that the next place's keys need.
-    pub(crate) fn reserve(&mut self) -> Result<Row<T>, AllocError>
+    pub(crate) fn reserve(&mut self) -> Result<(), AllocError>
         ensures known { self.new.known ≡ self.old.known }
-        ensures ok { IfOk result (λ row. (row ≡ record { place = length self.old.known.tail.log; keys = [] })
-            × (1 ≤ (bucket_of self.new.rows row.place).room)) }
+        ensures ok { OnOk result (1 ≤ (bucket_of self.new.rows (length self.old.known.tail.log)).room) }
     {
-        self.rows.reserve(self.alloc, self.count)
+        self.rows.reserve(self.count)
     }
 
     /// One place more, which is the other seat's own.
@@ -135,15 +135,13 @@ impl<T: Drop, P, A, N: Feed> WriterState<T, P, A, N> {
         cast: &Cast<T, P, A, N>,
         batch: SegmentBuilder<T>,
         post: Snapshot<P>,
-        row: Row<T>,
         to: &mut LogSeat<T, P, A>,
     )
         requires writer { (self.old.known.tail.closed ≡ false)
             × (length self.old.known.tail.log < LONGEST_LOG) × Calm self.old.known
             × HasRoom self.old.known LANES }
         requires batch { 0 < length batch.items }
-        requires row { (row ≡ record { place = length self.old.known.tail.log; keys = [] })
-            × (1 ≤ (bucket_of self.old.rows row.place).room) }
+        requires row { 1 ≤ (bucket_of self.old.rows (length self.old.known.tail.log)).room }
         requires to { to.old.table_id ≡ N.table }
         ensures calm { Calm self.new.known }
         ensures same { (l : ℕ) → l < LANES
@@ -158,37 +156,52 @@ impl<T: Drop, P, A, N: Feed> WriterState<T, P, A, N> {
         let (first, rest) = batch.hand_out(LANES).next();
         let Some(rest) = rest else { unreachable!() };
         let tag = tag_batch(&first, post);
-        let row = self.fill(cast, &tag, first, rest, row);
+        let row = self.fill(cast, &tag, first, rest);
         self.store(cast, &tag, row, to);
     }
 
-    // Each live lane gets its key of the next place. The other keys go into the place's row.
+    // One more than the number of the last live lane, or 1 where no lane is live.
+    fn live_end(&self) -> usize
+        ensures bounds { (1 ≤ result) × (result ≤ LANES) }
+        ensures rest { (l : ℕ) → result ≤ l → l < LANES → (account_of self.now.known l).stand ≢ live }
+    {
+        let mut end = LANES;
+        while end > 1 && !self.is_live(end - 1) {
+            end -= 1;
+        }
+        end
+    }
+
+    // Each live lane gets its key of the next place. The other keys go into the place's row, those
+    // past the last live lane's all at once.
     fn fill(
         &mut self,
         cast: &Cast<T, P, A, N>,
         tag: &Tag<T, P>,
         first: SegKey<T>,
         rest: KeyRun<T>,
-        row: Row<T>,
     ) -> Row<T>
         requires writer { Calm self.old.known × HasRoom self.old.known LANES }
         requires keys { (first ≡ key_of (batch_of_tag tag.now) 0)
-            × (rest ≡ key_of (batch_of_tag tag.now) 1) × (row.keys ≡ []) }
+            × (rest ≡ key_of (batch_of_tag tag.now) 1) }
         ensures writer { FilledTo key_of self.old.known (batch_of_tag tag.now) LANES self.new.known }
         ensures rows { self.new.rows ≡ self.old.rows }
-        ensures row { (result.place ≡ row.place) × Gathered (batch_of_tag tag.now) (λ l.
+        ensures row { (result.place ≡ length self.old.known.tail.log) × Gathered (batch_of_tag tag.now) (λ l.
             is_live (account_of self.old.known l)) LANES result.keys }
     {
-        let mut row = row;
+        let end = self.live_end();
+        let mut row = Row::new(self.count);
         self.put_key(cast, 0, first, &mut row);
         let mut rest = Some(rest);
-        for lane in 1..LANES {
+        for lane in 1..end {
             let Some(run) = rest else { unreachable!() };
             let (key, others) = run.next();
             rest = others;
             self.put_key(cast, lane, key, &mut row);
         }
-        let None = rest else { unreachable!() };
+        if let Some(run) = rest {
+            row.add_rest(run);
+        }
         row
     }
 
@@ -197,7 +210,7 @@ impl<T: Drop, P, A, N: Feed> WriterState<T, P, A, N> {
         requires account { let b = account_of self.old.known lane in (lane < LANES) × (b.stand ≡ live
             → (b.out ≡ 0) × (b.laid ≡ None) × (b.stop ≡ length self.old.known.tail.log)
             × (b.stop < b.cleared + self.old.known.tail.places)) }
-        requires row { length row.old.keys < LANES }
+        requires row { MayJoin row.old.keys key }
         ensures same { (self.new.rows ≡ self.old.rows) × (row.new.place ≡ row.old.place) }
         ensures live { (account_of self.old.known lane).stand ≡ live
             → OneAccount self.old self.new lane (laying key (account_of self.old.known lane))
@@ -256,7 +269,7 @@ impl<T: Drop, P, A, N: Feed> WriterState<T, P, A, N> {
         self.count += 1;
         board::hand_own(top, &mut self.seat, to);
         if row.is_full() {
-            self.rows.keep(Some(row.end()));
+            row.end();
         } else {
             self.rows.insert(row);
         }

@@ -18,14 +18,12 @@ use crate::feed::Feed;
 use crate::key_rows::KeyRows;
 use crate::limits::LANES;
 use crate::writer::lane_account::{LaneAccount, Stand};
-use std::alloc::Global;
 use std::marker::{Model, PhantomData};
 
 /// Contracts see it as what its seat knows, and the rows of keys that came home.
 pub(crate) struct WriterState<T, P, A, N: Feed> {
     pub(crate) seat: LogSeat<T, P, A>,
     pub(crate) rows: KeyRows<T>,
-    pub(crate) alloc: Global,
     /// How many places a live lane may be behind.
     pub(crate) places: u64,
     /// The log's length.

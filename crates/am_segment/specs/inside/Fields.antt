@@ -1,10 +1,19 @@
 -- What contracts see of the fields of a builder, a key and a run of keys, and what always holds of them.
 -- Public clauses cite it through the views alone.
-use Rattle.std.specs.Prelude.{◌≡◌, ◌+◌, ◌^◌, ◌<◌, ◌≤◌, length, MatchOption}
-use Rattle.am_segment.specs.Segments.{BuilderView, KeyView}
+use Rattle.std.specs.Prelude.{◌≡◌, ℕ, ◌+◌, ◌-◌, ◌^◌, ◌<◌, ◌≤◌, List, [], ◌∷◌, length, map}
+use Rattle.std.specs.Prelude.{Option, Some, None, MatchOption}
+use Rattle.std.specs.List.{range_with_len}
+use Rattle.am_segment.specs.Segments.{BuilderView, KeyView, key_with}
 use Rattle.am_segment.specs.declared.builder.SegmentBuilder.TheInside.{Inside as Builder}
 use Rattle.am_segment.specs.declared.key.SegKey.TheInside.{Inside as Key}
 use Rattle.am_segment.specs.declared.key_run.KeyRun.TheInside.{Inside as Run}
+use Rattle.am_segment.specs.declared.joined_keys.Held.{Held}
+use Rattle.am_segment.specs.declared.joined_keys.JoinedKeys.TheInside.{Inside as Joined}
+
+-- the first of some numbers
+abbrev pub first_of : List ℕ → ℕ
+first_of [] = 0
+first_of (number ∷ numbers) = number
 
 module _ {X : Type 0} where
   -- a builder as contracts see it
@@ -20,13 +29,13 @@ module _ {X : Type 0} where
   -- a key as contracts see it
   abbrev pub key_view : Key X → KeyView X
   key_view k = let part = k.part in
-      record { segment = part.segment; number = part.number; keys = part.keys; items = part.items }
+      record { segment = part.segment; number = first_of part.numbers; keys = part.keys; items = part.items }
 
   -- each key but the last holds one part. The last holds all others, and what gives the block back
   abbrev pub HasItsShare : Key X → Type 0
   HasItsShare k = MatchOption k.last
-      ((k.part.number + 1 < k.part.keys) × (k.part.count ≡ 1))
-      (λ last. (k.part.number + 1 ≡ k.part.keys) × (k.part.count + k.part.number ≡ 2 ^ 63)
+      ((first_of k.part.numbers + 1 < k.part.keys) × (k.part.count ≡ 1))
+      (λ last. (first_of k.part.numbers + 1 ≡ k.part.keys) × (k.part.count + first_of k.part.numbers ≡ 2 ^ 63)
       × (last.claim.at ≡ k.part.ptr) × (last.claim.items ≡ k.part.items)
       × (last.claim.segment ≡ k.part.segment))
 
@@ -34,7 +43,8 @@ module _ {X : Type 0} where
   pub record IsKey (k : Key X) : Type 0 where
     pub len : k.len ≡ length k.part.items
     pub within : k.len ≤ k.part.places
-    pub number : k.part.number < k.part.keys
+    pub one : k.part.numbers ≡ first_of k.part.numbers ∷ []
+    pub number : first_of k.part.numbers < k.part.keys
     pub few : k.part.keys ≤ 2 ^ 62
     pub share : HasItsShare k
 
@@ -48,8 +58,22 @@ module _ {X : Type 0} where
     pub len : r.len ≡ length r.rest.items
     pub within : r.len ≤ r.rest.places
     pub next : r.next ≤ r.last
-    pub keys : (r.rest.keys ≡ r.last + 1) × (r.rest.number ≡ r.last)
+    pub keys : (r.rest.keys ≡ r.last + 1) × (r.rest.numbers ≡ range_with_len r.next (r.rest.keys - r.next))
     pub few : r.rest.keys ≤ 2 ^ 62
     pub parts : r.rest.count + r.next ≡ 2 ^ 63
     pub back : (r.back.claim.at ≡ r.rest.ptr) × (r.back.claim.items ≡ r.rest.items)
         × (r.back.claim.segment ≡ r.rest.segment)
+
+  -- the keys that were joined to one part, in order
+  abbrev pub keys_held : Option (Held X) → List (KeyView X)
+  keys_held None = []
+  keys_held (Some held) = let part = held.part in
+      map (key_with part.segment part.keys part.items) part.numbers
+
+  -- joined keys as contracts see them
+  abbrev pub joined_view : Joined X → List (KeyView X)
+  joined_view j = keys_held j.held
+
+  -- what always holds of joined keys: they are counted
+  abbrev pub IsJoined : Joined X → Type 0
+  IsJoined j = j.count ≡ length (joined_view j)

@@ -1,7 +1,7 @@
 use Rattle.am_segment.proofs.tests.end_all.Given as goal
 
-abbrev pub invariant-loop-sealed : goal.invariant-loop-sealed
-invariant-loop-sealed l = Unit {0}
+abbrev pub invariant-loop-batch : goal.invariant-loop-batch
+invariant-loop-batch l = Unit {0}
 
-abbrev pub decreases-loop-sealed : goal.decreases-loop-sealed
-decreases-loop-sealed l = goal.left-loop-sealed l
+abbrev pub decreases-loop-batch : goal.decreases-loop-batch
+decreases-loop-batch l = goal.left-loop-batch l

@@ -1,5 +1,3 @@
-use Rattle.std.proofs.Common.{sym, subst}
-use Rattle.am_cast.specs.Cursors.{CursorView, GoesOn}
 use Rattle.am_cast.proofs.Rests.{shows_rest}
 use Rattle.am_cast.proofs.cursor.Cursor.advance_slice.Goals as goal
 

@@ -1,4 +1,4 @@
-use Rattle.std.proofs.Common.{arith, ◌≡◌, ◌≤◌, ◌-◌, length, drop, List, sym, ap, ◌∙◌, subst}
+use Rattle.std.proofs.Common.{◌≡◌, ◌≤◌, ◌-◌, length, drop, List, sym, ap, ◌∙◌, subst}
 use Rattle.std.proofs.lemmas.List.{length-drop}
 use Rattle.am_cast.specs.Seats.{lane_of}
 use Rattle.am_cast.specs.Cursors.{CursorView, items_at}

@@ -1,4 +1,4 @@
-use Rattle.std.proofs.Common.{arith, ◌≡◌, ◌≤◌, ◌<◌, ◌+◌, ◌-◌, ℕ, length, List, sym, ap, ◌∙◌, subst}
+use Rattle.std.proofs.Common.{arith, ◌≡◌, ◌<◌, ◌+◌, ◌-◌, ℕ, length, List, sym, ap, ◌∙◌, subst}
 use Rattle.am_cast.specs.Seats.{lane_of}
 use Rattle.am_cast.specs.Cursors.{CursorView, items_at}
 use Rattle.am_cast.proofs.Rests.{in_hand_are}

@@ -7,6 +7,3 @@ invariant-loop-bucket g l = (n : ℕ) → (get_or l.buckets.items n no_bucket).r
 
 abbrev pub decreases-loop-bucket : goal.decreases-loop-bucket
 decreases-loop-bucket g l = vec_len l.buckets
-
-abbrev pub decreases-loop-row : goal.decreases-loop-row
-decreases-loop-row g l = vec_len l.spare

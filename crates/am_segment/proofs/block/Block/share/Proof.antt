@@ -1,5 +1,6 @@
 -- `share`: a lifetime of its own begins, the items are lent for it, and all of its tokens are one part.
-use Rattle.std.proofs.Common.{◌≡◌, ℕ, ◌-◌, ◌^◌, List, [], ◌∷◌, w64, refl}
+use Rattle.std.proofs.Common.{◌≡◌, ℕ, ◌^◌, List, [], ◌∷◌, w64, refl}
+use Rattle.std.specs.List.{range_with_len}
 use Rattle.std.proofs.raw_atomic.Walks.{proved, leaves}
 use Rattle.std_alloc.proofs.RcSteps.{Ptr-Good}
 use Rattle.core.proofs.alloc.Calls.{Goes-blank}
@@ -59,8 +60,8 @@ share_spec 𝓤 𝓛 𝓜 𝓡 wired X Z L K g d dd met md =
     use2 𝓛 (later (‵ (fex ℕ (Frozen t laws 𝓛 lent)) ⊛ ‵ (flft κs.0 qs.0))) (freezes t laws 𝓛 lent R.lives κs.0 qs.0 (front-lends R LR p v.places v.items 𝓛 R.lives (Incl-refl R.lives)) le) $
     await ! tt $ split ! $ fpick ! (λ n. fsplit ! $
     let right : Cl.Denot = record { by = record {}; at = p; items = v.items; places = v.places; alloc = v.alloc; segment = n } in
-    let all : Pt.Denot = record { ptr = p; items = v.items; places = v.places; segment = n; count = 2 ^ 63; number = m - 1; keys = m } in let out : Val = pair_val claim_val (part_val p) in
-    let Right : Type 0 = (p ≡ p) × (v.items ≡ v.items) × (v.places ≡ v.places) × (v.alloc ≡ v.alloc) in let Numbered : Type 0 = (m ≡ m) × (m - 1 ≡ m - 1) in let All : Type 0 = (n ≡ n) × (v.items ≡ v.items) × (v.places ≡ v.places) × (2 ^ 63 ≡ 2 ^ 63) in
+    let all : Pt.Denot = record { ptr = p; items = v.items; places = v.places; segment = n; count = 2 ^ 63; numbers = range_with_len 0 m; keys = m } in let out : Val = pair_val claim_val (part_val p) in
+    let Right : Type 0 = (p ≡ p) × (v.items ≡ v.items) × (v.places ≡ v.places) × (v.alloc ≡ v.alloc) in let Numbered : Type 0 = (m ≡ m) × (range_with_len 0 m ≡ range_with_len 0 m) in let All : Type 0 = (n ≡ n) × (v.items ≡ v.items) × (v.places ≡ v.places) × (2 ^ 63 ≡ 2 ^ 63) in
     sets ! (of_opd ! (get_in ! (fld ! refl (stop !)) (sub ! 0 refl (whole !)))) refl (Ptr-Good p) $
     sets ! (agg ! (no_more !)) refl (tt, tt) $ sets ! (agg ! (and_then ! (get ! refl) (no_more !))) refl claim_good $ sets ! (agg ! (and_then ! (get ! refl) (no_more !))) refl (part_good p) $
     sets ! (agg ! (and_then ! (get ! refl) (and_then ! (get ! refl) (no_more !)))) refl (pair_good claim_ty part_ty claim_val (part_val p) claim_good (part_good p)) $

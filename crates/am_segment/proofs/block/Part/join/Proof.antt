@@ -1,5 +1,5 @@
 -- `join`: the tokens are put together, and one right to read is let go.
-use Rattle.std.proofs.Common.{◌≡◌, ℕ, ◌+◌, ◌^◌, ◌<◌, ◌≤◌, [], ◌∷◌, refl, arith}
+use Rattle.std.proofs.Common.{◌≡◌, ℕ, ◌+◌, ◌^◌, ◌<◌, ◌≤◌, [], ◌∷◌, ◌++◌, refl, arith}
 use Rattle.std.proofs.raw_atomic.Walks.{proved, leaves}
 use Rattle.std_alloc.proofs.RcSteps.{Ptr-Good}
 use Rattle.left_right.specs.Parted.{tokens}
@@ -38,7 +38,7 @@ join_spec 𝓤 𝓛 𝓜 𝓡 wired X L =
     (λ κs. ((λ d. part_val d.ptr ∷ []), ((λ d. part_val d.ptr ∷ []), tt))) (λ κs. ((λ d vs so. part_told R d.ptr vs so.0), ((λ d vs so. part_told R d.ptr vs so.0), tt))) (λ κs qs bounds a gh are.
     let d : Pt.Denot = a.0 in let e : Pt.Denot = a.1.0 in let p : Ptr = d.ptr in let n : ℕ = d.segment in let k : ℕ = d.count in let j : ℕ = e.count in
     let y : (walk_of 𝓛 En hs c).Ghost = ((κs, qs, bounds, a, (part_val p ∷ [], (part_val e.ptr ∷ [], tt))), gh) in let Post : Val → SProp 𝓤 = (walk_of 𝓛 En hs c).post y in
-    let both : Pt.Denot = record d { count = k + j } in let Same : Type 0 = e.segment ≡ n in let Parts : Type 0 = (0 < k) × (k + j ≤ 2 ^ 63) in
+    let both : Pt.Denot = record d { count = k + j; numbers = d.numbers ++ e.numbers } in let Same : Type 0 = e.segment ≡ n in let Parts : Type 0 = (0 < k) × (k + j ≤ 2 ^ 63) in
     qed 𝓛 ((raw (alive 𝓛 En.signature κs qs) ⊛ ‵ (owns (types_at En.signature.params κs) a y.0.4)) ∷ raw (fact 𝓤 _) ∷ raw (fact 𝓤 Same) ∷ raw (fact 𝓤 Parts) ∷ []) ∵
     keep ! (2 ∷ 3 ∷ 0 ∷ []) $ heard ! Same (λ same. heard ! Parts (λ parts. let some_held = parts.0 in
     split ! $ move ! (1 ∷ []) $ fsplit3 ! $ fsplit ! $ keep ! (1 ∷ 2 ∷ 4 ∷ []) $

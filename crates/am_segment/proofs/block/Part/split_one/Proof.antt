@@ -1,5 +1,5 @@
 -- `split_one`: the tokens are cut in two, and each half gets the right to read.
-use Rattle.std.proofs.Common.{◌≡◌, ℕ, ◌-◌, ◌^◌, ◌<◌, ◌≤◌, List, [], ◌∷◌, w64, refl, arith}
+use Rattle.std.proofs.Common.{◌≡◌, ℕ, ◌-◌, ◌^◌, ◌<◌, ◌≤◌, List, [], ◌∷◌, drop, w64, refl, arith}
 use Rattle.std.proofs.raw_atomic.Walks.{proved, leaves}
 use Rattle.std_alloc.proofs.RcSteps.{Ptr-Good}
 use Rattle.left_right.specs.Parted.{tokens}
@@ -48,7 +48,7 @@ split_one_spec 𝓤 𝓛 𝓜 𝓡 wired X L =
     let d : Pt.Denot = a.0 in let p : Ptr = d.ptr in let n : ℕ = d.segment in let k : ℕ = d.count in let m : ℕ = a.1.0 in
     let t : Lft → Fml = front_lent R p d.places d.items in let laws = front_laws R LR p d.places d.items in let seen : Fml = t (n ∷ []) in
     let y : (walk_of 𝓛 En hs c).Ghost = ((κs, qs, bounds, a, (part_val p ∷ [], (uint_vals w64 m, tt))), gh) in let Post : Val → SProp 𝓤 = (walk_of 𝓛 En hs c).post y in
-    let rest : Pt.Denot = record d { count = k - 1 } in let new : Pt.Denot = record d { number = m; count = 1 } in
+    let rest : Pt.Denot = record d { count = k - 1; numbers = drop 1 d.numbers } in let new : Pt.Denot = record d { numbers = m ∷ []; count = 1 } in
     let out : Val = pair_val (part_val p) (part_val p) in let Asked : Type 0 = (1 < k) × (k ≤ 2 ^ 63) in
     let One : Type 0 = new ≡ new in let Others : Type 0 = rest ≡ rest in
     qed 𝓛 ((raw (alive 𝓛 En.signature κs qs) ⊛ ‵ (owns (types_at En.signature.params κs) a y.0.4)) ∷ raw (fact 𝓤 _) ∷ raw (fact 𝓤 Asked) ∷ []) ∵

@@ -10,7 +10,7 @@ use Rattle.am_cast.specs.Seats.{account_of}
 use Rattle.am_cast.specs.inside.Tags.{batch_of_tag}
 use Rattle.am_cast.specs.Writers.{Calm, SameAdmission}
 use Rattle.am_cast.specs.inside.Filling.{owner_of}
-use Rattle.am_cast.specs.inside.KeyRows.{BucketView, RowView, bucket_of}
+use Rattle.am_cast.specs.inside.KeyRows.{BucketView, bucket_of}
 use Rattle.am_cast.specs.inside.Waiting.{is_live}
 use Rattle.am_cast.proofs.Waiting.{gathered_same}
 use Rattle.am_cast.proofs.Filling.{filled_live, first_rest}
@@ -22,10 +22,10 @@ store-requires-clause-writer g c = let r = c.requires.writer in let f = c.fill-r
     (ap (λ (t : Tail (BatchView g.row.T.Denot g.row.P.Denot)). t.closed) f.0 ∙ r.0, omega arith, all_laid key_of c.args.self.now.known c.fill-row.new.self.known (batch_of_tag c.tag_batch-tag.result) r.2 f, filled_ready key_of c.args.self.now.known c.fill-row.new.self.known (batch_of_tag c.tag_batch-tag.result) r.2 f)
 
 pub store-requires-clause-row : goal.store-requires-clause-row
-store-requires-clause-row g c = let f = c.fill-row.ensures.writer in let r = c.fill-row.ensures.row in let log = ap (λ (t : Tail (BatchView g.row.T.Denot g.row.P.Denot)). length t.log) f.0 in let at = ap (λ (r : RowView g.row.T.Denot). r.place) c.requires.row.0 in (
-  r.0 ∙ at ∙ sym log,
+store-requires-clause-row g c = let f = c.fill-row.ensures.writer in let r = c.fill-row.ensures.row in let log = ap (λ (t : Tail (BatchView g.row.T.Denot g.row.P.Denot)). length t.log) f.0 in (
+  r.0 ∙ sym log,
   gathered_same (batch_of_tag c.tag_batch-tag.result) (λ l. is_live (account_of c.args.self.now.known l)) (λ l. is_live (account_of c.fill-row.new.self.known l)) 8 c.fill-row.result.keys (λ l h. filled_live c.args.self.now.known c.fill-row.new.self.known (batch_of_tag c.tag_batch-tag.result) l h f) r.1,
-  subst (λ (z : List (BucketView g.row.T.Denot) × ℕ). 1 ≤ (bucket_of z.0 z.1).room) (λ i. (sym c.fill-row.ensures.rows i, sym r.0 i)) c.requires.row.1,
+  subst (λ (z : List (BucketView g.row.T.Denot) × ℕ). 1 ≤ (bucket_of z.0 z.1).room) (λ i. (sym c.fill-row.ensures.rows i, sym r.0 i)) c.requires.row,
 )
 
 pub returns-clause-calm : goal.returns-clause-calm

@@ -1,0 +1,63 @@
+//! A place, and the index of its slot in each lane's ring.
+ghost use Rattle.std.specs.Prelude.{◌≡◌, ◌+◌, ◌<◌, ◌≤◌};
+ghost use Rattle.am_cast.specs.declared.limits.TheConstants.{LANES, LONGEST_LOG, MAX_PLACES};
+ghost use Rattle.am_cast.specs.Rule.{slot};
+
+use std::marker::Model;
+
+/// The index is kept beside the number, so that going on needs no division.
+#[derive(Drop)]
+pub(crate) struct RingPlace {
+    number: u64,
+    index: u64,
+    places: u64,
+}
+
+impl Model for RingPlace {
+    ghost use Rattle.am_cast.specs.inside.RingPlaces.{RingPlaceView, IsRingPlace};
+
+    ghost Value = { RingPlaceView };
+
+    ghost view = { λ r. record { number = r.number; places = r.places } };
+
+    ghost invariant = { λ r. IsRingPlace r.number r.index r.places };
+}
+
+impl RingPlace {
+    pub(crate) fn new(number: u64, places: u64) -> RingPlace
+        requires { (0 < places) × (places ≤ MAX_PLACES) }
+        ensures { result ≡ record { number = number; places = places } }
+    {
+        RingPlace {
+            number,
+            index: number % places,
+            places,
+        }
+    }
+
+    pub(crate) fn number(&self) -> u64
+        ensures { result ≡ self.now.number }
+    {
+        self.number
+    }
+
+    /// The index of the slot of the lane's key of this place.
+    pub(crate) fn slot(&self, lane: usize) -> usize
+        requires { lane < LANES }
+        ensures { result ≡ slot self.now.places lane self.now.number }
+    {
+        lane * self.places as usize + self.index as usize
+    }
+
+    /// The next place.
+    pub(crate) fn go_on(&mut self)
+        requires { self.old.number < LONGEST_LOG }
+        ensures { self.new ≡ record self.old { number = self.old.number + 1 } }
+    {
+        self.number += 1;
+        self.index += 1;
+        if self.index == self.places {
+            self.index = 0;
+        }
+    }
+}
