@@ -8,3 +8,5 @@ pub mod Printing
 pub mod FromParts
 pub mod Bodies
 pub mod Rooms
+pub mod Drafts
+pub mod Streams

@@ -1,8 +1,9 @@
 -- Alerts from their parts, for who has no JSON of them (Alertmanager's `types.Alert`, of which
 -- `provider.Alerts`' Put takes a list).
-use Rattle.std.specs.Prelude.{◌≡◌, ℕ, ◌+◌, ◌<◌, ◌≤◌, List, [], ◌∷◌, length, filter, None, Some}
+use Rattle.std.specs.Prelude.{◌≡◌, ◌≢◌, ℕ, ◌+◌, ◌<◌, ◌≤◌, List, [], ◌∷◌, length, filter, map, None, Some}
 use Rattle.std.specs.Prelude.{Result, Ok, Err}
-use Rattle.am_labels.specs.LabelSets.{last_holds}
+use Rattle.std.specs.FinMap.{get}
+use Rattle.am_labels.specs.LabelSets.{Labels, last_holds}
 use Rattle.am_alert.specs.declared.alert.Alert.{Alert}
 use Rattle.am_alert.specs.declared.alert_parts.AlertParts.{AlertParts}
 use Rattle.am_alert.specs.declared.alert_parts.PartsFault.{PartsFault}
@@ -27,29 +28,41 @@ alert_of parts = record {
   generator = parts.generator;
 }
 
+-- each label has a value
+abbrev pub HasValues : Labels → Type 0
+HasValues labels = (name : List ℕ) → get labels name ≢ Some []
+
+-- the element that a whole alert is: it is valid, or has its fault
+abbrev pub element_from : Alert → Element
+element_from alert = judged alert (fault_of alert)
+
+-- the alerts from index i on: those that are valid, and the faults of the others with their indices
+abbrev pub elements_from : ℕ → List Alert → Result Entries PostFault
+elements_from i [] = Ok ([], [])
+elements_from i (alert ∷ rest) = with_first i (element_from alert) (elements_from (i + 1) rest)
+
+-- what judging an alert answers: the alert if it has no fault, else that fault
+abbrev pub IsJudged : Alert → Result Alert PartsFault → Type 0
+IsJudged given (Ok alert) = (alert ≡ given) × (fault_of given ≡ None)
+IsJudged given (Err (parts_fault.Invalid f)) = fault_of given ≡ Some f
+IsJudged given (Err parts_fault.NoMemory) = Unit {0}
+
 -- what parts make: their alert if it has no fault (`types.Alert.Validate`, as for an alert of a post), else
 -- that fault
 abbrev pub IsAlertOf : AlertParts → Result Alert PartsFault → Type 0
-IsAlertOf parts (Ok alert) = (alert ≡ alert_of parts) × (fault_of alert ≡ None)
-IsAlertOf parts (Err (parts_fault.Invalid f)) = fault_of (alert_of parts) ≡ Some f
-IsAlertOf parts (Err parts_fault.NoMemory) = Unit {0}
+IsAlertOf parts made = IsJudged (alert_of parts) made
 
--- the element that parts are: their alert is valid, or has its fault
-abbrev pub element_from : AlertParts → Element
-element_from parts = judged (alert_of parts) (fault_of (alert_of parts))
+-- what a post of alerts is, and why it is refused as a whole
+abbrev pub IsPostOfAlerts : List Alert → Result Post PostFault → Type 0
+IsPostOfAlerts alerts (Ok post) =
+    (length alerts ≤ MAX_ALERTS) × (elements_from 0 alerts ≡ Ok (post.valid, post.faults))
+IsPostOfAlerts alerts (Err fault.TooMany) = MAX_ALERTS < length alerts
+IsPostOfAlerts alerts (Err fault.NoMemory) = length alerts ≤ MAX_ALERTS
+IsPostOfAlerts alerts (Err fault.NotJson) = ⊥
+IsPostOfAlerts alerts (Err fault.NotAnArray) = ⊥
+IsPostOfAlerts alerts (Err (fault.BadMember i)) = ⊥
+IsPostOfAlerts alerts (Err (fault.OutOfRange i)) = ⊥
 
--- the parts from index i on: the alerts that are valid, and the faults of the others with their indices
-abbrev pub elements_from : ℕ → List AlertParts → Result Entries PostFault
-elements_from i [] = Ok ([], [])
-elements_from i (one ∷ rest) = with_first i (element_from one) (elements_from (i + 1) rest)
-
--- what a post of parts is, and why it is refused as a whole
+-- what a post of parts is: that of their alerts
 abbrev pub IsPostOfParts : List AlertParts → Result Post PostFault → Type 0
-IsPostOfParts parts (Ok post) =
-    (length parts ≤ MAX_ALERTS) × (elements_from 0 parts ≡ Ok (post.valid, post.faults))
-IsPostOfParts parts (Err fault.TooMany) = MAX_ALERTS < length parts
-IsPostOfParts parts (Err fault.NoMemory) = length parts ≤ MAX_ALERTS
-IsPostOfParts parts (Err fault.NotJson) = ⊥
-IsPostOfParts parts (Err fault.NotAnArray) = ⊥
-IsPostOfParts parts (Err (fault.BadMember i)) = ⊥
-IsPostOfParts parts (Err (fault.OutOfRange i)) = ⊥
+IsPostOfParts parts post = IsPostOfAlerts (map alert_of parts) post

@@ -12,5 +12,6 @@ pub mod Posts
 pub mod Bodies
 pub mod ValidAlerts
 pub mod FromParts
+pub mod WholeAlerts
 pub mod Laws
 pub mod inside

@@ -1,16 +1,15 @@
 //! Alerts from their parts, for callers that have no JSON of them, and a post of such alerts.
 
-ghost use Rattle.std.specs.Prelude.{◌≡◌, ◌≤◌, Some, length};
-ghost use Rattle.am_alert.specs.FromParts.{IsAlertOf, IsPostOfParts};
+ghost use Rattle.std.specs.Prelude.{◌≡◌, ◌≤◌, IfOk, Some, length, map};
+ghost use Rattle.am_alert.specs.FromParts.{alert_of, IsAlertOf, IsPostOfAlerts, IsPostOfParts};
 ghost use Rattle.am_alert.specs.Printing.{parts_fault_text};
 
 use crate::alert::Alert;
 use crate::alerts::Alerts;
-use crate::elements::fault_of;
 use crate::moment::Moment;
 use crate::post::{AlertFault, Faults, MAX_ALERTS, Post, PostFault};
-use crate::postable::labels_with_values;
-use am_labels::{LabelSet, SharedText, Text};
+use crate::unjudged_alert::UnjudgedAlert;
+use am_labels::Text;
 use std::alloc::{AllocError, Global};
 use std::fmt;
 use thiserror::Error;
@@ -62,59 +61,58 @@ impl fmt::Display for PartsFault {
 }
 
 impl Alert {
-    /// The alert of these parts, if it is valid as an alert of a post has to be. It has the moment of
-    /// its report, and whether an end was reported, from the parts.
+    /// The alert of these parts, if it is valid as an alert of a post has to be.
     pub fn from_parts(alloc: Global, parts: AlertParts) -> Result<Alert, PartsFault>
         ensures { IsAlertOf parts result }
     {
-        let AlertParts {
-            labels,
-            annotations,
-            start,
-            end,
-            updated,
-            timeout,
-            generator,
-        } = parts;
-        let alert = Alert {
-            labels: labels_with_values(alloc, labels)?,
-            annotations: LabelSet::from_texts(alloc, annotations)?,
-            start,
-            end,
-            updated,
-            timeout,
-            generator: SharedText::from_text(alloc, generator)?,
-        };
-        match fault_of(&alert) {
-            Some(fault) => Err(PartsFault::Invalid(fault)),
-            None => Ok(alert),
-        }
+        UnjudgedAlert::from_parts(alloc, parts)?.judge()
     }
 }
 
 impl Post {
-    /// A post of these alerts: the valid ones, and the faults of the others with their indices.
+    /// A post of these alerts: the valid ones, and the faults of the others with their indices. It shares
+    /// their texts.
+    pub fn from_alerts(alloc: Global, alerts: &[UnjudgedAlert]) -> Result<Post, PostFault>
+        ensures { IsPostOfAlerts alerts.now result }
+    {
+        if alerts.len() > MAX_ALERTS {
+            return Err(PostFault::TooMany);
+        }
+        judge_each(alloc, alerts)
+    }
+
+    /// A post of the alerts of these parts.
     pub fn from_parts(alloc: Global, parts: Vec<AlertParts>) -> Result<Post, PostFault>
         ensures { IsPostOfParts parts.items result }
     {
         if parts.len() > MAX_ALERTS {
             return Err(PostFault::TooMany);
         }
-        make_each(alloc, parts)
+        Post::from_alerts(alloc, &unjudged(alloc, parts)?)
     }
 }
 
-// The alerts in order.
-fn make_each(alloc: Global, parts: Vec<AlertParts>) -> Result<Post, PostFault>
-    requires { length parts.items ≤ MAX_ALERTS }
-    ensures { IsPostOfParts parts.items result }
+fn unjudged(alloc: Global, parts: Vec<AlertParts>) -> Result<Vec<UnjudgedAlert>, AllocError>
+    ensures { IfOk result (λ alerts. alerts.items ≡ map alert_of parts.items) }
 {
-    let mut valid = Vec::with_capacity(alloc, parts.len())?;
-    let mut faults = Vec::new(alloc);
+    let mut alerts = Vec::with_capacity(alloc, parts.len())?;
     for one in parts {
+        alerts.push(UnjudgedAlert::from_parts(alloc, one)?)?;
+    }
+    Ok(alerts)
+}
+
+// The alerts in order.
+fn judge_each(alloc: Global, alerts: &[UnjudgedAlert]) -> Result<Post, PostFault>
+    requires { length alerts.now ≤ MAX_ALERTS }
+    ensures { IsPostOfAlerts alerts.now result }
+{
+    let mut valid = Vec::with_capacity(alloc, alerts.len())?;
+    let mut faults = Vec::new(alloc);
+    for alert in alerts {
         // Each alert before this one is valid or has a fault.
         let i = (valid.len() + faults.len()) as u32;
-        match Alert::from_parts(alloc, one) {
+        match alert.judge() {
             Ok(alert) => valid.push(alert)?,
             Err(PartsFault::Invalid(fault)) => faults.push((i, fault))?,
             Err(PartsFault::NoMemory) => return Err(PostFault::NoMemory),

@@ -4,6 +4,7 @@ ghost use Rattle.std.specs.Prelude.{◌≡◌, ◌≤◌, IfOk, length};
 ghost use Rattle.std.specs.Duration.{as_nanos};
 ghost use Rattle.serde_json.specs.View.{view, items_view};
 ghost use Rattle.am_alert.specs.Postables.{postable_of};
+ghost use Rattle.am_alert.specs.inside.Given.{IsGiven};
 ghost use Rattle.am_alert.specs.Posts.{defaulted, element_of, entries_of, fault_of, postables_of, ReadsEach};
 
 use crate::alert::Alert;
@@ -49,6 +50,14 @@ impl Model for Elements {
 }
 
 impl Elements {
+    /// Those that were read, no more than a post may have.
+    pub(crate) fn new(elements: Vec<Option<Postable>>) -> Elements
+        requires { IsGiven elements.items }
+        ensures { result ≡ elements.items }
+    {
+        Elements { elements }
+    }
+
     /// Those of an array of values.
     pub(crate) fn read(alloc: Global, values: Vec<Value>) -> Result<Elements, AllocError>
         requires { length values.items ≤ MAX_ALERTS }

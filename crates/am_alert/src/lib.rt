@@ -20,8 +20,10 @@
 mod alert;
 mod alert_parts;
 mod alerts;
+mod array_reader;
 mod body;
 mod civil_time;
+mod draft;
 mod elements;
 mod laws;
 mod merging;
@@ -30,6 +32,7 @@ mod post;
 mod post_reader;
 mod postable;
 mod time_text;
+mod unjudged_alert;
 
 pub use alert::Alert;
 pub use alert_parts::{AlertParts, PartsFault};
@@ -43,3 +46,4 @@ pub use moment::Moment;
 pub use post::{AlertFault, Faults, MAX_ALERTS, MAX_BYTES, Post, PostFault};
 pub use post_reader::read_post;
 pub use time_text::{TimeFault, read_time};
+pub use unjudged_alert::UnjudgedAlert;

@@ -3,16 +3,18 @@
 //!
 //! For one bad element the whole post is refused; an invalid alert affects no other.
 
-ghost use Rattle.std.specs.Prelude.{◌≤◌, length};
+ghost use Rattle.std.specs.Prelude.{◌<◌, ◌≤◌, IfOk, IfSome, IsUtf8, OnErr, length};
 ghost use Rattle.std.specs.Duration.{as_nanos};
 ghost use Rattle.serde_json.specs.View.{items_view};
 ghost use Rattle.am_alert.specs.Posts.{elements_of, IsPostOf, ReadsEach};
+ghost use Rattle.am_alert.specs.inside.Streams.{IsArrayOf};
 
+use crate::array_reader::read_array;
 use crate::elements::Elements;
 use crate::moment::Moment;
 use crate::post::{MAX_ALERTS, MAX_BYTES, Post, PostFault};
 use serde_json::Value;
-use std::alloc::Global;
+use std::alloc::{AllocError, Global};
 use std::time::Duration;
 
 /// The alerts and faults of a post's bytes, or why it is refused as a whole. `now` is the post's
@@ -28,6 +30,36 @@ pub fn read_post(
     if bytes.len() > MAX_BYTES {
         return Err(PostFault::TooMany);
     }
+    match read_directly(alloc, bytes)? {
+        Some(elements) => match elements.post(alloc, now, resolve_timeout) {
+            Ok(post) => Ok(post),
+            Err(e) => Err(e),
+        },
+        None => read_as_value(alloc, bytes, now, resolve_timeout),
+    }
+}
+
+// The elements of the array that some bytes are the text of, or none if it isn't written as clients write it.
+fn read_directly(alloc: Global, bytes: &[u8]) -> Result<Option<Elements>, AllocError>
+    ensures read { IfOk result (λ read. IfSome read (λ elements. IsUtf8 bytes.now × IsArrayOf bytes.now elements)) }
+    ensures memory { OnErr result (0 < length bytes.now) }
+{
+    match str::from_utf8(bytes) {
+        Ok(text) if !text.is_empty() => read_array(alloc, text),
+        _ => Ok(None),
+    }
+}
+
+// The same of any bytes, by the value that their JSON is.
+fn read_as_value(
+    alloc: Global,
+    bytes: &[u8],
+    now: Moment,
+    resolve_timeout: Duration,
+) -> Result<Post, PostFault>
+    requires { length bytes.now ≤ MAX_BYTES }
+    ensures { IsPostOf now (as_nanos resolve_timeout) bytes.now result }
+{
     let value = match Value::from_slice(alloc, bytes) {
         Ok(value) => value,
         Err(e) => {

@@ -88,7 +88,8 @@ fn take(members: &mut Map<String, Value>, name: &str) -> Option<Value>
     }
 }
 
-fn remove(members: &mut Map<String, Value>, name: &str) -> Option<Value>
+// A member, which is removed from the object.
+pub(crate) fn remove(members: &mut Map<String, Value>, name: &str) -> Option<Value>
     ensures member { option_map view result
         ≡ get_member name.now (members_view members.old.entries) }
     ensures others { (other : List ℕ) → (other ≡ name.now → ⊥)
@@ -109,7 +110,8 @@ fn given<'v>(members: &'v Map<String, Value>, name: &str) -> Option<&'v Value>
     }
 }
 
-fn get<'v>(members: &'v Map<String, Value>, name: &str) -> Option<&'v Value>
+// A member.
+pub(crate) fn get<'v>(members: &'v Map<String, Value>, name: &str) -> Option<&'v Value>
     ensures { option_map (λ v. view v.now) result
         ≡ get_member name.now (members_view members.now.entries) }
 {
@@ -176,7 +178,7 @@ fn time_at(members: &Map<String, Value>, name: &str) -> Result<Option<Moment>, M
 }
 
 // Names and values, from an object of texts.
-fn pairs_from(alloc: Global, value: Value) -> Result<Vec<(Text, Text)>, MemberFault>
+pub(crate) fn pairs_from(alloc: Global, value: Value) -> Result<Vec<(Text, Text)>, MemberFault>
     ensures { Reads (λ v. v.items) result (texts_of (view value)) }
 {
     let Value::Object(members) = value else {

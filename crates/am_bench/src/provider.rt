@@ -2,7 +2,8 @@
 //!
 //! Each poster posts POSTS bodies of ALERTS alerts, with LABELS label sets in turn, and has the journal
 //! trimmed after each TRIM posts, or never if that is 0. The readers read meanwhile. With `ready` there
-//! is one poster, and its posts were read before.
+//! is one poster, and its posts were read before. With `full` the alerts of the bodies are such as
+//! Prometheus posts: ten labels, an annotation, a start and a generator, where the others have four labels.
 
 ghost use Rattle.std.specs.Prelude.{◌≡◌, ◌+◌, ◌<◌, ◌≤◌};
 ghost use Rattle.am_provider.specs.declared.answers.Policy.TheVariants.{Refuse};
@@ -28,10 +29,33 @@ use std::{io, thread};
 // 2024-01-01T00:00:00Z, in nanoseconds since 0001-01-01T00:00:00Z.
 const NEW_YEAR: u128 = 63_839_664_000_000_000_000;
 
+/// What is posted.
+#[derive(Clone, Copy, Debug, Drop, PartialEq, Eq)]
+enum Kind {
+    /// Posts that were read before.
+    Ready,
+    /// Bodies of alerts of four labels.
+    Bytes,
+    /// Bodies of alerts as Prometheus posts them.
+    Full,
+}
+
+impl Kind {
+    fn read(word: &str) -> Kind {
+        if word == "ready" {
+            Kind::Ready
+        } else if word == "full" {
+            Kind::Full
+        } else {
+            Kind::Bytes
+        }
+    }
+}
+
 /// How much is posted, by how many posters, and to how many readers.
 #[derive(Clone, Copy, Debug, Drop)]
 pub(crate) struct Load {
-    ready: bool,
+    kind: Kind,
     posters: u32,
     readers: u32,
     posts: u64,
@@ -43,7 +67,7 @@ pub(crate) struct Load {
 
 impl Load {
     pub(crate) fn read(words: &[String]) -> Option<Load> {
-        let ready = words.first()?.as_str() == "ready";
+        let kind = Kind::read(words.first()?.as_str());
         let posters = small_number(words, 1)?;
         let readers = small_number(words, 2)?;
         let posts = number(words, 3)?;
@@ -57,7 +81,7 @@ impl Load {
             return None;
         }
         Some(Load {
-            ready,
+            kind,
             posters,
             readers,
             posts,
@@ -70,7 +94,7 @@ impl Load {
     /// Two posters and two readers of a few posts, with trims.
     pub(crate) fn small() -> Load {
         Load {
-            ready: false,
+            kind: Kind::Bytes,
             posters: 2,
             readers: 2,
             posts: 100,
@@ -116,13 +140,32 @@ fn body_of(alloc: Global, first: u64, load: Load) -> Result<String, AllocError> 
     for at in 0..load.alerts {
         let begin = if at == 0 { '[' } else { ',' };
         let host = first.wrapping_add(at) % load.labels;
-        write!(
-            body,
-            "{begin}{{\"labels\":{{\"alertname\":\"DiskFull\",\"instance\":\"host-{host}\",\"job\":\"node\",\"severity\":\"page\"}}}}"
-        )?;
+        match load.kind {
+            Kind::Full => write_full(&mut body, begin, host)?,
+            Kind::Ready | Kind::Bytes => write!(
+                body,
+                "{begin}{{\"labels\":{{\"alertname\":\"DiskFull\",\"instance\":\"host-{host}\",\"job\":\"node\",\"severity\":\"page\"}}}}"
+            )?,
+        }
     }
     body.push(']')?;
     Ok(body)
+}
+
+// An alert as Prometheus posts it, behind a character.
+fn write_full(body: &mut String, begin: char, host: u64) -> Result<(), AllocError> {
+    write!(
+        body,
+        "{begin}{{\"labels\":{{\"alertname\":\"DiskFull\",\"cluster\":\"eu-1\",\"container\":\"node-exporter\",\"endpoint\":\"metrics\",\"instance\":\"host-{host}\","
+    )?;
+    write!(
+        body,
+        "\"job\":\"node\",\"namespace\":\"monitoring\",\"pod\":\"node-exporter-{host}\",\"service\":\"node-exporter\",\"severity\":\"page\"}},"
+    )?;
+    write!(
+        body,
+        "\"annotations\":{{\"summary\":\"the disk of host-{host} is full\"}},\"startsAt\":\"2024-01-01T00:00:00Z\",\"generatorURL\":\"http://prometheus.example.org:9090/graph\"}}"
+    )
 }
 
 // As many bodies as there are label sets. Each continues with the label set after the last one of
@@ -459,7 +502,7 @@ fn run<R: Threads + Wait + Clock + Sync>(
     load: Load,
 ) -> Result<Measured, AllocError> {
     let bodies = bodies_of(alloc, load)?;
-    if load.ready {
+    if load.kind == Kind::Ready {
         let posts = read_posts(alloc, &bodies, load)?;
         let parts = Parts::make(alloc, MAX_PLACES as u32, 1)?;
         return run_ready::<Brand, R>(rt, alloc, parts, posts, load);

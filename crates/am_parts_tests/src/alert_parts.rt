@@ -4,7 +4,8 @@
 use crate::expectation::expect;
 use crate::posts::moment;
 use am_alert::{
-    Alert, AlertFault, AlertParts, MAX_ALERTS, Moment, PartsFault, Post, PostFault, read_post,
+    Alert, AlertFault, AlertParts, MAX_ALERTS, Moment, PartsFault, Post, PostFault, UnjudgedAlert,
+    read_post,
 };
 use am_labels::Text;
 use std::alloc::{AllocError, Global};
@@ -154,4 +155,28 @@ fn an_alert_from_parts_is_the_posted_one(rt: HostRuntime) -> Result<(), Fail> {
         Some(alert) => expect(*alert == made, "they differ"),
         None => Err(Fail::from("the body has no valid alert")),
     }
+}
+
+fn unjudged(alloc: Global) -> Result<Vec<UnjudgedAlert>, Fail> {
+    let mut alerts = Vec::new(alloc);
+    for parts in faulty_parts(alloc)? {
+        alerts.push(UnjudgedAlert::from_parts(alloc, parts)?)?;
+    }
+    Ok(alerts)
+}
+
+#[test]
+fn alerts_are_posted_again(rt: HostRuntime) -> Result<(), Fail> {
+    let alerts = unjudged(rt.alloc())?;
+    let (Ok(post), Ok(again)) = (
+        Post::from_alerts(rt.alloc(), &alerts),
+        Post::from_alerts(rt.alloc(), &alerts),
+    ) else {
+        return Err(Fail::from("a post is refused"));
+    };
+    assert_eq!(rt; post.valid.as_slice().len(), 1);
+    assert_eq!(rt; post.faults.as_slice().len(), 3);
+    assert!(rt; post.valid.as_slice() == again.valid.as_slice());
+    assert!(rt; post.faults.as_slice() == again.faults.as_slice());
+    Ok(())
 }

@@ -1,7 +1,8 @@
-//! Reading a post: its limits.
+//! Reading a post: its limits, and that what is written otherwise is read alike.
 
 use crate::expectation::expect;
-use am_alert::{Moment, Post, PostFault, TimeFault, read_post, read_time};
+use am_alert::{Alert, Moment, Post, PostFault, TimeFault, read_post, read_time};
+use am_labels::{LabelSet, SharedText, Text};
 use std::alloc::Global;
 use std::test::Fail;
 use std::time::Duration;
@@ -184,4 +185,83 @@ fn last_moment(rt: HostRuntime) -> Result<(), Fail> {
     assert!(rt; Moment::try_new(last.nanoseconds()) == Some(last));
     assert!(rt; Moment::try_new(last.nanoseconds() + 1).is_none());
     Ok(())
+}
+
+// Bodies of one alert: as clients write it, with its members in another order and characters escaped, and then
+// with names out of order, with a label twice, with null for a member, with a member that isn't a text, and
+// with all of these.
+const WRITINGS: [&str; 7] = [
+    "[{\"labels\":{\"a\":\"1\",\"b\":\"2\"},\"annotations\":{\"n\":\"\"},\"startsAt\":\"2024-01-01T09:00:00Z\"}]",
+    "[ {\"x\":\"y\",\"startsAt\":\"2024-01-01T09:00:00Z\",\"annotations\":{\"n\":\"\"},\
+     \"labels\":{\"\\u0061\":\"\\u0031\",\"b\":\"2\",\"c\":\"\"}} ] ",
+    "[{\"labels\":{\"b\":\"2\",\"a\":\"1\"},\"annotations\":{\"n\":\"\"},\"startsAt\":\"2024-01-01T09:00:00Z\"}]",
+    "[{\"labels\":{\"a\":\"0\",\"a\":\"1\",\"b\":\"2\"},\"annotations\":{\"n\":\"\"},\"startsAt\":\"2024-01-01T09:00:00Z\"}]",
+    "[{\"labels\":{\"a\":\"1\",\"b\":\"2\"},\"annotations\":{\"n\":\"\"},\"startsAt\":\"2024-01-01T09:00:00Z\",\"endsAt\":null}]",
+    "[{\"labels\":{\"a\":\"1\",\"b\":\"2\"},\"annotations\":{\"n\":\"\"},\"startsAt\":\"2024-01-01T09:00:00Z\",\"x\":[1.5]}]",
+    "[{\"x\":{},\"endsAt\":null,\"labels\":{\"z\":\"1\"},\"annotations\":{\"n\":\"\"},\"startsAt\":\"2024-01-01T09:00:00Z\",\
+     \"labels\":{\"b\":\"2\",\"a\":\"0\",\"a\":\"1\"}}]",
+];
+
+// Whether a body has this alert alone.
+fn is_alert(alloc: Global, body: &str, alert: &Alert) -> Result<bool, Fail> {
+    match read(alloc, body)? {
+        Ok(post) => match post.valid.as_slice() {
+            [only] => Ok(*only == *alert && post.faults.as_slice().is_empty()),
+            _ => Ok(false),
+        },
+        Err(_) => Ok(false),
+    }
+}
+
+// The alert that the bodies have.
+fn written(alloc: Global) -> Result<Alert, Fail> {
+    let now = moment("2024-01-01T10:00:00Z")?;
+    let mut labels = Vec::new(alloc);
+    labels.push((Text::from_str(alloc, "a")?, Text::from_str(alloc, "1")?))?;
+    labels.push((Text::from_str(alloc, "b")?, Text::from_str(alloc, "2")?))?;
+    let mut annotations = Vec::new(alloc);
+    annotations.push((Text::from_str(alloc, "n")?, Text::from_str(alloc, "")?))?;
+    Ok(Alert {
+        labels: LabelSet::from_texts(alloc, labels)?,
+        annotations: LabelSet::from_texts(alloc, annotations)?,
+        start: moment("2024-01-01T09:00:00Z")?,
+        end: moment("2024-01-01T10:05:00Z")?,
+        updated: now,
+        timeout: true,
+        generator: SharedText::new(),
+    })
+}
+
+#[test]
+fn writings_of_one_alert(rt: HostRuntime) -> Result<(), Fail> {
+    let alloc = rt.alloc();
+    let alert = written(alloc)?;
+    for body in WRITINGS {
+        assert!(rt; is_alert(alloc, body, &alert)?, "{body}");
+    }
+    Ok(())
+}
+
+// An alert with a label, 1,023 without, and what follows them, as no client writes it: it is read as a value.
+fn other_alerts_and(alloc: Global, end: &str) -> Result<String, Fail> {
+    let mut body = repeated(alloc, "[{\"endsAt\":null,\"labels\":{\"a\":\"1\"}}", 1)?;
+    body.push_str(repeated(alloc, ",{\"labels\":{}}", 1_023)?.as_str())?;
+    body.push_str(end)?;
+    Ok(body)
+}
+
+fn are_all_others_read(alloc: Global) -> Result<bool, Fail> {
+    let body = other_alerts_and(alloc, "]")?;
+    is_read(alloc, body.as_str(), 1, 1_023)
+}
+
+fn is_one_other_too_many(alloc: Global) -> Result<bool, Fail> {
+    let body = other_alerts_and(alloc, ",{\"labels\":{}}]")?;
+    is_refused(alloc, body.as_str(), PostFault::TooMany)
+}
+
+#[test]
+fn number_of_alerts_read_as_a_value(rt: HostRuntime) -> Result<(), Fail> {
+    expect(are_all_others_read(rt.alloc())?, "other alerts or faults")?;
+    expect(is_one_other_too_many(rt.alloc())?, "one more is read")
 }

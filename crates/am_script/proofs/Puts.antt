@@ -5,7 +5,8 @@ use Rattle.serde_json.specs.Data.{Data, Items, item, Members, member}
 use Rattle.serde_json.specs.Find.{as_str}
 use Rattle.am_alert.specs.Postables.{pairs_of}
 use Rattle.am_alert.specs.declared.alert.Alert.{Alert}
-use Rattle.am_script.specs.Puts.{alert_in, alerts_in}
+use Rattle.am_alert.specs.WholeAlerts.{alert_in}
+use Rattle.am_script.specs.Puts.{alerts_in}
 
 joined : {A : Type 0} (front : List A) (one : A) (rest : Option (List A)) → option_map (λ more. (front ++ one ∷ []) ++ more) rest ≡ option_map (λ more. front ++ more) (option_map (λ more. one ∷ more) rest)
 joined front one None = refl

@@ -68,7 +68,7 @@ impl Member {
                 Some(_) => Ok(()),
                 None => Err(LineFault::BadLine),
             },
-            Member::Alerts => alerts_at(alloc, value).map(drop),
+            Member::Alerts => alerts_at(alloc, value.clone()?).map(drop),
             Member::Name => name_at(alloc, value).map(drop),
             Member::Kind => kind_at(value).map(drop),
             Member::Max => max_at(value).map(drop),

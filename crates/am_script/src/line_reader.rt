@@ -1,18 +1,17 @@
 //! Reading the command of one line: its JSON, then its members in their order.
 
-ghost use Rattle.std.specs.Prelude.{◌≡◌, codes, option_map};
-ghost use Rattle.serde_json.specs.Find.{get, get_member};
-ghost use Rattle.serde_json.specs.View.{view, members_view};
+ghost use Rattle.serde_json.specs.View.{view};
 ghost use Rattle.am_script.specs.Commands.{command_for, command_of};
 ghost use Rattle.am_script.specs.Commands.{IsCommandOf, IsLineFrom, IsLineOf, ReadsCommand};
 
 use crate::command::{Command, Line, LineFault, Verb};
 use crate::members::{
-    given_moment_at, kind_at, labels_at, max_at, moment_at, name_at, thread_at, verb_at,
+    given_moment_at, kind_at, labels_at, max_at, moment_at, name_at, take_member, thread_at,
+    verb_at,
 };
 use crate::put_reader::alerts_at;
 use am_alert::Body;
-use serde_json::{Map, Value};
+use serde_json::Value;
 use std::alloc::Global;
 
 /// The command of a line.
@@ -65,7 +64,7 @@ fn command_for(alloc: Global, value: Value, verb: Verb) -> Result<Command, LineF
 {
     match verb {
         Verb::Post => post_of(alloc, value),
-        Verb::Put => put_of(alloc, &value),
+        Verb::Put => put_of(alloc, value),
         Verb::Subscribe => subscribe_of(alloc, &value),
         Verb::Read => read_of(alloc, &value),
         Verb::Leave => leave_of(alloc, &value),
@@ -88,36 +87,19 @@ fn post_of(alloc: Global, value: Value) -> Result<Command, LineFault>
         (λ body. command_for body (view value) Verb.Post) }
 {
     let at = moment_at(&value, "at")?;
-    let Some(given) = body_at(value) else {
+    let Some(given) = take_member(value, "body") else {
         return Err(LineFault::BadLine);
     };
     let body = Body::of(alloc, given)?;
     Ok(Command::Post { at, body })
 }
 
-// A post's body, taken out of its line.
-fn body_at(value: Value) -> Option<Value>
-    ensures { option_map view result ≡ get (codes "body") (view value) }
-{
-    match value {
-        Value::Object(members) => member(members, "body"),
-        _ => None,
-    }
-}
-
-fn member(members: Map<String, Value>, name: &str) -> Option<Value>
-    ensures { option_map view result ≡ get_member name.now (members_view members.entries) }
-{
-    let mut members = members;
-    members.remove(name)
-}
-
 #[tactic(auto, unfolding(crate::specs::Commands::command_for))]
-fn put_of(alloc: Global, value: &Value) -> Result<Command, LineFault>
-    ensures { ReadsCommand (view value.now) result
-        (λ body. command_for body (view value.now) Verb.Put) }
+fn put_of(alloc: Global, value: Value) -> Result<Command, LineFault>
+    ensures { ReadsCommand (view value) result
+        (λ body. command_for body (view value) Verb.Put) }
 {
-    let at = moment_at(value, "at")?;
+    let at = moment_at(&value, "at")?;
     let alerts = alerts_at(alloc, value)?;
     Ok(Command::Put { at, alerts })
 }

@@ -1,6 +1,7 @@
 //! The members of a line: what each has to be.
 
 ghost use Rattle.std.specs.Prelude.{◌≡◌, ◌≤◌, IfOk, option_map};
+ghost use Rattle.serde_json.specs.Find.{get, get_member};
 ghost use Rattle.serde_json.specs.View.{view, members_view};
 ghost use Rattle.am_script.specs.Commands.{kind_of, labels_at, max_of, name_of, number_member};
 ghost use Rattle.am_script.specs.Commands.{given_moment_of, label_set_of, thread_of, verb_at, verb_of};
@@ -112,6 +113,23 @@ fn kind_named(word: &str) -> Option<Kind>
     } else {
         None
     }
+}
+
+/// A member, taken out of its line.
+pub(crate) fn take_member(value: Value, name: &str) -> Option<Value>
+    ensures { option_map view result ≡ get name.now (view value) }
+{
+    match value {
+        Value::Object(members) => member(members, name),
+        _ => None,
+    }
+}
+
+fn member(members: Map<String, Value>, name: &str) -> Option<Value>
+    ensures { option_map view result ≡ get_member name.now (members_view members.entries) }
+{
+    let mut members = members;
+    members.remove(name)
 }
 
 // A member that is a text.

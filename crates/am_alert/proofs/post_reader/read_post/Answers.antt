@@ -1,32 +1,24 @@
-use Rattle.std.proofs.Common.{◌≡◌, length, map, sym, ap, ◌∙◌, arith, rules, vec_len}
+use Rattle.std.proofs.Common.{List, Option, Ok, Err, subst, arith, rules}
+use Rattle.std.specs.Prelude.{IsUtf8}
 use Rattle.std.specs.Duration.{as_nanos}
-use Rattle.std.proofs.lemmas.List.{length-map}
-use Rattle.serde_json.specs.Find.{as_array}
-use Rattle.serde_json.specs.View.{view}
-use Rattle.serde_json.proofs.Views.{view-Array}
-use Rattle.am_alert.proofs.Arrays.{some_bytes, post_many, post_ok, post_err}
+use Rattle.am_alert.specs.Posts.{entries_of, IsArray, ReadsEach}
+use Rattle.am_alert.specs.inside.Streams.{IsArrayOf}
+use Rattle.am_alert.specs.declared.postable.Postable.{Postable}
+use Rattle.am_alert.proofs.Bodies.{elements_are_read}
 use Rattle.am_alert.proofs.post_reader.read_post.Goals as goal
 
-pub returns-then-len-gt-MAX_ALERTS : goal.returns-then-len-gt-MAX_ALERTS
-returns-then-len-gt-MAX_ALERTS c =
-    let values = c.in-Array.elements in
-    let long : vec_len values ≡ length values.items = search rules in
-    let array = sym (ap (λ value. as_array (view value)) c.in-Array.is ∙ ap as_array (view-Array values)) in
-    post_many c.args.bytes.now (view c.in-Ok.value) (map view values.items) (omega arith) c.in-Ok.ensures.ok.0 c.in-Ok.ensures.ok.1 array
-    (omega (arith, long, length-map values.items view))
+pub returns-in-Ok : goal.returns-in-Ok
+returns-in-Ok c =
+    let timeout = as_nanos c.args.resolve_timeout in
+    let read : IsUtf8 c.args.bytes.now × IsArrayOf c.args.bytes.now c.in-Some.elements = search rules in
+    let array : IsArray c.args.bytes.now read.1.0 = (omega arith, read.0, read.1.1) in
+    elements_are_read c.args.now timeout c.args.bytes.now read.1.0 (Ok c.in-Ok.post) array read.1.2
+    (subst (λ (elements : List (Option Postable)). ReadsEach (Ok c.in-Ok.post) (entries_of c.args.now timeout 0 elements)) read.1.3 c.in-Ok.ensures)
 
-pub returns-in-Ok-read_elements : goal.returns-in-Ok-read_elements
-returns-in-Ok-read_elements c =
-    let values = c.in-Array.elements in
-    let long : vec_len values ≡ length values.items = search rules in
-    let array = sym (ap (λ value. as_array (view value)) c.in-Array.is ∙ ap as_array (view-Array values)) in
-    post_ok c.args.now (as_nanos c.args.resolve_timeout) c.args.bytes.now (view c.in-Ok.value) (map view values.items) c.in-Ok-read_elements.post (omega arith) c.in-Ok.ensures.ok.0 c.in-Ok.ensures.ok.1 array
-    (omega (arith, long, length-map values.items view)) c.in-Ok-read_elements.ensures
-
-pub returns-in-Err-read_elements : goal.returns-in-Err-read_elements
-returns-in-Err-read_elements c =
-    let values = c.in-Array.elements in
-    let long : vec_len values ≡ length values.items = search rules in
-    let array = sym (ap (λ value. as_array (view value)) c.in-Array.is ∙ ap as_array (view-Array values)) in
-    post_err c.args.now (as_nanos c.args.resolve_timeout) c.args.bytes.now (view c.in-Ok.value) (map view values.items) c.in-Err-read_elements.e (some_bytes c.args.bytes.now (view c.in-Ok.value) c.in-Ok.ensures.ok.1) (omega arith) c.in-Ok.ensures.ok.0 c.in-Ok.ensures.ok.1 array
-    (omega (arith, long, length-map values.items view)) c.in-Err-read_elements.ensures
+pub returns-in-Some : goal.returns-in-Some
+returns-in-Some c =
+    let timeout = as_nanos c.args.resolve_timeout in
+    let read : IsUtf8 c.args.bytes.now × IsArrayOf c.args.bytes.now c.in-Some.elements = search rules in
+    let array : IsArray c.args.bytes.now read.1.0 = (omega arith, read.0, read.1.1) in
+    elements_are_read c.args.now timeout c.args.bytes.now read.1.0 (Err c.in-Err.e) array read.1.2
+    (subst (λ (elements : List (Option Postable)). ReadsEach (Err c.in-Err.e) (entries_of c.args.now timeout 0 elements)) read.1.3 c.in-Err.ensures)

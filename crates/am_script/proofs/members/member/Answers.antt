@@ -2,7 +2,7 @@ use Rattle.std.proofs.Common.{ap, ◌∙◌}
 use Rattle.std.specs.Prelude.{option_map}
 use Rattle.serde_json.specs.View.{view}
 use Rattle.serde_json.proofs.Views.{view-lookup}
-use Rattle.am_script.proofs.line_reader.member.Goals as goal
+use Rattle.am_script.proofs.members.member.Goals as goal
 
 pub returns : goal.returns
 returns c = ap (option_map view) c.remove.ensures.value ∙ view-lookup c.args.name.now c.args.members.entries

@@ -1,0 +1,179 @@
+//! A whole alert that wasn't judged yet, from its parts or from the JSON that `types.Alert` is written as.
+
+ghost use Rattle.std.specs.Prelude.{◌≡◌, [], IfOk, false, option_and_then, option_map};
+ghost use Rattle.serde_json.specs.Data.{object};
+ghost use Rattle.serde_json.specs.Find.{as_bool, as_str};
+ghost use Rattle.serde_json.specs.View.{members_view, view};
+ghost use Rattle.am_alert.specs.FromParts.{alert_of, IsJudged};
+ghost use Rattle.am_alert.specs.Postables.{Reads, if_given, texts_of};
+ghost use Rattle.am_alert.specs.ValidAlerts.{IsWellFormed};
+ghost use Rattle.am_alert.specs.WholeAlerts.{alert_in, moment_at};
+
+use crate::alert::Alert;
+use crate::alert_parts::{AlertParts, PartsFault};
+use crate::elements::fault_of;
+use crate::moment::Moment;
+use crate::postable::{MemberFault, get, labels_with_values, pairs_from, remove};
+use crate::time_text::{TimeFault, read_time};
+use am_labels::{LabelSet, SharedText, Text};
+use serde_json::{Map, Value};
+use std::alloc::{AllocError, Global};
+use std::marker::Model;
+
+/// An alert that wasn't judged yet, and so may have a fault, as one that ends before it starts. Each of its
+/// labels has a value. Contracts see it as the alert.
+#[derive(Debug, Drop)]
+pub struct UnjudgedAlert {
+    alert: Alert,
+}
+
+impl Model for UnjudgedAlert {
+    ghost use Rattle.am_alert.specs.Alerts.{coded_alert};
+    ghost use Rattle.am_alert.specs.FromParts.{HasValues};
+    ghost use Rattle.am_alert.specs.declared.alert.Alert.{Alert};
+
+    ghost Value = { Alert };
+
+    ghost coded = { coded_alert };
+
+    ghost view = { λ a. a.alert };
+
+    ghost invariant = { λ a. HasValues a.alert.labels };
+}
+
+impl UnjudgedAlert {
+    /// The alert of these parts. It has the moment of its report, and whether an end was reported, from
+    /// the parts.
+    pub fn from_parts(alloc: Global, parts: AlertParts) -> Result<UnjudgedAlert, AllocError>
+        ensures { IfOk result (λ alert. alert ≡ alert_of parts) }
+    {
+        let AlertParts {
+            labels,
+            annotations,
+            start,
+            end,
+            updated,
+            timeout,
+            generator,
+        } = parts;
+        Ok(UnjudgedAlert {
+            alert: Alert {
+                labels: labels_with_values(alloc, labels)?,
+                annotations: LabelSet::from_texts(alloc, annotations)?,
+                start,
+                end,
+                updated,
+                timeout,
+                generator: SharedText::from_text(alloc, generator)?,
+            },
+        })
+    }
+
+    /// The alert of an object's members: `labels`, `annotations`, `startsAt`, `endsAt`, `updatedAt`,
+    /// `timeout` and `generatorURL`. None if one that is needed is missing, or one isn't readable.
+    pub fn read(alloc: Global, element: Value) -> Result<Option<UnjudgedAlert>, AllocError>
+        ensures { IfOk result (λ read. read ≡ alert_in (view element)) }
+    {
+        match read_parts(alloc, element) {
+            Ok(parts) => Ok(Some(UnjudgedAlert::from_parts(alloc, parts)?)),
+            Err(MemberFault::Bad) => Ok(None),
+            Err(MemberFault::NoMemory) => Err(AllocError),
+        }
+    }
+
+    /// The alert, which shares its texts with this one, if it is valid as an alert of a post has to be.
+    pub fn judge(&self) -> Result<Alert, PartsFault>
+        ensures judged { IsJudged self.now result }
+        ensures well_formed { IfOk result IsWellFormed }
+    {
+        match fault_of(&self.alert) {
+            Some(fault) => Err(PartsFault::Invalid(fault)),
+            None => Ok(self.alert.copy()?),
+        }
+    }
+}
+
+#[tactic(auto, unfolding(crate::specs::WholeAlerts::alert_in))]
+fn read_parts(alloc: Global, element: Value) -> Result<AlertParts, MemberFault>
+    ensures { Reads alert_of result (alert_in (view element)) }
+{
+    let Value::Object(mut members) = element else {
+        return Err(MemberFault::Bad);
+    };
+    let start = moment_at(&members, "startsAt")?;
+    let end = moment_at(&members, "endsAt")?;
+    let updated = moment_at(&members, "updatedAt")?;
+    let timeout = timeout_of(get(&members, "timeout"))?;
+    let labels = labels_of(alloc, remove(&mut members, "labels"))?;
+    let annotations = annotations_of(alloc, remove(&mut members, "annotations"))?;
+    let generator = generator_of(alloc, remove(&mut members, "generatorURL"))?;
+    Ok(AlertParts {
+        labels,
+        annotations,
+        start,
+        end,
+        updated,
+        timeout,
+        generator,
+    })
+}
+
+// The moment of a member, which isn't absent.
+fn moment_at(members: &Map<String, Value>, name: &str) -> Result<Moment, MemberFault>
+    ensures { Reads (λ moment. moment) result
+        (moment_at name.now (object (members_view members.now.entries))) }
+{
+    let Some(value) = get(members, name) else {
+        return Err(MemberFault::Bad);
+    };
+    let Some(text) = value.as_str() else {
+        return Err(MemberFault::Bad);
+    };
+    match read_time(text) {
+        Ok(Some(moment)) => Ok(moment),
+        Ok(None) | Err(TimeFault::BadTime) => Err(MemberFault::Bad),
+        Err(TimeFault::NoMemory) => Err(MemberFault::NoMemory),
+    }
+}
+
+// Whether no end was reported: false, if the member is missing.
+fn timeout_of(member: Option<&Value>) -> Result<bool, MemberFault>
+    ensures { Reads (λ timeout. timeout) result
+        (if_given false as_bool (option_map (λ value. view value.now) member.entry)) }
+{
+    let Some(value) = member else {
+        return Ok(false);
+    };
+    match value.as_bool() {
+        Some(timeout) => Ok(timeout),
+        None => Err(MemberFault::Bad),
+    }
+}
+
+fn labels_of(alloc: Global, member: Option<Value>) -> Result<Vec<(Text, Text)>, MemberFault>
+    ensures { Reads (λ pairs. pairs.items) result (option_and_then texts_of (option_map view member)) }
+{
+    match member {
+        Some(value) => pairs_from(alloc, value),
+        None => Err(MemberFault::Bad),
+    }
+}
+
+fn annotations_of(alloc: Global, member: Option<Value>) -> Result<Vec<(Text, Text)>, MemberFault>
+    ensures { Reads (λ pairs. pairs.items) result (if_given [] texts_of (option_map view member)) }
+{
+    match member {
+        Some(value) => pairs_from(alloc, value),
+        None => Ok(Vec::new(alloc)),
+    }
+}
+
+fn generator_of(alloc: Global, member: Option<Value>) -> Result<Text, MemberFault>
+    ensures { Reads (λ text. text) result (if_given [] as_str (option_map view member)) }
+{
+    match member {
+        None => Ok(Text::from_str(alloc, "")?),
+        Some(Value::String(text)) => Ok(Text { text }),
+        Some(_) => Err(MemberFault::Bad),
+    }
+}
