@@ -8,3 +8,4 @@ pub mod RuleReadings
 pub mod Durations
 pub mod Configs
 pub mod GroupLabels
+pub mod Crossing

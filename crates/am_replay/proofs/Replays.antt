@@ -23,7 +23,7 @@ use Rattle.am_config.specs.declared.config.Config.{Config}
 use Rattle.am_replay.specs.FirstLines.{IsFirstLine}
 use Rattle.am_replay.specs.declared.first_line.FirstLine.TheVariants.{Read}
 use Rattle.am_replay.specs.declared.transcript.Transcript.{Transcript}
-use Rattle.am_script.specs.Script.{Checks, config_line, lines_of}
+use Rattle.am_script.specs.Script.{Checks, lines_of}
 use Rattle.am_script.specs.declared.command.Line.{Line}
 use Rattle.am_replay.specs.declared.status.Status.{Status}
 use Rattle.am_replay.specs.declared.status.Status.TheVariants.{Refused}
@@ -37,15 +37,15 @@ refused_so {arguments} text words output status comes ends said =
     subst (λ (s : Status). ComesTo arguments text s output) (sym ends) (subst (λ (o : List ℕ). ComesTo arguments text Refused o) (sym said) comes)
 
 -- a script that was run
-pub comes : (arguments : Arguments) (text configuration : List ℕ) (lines : List Line) (config : Config) (transcript : Transcript) (settled : Settled) (status : Status) (output : List ℕ)
-    → IsFirstLine text (Read config) → Checks 1 [] (lines_of text) (Ok lines) → configuration ≡ config_line text
-    → IsRun (runs_in_order arguments.mode) configuration (setting_of arguments.places arguments.full config.resolve_timeout) lines transcript settled
+pub comes : (arguments : Arguments) (text : List ℕ) (lines : List Line) (config : Config) (transcript : Transcript) (settled : Settled) (status : Status) (output : List ℕ)
+    → IsFirstLine text (Read config) → Checks 1 [] (lines_of text) (Ok lines)
+    → IsRun (runs_in_order arguments.mode) config (setting_of arguments.places arguments.full config.resolve_timeout) lines transcript settled
     → output ≡ transcript_text arguments.form transcript.lines.items transcript.answers.items transcript.counts
     → status ≡ status_of (ran_out_of_memory transcript.answers.items) → ComesTo arguments text status output
-comes arguments text configuration lines config transcript settled status output first checks is runs said ends =
+comes arguments text lines config transcript settled status output first checks runs said ends =
     subst (λ (s : Status). ComesTo arguments text s output) (sym ends)
     (subst (λ (o : List ℕ). ComesTo arguments text (status_of (ran_out_of_memory transcript.answers.items)) o) (sym (said ∙ ap (λ (all : List Line). transcript_text arguments.form all transcript.answers.items transcript.counts) runs.script))
-    (ran config transcript settled first checks (subst (λ (bytes : List ℕ). IsRun (runs_in_order arguments.mode) bytes (setting_of arguments.places arguments.full config.resolve_timeout) lines transcript settled) is runs)))
+    (ran config transcript settled first checks runs))
 
 -- one thread's outcome more
 pub one_more_parted : {A B E : Type 0} (all : List (Result A E × B)) (answers answers_then : List A) (passes passes_then : List B) (one : Result A E) (answer : A) (pass : B)
@@ -61,18 +61,18 @@ one_more_parted {A} {B} {E} all answers answers_then passes passes_then one answ
       ∙ (ap (λ (front : List B). front ++ pass ∷ []) so_far.1 ∙ sym more),
 )
 
-work_of_each : {bytes : List ℕ} {setting : Setting} {order : Order} {lines : List Line} {threads : ℕ} {all : List (Outcome AllocError)} → AreWork bytes setting order lines threads all → length all ≡ threads
+work_of_each : {config : Config} {setting : Setting} {order : Order} {lines : List Line} {threads : ℕ} {all : List (Outcome AllocError)} → AreWork config setting order lines threads all → length all ≡ threads
 work_of_each none = refl
 work_of_each (one_more_thread {thread} {before} one work this) =
     length-append before (one ∷ []) ∙ ap (λ (n : ℕ). n + 1) (work_of_each work)
 
 -- what the threads came to, and the provider by their callers
-pub run_of : (ordered : Bool) (turns : List (FrontView EntryView)) (bytes : List ℕ) (setting : Setting) (lines : List Line) (all : List (Outcome AllocError)) (transcript : Transcript) (passes : List (PassView Alert Call)) (fronts : List (FrontView EntryView)) (settled : Settled)
-    → transcript.lines.items ≡ lines → AreWork bytes setting (order_of ordered turns) lines 8 all
+pub run_of : (ordered : Bool) (turns : List (FrontView EntryView)) (config : Config) (setting : Setting) (lines : List Line) (all : List (Outcome AllocError)) (transcript : Transcript) (passes : List (PassView Alert Call)) (fronts : List (FrontView EntryView)) (settled : Settled)
+    → transcript.lines.items ≡ lines → AreWork config setting (order_of ordered turns) lines 8 all
     → map (λ (x : Outcome AllocError). x.answers) all ≡ map Ok transcript.answers.items → map (λ (x : Outcome AllocError). x.pass) all ≡ passes → map (λ (x : Outcome AllocError). x.front) all ≡ fronts
     → IsSettledFrom passes fronts settled → (length passes ≡ 8 → settled.complete ≡ true) → AreCountsOf settled transcript.counts
-    → IsRun ordered bytes setting lines transcript settled
-run_of ordered turns bytes setting lines all transcript passes fronts settled script work answered owned seen end complete counts = record {
+    → IsRun ordered config setting lines transcript settled
+run_of ordered turns config setting lines all transcript passes fronts settled script work answered owned seen end complete counts = record {
   outcomes = all;
   turns = turns;
   script = script;

@@ -12,7 +12,7 @@ use Rattle.am_replay.specs.declared.arguments.Mode.{Mode}
 use Rattle.am_replay.specs.declared.arguments.Mode.TheVariants.{Ordered}
 use Rattle.am_replay.specs.declared.transcript.Transcript.{Transcript}
 use Rattle.am_provider.specs.declared.settled.Settled.{Settled}
-use Rattle.am_script.specs.Script.{Checks, config_line, lines_of}
+use Rattle.am_script.specs.Script.{Checks, lines_of}
 use Rattle.am_script.specs.declared.command.Line.{Line}
 use Rattle.am_script.specs.declared.script.Refusal.{Refusal}
 use Rattle.am_config.specs.declared.config.Config.{Config}
@@ -48,7 +48,7 @@ pub data ComesTo (arguments : Arguments) (text : List ℕ) : Status → List ℕ
   ran : (config : Config) {lines : List Line} (transcript : Transcript) (settled : Settled)
       → IsFirstLine text (first_line.Read config)
       → Checks 1 [] (lines_of text) (Ok lines)
-      → IsRun (runs_in_order arguments.mode) (config_line text)
+      → IsRun (runs_in_order arguments.mode) config
       (setting_of arguments.places arguments.full config.resolve_timeout) lines transcript settled
       → ComesTo arguments text (status_of (ran_out_of_memory transcript.answers.items))
       (transcript_text arguments.form lines transcript.answers.items transcript.counts)

@@ -1,5 +1,5 @@
 -- What a script's run on a provider of its own comes to.
-use Rattle.std.specs.Prelude.{◌≡◌, ℕ, Bool, true, List, map, length, Ok}
+use Rattle.std.specs.Prelude.{◌≡◌, Bool, true, List, map, length, Ok}
 use Rattle.std.specs.declared.alloc.AllocError.{AllocError}
 use Rattle.am_store.specs.Journal.{posts_of}
 use Rattle.am_store.specs.Journal.{journal_of}
@@ -12,6 +12,7 @@ use Rattle.am_provider.specs.declared.settled.Settled.{Settled}
 use Rattle.am_runner.specs.Sessions.{Setting}
 use Rattle.am_runner.specs.Turning.{order_of}
 use Rattle.am_runner.specs.Working.{AreWork, Outcome}
+use Rattle.am_config.specs.declared.config.Config.{Config}
 use Rattle.am_script.specs.declared.command.Line.{Line}
 use Rattle.am_replay.specs.declared.transcript.Transcript.{Transcript}
 
@@ -21,18 +22,18 @@ pub record AreCountsOf (settled : Settled) (counts : Counts) : Type 0 where
   pub posts : counts.posts ≡ posts_of (journal_of settled.journal)
   pub stored : counts.stored ≡ length settled.store.entries
 
--- The eight threads ran the lines, each its own, and what each answered is told. Their callers settled the
--- provider: there is one history, in which each accepted call of a line, and each subscription that was left
--- at the end, has an entry of its own, and no other entry is in it. Each line's answer is the one that the
--- history gives at its place. If the lines are run in order, their turns are one list in the order of the
--- script, and each line's thread had seen, when its turn began, all that was done in the turns before it. The
--- counts are those of the journal that is left of the history.
-pub record IsRun (ordered : Bool) (configuration : List ℕ) (setting : Setting) (lines : List Line)
+-- The eight threads ran the lines under one configuration, each its own, and what each answered is told.
+-- Their callers settled the provider: there is one history, in which each accepted call of a line, and each
+-- subscription that was left at the end, has an entry of its own, and no other entry is in it. Each line's
+-- answer is the one that the history gives at its place. If the lines are run in order, their turns are one
+-- list in the order of the script, and each line's thread had seen, when its turn began, all that was done in
+-- the turns before it. The counts are those of the journal that is left of the history.
+pub record IsRun (ordered : Bool) (config : Config) (setting : Setting) (lines : List Line)
     (transcript : Transcript) (settled : Settled) : Type 0 where
   pub outcomes : List (Outcome AllocError)
   pub turns : List (FrontView EntryView)
   pub script : transcript.lines.items ≡ lines
-  pub work : AreWork configuration setting (order_of ordered turns) lines 8 outcomes
+  pub work : AreWork config setting (order_of ordered turns) lines 8 outcomes
   pub answered : map (λ (one : Outcome AllocError). one.answers) outcomes ≡ map Ok transcript.answers.items
   pub end : IsSettledFrom (map (λ (one : Outcome AllocError). one.pass) outcomes)
       (map (λ (one : Outcome AllocError). one.front) outcomes) settled

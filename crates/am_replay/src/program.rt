@@ -1,7 +1,7 @@
 //! A whole run of the program, over any reader and writer.
 
 ghost use Rattle.std.specs.Prelude.{◌≡◌, [], Ok, IfOk, IfErr, map, string_bytes};
-ghost use Rattle.am_script.specs.Script.{Checks, IsRefused, config_line, lines_of};
+ghost use Rattle.am_script.specs.Script.{Checks, IsRefused, lines_of};
 ghost use Rattle.am_replay.specs.FirstLines.{IsFirstLine};
 ghost use Rattle.am_replay.specs.Printing.{ran_out_of_memory, transcript_text};
 ghost use Rattle.am_replay.specs.Programs.{IsProgram, IsRunAs, IsTelling};
@@ -164,13 +164,12 @@ fn printout_under<R: Threads + Wait + Sync>(
         (λ printout. ComesTo arguments text.items printout.status (string_bytes printout.output)) }
 {
     match take_lines(alloc, text) {
-        Ok((configuration, lines)) => {
+        Ok(lines) => {
             let settings = Settings {
                 rt,
                 alloc,
                 arguments,
-                resolve_timeout: config.resolve_timeout,
-                configuration: &configuration,
+                config,
             };
             ran(alloc, arguments.form, run_script(&settings, lines)?)
         }
@@ -182,20 +181,14 @@ fn printout_under<R: Threads + Wait + Sync>(
     }
 }
 
-// The configuration's text and the lines of a script, whose text is let go; or why it is refused, and its text.
-fn take_lines(alloc: Global, text: Vec<u8>) -> Result<(Vec<u8>, Vec<Line>), (ScriptFault, Vec<u8>)>
-    ensures configuration { IfOk result (λ taken. taken.0.items ≡ config_line text.items) }
-    ensures read { IfOk result (λ taken. Checks 1 [] (lines_of text.items) (Ok taken.1.items)) }
+// The lines of a script, whose text is let go; or why it is refused, and its text.
+fn take_lines(alloc: Global, text: Vec<u8>) -> Result<Vec<Line>, (ScriptFault, Vec<u8>)>
+    ensures read { IfOk result (λ lines. Checks 1 [] (lines_of text.items) (Ok lines.items)) }
     ensures refused { IfErr result (λ refused. IsRefused text.items refused.0) }
 {
-    let lines = match read_script(alloc, &text) {
-        Ok(lines) => lines,
-        Err(fault) => return Err((fault, text)),
-    };
-    let mut configuration = Vec::new(alloc);
-    match configuration.extend_from_slice(config_line(&text)) {
-        Ok(()) => Ok((configuration, lines)),
-        Err(_) => Err((ScriptFault::NoMemory, text)),
+    match read_script(alloc, &text) {
+        Ok(lines) => Ok(lines),
+        Err(fault) => Err((fault, text)),
     }
 }
 

@@ -1,6 +1,7 @@
 //! A script's run: a provider of its own, the threads on it, and its end.
 
-ghost use Rattle.std.specs.Prelude.{◌≡◌, ℕ, Bool, List, IfOk, Ok, map};
+ghost use Rattle.std.specs.Prelude.{◌≡◌, Bool, List, IfOk, Ok, map};
+ghost use Rattle.am_config.specs.declared.config.Config.{Config};
 ghost use Rattle.am_history.specs.Fronts.{FrontView};
 ghost use Rattle.am_provider.specs.Histories.{EntryView};
 ghost use Rattle.am_runner.specs.Sessions.{Setting, setting_of};
@@ -11,6 +12,7 @@ ghost use Rattle.am_replay.specs.Runs.{IsRun};
 
 use crate::arguments::{Arguments, Mode};
 use crate::transcript::Transcript;
+use am_config::Config;
 use am_provider::{Caller, Parts, Provider, Recorded, Settled};
 use am_runner::{Answer, Freely, InOrder, NotRun, ThreadOutcome, Turns, run_threads};
 use am_script::{Line, THREADS};
@@ -18,7 +20,6 @@ use std::alloc::{AllocError, Global};
 use std::marker::Brand;
 use std::sync::Wait;
 use std::thread::Threads;
-use std::time::Duration;
 
 /// What a script is run under, whatever its turns.
 #[derive(Drop)]
@@ -26,8 +27,7 @@ pub struct Settings<'s, R> {
     pub rt: &'s R,
     pub alloc: Global,
     pub arguments: Arguments,
-    pub resolve_timeout: Duration,
-    pub configuration: &'s [u8],
+    pub config: &'s Config,
 }
 
 /// What a script's run answered, and what is left of its provider.
@@ -43,8 +43,8 @@ pub fn run_script<R: Threads + Wait + Sync>(
     lines: Vec<Line>,
 ) -> Result<Ran, NotRun>
     ensures { IfOk result (λ ran. IsRun (runs_in_order settings.now.arguments.mode)
-        settings.now.configuration.now (setting_of settings.now.arguments.places settings.now.arguments.full
-        settings.now.resolve_timeout) lines.items ran.transcript ran.settled) }
+        settings.now.config.now (setting_of settings.now.arguments.places settings.now.arguments.full
+        settings.now.config.now.resolve_timeout) lines.items ran.transcript ran.settled) }
 {
     match settings.arguments.mode {
         Mode::Ordered => {
@@ -61,9 +61,9 @@ fn run_in<R: Threads + Wait + Sync, T: Turns + Sync>(
     lines: Vec<Line>,
     turns: &T,
 ) -> Result<Ran, NotRun>
-    ensures { IfOk result (λ ran. IsRun T.ordered settings.now.configuration.now
+    ensures { IfOk result (λ ran. IsRun T.ordered settings.now.config.now
         (setting_of settings.now.arguments.places settings.now.arguments.full
-        settings.now.resolve_timeout) lines.items ran.transcript ran.settled) }
+        settings.now.config.now.resolve_timeout) lines.items ran.transcript ran.settled) }
 {
     let parts = Parts::make(settings.alloc, settings.arguments.places, THREADS)?;
     run_on::<Brand, R, T>(settings, lines, turns, parts)
@@ -83,19 +83,19 @@ fn run_on<N: Recorded + Send + Sync, R: Threads + Wait + Sync, T: Turns + Sync>(
     requires limits { (parts.log.places ≡ N.places)
         × (settings.now.arguments.places ≡ N.places) × (settings.now.arguments.full ≡ N.policy) }
     requires posters { parts.posters ≡ 8 }
-    ensures { IfOk result (λ ran. IsRun T.ordered settings.now.configuration.now
+    ensures { IfOk result (λ ran. IsRun T.ordered settings.now.config.now
         (setting_of settings.now.arguments.places settings.now.arguments.full
-        settings.now.resolve_timeout) lines.items ran.transcript ran.settled) }
+        settings.now.config.now.resolve_timeout) lines.items ran.transcript ran.settled) }
 {
     let Settings {
         rt,
         alloc,
         arguments,
-        resolve_timeout,
-        configuration,
+        config,
     } = *settings;
-    let (provider, callers) = Provider::<N>::begin(alloc, parts, arguments.full, resolve_timeout)?;
-    match run_threads(rt, alloc, &provider, callers, configuration, &lines, turns) {
+    let timeout = config.resolve_timeout;
+    let (provider, callers) = Provider::<N>::begin(alloc, parts, arguments.full, timeout)?;
+    match run_threads(rt, alloc, &provider, callers, config, &lines, turns) {
         Ok(outcomes) => Ok(end(rt, alloc, provider, lines, outcomes)?),
         Err(error) => {
             let _settled = provider.settle(rt, Vec::new(alloc));
@@ -114,10 +114,10 @@ fn end<N: Recorded, R: Wait>(
 ) -> Result<Ran, AllocError>
     requires { N.parts ≡ 8 }
     ensures { IfOk result (λ ran. (ordered : Bool) (turns : List (FrontView EntryView))
-        (configuration : List ℕ) (setting : Setting)
-        → AreWork configuration setting (order_of ordered turns) lines.items 8
+        (config : Config) (setting : Setting)
+        → AreWork config setting (order_of ordered turns) lines.items 8
         (map (λ one. outcome_of one.0 one.1.pass one.1.front) outcomes.items)
-        → IsRun ordered configuration setting lines.items ran.transcript ran.settled) }
+        → IsRun ordered config setting lines.items ran.transcript ran.settled) }
 {
     match part(alloc, outcomes) {
         Ok((answers, callers)) => {

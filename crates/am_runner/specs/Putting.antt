@@ -1,9 +1,8 @@
 -- What a post of a body and a put of alerts that carry their own moments come to.
-use Rattle.std.specs.Prelude.{◌≡◌, ℕ, List, map, Result, Ok, Err}
+use Rattle.std.specs.Prelude.{◌≡◌, ℕ, List, Result, Ok, Err}
 use Rattle.am_alert.specs.Bodies.{IsPostOfBody}
-use Rattle.am_alert.specs.FromParts.{IsPostOfParts, alert_of}
+use Rattle.am_alert.specs.FromParts.{IsPostOfAlerts}
 use Rattle.am_alert.specs.declared.alert.Alert.{Alert}
-use Rattle.am_alert.specs.declared.alert_parts.AlertParts.{AlertParts}
 use Rattle.am_alert.specs.declared.body.Body.{Body}
 use Rattle.am_alert.specs.declared.post.Post.{Post}
 use Rattle.am_alert.specs.declared.post.PostFault.{PostFault}
@@ -37,11 +36,6 @@ AnswersRead is_read policy places now was is saw sees (Err (refused.Unread fault
 abbrev pub AnswersPosted : Policy → ℕ → ℕ → ℕ → Body → PassView Alert Call → PassView Alert Call
     → FrontView EntryView → FrontView EntryView → Result Posted PostRefused → Type 0
 AnswersPosted policy places now timeout body = AnswersRead (IsPostOfBody now timeout body) policy places now
-
--- what the post of some alerts is, or why there is none
-abbrev pub IsPostOfAlerts : List Alert → Result Post PostFault → Type 0
-IsPostOfAlerts alerts post = (parts : List AlertParts) × (map alert_of parts ≡ alerts)
-    × IsPostOfParts parts post
 
 -- what a put of alerts comes to
 abbrev pub AnswersPut : Policy → ℕ → ℕ → List Alert → PassView Alert Call → PassView Alert Call

@@ -6,7 +6,6 @@ use Rattle.am_store.specs.declared.call.Call.{Call}
 use Rattle.am_cast.specs.Posters.{PassView}
 use Rattle.am_history.specs.Fronts.{FrontView}
 use Rattle.am_provider.specs.Histories.{EntryView}
-use Rattle.am_config.specs.Configs.{IsConfigOf}
 use Rattle.am_config.specs.declared.config.Config.{Config}
 use Rattle.am_script.specs.declared.command.Line.{Line}
 use Rattle.am_runner.specs.Sessions.{Setting, SessionView, Does, LeavesAll, new_session}
@@ -60,12 +59,6 @@ IsWork config setting order lines thread answers pass front = IfOk answers (λ a
 abbrev pub Adds : {A E : Type 0} → List A → Result A E → List A → Type 0
 Adds old given new = (one : _) × (given ≡ Ok one) × (new ≡ old ++ one ∷ [])
 
--- a thread's work under a configuration that the bytes are read as
-abbrev pub IsWorkUnder : {E : Type 0} → List ℕ → Setting → Order → List Line → ℕ → Result (Vec (Vec Answer)) E
-    → PassView Alert Call → FrontView EntryView → Type 0
-IsWorkUnder bytes setting order lines thread answers pass front = IfOk answers (λ all. (config : Config)
-    × IsConfigOf bytes (Ok config) × IsWork config setting order lines thread answers pass front)
-
 -- what a thread came to: what it answered, its pass and its front
 pub record Outcome (E : Type 0) : Type 0 where
   pub answers : Result (Vec (Vec Answer)) E
@@ -76,11 +69,11 @@ abbrev pub outcome_of : {E : Type 0} → Result (Vec (Vec Answer)) E → PassVie
     → Outcome E
 outcome_of answers pass front = record { answers = answers; pass = pass; front = front }
 
--- what the threads below a number came to, one after another
-pub data AreWork {E : Type 0} (bytes : List ℕ) (setting : Setting) (order : Order) (lines : List Line)
+-- what the threads below a number came to under one configuration, one after another
+pub data AreWork {E : Type 0} (config : Config) (setting : Setting) (order : Order) (lines : List Line)
     : ℕ → List (Outcome E) → Type 0 where
-  none : AreWork bytes setting order lines 0 []
+  none : AreWork config setting order lines 0 []
   one_more_thread : {thread : ℕ} {before : List (Outcome E)} (one : Outcome E)
-      → AreWork bytes setting order lines thread before
-      → IsWorkUnder bytes setting order lines thread one.answers one.pass one.front
-      → AreWork bytes setting order lines (thread + 1) (before ++ one ∷ [])
+      → AreWork config setting order lines thread before
+      → IsWork config setting order lines thread one.answers one.pass one.front
+      → AreWork config setting order lines (thread + 1) (before ++ one ∷ [])

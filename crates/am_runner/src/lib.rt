@@ -14,11 +14,12 @@
 //! What comes back is what each line answered, and the passes, by which `Provider::settle` shows the
 //! journal.
 //!
-//!     let ran = run_threads(rt, alloc, &provider, passes, configuration, &lines, &InOrder::new(alloc, &lines)?)?;
+//!     let ran = run_threads(rt, alloc, &provider, passes, &config, &lines, &InOrder::new(alloc, &lines)?)?;
 #![tactic(auto)]
 
 mod answer;
 mod answer_json;
+mod configured;
 mod consumer;
 mod context;
 mod form;

@@ -178,7 +178,7 @@ impl<'p, 'c, N: Recorded> Session<'p, 'c, N> {
             → Does config (setting_of N.places N.policy context.now.provider.now.resolve_timeout)
             self.old (Command.Put at alerts.now) answers.items self.new) }
     {
-        let read = Post::from_parts(context.alloc, alerts.parts(context.alloc)?);
+        let read = Post::from_alerts(context.alloc, alerts.as_slice());
         let posted = match put_read(context, &mut self.caller, at, read) {
             Ok(posted) => posted,
             Err(why) => return one(context.alloc, Answer::PostRefused(why)),

@@ -8,9 +8,10 @@ ghost use Rattle.am_provider.specs.Callers.{IsNewCaller};
 ghost use Rattle.am_provider.specs.Histories.{EntryView};
 ghost use Rattle.am_runner.specs.Sessions.{setting_of};
 ghost use Rattle.am_runner.specs.Turning.{order_of};
-ghost use Rattle.am_runner.specs.Working.{AreWork, IsWorkUnder, outcome_of};
+ghost use Rattle.am_runner.specs.Working.{AreWork, IsWork, outcome_of};
 
 use crate::answer::Answer;
+use crate::configured::Configured;
 use crate::context::Context;
 use crate::not_run::NotRun;
 use crate::register::{Register, TurnsSeen};
@@ -41,11 +42,11 @@ type Outcomes<N, M> = (Vec<ThreadOutcome<N>>, Vec<TurnsSeen<N, M>>);
 
 // What all threads share.
 #[derive(Drop)]
-struct Shared<'s, N: Recorded, M: Timeline, R, T> {
+struct Shared<'s, N: Recorded, M: Timeline, C, R, T> {
     rt: &'s R,
     alloc: Global,
     provider: &'s Provider<N>,
-    configuration: &'s [u8],
+    config: &'s C,
     lines: &'s [Line],
     turns: &'s T,
     register: &'s Register<N, M>,
@@ -56,43 +57,43 @@ struct Shared<'s, N: Recorded, M: Timeline, R, T> {
 
 // That a thread's outcome is the work that its lines ask for.
 #[derive(Clone, Copy, Drop)]
-struct RunsLines<'s, T> {
-    configuration: &'s [u8],
+struct RunsLines<'s, C, T> {
+    config: &'s C,
     lines: &'s [Line],
     timeout: Duration,
     thread: Thread,
     turns: PhantomData<T>,
 }
 
-impl<'s, N: Recorded, M: Timeline, T: Turns> Promise<Worked<N, M>> for RunsLines<'s, T> {
+impl<'s, N: Recorded, M: Timeline, C: Configured, T: Turns> Promise<Worked<N, M>>
+    for RunsLines<'s, C, T> {
     ghost use Rattle.std.specs.Prelude.{List};
     ghost use mathlib.Core.List.{IsPrefix};
     ghost use Rattle.am_history.specs.Fronts.{FrontView};
     ghost use Rattle.am_provider.specs.Histories.{EntryView};
     ghost use Rattle.am_runner.specs.Sessions.{setting_of};
     ghost use Rattle.am_runner.specs.Turning.{order_of};
-    ghost use Rattle.am_runner.specs.Working.{IsWorkUnder};
+    ghost use Rattle.am_runner.specs.Working.{IsWork};
 
     ghost kept_by = { λ p worked. (turns : List (FrontView EntryView)) → IsPrefix worked.1.seen turns
-        → IsWorkUnder p.configuration.now (setting_of N.places N.policy p.timeout) (order_of T.ordered turns) p.lines.now
+        → IsWork (C.shown p.config.now) (setting_of N.places N.policy p.timeout) (order_of T.ordered turns) p.lines.now
         p.thread worked.0.0 worked.0.1.pass worked.0.1.front };
 }
 
 /// Runs a script's lines, each in the thread that it names. None is run before all threads are there;
-/// where one can't be started or has no memory for the configuration, none is run at all. A thread reads
-/// the configuration's text itself, since a pattern's search isn't shared by threads.
+/// where one can't be started, none is run at all. The threads share the configuration.
 pub fn run_threads<N: Recorded + Send + Sync, R: Threads + Wait + Sync, T: Turns + Sync>(
     rt: &R,
     alloc: Global,
     provider: &Provider<N>,
     callers: Vec<Caller<N>>,
-    configuration: &[u8],
+    config: &Config,
     lines: &[Line],
     turns: &T,
 ) -> Result<Vec<ThreadOutcome<N>>, NotRun>
     requires count { vec_len callers ≡ 8 }
     requires fresh { All (λ caller. IsNewCaller caller.pass caller.front) callers.items }
-    ensures { IfOk result (λ all. (turns : List (FrontView EntryView)) × AreWork configuration.now
+    ensures { IfOk result (λ all. (turns : List (FrontView EntryView)) × AreWork config.now
         (setting_of N.places N.policy provider.now.resolve_timeout) (order_of T.ordered turns) lines.now 8
         (map (λ one. outcome_of one.0 one.1.pass one.1.front) all.items)) }
 {
@@ -105,20 +106,20 @@ pub fn run_threads<N: Recorded + Send + Sync, R: Threads + Wait + Sync, T: Turns
         rt,
         alloc,
         provider,
-        configuration,
+        config,
         lines,
         turns,
     };
-    run_registered::<N, Brand, R, T>(&run, callers, taken)
+    run_registered::<N, Brand, Config, R, T>(&run, callers, taken)
 }
 
 // What a script is run on.
 #[derive(Drop)]
-struct Run<'s, N: Recorded, R, T> {
+struct Run<'s, N: Recorded, C, R, T> {
     rt: &'s R,
     alloc: Global,
     provider: &'s Provider<N>,
-    configuration: &'s [u8],
+    config: &'s C,
     lines: &'s [Line],
     turns: &'s T,
     ghost few: { length lines.now < 2 ^ 64 - 8 },
@@ -128,10 +129,11 @@ struct Run<'s, N: Recorded, R, T> {
 fn run_registered<
     N: Recorded + Send + Sync,
     M: Timeline + Send + Sync,
+    C: Configured + Sync,
     R: Threads + Wait + Sync,
     T: Turns + Sync,
 >(
-    run: &Run<'_, N, R, T>,
+    run: &Run<'_, N, C, R, T>,
     callers: Vec<Caller<N>>,
     taken: NewHistory<Front<Entry, N>>,
 ) -> Result<Vec<ThreadOutcome<N>>, NotRun>
@@ -140,7 +142,7 @@ fn run_registered<
     requires some { 0 < taken.ledger.parts }
     requires count { vec_len callers ≡ 8 }
     requires fresh { All (λ caller. IsNewCaller caller.pass caller.front) callers.items }
-    ensures { IfOk result (λ all. (turns : List (FrontView EntryView)) × AreWork run.now.configuration.now
+    ensures { IfOk result (λ all. (turns : List (FrontView EntryView)) × AreWork (C.shown run.now.config.now)
         (setting_of N.places N.policy run.now.provider.now.resolve_timeout) (order_of T.ordered turns) run.now.lines.now 8
         (map (λ one. outcome_of one.0 one.1.pass one.1.front) all.items)) }
 {
@@ -148,7 +150,7 @@ fn run_registered<
         rt,
         alloc,
         provider,
-        configuration,
+        config,
         lines,
         turns,
     } = *run;
@@ -160,7 +162,7 @@ fn run_registered<
         rt,
         alloc,
         provider,
-        configuration,
+        config,
         lines,
         turns,
         register: &register,
@@ -184,18 +186,19 @@ fn onlooker_of<N: Recorded>(provider: &Provider<N>, callers: &mut [Caller<N>]) -
 fn run_shared<
     N: Recorded + Send + Sync,
     M: Timeline + Send + Sync,
+    C: Configured + Sync,
     R: Threads + Wait + Sync,
     T: Turns + Sync,
 >(
     rt: &R,
-    shared: &Shared<'_, N, M, R, T>,
+    shared: &Shared<'_, N, M, C, R, T>,
     callers: Vec<Caller<N>>,
 ) -> Result<Outcomes<N, M>, NotRun>
     requires count { vec_len callers ≡ 8 }
     requires fresh { All (λ caller. IsNewCaller caller.pass caller.front) callers.items }
     ensures { IfOk result (λ all. (turns : List (FrontView EntryView))
         → All (λ one. IsPrefix one.seen turns) all.1.items
-        → AreWork shared.now.configuration.now
+        → AreWork (C.shown shared.now.config.now)
         (setting_of N.places N.policy shared.now.provider.now.resolve_timeout) (order_of T.ordered turns)
         shared.now.lines.now 8
         (map (λ one. outcome_of one.0 one.1.pass one.1.front) all.0.items)) }
@@ -208,7 +211,7 @@ fn run_shared<
             requires fresh { All (λ caller. IsNewCaller caller.pass caller.front) callers.items }
             ensures { IfOk result (λ all. (turns : List (FrontView EntryView))
                 → All (λ one. IsPrefix one.seen turns) all.1.items
-                → AreWork shared.entry.now.configuration.now
+                → AreWork (C.shown shared.entry.now.config.now)
                 (setting_of N.places N.policy shared.entry.now.provider.now.resolve_timeout) (order_of T.ordered turns)
                 shared.entry.now.lines.now 8
                 (map (λ one. outcome_of one.0 one.1.pass one.1.front) all.0.items)) }
@@ -222,19 +225,20 @@ fn run_from<
     E,
     N: Recorded + Send + Sync,
     M: Timeline + Send + Sync,
+    C: Configured + Sync,
     R: Threads + Wait + Sync,
     T: Turns + Sync,
 >(
     rt: &R,
     scope: &Scope<'s, E>,
-    shared: &'s Shared<'s, N, M, R, T>,
+    shared: &'s Shared<'s, N, M, C, R, T>,
     callers: Vec<Caller<N>>,
 ) -> Result<Outcomes<N, M>, NotRun>
     requires count { vec_len callers ≤ 8 }
     requires fresh { All (λ caller. IsNewCaller caller.pass caller.front) callers.items }
     ensures { IfOk result (λ all. (turns : List (FrontView EntryView))
         → All (λ one. IsPrefix one.seen turns) all.1.items
-        → AreWork shared.now.configuration.now
+        → AreWork (C.shown shared.now.config.now)
         (setting_of N.places N.policy shared.now.provider.now.resolve_timeout) (order_of T.ordered turns)
         shared.now.lines.now (vec_len callers)
         (map (λ one. outcome_of one.0 one.1.pass one.1.front) all.0.items)) }
@@ -245,7 +249,7 @@ fn run_from<
     };
     let thread = Thread::new(callers.len() as u32);
     let promise = RunsLines {
-        configuration: shared.configuration,
+        config: shared.config,
         lines: shared.lines,
         timeout: shared.provider.resolve_timeout,
         thread,
@@ -266,23 +270,19 @@ fn run_from<
     Ok((all, all_seen))
 }
 
-// Reads the configuration, meets the other threads, and works.
-fn work_when_told<N: Recorded, M: Timeline, R: Wait, T: Turns>(
-    shared: &Shared<'_, N, M, R, T>,
+// Meets the other threads, and works.
+fn work_when_told<N: Recorded, M: Timeline, C: Configured, R: Wait, T: Turns>(
+    shared: &Shared<'_, N, M, C, R, T>,
     thread: Thread,
     caller: Caller<N>,
 ) -> Worked<N, M>
     requires { IsNewCaller caller.pass caller.front }
     ensures { (turns : List (FrontView EntryView)) → IsPrefix result.1.seen turns
-        → IsWorkUnder shared.now.configuration.now
+        → IsWork (C.shown shared.now.config.now)
         (setting_of N.places N.policy shared.now.provider.now.resolve_timeout) (order_of T.ordered turns)
         shared.now.lines.now thread result.0.0 result.0.1.pass result.0.1.front }
 {
     let rt = shared.rt;
-    let Ok(config) = Config::read(shared.alloc, shared.configuration) else {
-        shared.start.give_up(rt);
-        return not_run(shared, caller);
-    };
     if !shared.start.arrive(rt) {
         return not_run(shared, caller);
     }
@@ -290,14 +290,14 @@ fn work_when_told<N: Recorded, M: Timeline, R: Wait, T: Turns>(
         rt,
         alloc: shared.alloc,
         provider: shared.provider,
-        config: &config,
+        config: shared.config.config(),
         turns: shared.turns,
     };
     work(&context, shared.register, shared.lines, thread, caller)
 }
 
-fn not_run<N: Recorded, M: Timeline, R: Wait, T>(
-    shared: &Shared<'_, N, M, R, T>,
+fn not_run<N: Recorded, M: Timeline, C, R: Wait, T>(
+    shared: &Shared<'_, N, M, C, R, T>,
     caller: Caller<N>,
 ) -> Worked<N, M>
     ensures { IsErr result.0.0 }

@@ -2,6 +2,7 @@
 
 ghost use Rattle.std.specs.Prelude.{◌≡◌, ◌≤◌};
 
+use am_config::{Config, ConfigFault};
 use am_provider::{Caller, Counts, Ended, Parts, Policy, Provider, Recorded, Settled};
 use am_runner::{
     Answer, Form, Freely, InOrder, NotRun, ThreadOutcome, Turns, run_threads, write_answers,
@@ -44,6 +45,15 @@ impl From<NotRun> for Stopped {
         match why {
             NotRun::NoMemory => Stopped::NoMemory,
             NotRun::NoThread => Stopped::NoThread,
+        }
+    }
+}
+
+impl From<ConfigFault> for Stopped {
+    fn from(fault: ConfigFault) -> Stopped {
+        match fault {
+            ConfigFault::NoMemory => Stopped::NoMemory,
+            _ => Stopped::NoScript,
         }
     }
 }
@@ -189,16 +199,10 @@ pub fn run_lines<R: Threads + Wait + Sync, T: Turns + Sync>(
     lines: Vec<Line>,
     turns: &T,
 ) -> Result<Run, Stopped> {
+    let config = Config::read(alloc, config_line(text.as_bytes()))?;
     let parts = Parts::make(alloc, log.places, THREADS)?;
-    let configuration = config_line(text.as_bytes());
     let (threads, settled) = run_over::<Brand, R, T>(
-        rt,
-        alloc,
-        parts,
-        log,
-        configuration,
-        &lines,
-        turns,
+        rt, alloc, parts, log, &config, &lines, turns,
     )?;
     Ok(Run {
         lines,
@@ -212,7 +216,7 @@ fn run_over<N: Recorded + Send + Sync, R: Threads + Wait + Sync, T: Turns + Sync
     alloc: Global,
     parts: Parts,
     log: Log,
-    configuration: &[u8],
+    config: &Config,
     lines: &[Line],
     turns: &T,
 ) -> Result<(Result<Answers, Stopped>, Settled), Stopped>
@@ -226,7 +230,7 @@ fn run_over<N: Recorded + Send + Sync, R: Threads + Wait + Sync, T: Turns + Sync
 {
     let timeout = Duration::from_secs(RESOLVE_SECONDS);
     let (provider, callers) = Provider::<N>::begin(alloc, parts, log.policy, timeout)?;
-    let ran = run_threads(rt, alloc, &provider, callers, configuration, lines, turns);
+    let ran = run_threads(rt, alloc, &provider, callers, config, lines, turns);
     let mut callers = Vec::new(alloc);
     let threads = take_callers(alloc, ran, &mut callers);
     let settled = provider.settle(rt, callers);

@@ -8,8 +8,8 @@ pub returns-in_ok-run_script-in-Ok : goal.returns-in_ok-run_script-in-Ok
 returns-in_ok-run_script-in-Ok g c =
     let ran = c.in_ok-run_script-in-Ok.field-0 in
     if_ok_both c.ran.result c.ran.ensures.output c.ran.ensures.status
-    (λ printout said ends. comes c.args.arguments c.args.text.items c.deref.result.now c.in-Ok.lines.items c.args.config.now ran.transcript ran.settled printout.status (string_bytes printout.output)
-    c.requires c.in-Ok.ensures.read (c.deref.ensures.value ∙ c.in-Ok.ensures.configuration) c.in_ok-run_script-in-Ok.ensures said ends)
+    (λ printout said ends. comes c.args.arguments c.args.text.items c.in-Ok.lines.items c.args.config.now ran.transcript ran.settled printout.status (string_bytes printout.output)
+    c.requires c.in-Ok.ensures.read c.in_ok-run_script-in-Ok.ensures said ends)
 
 pub returns-in_ok-output-in-Err-Refused-default : goal.returns-in_ok-output-in-Err-Refused-default
 returns-in_ok-output-in-Err-Refused-default g c =
