@@ -3,7 +3,7 @@ use Rattle.std.proofs.Common.{◌≡◌, ◌∙◌, ℕ, List, [], Option, None,
 use Rattle.std.proofs.lemmas.Slice.Eq.{bytes_eq-Decides}
 use Rattle.std.specs.Prelude.{option_and_then, option_map}
 use Rattle.std.specs.FinMap.{empty}
-use Rattle.serde_json.specs.Data.{Data, Members, no_members, object, put, string}
+use Rattle.serde_json.specs.Data.{Data, Members, object, put, string}
 use Rattle.serde_json.specs.Find.{as_str}
 use Rattle.serde_json.proofs.Views.{get_member-put, get_member-put_other}
 use Rattle.am_labels.specs.LabelSets.{Labels}

@@ -11,21 +11,25 @@ ghost use Rattle.am_alert.specs.inside.Streams.{IsArrayOf, IsBefore, IsElementOf
 use crate::draft::Draft;
 use crate::elements::Elements;
 use crate::post::MAX_ALERTS;
-use crate::postable::{Postable, labels_with_values};
-use am_labels::{LabelSet, Text};
+use crate::postable::{Postable, labels_of_pairs};
+use am_labels::{LabelSet, PairBuffer};
 use json::{Reader, Scratch, Token};
 use std::alloc::{AllocError, Global};
 
 /// The elements of the array that a text is, or none if it isn't written as clients write it.
-pub(crate) fn read_array(alloc: Global, text: &str) -> Result<Option<Elements>, AllocError>
+pub(crate) fn read_array(
+    alloc: Global,
+    text: &str,
+    scratch: &mut Scratch,
+    pairs: &mut PairBuffer,
+) -> Result<Option<Elements>, AllocError>
     ensures { IfOk result (λ read. IfSome read (IsArrayOf text.now)) }
 {
-    let mut scratch = Scratch::new(alloc);
-    let mut reader = Reader::new(text, &mut scratch)?;
+    let mut reader = Reader::new(text, scratch)?;
     let Some(Token::BeginArray) = reader.next() else {
         return Ok(None);
     };
-    let Some(elements) = read_elements(alloc, &mut reader)? else {
+    let Some(elements) = read_elements(alloc, &mut reader, pairs)? else {
         return Ok(None);
     };
     match reader.next() {
@@ -34,8 +38,12 @@ pub(crate) fn read_array(alloc: Global, text: &str) -> Result<Option<Elements>, 
     }
 }
 
-// The elements up to the bracket that closes their array.
-fn read_elements(alloc: Global, reader: &mut Reader<'_>) -> Result<Option<Elements>, AllocError>
+// The elements up to the bracket that closes their array. The buffer is for the names and values of each.
+fn read_elements(
+    alloc: Global,
+    reader: &mut Reader<'_>,
+    pairs: &mut PairBuffer,
+) -> Result<Option<Elements>, AllocError>
     ensures { IfOk result (λ read. IfSome read (AreElementsOf reader.old reader.new)) }
 {
     let mut elements = Vec::new(alloc);
@@ -43,7 +51,7 @@ fn read_elements(alloc: Global, reader: &mut Reader<'_>) -> Result<Option<Elemen
         if elements.len() == MAX_ALERTS {
             return Ok(None);
         }
-        let Some(element) = read_element(alloc, reader)? else {
+        let Some(element) = read_element(alloc, reader, pairs)? else {
             return Ok(None);
         };
         elements.push(Some(element))?;
@@ -51,21 +59,29 @@ fn read_elements(alloc: Global, reader: &mut Reader<'_>) -> Result<Option<Elemen
     Ok(Some(Elements::new(elements)))
 }
 
-fn read_element(alloc: Global, reader: &mut Reader<'_>) -> Result<Option<Postable>, AllocError>
+fn read_element(
+    alloc: Global,
+    reader: &mut Reader<'_>,
+    pairs: &mut PairBuffer,
+) -> Result<Option<Postable>, AllocError>
     ensures read { IfOk result (λ read. IfSome read (IsElementOf reader.old reader.new)) }
     ensures shorter { IfOk result (λ read. IfSome read (λ _. length reader.new < length reader.old)) }
 {
     let Some(Token::BeginObject) = reader.next() else {
         return Ok(None);
     };
-    match read_members(alloc, reader)? {
+    match read_members(alloc, reader, pairs)? {
         Some(draft) => Ok(draft.into_postable()),
         None => Ok(None),
     }
 }
 
 // The members of an element up to the brace that closes it, in whichever order they come.
-fn read_members(alloc: Global, reader: &mut Reader<'_>) -> Result<Option<Draft>, AllocError>
+fn read_members(
+    alloc: Global,
+    reader: &mut Reader<'_>,
+    pairs: &mut PairBuffer,
+) -> Result<Option<Draft>, AllocError>
     ensures read { IfOk result (λ read. IfSome read (AreMembersOf reader.old reader.new)) }
     ensures shorter { IfOk result (λ read. IfSome read (λ _. length reader.new < length reader.old)) }
 {
@@ -77,7 +93,7 @@ fn read_members(alloc: Global, reader: &mut Reader<'_>) -> Result<Option<Draft>,
         let Some(name) = key else {
             return Ok(Some(draft));
         };
-        if !read_member(alloc, reader, name, &mut draft)? {
+        if !read_member(alloc, reader, pairs, name, &mut draft)? {
             return Ok(None);
         }
     }
@@ -87,6 +103,7 @@ fn read_members(alloc: Global, reader: &mut Reader<'_>) -> Result<Option<Draft>,
 fn read_member(
     alloc: Global,
     reader: &mut Reader<'_>,
+    pairs: &mut PairBuffer,
     name: &str,
     draft: &mut Draft,
 ) -> Result<bool, AllocError>
@@ -95,16 +112,16 @@ fn read_member(
     ensures shorter { IfOk result (λ read. IsTrue read → length reader.new < length reader.old) }
 {
     if name == "labels" {
-        let Some(pairs) = read_texts(alloc, reader)? else {
+        if !read_texts(reader, pairs)? {
             return Ok(false);
-        };
-        draft.labels = Some(labels_with_values(alloc, pairs)?);
+        }
+        draft.labels = Some(labels_of_pairs(alloc, pairs)?);
         Ok(true)
     } else if name == "annotations" {
-        let Some(pairs) = read_texts(alloc, reader)? else {
+        if !read_texts(reader, pairs)? {
             return Ok(false);
-        };
-        draft.annotations = LabelSet::from_texts(alloc, pairs)?;
+        }
+        draft.annotations = LabelSet::from_buffer(alloc, pairs)?;
         Ok(true)
     } else {
         let Some(text) = read_text(reader) else {
@@ -128,49 +145,41 @@ fn read_text<'a>(reader: &mut Reader<'a>) -> Option<&'a str>
     }
 }
 
-// An object of texts, with its names in byte order.
-fn read_texts(
-    alloc: Global,
-    reader: &mut Reader<'_>,
-) -> Result<Option<Vec<(Text, Text)>>, AllocError>
-    ensures read { IfOk result (λ read. IfSome read
-        (λ pairs. AreTextsOf reader.old reader.new pairs.items)) }
-    ensures shorter { IfOk result (λ read. IfSome read (λ _. length reader.new < length reader.old)) }
+// Whether an object of texts, with its names in byte order, is read into a buffer.
+fn read_texts(reader: &mut Reader<'_>, pairs: &mut PairBuffer) -> Result<bool, AllocError>
+    ensures read { IfOk result (λ read. IsTrue read → AreTextsOf reader.old reader.new pairs.new) }
+    ensures shorter { IfOk result (λ read. IsTrue read → length reader.new < length reader.old) }
 {
     let Some(Token::BeginObject) = reader.next() else {
-        return Ok(None);
+        return Ok(false);
     };
-    let Some(pairs) = read_pairs(alloc, reader)? else {
-        return Ok(None);
-    };
-    Ok(Some(pairs))
+    if !read_pairs(reader, pairs)? {
+        return Ok(false);
+    }
+    Ok(true)
 }
 
-// Names and values up to the brace that closes their object.
-fn read_pairs(
-    alloc: Global,
-    reader: &mut Reader<'_>,
-) -> Result<Option<Vec<(Text, Text)>>, AllocError>
-    ensures read { IfOk result (λ read. IfSome read
-        (λ pairs. ArePairsOf reader.old reader.new pairs.items)) }
-    ensures shorter { IfOk result (λ read. IfSome read (λ _. length reader.new < length reader.old)) }
+// The same of names and values up to the brace that closes their object.
+fn read_pairs(reader: &mut Reader<'_>, pairs: &mut PairBuffer) -> Result<bool, AllocError>
+    ensures read { IfOk result (λ read. IsTrue read → ArePairsOf reader.old reader.new pairs.new) }
+    ensures shorter { IfOk result (λ read. IsTrue read → length reader.new < length reader.old) }
 {
-    let mut pairs = Vec::new(alloc);
+    pairs.clear();
     let mut last = None;
     'pairs: loop {
         let Ok(key) = reader.next_key() else {
-            return Ok(None);
+            return Ok(false);
         };
         let Some(name) = key else {
-            return Ok(Some(pairs));
+            return Ok(true);
         };
         if !is_above(name, last) {
-            return Ok(None);
+            return Ok(false);
         }
         let Some(value) = read_text(reader) else {
-            return Ok(None);
+            return Ok(false);
         };
-        pairs.push((Text::from_str(alloc, name)?, Text::from_str(alloc, value)?))?;
+        pairs.push(name, value)?;
         last = Some(name);
     }
 }

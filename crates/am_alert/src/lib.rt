@@ -44,6 +44,6 @@ pub use laws::{body_laws, limit_laws, merging_laws, post_laws};
 pub use merging::{absorb, merge, overlaps};
 pub use moment::Moment;
 pub use post::{AlertFault, Faults, MAX_ALERTS, MAX_BYTES, Post, PostFault};
-pub use post_reader::read_post;
+pub use post_reader::{PostReader, read_post};
 pub use time_text::{TimeFault, read_time};
 pub use unjudged_alert::UnjudgedAlert;

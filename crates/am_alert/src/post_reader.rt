@@ -13,12 +13,57 @@ use crate::array_reader::read_array;
 use crate::elements::Elements;
 use crate::moment::Moment;
 use crate::post::{MAX_ALERTS, MAX_BYTES, Post, PostFault};
+use am_labels::PairBuffer;
+use json::Scratch;
 use serde_json::Value;
 use std::alloc::{AllocError, Global};
 use std::time::Duration;
 
-/// The alerts and faults of a post's bytes, or why it is refused as a whole. `now` is the post's
-/// moment; an alert without an end ends at `now` and the resolve timeout.
+/// Reads posts one after another. The memory that reading one takes is kept for the next: 16 KiB, and as much as
+/// the longest post has bytes.
+#[derive(Drop)]
+pub struct PostReader {
+    alloc: Global,
+    scratch: Scratch,
+    // Names and values of the alert at hand.
+    pairs: PairBuffer,
+}
+
+impl PostReader {
+    /// It takes no memory of the allocator's yet.
+    pub fn new(alloc: Global) -> PostReader {
+        PostReader {
+            alloc,
+            scratch: Scratch::new(alloc),
+            pairs: PairBuffer::new(alloc),
+        }
+    }
+
+    /// The alerts and faults of a post's bytes, or why it is refused as a whole. `now` is the post's
+    /// moment; an alert without an end ends at `now` and the resolve timeout.
+    pub fn read(
+        &mut self,
+        bytes: &[u8],
+        now: Moment,
+        resolve_timeout: Duration,
+    ) -> Result<Post, PostFault>
+        ensures { IsPostOf now (as_nanos resolve_timeout) bytes.now result }
+    {
+        if bytes.len() > MAX_BYTES {
+            return Err(PostFault::TooMany);
+        }
+        let alloc = self.alloc;
+        match read_directly(alloc, bytes, &mut self.scratch, &mut self.pairs)? {
+            Some(elements) => match elements.post(alloc, now, resolve_timeout) {
+                Ok(post) => Ok(post),
+                Err(e) => Err(e),
+            },
+            None => read_as_value(alloc, bytes, now, resolve_timeout),
+        }
+    }
+}
+
+/// What `PostReader::read` answers, for one post alone.
 pub fn read_post(
     alloc: Global,
     bytes: &[u8],
@@ -27,25 +72,21 @@ pub fn read_post(
 ) -> Result<Post, PostFault>
     ensures { IsPostOf now (as_nanos resolve_timeout) bytes.now result }
 {
-    if bytes.len() > MAX_BYTES {
-        return Err(PostFault::TooMany);
-    }
-    match read_directly(alloc, bytes)? {
-        Some(elements) => match elements.post(alloc, now, resolve_timeout) {
-            Ok(post) => Ok(post),
-            Err(e) => Err(e),
-        },
-        None => read_as_value(alloc, bytes, now, resolve_timeout),
-    }
+    PostReader::new(alloc).read(bytes, now, resolve_timeout)
 }
 
 // The elements of the array that some bytes are the text of, or none if it isn't written as clients write it.
-fn read_directly(alloc: Global, bytes: &[u8]) -> Result<Option<Elements>, AllocError>
+fn read_directly(
+    alloc: Global,
+    bytes: &[u8],
+    scratch: &mut Scratch,
+    pairs: &mut PairBuffer,
+) -> Result<Option<Elements>, AllocError>
     ensures read { IfOk result (λ read. IfSome read (λ elements. IsUtf8 bytes.now × IsArrayOf bytes.now elements)) }
     ensures memory { OnErr result (0 < length bytes.now) }
 {
     match str::from_utf8(bytes) {
-        Ok(text) if !text.is_empty() => read_array(alloc, text),
+        Ok(text) if !text.is_empty() => read_array(alloc, text, scratch, pairs),
         _ => Ok(None),
     }
 }

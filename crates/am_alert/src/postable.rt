@@ -2,6 +2,7 @@
 
 ghost use Rattle.std.specs.Prelude.{◌≡◌, [], List, ℕ, IfOk, filter, option_and_then, option_map};
 ghost use Rattle.std.specs.FinMap.{empty};
+ghost use Rattle.std.specs.List.{list_all};
 ghost use Rattle.serde_json.specs.Data.{object};
 ghost use Rattle.serde_json.specs.View.{view, members_view};
 ghost use Rattle.serde_json.specs.Find.{as_str, get_member};
@@ -10,7 +11,7 @@ ghost use Rattle.am_alert.specs.Postables.{annotations_of, given, has_value, if_
 
 use crate::moment::Moment;
 use crate::time_text::read_time;
-use am_labels::{LabelSet, SharedText, Text};
+use am_labels::{LabelSet, PairBuffer, Pairs, SharedText, Text};
 use serde_json::{Map, Value};
 use std::alloc::{AllocError, AllocFailed, Global};
 
@@ -140,6 +141,33 @@ pub(crate) fn labels_with_values(
     { !pair.1.is_empty() };
     kept.retain(has_value);
     LabelSet::from_texts(alloc, kept)
+}
+
+// The same of pairs in a buffer.
+pub(crate) fn labels_of_pairs(alloc: Global, pairs: &PairBuffer) -> Result<LabelSet, AllocError>
+    ensures { IfOk result (λ labels. labels ≡ last_holds (filter has_value pairs.now)) }
+{
+    if have_values(pairs.as_pairs()) {
+        return LabelSet::from_buffer(alloc, pairs);
+    }
+    let mut kept = PairBuffer::new(alloc);
+    for (name, value) in pairs.as_pairs() {
+        if !value.is_empty() {
+            kept.push(name, value)?;
+        }
+    }
+    LabelSet::from_buffer(alloc, &kept)
+}
+
+fn have_values(pairs: Pairs<'_>) -> bool
+    ensures { result ≡ list_all has_value pairs.entry }
+{
+    for (_, value) in pairs {
+        if value.is_empty() {
+            return false;
+        }
+    }
+    true
 }
 
 fn annotations_of(alloc: Global, value: Option<Value>) -> Result<LabelSet, MemberFault>

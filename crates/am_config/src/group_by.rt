@@ -6,7 +6,7 @@ ghost use Rattle.std.specs.FinMap.{retain_keys};
 ghost use Rattle.am_labels.specs.Texts.{same_text};
 
 use crate::group_names::GroupNames;
-use am_labels::{LabelSet, label_set_laws};
+use am_labels::{LabelSet, PairBuffer, label_set_laws};
 use std::alloc::{AllocError, Global};
 
 /// By which labels a route groups its alerts.
@@ -52,11 +52,11 @@ fn labels_named(
         named ≡ retain_keys labels.now (λ name. list_any (same_text name) names.now)) }
 {
     label_set_laws();
-    let mut named = Vec::new(alloc);
+    let mut named = PairBuffer::new(alloc);
     for (name, value) in labels.names_and_values() {
         if names.contains(name) {
-            named.push((name.copy()?, value.copy()?))?;
+            named.push(name, value)?;
         }
     }
-    LabelSet::from_texts(alloc, named)
+    LabelSet::from_buffer(alloc, &named)
 }

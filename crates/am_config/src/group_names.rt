@@ -7,7 +7,7 @@ ghost use Rattle.am_config.specs.RouteHeads.{distinct};
 
 use crate::texts::Texts;
 use am_labels::Text;
-use indexmap::IndexSet;
+use indexmap::{Equivalent, IndexSet};
 use std::alloc::{AllocError, Global};
 use std::marker::Model;
 use std::sync::Arc;
@@ -26,6 +26,32 @@ impl Model for GroupNames {
     ghost Value = { List (List ℕ) };
 
     ghost view = { λ a. (arc_value a.names).keys };
+}
+
+// A name that is looked up among texts.
+#[derive(Clone, Copy, PartialEq, Eq, Hash)]
+struct Sought<'a> {
+    name: &'a str,
+}
+
+impl Equivalent<Text> for Sought<'_> {
+    ghost use Rattle.std.proofs.Common.{ap};
+    ghost use Rattle.std.proofs.lemmas.Cmp.{nat_list_eq_equiv};
+    ghost use Rattle.std.specs.Cmp.{unsigned_Decides};
+    ghost use Rattle.std.specs.Cmp.Lexicographic.{pointwise_decides};
+    ghost use Rattle.std.specs.Hash as fed;
+    ghost use Rattle.am_labels.specs.Texts.{same_text};
+
+    ghost equivalent = { λ sought text. same_text sought.name.now text };
+
+    ghost respects_hash = { λ sought text same.
+        ap fed.str ((pointwise_decides unsigned_Decides sought.name.now text).0 same) };
+
+    ghost respects_eq = { λ sought. nat_list_eq_equiv.congr sought.name.now };
+
+    fn equivalent(&self, text: &Text) -> bool {
+        self.name == text.as_str()
+    }
 }
 
 impl GroupNames {
@@ -49,10 +75,10 @@ impl GroupNames {
     }
 
     /// Whether a name is one of them.
-    pub fn contains(&self, name: &Text) -> bool
+    pub fn contains(&self, name: &str) -> bool
         ensures { result ≡ list_any (same_text name.now) self.now }
     {
-        self.names.contains(name)
+        self.names.contains(Sought { name })
     }
 
     /// The same names once more. It takes no memory, and fails only if there are 2^63 copies already.

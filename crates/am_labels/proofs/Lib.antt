@@ -1,4 +1,5 @@
 pub mod LabelSets
+pub mod Spans
 pub mod Printing
 pub mod MatcherTexts
 pub mod MatcherMeaning

@@ -3,4 +3,5 @@ pub mod Comparisons
 pub mod Pairs
 pub mod Searches
 pub mod SharedTexts
+pub mod Spans
 pub mod SplitAnswers

@@ -1,16 +1,19 @@
 //! Label sets, by which Alertmanager identifies alerts.
 
 ghost use Rattle.std.specs.Prelude.{◌≡◌, ◌==◌, IfOk};
-ghost use Rattle.std.specs.Prelude.{List, ℕ, map, Some, T};
-ghost use Rattle.std.specs.Option.{option_copied};
+ghost use Rattle.std.specs.Prelude.{List, ℕ, map, option_map, Some, T};
+ghost use Rattle.std.specs.Cmp.Lexicographic.{slice_cmp};
+ghost use lib.Pointwise.{pointwise};
 ghost use Rattle.std.specs.FinMap as map_of;
 ghost use Rattle.std.specs.FinMap.Entries.{find, is_sorted};
+ghost use Rattle.am_labels.specs.LabelLaws.{pair_cmp};
 ghost use Rattle.am_labels.specs.Texts.{text_cmp};
-ghost use Rattle.am_labels.specs.LabelSets.{Labels, bytes_of, last_holds, same_labels, value_of};
+ghost use Rattle.am_labels.specs.LabelSets.{Labels, bytes_of, last_holds, same_labels, same_pair, value_of};
 ghost use Rattle.std.specs.Fmt.{DisplaysOnOk};
 ghost use Rattle.am_labels.specs.Printing.{labels_text, pair_text, pairs_text};
 
 use crate::label_name::LabelName;
+use crate::pairs::{PairBuffer, Pairs};
 use crate::quoted::Quoted;
 use crate::shared_pairs::SharedPairs;
 use crate::text::Text;
@@ -71,13 +74,32 @@ impl LabelSet {
     pub fn from_texts(alloc: Global, pairs: Vec<(Text, Text)>) -> Result<LabelSet, AllocError>
         ensures { IfOk result (λ labels. labels ≡ last_holds pairs.items) }
     {
-        let pairs = if are_ascending(&pairs) {
-            pairs
-        } else {
-            last_of_each(alloc, pairs)?
-        };
+        LabelSet::of(alloc, packed(alloc, &pairs)?)
+    }
+
+    /// The label set of a buffer's names and values. Of pairs with one name the last holds. It takes two
+    /// blocks of memory, whose texts its copies share, and one that counts these.
+    pub fn from_buffer(alloc: Global, pairs: &PairBuffer) -> Result<LabelSet, AllocError>
+        ensures { IfOk result (λ labels. labels ≡ last_holds pairs.now) }
+    {
+        LabelSet::of(alloc, pairs.copy(alloc)?)
+    }
+
+    fn of(alloc: Global, pairs: PairBuffer) -> Result<LabelSet, AllocError>
+        ensures { IfOk result (λ labels. labels ≡ last_holds pairs) }
+    {
+        if are_ascending(pairs.as_pairs()) {
+            return LabelSet::from_ascending(alloc, pairs);
+        }
+        LabelSet::from_ascending(alloc, last_of_each(alloc, pairs.as_pairs())?)
+    }
+
+    fn from_ascending(alloc: Global, pairs: PairBuffer) -> Result<LabelSet, AllocError>
+        requires { T (is_sorted text_cmp pairs) }
+        ensures { IfOk result (λ labels. labels ≡ map_of.from_sorted {R = text_cmp} pairs) }
+    {
         Ok(LabelSet {
-            pairs: SharedPairs::from_vec(pairs)?,
+            pairs: SharedPairs::from_buffer(alloc, pairs)?,
         })
     }
 
@@ -85,7 +107,7 @@ impl LabelSet {
     pub fn len(&self) -> usize
         ensures { result ≡ map_of.len self.now }
     {
-        self.pairs.len()
+        self.pairs.as_pairs().len()
     }
 
     pub fn is_empty(&self) -> bool
@@ -98,8 +120,8 @@ impl LabelSet {
     pub fn get(&self, name: &str) -> &str
         ensures { result.now ≡ value_of self.now name.now }
     {
-        match find(self.pairs.as_slice(), name) {
-            Some(value) => value.as_str(),
+        match find(self.pairs.as_pairs(), name) {
+            Some(value) => value,
             None => "",
         }
     }
@@ -108,14 +130,14 @@ impl LabelSet {
     pub fn contains_name(&self, name: &str) -> bool
         ensures { result ≡ map_of.contains_key self.now name.now }
     {
-        find(self.pairs.as_slice(), name).is_some()
+        find(self.pairs.as_pairs(), name).is_some()
     }
 
     /// Names with their values, in byte order of names.
-    pub fn names_and_values(&self) -> &[(Text, Text)]
-        ensures { result.now ≡ map_of.entries self.now }
+    pub fn names_and_values(&self) -> Pairs<'_>
+        ensures { result ≡ map_of.entries self.now }
     {
-        self.pairs.as_slice()
+        self.pairs.as_pairs()
     }
 
     /// The same label set once more, in O(1). It takes no memory, and fails only if there are 2^63
@@ -129,16 +151,34 @@ impl LabelSet {
     }
 }
 
-// Whether each name is greater than the one before it.
-fn are_ascending(pairs: &[(Text, Text)]) -> bool
-    ensures { result ≡ is_sorted text_cmp pairs.now }
+// The pairs in one buffer.
+fn packed(alloc: Global, pairs: &[(Text, Text)]) -> Result<PairBuffer, AllocError>
+    ensures { IfOk result (λ packed. packed ≡ pairs.now) }
 {
-    let Some(((first, _), others)) = pairs.split_first() else {
+    let mut bytes = 0usize;
+    for (name, value) in pairs {
+        bytes = bytes
+            .saturating_add(name.as_str().len())
+            .saturating_add(value.as_str().len());
+    }
+    let mut packed = PairBuffer::with_capacity(alloc, pairs.len(), bytes)?;
+    for (name, value) in pairs {
+        packed.push(name.as_str(), value.as_str())?;
+    }
+    Ok(packed)
+}
+
+// Whether each name is greater than the one before it.
+fn are_ascending(pairs: Pairs<'_>) -> bool
+    ensures { result ≡ is_sorted text_cmp pairs.entry }
+{
+    let mut others = pairs;
+    let Some((first, _)) = others.next() else {
         return true;
     };
     let mut last = first;
     for (name, _) in others {
-        if last.as_str() >= name.as_str() {
+        if last >= name {
             return false;
         }
         last = name;
@@ -147,14 +187,15 @@ fn are_ascending(pairs: &[(Text, Text)]) -> bool
 }
 
 // The pairs in byte order of names; of pairs with one name the last.
-fn last_of_each(alloc: Global, pairs: Vec<(Text, Text)>) -> Result<Vec<(Text, Text)>, AllocError>
-    ensures { IfOk result (λ sorted. sorted.items ≡ map_of.entries (last_holds pairs.items)) }
+fn last_of_each(alloc: Global, pairs: Pairs<'_>) -> Result<PairBuffer, AllocError>
+    ensures { IfOk result (λ sorted. sorted ≡ map_of.entries (last_holds pairs.entry)) }
 {
     let mut sorted = BTreeMap::new(alloc);
     for (name, value) in pairs {
-        sorted.insert(name, value)?;
+        sorted.insert(Text::from_str(alloc, name)?, Text::from_str(alloc, value)?)?;
     }
-    Ok(sorted.into_iter().collect(alloc)?)
+    let sorted: Vec<(Text, Text)> = sorted.into_iter().collect(alloc)?;
+    packed(alloc, &sorted)
 }
 
 // Up to how many pairs comparing a name with each is faster than a binary search: most names differ
@@ -162,32 +203,83 @@ fn last_of_each(alloc: Global, pairs: Vec<(Text, Text)>) -> Result<Vec<(Text, Te
 const FEW: usize = 8;
 
 // The value of a name among pairs in byte order of names.
-fn find<'a>(pairs: &'a [(Text, Text)], name: &str) -> Option<&'a Text>
-    requires { T (is_sorted text_cmp pairs.now) }
-    ensures { option_copied result ≡ find text_cmp name.now pairs.now }
+fn find<'a>(pairs: Pairs<'a>, name: &str) -> Option<&'a str>
+    requires { T (is_sorted text_cmp pairs) }
+    ensures { option_map (λ value. value.now) result ≡ find text_cmp name.now pairs.entry }
 {
     if pairs.len() <= FEW {
-        return find_among_few(pairs, name);
-    }
-    let order = |pair: &(Text, Text)| -> Ordering
-        ensures { result ≡ text_cmp pair.now.0 name.entry.now }
-    { pair.0.as_str().cmp(name) };
-    match pairs.binary_search_by(order) {
-        Ok(at) => Some(&pairs[at].1),
-        Err(_) => None,
+        find_among_few(pairs, name)
+    } else {
+        find_among_many(pairs, name)
     }
 }
 
-fn find_among_few<'a>(pairs: &'a [(Text, Text)], name: &str) -> Option<&'a Text>
-    requires { T (is_sorted text_cmp pairs.now) }
-    ensures { option_copied result ≡ find text_cmp name.now pairs.now }
+fn find_among_few<'a>(pairs: Pairs<'a>, name: &str) -> Option<&'a str>
+    requires { T (is_sorted text_cmp pairs) }
+    ensures { option_map (λ value. value.now) result ≡ find text_cmp name.now pairs.entry }
 {
     for (other, value) in pairs {
-        if other.as_str() == name {
+        if other == name {
             return Some(value);
         }
     }
     None
+}
+
+// By a binary search.
+fn find_among_many<'a>(pairs: Pairs<'a>, name: &str) -> Option<&'a str>
+    requires { T (is_sorted text_cmp pairs) }
+    ensures { option_map (λ value. value.now) result ≡ find text_cmp name.now pairs.entry }
+{
+    let (mut low, mut high) = (0, pairs.len());
+    'halves: while low < high {
+        let at = low + (high - low) / 2;
+        let (other, value) = pairs.at(at);
+        match other.cmp(name) {
+            Ordering::Equal => return Some(value),
+            Ordering::Less => low = at + 1,
+            Ordering::Greater => high = at,
+        }
+    }
+    None
+}
+
+// Whether two lists have the same names with the same values.
+fn are_same(pairs: Pairs<'_>, others: Pairs<'_>) -> bool
+    ensures { result ≡ pointwise same_pair pairs.entry others.entry }
+{
+    let (mut pairs, mut others) = (pairs, others);
+    'pairs: loop {
+        match (pairs.next(), others.next()) {
+            (Some((name, value)), Some((other_name, other_value))) => {
+                if name != other_name || value != other_value {
+                    return false;
+                }
+            }
+            (None, None) => return true,
+            _ => return false,
+        }
+    }
+}
+
+// The order of the first pairs that differ, by their names, and then by their values.
+fn order_of(pairs: Pairs<'_>, others: Pairs<'_>) -> Ordering
+    ensures { result ≡ slice_cmp pair_cmp pairs.entry others.entry }
+{
+    let (mut pairs, mut others) = (pairs, others);
+    'pairs: loop {
+        match (pairs.next(), others.next()) {
+            (Some((name, value)), Some((other_name, other_value))) => {
+                let order = name.cmp(other_name).then(value.cmp(other_value));
+                if order != Ordering::Equal {
+                    return order;
+                }
+            }
+            (None, None) => return Ordering::Equal,
+            (None, Some(_)) => return Ordering::Less,
+            (Some(_), None) => return Ordering::Greater,
+        }
+    }
 }
 
 impl PartialEq for LabelSet {
@@ -198,7 +290,7 @@ impl PartialEq for LabelSet {
     ghost laws = { labels_partial };
 
     fn eq(&self, other: &LabelSet) -> bool {
-        self.names_and_values() == other.names_and_values()
+        are_same(self.names_and_values(), other.names_and_values())
     }
 }
 
@@ -234,7 +326,7 @@ impl Ord for LabelSet {
     ghost matches_eq = { labels_ties };
 
     fn cmp(&self, other: &LabelSet) -> Ordering {
-        self.names_and_values().cmp(other.names_and_values())
+        order_of(self.names_and_values(), other.names_and_values())
     }
 }
 
@@ -262,27 +354,23 @@ impl fmt::Display for LabelSet {
 }
 
 // The pairs with commas between.
-fn write_pairs<W: fmt::Write>(pairs: &[(Text, Text)], f: &mut fmt::Formatter<W>) -> fmt::Result
-    ensures { DisplaysOnOk W.write_str_gives f.old result (Some (pairs_text pairs.now)) f.new }
+fn write_pairs<W: fmt::Write>(pairs: Pairs<'_>, f: &mut fmt::Formatter<W>) -> fmt::Result
+    ensures { DisplaysOnOk W.write_str_gives f.old result (Some (pairs_text pairs.entry)) f.new }
 {
-    let Some((first, others)) = pairs.split_first() else {
+    let mut others = pairs;
+    let Some((name, value)) = others.next() else {
         return Ok(());
     };
-    write_pair(first, f)?;
-    for pair in others {
+    write_pair(name, value, f)?;
+    for (name, value) in others {
         f.write_str(",")?;
-        write_pair(pair, f)?;
+        write_pair(name, value, f)?;
     }
     Ok(())
 }
 
-fn write_pair<W: fmt::Write>(pair: &(Text, Text), f: &mut fmt::Formatter<W>) -> fmt::Result
-    ensures { DisplaysOnOk W.write_str_gives f.old result (Some (pair_text pair.now)) f.new }
+fn write_pair<W: fmt::Write>(name: &str, value: &str, f: &mut fmt::Formatter<W>) -> fmt::Result
+    ensures { DisplaysOnOk W.write_str_gives f.old result (Some (pair_text (name.now, value.now))) f.new }
 {
-    write!(
-        f,
-        "{}={}",
-        LabelName(pair.0.as_str()),
-        Quoted(pair.1.as_str())
-    )
+    write!(f, "{}={}", LabelName(name), Quoted(value))
 }

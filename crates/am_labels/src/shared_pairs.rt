@@ -1,10 +1,10 @@
 //! Names with values that the copies of a label set have in common. Only `label_set.rt` uses it.
 
-ghost use Rattle.std.specs.Prelude.{◌≡◌, [], IfOk, length};
+ghost use Rattle.std.specs.Prelude.{◌≡◌, [], IfOk};
 ghost use Rattle.am_labels.specs.LabelLaws.{pairs_hash};
-ghost use Rattle.am_labels.specs.inside.Pairs.{pairs_in};
+ghost use Rattle.am_labels.specs.inside.Pairs.{pairs_shared};
 
-use crate::text::Text;
+use crate::pairs::{PairBuffer, Pairs};
 use std::alloc::{AllocError, Global};
 use std::hash::{FoldHasher, Hash, Hasher};
 use std::marker::Model;
@@ -14,7 +14,7 @@ use std::sync::Arc;
 #[derive(Debug, Drop)]
 pub(crate) struct SharedPairs {
     // None if there are no pairs: it takes no memory.
-    pairs: Option<Arc<Vec<(Text, Text)>, Global>>,
+    pairs: Option<Arc<PairBuffer, Global>>,
     // Made once, so that a look-up doesn't hash the texts anew.
     hash: u64,
 }
@@ -22,13 +22,13 @@ pub(crate) struct SharedPairs {
 impl Model for SharedPairs {
     ghost use Rattle.std.specs.Prelude.{◌≡◌, List, ℕ};
     ghost use Rattle.am_labels.specs.LabelLaws.{pairs_hash};
-    ghost use Rattle.am_labels.specs.inside.Pairs.{pairs_in};
+    ghost use Rattle.am_labels.specs.inside.Pairs.{pairs_shared};
 
     ghost Value = { List (List ℕ × List ℕ) };
 
-    ghost view = { λ a. pairs_in a.pairs };
+    ghost view = { λ a. pairs_shared a.pairs };
 
-    ghost invariant = { λ a. a.hash ≡ pairs_hash (pairs_in a.pairs) };
+    ghost invariant = { λ a. a.hash ≡ pairs_hash (pairs_shared a.pairs) };
 }
 
 impl SharedPairs {
@@ -37,32 +37,26 @@ impl SharedPairs {
     {
         SharedPairs {
             pairs: None,
-            hash: hash_of(&[]),
+            hash: hash_of(Pairs::none()),
         }
     }
 
-    pub(crate) fn from_vec(pairs: Vec<(Text, Text)>) -> Result<SharedPairs, AllocError>
-        ensures { IfOk result (λ shared. shared ≡ pairs.items) }
+    pub(crate) fn from_buffer(alloc: Global, pairs: PairBuffer) -> Result<SharedPairs, AllocError>
+        ensures { IfOk result (λ shared. shared ≡ pairs) }
     {
-        let hash = hash_of(&pairs);
+        let hash = hash_of(pairs.as_pairs());
         Ok(SharedPairs {
-            pairs: Some(Arc::new(*pairs.allocator(), pairs)?),
+            pairs: Some(Arc::new(alloc, pairs)?),
             hash,
         })
     }
 
-    pub(crate) fn len(&self) -> usize
-        ensures { result ≡ length self.now }
-    {
-        self.as_slice().len()
-    }
-
-    pub(crate) fn as_slice(&self) -> &[(Text, Text)]
-        ensures { result.now ≡ self.now }
+    pub(crate) fn as_pairs(&self) -> Pairs<'_>
+        ensures { result ≡ self.now }
     {
         match &self.pairs {
-            Some(shared) => shared.as_slice(),
-            None => &[],
+            Some(shared) => shared.as_pairs(),
+            None => Pairs::none(),
         }
     }
 
@@ -87,10 +81,14 @@ impl SharedPairs {
     }
 }
 
-fn hash_of(pairs: &[(Text, Text)]) -> u64
-    ensures { result ≡ pairs_hash pairs.now }
+fn hash_of(pairs: Pairs<'_>) -> u64
+    ensures { result ≡ pairs_hash pairs.entry }
 {
     let mut state = FoldHasher::default();
-    pairs.hash(&mut state);
+    pairs.len().hash(&mut state);
+    for (name, value) in pairs {
+        name.hash(&mut state);
+        value.hash(&mut state);
+    }
     state.finish()
 }

@@ -11,7 +11,7 @@ ghost use Rattle.am_script.specs.inside.AlertTokens.{moments_tokens};
 
 use crate::script::Fault;
 use am_alert::Alert;
-use am_labels::{LabelSet, Text};
+use am_labels::{LabelSet, Pairs, Text};
 use json::Writer;
 use std::alloc::{AllocError, Global};
 use std::fmt;
@@ -102,12 +102,12 @@ impl JsonLine {
         self.close()
     }
 
-    fn pairs(&mut self, pairs: &[(Text, Text)]) -> Result<(), AllocError>
+    fn pairs(&mut self, pairs: Pairs<'_>) -> Result<(), AllocError>
         ensures { OnOk result (self.new
-            ≡ self.old ++ flat_map (λ pair. named pair.0 (string pair.1)) pairs.now) }
+            ≡ self.old ++ flat_map (λ pair. named pair.0 (string pair.1)) pairs.entry) }
     {
         for (name, value) in pairs {
-            self.text(name.as_str(), value.as_str())?;
+            self.text(name, value)?;
         }
         Ok(())
     }

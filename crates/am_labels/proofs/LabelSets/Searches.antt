@@ -1,5 +1,5 @@
 -- A binary search by name among pairs in byte order of names.
-use Rattle.std.proofs.Common.{◌≡◌, ◌≢◌, ℕ, zero, suc, ◌<◌, ◌≤◌, ◌&&◌, Bool, true, false, cond, Some, None, List, [], ◌∷◌, length, get_or, refl, sym, ap, ◌∙◌, arith, T, Less, Equal, Greater, add-one, ⊎_elim}
+use Rattle.std.proofs.Common.{◌≡◌, ◌≢◌, ℕ, zero, suc, ◌<◌, ◌≤◌, ◌&&◌, Bool, true, false, cond, Some, None, List, [], ◌∷◌, length, get_or, refl, sym, ap, ◌∙◌, arith, T, Less, Equal, Greater, add-one, ⊎_elim, inl, inr}
 use Rattle.std.specs.FinMap.{slice_cmp-IsAntisymmetric, nat_cmp-IsAntisymmetric}
 use Rattle.std.specs.FinMap.Entries.{is_sorted, below_all, find}
 use Rattle.std.specs.Cmp.{tied_itself}
@@ -10,6 +10,7 @@ use Rattle.std.specs.Ordering.{is_lt, is_eq, ordering_reverse, ordering_index}
 use Rattle.std.proofs.lemmas.List.Sorted.{searchable_from_sorted}
 use Rattle.std.specs.List.{AllWithin}
 use Rattle.std.proofs.lemmas.Bool.{cases_lt}
+use Rattle.std.proofs.lemmas.List.{get_or_default}
 use Rattle.am_labels.specs.Texts.{text_cmp}
 
 pub both : (a b : Bool) → T (a && b) → T a × T b
@@ -83,3 +84,44 @@ find_between pairs name index front back =
     (λ (before : at < index). let no : Less ≡ Equal = sym (front at d (omega arith) before) ∙ e in (cc))
     (λ (past : index ≤ at). let no : Greater ≡ Equal = sym (back at d past short) ∙ e in (cc))
     (cases_lt at index))
+
+-- the first of some pairs is found if its name is sought, and else is passed over
+pub found_first : (name value : List ℕ) (pairs : List (List ℕ × List ℕ)) → find text_cmp name ((name, value) ∷ pairs) ≡ Some value
+found_first name value pairs = ap (λ o. cond (is_eq o) (Some value) (find text_cmp name pairs)) (tied_itself nat_list_cmp_total name)
+
+pub passed_over : (name other value : List ℕ) (pairs : List (List ℕ × List ℕ)) → (other ≡ name → ⊥) → find text_cmp name ((other, value) ∷ pairs) ≡ find text_cmp name pairs
+passed_over name other value pairs apart =
+    ap (λ b. cond b (Some value) (find text_cmp name pairs)) (untied (text_cmp name other) (λ ties. apart (sym (tied name other ties))))
+
+-- an earlier name is lower
+rises : (pairs : List (List ℕ × List ℕ)) (i j : ℕ) (d : List ℕ × List ℕ) → T (is_sorted text_cmp pairs) → i < j → j < length pairs
+    → text_cmp (get_or pairs i d).0 (get_or pairs j d).0 ≡ Less
+rises [] i j d h less short = absurd (omega arith)
+rises (pair ∷ pairs) i zero d h less short = absurd (omega arith)
+rises (pair ∷ pairs) zero (suc j) d h less short = below_at pair.0 pairs j d (both _ _ h).0 (omega arith)
+rises (pair ∷ pairs) (suc i) (suc j) d h less short = rises pairs i j d (both _ _ h).1 (omega arith) (omega arith)
+
+-- the names up to a lower one are lower
+pub lower_up_to : (pairs : List (List ℕ × List ℕ)) (name : List ℕ) (at : ℕ) (e : List ℕ × List ℕ) → T (is_sorted text_cmp pairs) → at < length pairs
+    → text_cmp (get_or pairs at e).0 name ≡ Less → (k : ℕ) (d : List ℕ × List ℕ) → k ≤ at → text_cmp (get_or pairs k d).0 name ≡ Less
+lower_up_to pairs name at e h short less k d before =
+    let here : text_cmp (get_or pairs at d).0 name ≡ Less = ap (λ (pair : List ℕ × List ℕ). text_cmp pair.0 name) (get_or_default pairs at d e short) ∙ less in
+    elim (cases_lt k at) [
+      | inl below ↦ nat_list_cmp_total.trans (get_or pairs k d).0 (get_or pairs at d).0 name (rises pairs k at d h below short) here
+      | inr past ↦
+          let there : k ≡ at = omega arith in
+          ap (λ i. text_cmp (get_or pairs i d).0 name) there ∙ here
+    ]
+
+-- the names from a greater one on are greater
+pub greater_from : (pairs : List (List ℕ × List ℕ)) (name : List ℕ) (at : ℕ) (e : List ℕ × List ℕ) → T (is_sorted text_cmp pairs)
+    → text_cmp (get_or pairs at e).0 name ≡ Greater → (k : ℕ) (d : List ℕ × List ℕ) → at ≤ k → k < length pairs → text_cmp (get_or pairs k d).0 name ≡ Greater
+greater_from pairs name at e h more k d past short =
+    let here : text_cmp (get_or pairs at d).0 name ≡ Greater = ap (λ (pair : List ℕ × List ℕ). text_cmp pair.0 name) (get_or_default pairs at d e (omega arith)) ∙ more in
+    let above : text_cmp name (get_or pairs at d).0 ≡ Less = nat_list_cmp_total.antisymm name (get_or pairs at d).0 ∙ ap ordering_reverse here in
+    elim (cases_lt at k) [
+      | inl beyond ↦ flipped name (get_or pairs k d).0 (nat_list_cmp_total.trans name (get_or pairs at d).0 (get_or pairs k d).0 above (rises pairs at k d h beyond short))
+      | inr up ↦
+          let there : k ≡ at = omega arith in
+          ap (λ i. text_cmp (get_or pairs i d).0 name) there ∙ here
+    ]

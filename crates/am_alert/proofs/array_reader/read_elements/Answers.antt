@@ -1,7 +1,6 @@
-use Rattle.std.proofs.Common.{◌≡◌, ◌∙◌, ◌<◌, ◌≤◌, ◌++◌, ◌∷◌, [], List, Option, Some, None, ap, length, length-append, refl, subst, sym, arith, rules}
+use Rattle.std.proofs.Common.{◌≡◌, ◌∙◌, ◌<◌, ◌++◌, ◌∷◌, [], List, Option, Some, None, ap, length, length-append, refl, subst, sym, arith, rules}
 use Rattle.json.specs.Json.{after_end_array, items, value}
 use Rattle.json.specs.Token.{Token}
-use Rattle.am_alert.specs.declared.post.TheConstants.{MAX_ALERTS}
 use Rattle.am_alert.specs.declared.postable.Postable.{Postable}
 use Rattle.am_alert.specs.inside.Streams.{IsElementOf}
 use Rattle.am_alert.proofs.Arrays.{as_many}

@@ -8,14 +8,14 @@ use Rattle.am_alert.specs.inside.Streams.{AreTextsOf, IsTextOf}
 use Rattle.am_alert.proofs.Drafts.{takes_annotations, takes_labels}
 use Rattle.am_alert.proofs.array_reader.read_member.Goals as goal
 
-pub returns-in_ok-labels_with_values-clause-read : goal.returns-in_ok-labels_with_values-clause-read
-returns-in_ok-labels_with_values-clause-read c taken =
+pub returns-in_ok-labels_of_pairs-clause-read : goal.returns-in_ok-labels_of_pairs-clause-read
+returns-in_ok-labels_of_pairs-clause-read c taken =
     let was = c.args.draft.now in
-    let labels = c.in_ok-labels_with_values.field-0 in
+    let labels = c.in_ok-labels_of_pairs.field-0 in
     let named : c.args.name.now ≡ codes "labels" = search rules in
-    let texts : AreTextsOf c.args.reader.now c.read_texts.new.reader c.in-Some.pairs.items = search rules in
+    let texts : AreTextsOf c.args.reader.now c.read_texts.new.reader c.read_texts.new.pairs = search rules in
     let is : labels_of (object texts.0) ≡ Some labels =
-    ap (option_map (λ pairs. last_holds (filter has_value pairs))) texts.2 ∙ ap Some (sym c.in_ok-labels_with_values.ensures) in (
+    ap (option_map (λ pairs. last_holds (filter has_value pairs))) texts.2 ∙ ap Some (sym c.in_ok-labels_of_pairs.ensures) in (
       object texts.0,
       texts.1,
       λ members read. subst (λ (name : List ℕ). AreRead (record was { labels = Some labels }) (put name (object texts.0) members)) (sym named)
@@ -27,7 +27,7 @@ returns-in_ok-draft-clause-read c taken =
     let was = c.args.draft.now in
     let annotations = c.in_ok-draft.field-0 in
     let named : c.args.name.now ≡ codes "annotations" = search rules in
-    let texts : AreTextsOf c.args.reader.now c.read_texts-then-eq-2.new.reader c.in-Some-2.pairs.items = search rules in
+    let texts : AreTextsOf c.args.reader.now c.read_texts-then-eq-2.new.reader c.read_texts-then-eq-2.new.pairs = search rules in
     let is : annotations_of (object texts.0) ≡ Some annotations = ap (option_map last_holds) texts.2 ∙ ap Some (sym c.in_ok-draft.ensures) in (
       object texts.0,
       texts.1,
@@ -35,9 +35,9 @@ returns-in_ok-draft-clause-read c taken =
           (takes_annotations was members read (object texts.0) annotations refl is),
     )
 
-pub returns-else-not-branch-clause-read : goal.returns-else-not-branch-clause-read
-returns-else-not-branch-clause-read c taken =
-    let given = c.in-Some-read_text.text.now in
+pub returns-else-not-branch-3-clause-read : goal.returns-else-not-branch-3-clause-read
+returns-else-not-branch-3-clause-read c taken =
+    let given = c.in-Some.text.now in
     let text : IsTextOf c.args.reader.now c.read_text.new.reader given = search rules in
     let takes : TakesText c.args.name.now given c.args.draft.now c.take.new.self = search rules in
     (string given, text 2, takes)

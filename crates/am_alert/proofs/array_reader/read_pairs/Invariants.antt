@@ -8,8 +8,8 @@ use Rattle.am_alert.proofs.array_reader.read_pairs.Given as goal
 -- the members so far are the pairs, and what is after the last name is after all of them
 abbrev pub invariant-pairs : goal.invariant-pairs
 invariant-pairs l =
-    Members-so-far (value 124) (members (value 124) (length l.initial.reader) l.initial.reader) l.reader (text_members l.pairs.items)
-    × MatchOption l.last (l.pairs.items ≡ []) (λ last. (name : List ℕ) → IsBefore last.now name → AreBefore name l.pairs.items)
+    Members-so-far (value 124) (members (value 124) (length l.initial.reader) l.initial.reader) l.reader (text_members l.pairs)
+    × MatchOption l.last (l.pairs ≡ []) (λ last. (name : List ℕ) → IsBefore last.now name → AreBefore name l.pairs)
     × (length l.reader ≤ length l.initial.reader)
 
 abbrev pub decreases-pairs : goal.decreases-pairs

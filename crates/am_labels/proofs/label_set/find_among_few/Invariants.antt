@@ -1,7 +1,11 @@
-use Rattle.std.proofs.Common.{◌≢◌, ◌<◌, ℕ, List, Equal, get_or}
+use Rattle.std.proofs.Common.{◌≡◌}
+use Rattle.std.specs.FinMap.Entries.{find}
 use Rattle.am_labels.specs.Texts.{text_cmp}
 use Rattle.am_labels.proofs.label_set.find_among_few.Given as goal
 
--- none of the names so far is the one
+-- what is found is found among those that are left
 abbrev pub invariant-loop-other : goal.invariant-loop-other
-invariant-loop-other l = (at : ℕ) (d : List ℕ × List ℕ) → at < l.other-index → text_cmp (get_or l.pairs at d).0 l.name ≢ Equal
+invariant-loop-other l =
+    (goal.iterator-loop-other).can_next l.other-iterator ×
+    (goal.iterator-loop-other).is_finite l.other-iterator ×
+    (find text_cmp l.name l.fn.pairs ≡ find text_cmp l.name l.other-iterator)

@@ -1,28 +1,36 @@
-use Rattle.std.proofs.Common.{◌≡◌, sym, ◌∙◌, ap, rules, map-id}
+use Rattle.std.proofs.Common.{◌≡◌, ◌∙◌, ◌∷◌, ◌++◌, [], List, ℕ, sym, ap, rules, append_assoc}
 use Rattle.std.specs.FinMap.{entries}
 use Rattle.std.specs.BTreeMap.{insert_entry}
-use Rattle.std.proofs.lemmas.Iterator.Adapters.{YieldsList-from_vec}
-use Rattle.std.proofs.lemmas.Iterator.Consumers.{YieldsList-end}
-use Rattle.std.proofs.iter.runs.Made.{chains}
 use Rattle.am_labels.specs.Texts.{text_cmp}
 use Rattle.am_labels.specs.LabelSets.{last_holds}
 use Rattle.am_labels.proofs.LabelSets.LabelMaps.{entries_empty, last_push}
 use Rattle.am_labels.proofs.label_set.last_of_each.Goals as goal
 
 pub loop-name-init : goal.loop-name-init
-loop-name-init c = c.new-sorted.ensures.empty ∙ sym entries_empty
+loop-name-init c = (tt, tt, ([], search rules, c.new-sorted.ensures.empty ∙ sym entries_empty))
+
+-- with one pair more
+one_more : (all done rest : List (List ℕ × List ℕ)) (name value : List ℕ) (left sorted new : List (List ℕ × List ℕ))
+    → all ≡ done ++ left → left ≡ (name, value) ∷ rest → sorted ≡ entries (last_holds done) → new ≡ insert_entry text_cmp sorted name value
+    → (d : List (List ℕ × List ℕ)) × (all ≡ d ++ rest) × (new ≡ entries (last_holds d))
+one_more all done rest name value left sorted new split first so_far put = (
+  done ++ (name, value) ∷ [],
+  split ∙ ap (λ (pairs : List (List ℕ × List ℕ)). done ++ pairs) first ∙ sym (append_assoc done ((name, value) ∷ []) rest),
+  put ∙ ap (λ pairs. insert_entry text_cmp pairs name value) so_far ∙ last_push done name value,
+)
 
 pub loop-name-preserved-in_ok-insert : goal.loop-name-preserved-in_ok-insert
 loop-name-preserved-in_ok-insert c =
-    c.in_ok-insert.ensures.entries ∙ (ap (λ pairs. insert_entry text_cmp pairs c.in-Some.name c.in-Some.value) c.loop-name.invariant ∙ last_push c.loop-name.yielded c.in-Some.name c.in-Some.value)
+    let so_far = c.loop-name.invariant.2 in (
+      tt,
+      tt,
+      one_more c.args.pairs so_far.0 c.next.new.self c.in-Some.name.now c.in-Some.value.now c.loop-name.name-iterator c.loop-name.sorted.entries _ so_far.1 (search rules) so_far.2 (search rules),
+    )
 
 pub loop-name-preserved : goal.loop-name-preserved
 loop-name-preserved c =
-    c.in_ok-insert.ensures.entries ∙ (ap (λ pairs. insert_entry text_cmp pairs c.in-Some.name c.in-Some.value) c.loop-name.invariant ∙ last_push c.loop-name.yielded c.in-Some.name c.in-Some.value)
-
-pub returns : goal.returns
-returns c =
-    let same : c.in_ok-collect.field-0.items ≡ c.loop-name.sorted.entries = search (rules, chains) in
-    let end = YieldsList-end (YieldsList-from_vec {s = c.into_iter-name-iterator.result} c.args.pairs.items (search rules) (search rules)) c.loop-name.yielded c.loop-name.name-iterator c.loop-name.yielded_by c.next.result c.next.new.self c.in-None.is c.next.ensures.steps in
-    let all : c.loop-name.yielded ≡ c.args.pairs.items = search (rules, map-id) in
-    same ∙ (c.loop-name.invariant ∙ ap (λ pairs. entries (last_holds pairs)) all)
+    let so_far = c.loop-name.invariant.2 in (
+      tt,
+      tt,
+      one_more c.args.pairs so_far.0 c.next.new.self c.in-Some.name.now c.in-Some.value.now c.loop-name.name-iterator c.loop-name.sorted.entries _ so_far.1 (search rules) so_far.2 (search rules),
+    )

@@ -5,7 +5,7 @@ use Rattle.am_alert.specs.Posts.{entries_of, IsArray, ReadsEach}
 use Rattle.am_alert.specs.inside.Streams.{IsArrayOf}
 use Rattle.am_alert.specs.declared.postable.Postable.{Postable}
 use Rattle.am_alert.proofs.Bodies.{elements_are_read}
-use Rattle.am_alert.proofs.post_reader.read_post.Goals as goal
+use Rattle.am_alert.proofs.post_reader.PostReader.read.Goals as goal
 
 pub returns-in-Ok : goal.returns-in-Ok
 returns-in-Ok c =

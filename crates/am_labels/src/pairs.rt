@@ -1,0 +1,171 @@
+//! Names with values that lie one behind the other in one text.
+
+ghost use Rattle.std.specs.Prelude.{◌≡◌, ◌<◌, [], ◌∷◌, ◌++◌, get_or, IfErr, IfOk, length};
+ghost use Rattle.am_labels.specs.inside.Spans.{pairs_in, AreSpansOf};
+
+use std::alloc::{AllocError, Global};
+use std::marker::Model;
+
+/// Where a name and its value lie: the name from `start` to `middle`, the value from there to `end`.
+#[derive(Clone, Copy, Debug, Drop)]
+pub struct Span {
+    start: usize,
+    middle: usize,
+    end: usize,
+}
+
+/// Names with values, seen by contracts as their list. It gives them one after another.
+#[derive(Debug, Drop)]
+pub struct Pairs<'a> {
+    text: &'a str,
+    spans: &'a [Span],
+}
+
+impl<'a> Model for Pairs<'a> {
+    ghost use Rattle.std.specs.Prelude.{List, ℕ};
+    ghost use Rattle.am_labels.specs.inside.Spans.{pairs_in, AreSpansOf};
+
+    ghost Value = { List (List ℕ × List ℕ) };
+
+    ghost view = { λ p. pairs_in p.text.now p.spans.now };
+
+    ghost invariant = { λ p. AreSpansOf p.text.now p.spans.now };
+}
+
+impl<'a> Iterator for Pairs<'a> {
+    type Item = (&'a str, &'a str);
+
+    ghost use Rattle.std.specs.Iterator.{YieldsFirstBy, item_count};
+
+    ghost next_gives = { YieldsFirstBy (λ pair. (pair.0.now, pair.1.now)) (λ pairs. pairs) };
+
+    ghost remaining = { item_count (λ pairs. pairs) };
+
+    fn next(&mut self) -> Option<(&'a str, &'a str)> {
+        let (span, others) = self.spans.split_first()?;
+        self.spans = others;
+        Some((
+            &self.text[span.start..span.middle],
+            &self.text[span.middle..span.end],
+        ))
+    }
+}
+
+impl<'a> Pairs<'a> {
+    /// None.
+    pub(crate) fn none() -> Pairs<'a>
+        ensures { result ≡ [] }
+    {
+        Pairs {
+            text: "",
+            spans: &[],
+        }
+    }
+
+    /// How many are left.
+    pub fn len(&self) -> usize
+        ensures { result ≡ length self.now }
+    {
+        self.spans.len()
+    }
+
+    /// One of those that are left.
+    pub(crate) fn at(&self, at: usize) -> (&'a str, &'a str)
+        requires { at < length self.now }
+        ensures { (result.0.now, result.1.now) ≡ get_or self.now at ([], []) }
+    {
+        let spans = self.spans;
+        let span = spans[at];
+        (
+            &self.text[span.start..span.middle],
+            &self.text[span.middle..span.end],
+        )
+    }
+}
+
+/// Names with values that are put behind each other, seen by contracts as their list. They lie in two
+/// blocks of memory, which a buffer that is cleared keeps for the next ones.
+#[derive(Debug, Drop)]
+pub struct PairBuffer {
+    text: String,
+    spans: Vec<Span>,
+}
+
+impl Model for PairBuffer {
+    ghost use Rattle.std.specs.Prelude.{List, ℕ, string_bytes};
+    ghost use Rattle.am_labels.specs.inside.Spans.{pairs_in, AreSpansOf};
+
+    ghost Value = { List (List ℕ × List ℕ) };
+
+    ghost view = { λ b. pairs_in (string_bytes b.text) b.spans.items };
+
+    ghost invariant = { λ b. AreSpansOf (string_bytes b.text) b.spans.items };
+}
+
+impl PairBuffer {
+    /// No pairs. It takes no memory.
+    pub fn new(alloc: Global) -> PairBuffer
+        ensures { result ≡ [] }
+    {
+        PairBuffer {
+            text: String::new(alloc),
+            spans: Vec::new(alloc),
+        }
+    }
+
+    /// No pairs, with room for so many in so many bytes.
+    pub(crate) fn with_capacity(
+        alloc: Global,
+        pairs: usize,
+        bytes: usize,
+    ) -> Result<PairBuffer, AllocError>
+        ensures { IfOk result (λ buffer. buffer ≡ []) }
+    {
+        Ok(PairBuffer {
+            text: String::with_capacity(alloc, bytes)?,
+            spans: Vec::with_capacity(alloc, pairs)?,
+        })
+    }
+
+    /// Puts a name with its value behind the others.
+    pub fn push(&mut self, name: &str, value: &str) -> Result<(), AllocError>
+        ensures pushed { IfOk result (λ done. self.new ≡ self.old ++ (name.now, value.now) ∷ []) }
+        ensures kept { IfErr result (λ fault. self.new ≡ self.old) }
+    {
+        self.spans.reserve(1)?;
+        let start = self.text.len();
+        self.text.push_str(name)?;
+        let middle = self.text.len();
+        self.text.push_str(value)?;
+        let end = self.text.len();
+        self.spans.push(Span { start, middle, end })?;
+        Ok(())
+    }
+
+    /// Drops all pairs, and keeps their memory.
+    pub fn clear(&mut self)
+        ensures { self.new ≡ [] }
+    {
+        self.spans.clear();
+        self.text.clear();
+    }
+
+    pub fn as_pairs(&self) -> Pairs<'_>
+        ensures { result ≡ self.now }
+    {
+        Pairs {
+            text: self.text.as_str(),
+            spans: self.spans.as_slice(),
+        }
+    }
+
+    /// The same pairs once more, in blocks that have no room to spare.
+    pub(crate) fn copy(&self, alloc: Global) -> Result<PairBuffer, AllocError>
+        ensures { IfOk result (λ copy. copy ≡ self.now) }
+    {
+        Ok(PairBuffer {
+            text: String::from_str(alloc, self.text.as_str())?,
+            spans: self.spans.clone()?,
+        })
+    }
+}
