@@ -11,7 +11,7 @@ ghost use Rattle.am_provider.specs.declared.answers.Policy.TheVariants.{Refuse};
 use crate::failure::Failure;
 use crate::printed::Printed;
 use crate::words::{number, small_number};
-use am_alert::{Moment, Post, read_post};
+use am_alert::{Moment, Post, PostReader};
 use am_cast::{LANES, MAX_PLACES};
 use am_provider::{
     Begun, Book, Caller, Cast, NoGate, Origin, Parts, Pass, Policy, Provider, Recorded, Step,
@@ -264,11 +264,13 @@ fn read_all<N: Recorded + Send + Sync, R: Threads + Wait + Clock + Sync>(
 // Posts the bodies in turn, trying each again while the log is full. Returns how many were accepted.
 fn post<N: Recorded, R: Wait>(
     rt: &R,
+    alloc: Global,
     provider: &Provider<N>,
     caller: &mut Caller<N>,
     bodies: &[String],
     load: Load,
 ) -> u64 {
+    let mut reader = PostReader::new(alloc);
     let mut turns = 0;
     let mut accepted: u64 = 0;
     for at in 0..load.posts {
@@ -276,9 +278,9 @@ fn post<N: Recorded, R: Wait>(
             return accepted;
         };
         for _turn in 0..u64::MAX {
-            if provider
-                .post(rt, caller, &NoGate, body.as_bytes(), moment(at))
-                .is_ok()
+            let read = reader.read(body.as_bytes(), moment(at), provider.resolve_timeout);
+            if let Ok(post) = read
+                && provider.put(rt, caller, &NoGate, post, moment(at)).is_ok()
             {
                 accepted = accepted.wrapping_add(1);
                 break;
@@ -312,6 +314,7 @@ fn subscribe_last<N: Recorded, R: Wait + Clock>(
 // once more, and closes the log.
 fn post_all<N: Recorded + Send + Sync, R: Threads + Wait + Clock + Sync>(
     rt: &R,
+    alloc: Global,
     provider: &Provider<N>,
     posters: &mut [Caller<N>],
     bodies: &[String],
@@ -326,7 +329,10 @@ fn post_all<N: Recorded + Send + Sync, R: Threads + Wait + Clock + Sync>(
         posters,
         64,
         &|_poster, caller| {
-            accepted.fetch_add(post(rt, provider, caller, bodies, load), Ordering::SeqCst);
+            accepted.fetch_add(
+                post(rt, alloc, provider, caller, bodies, load),
+                Ordering::SeqCst,
+            );
         },
     );
     let posting = since(rt, begin);
@@ -374,7 +380,7 @@ fn run_bytes<N: Recorded + Send + Sync, R: Threads + Wait + Clock + Sync>(
     let (posted, shown) = match callers.split_at_mut_checked(load.posters as usize) {
         Some((posters, readers)) => thread::join(
             rt,
-            move || post_all(rt, shared, posters, bodies, come, load),
+            move || post_all(rt, alloc, shared, posters, bodies, come, load),
             move || read_all(rt, shared, readers, come),
         ),
         None => (Posted::NOTHING, 0),
@@ -389,15 +395,11 @@ fn run_bytes<N: Recorded + Send + Sync, R: Threads + Wait + Clock + Sync>(
 
 // The posts, read from their bodies.
 fn read_posts(alloc: Global, bodies: &[String], load: Load) -> Result<Vec<Post>, AllocError> {
+    let mut reader = PostReader::new(alloc);
     let mut posts = Vec::new(alloc);
     for at in 0..load.posts {
         if let Some(body) = bodies.get((at % load.labels) as usize)
-            && let Ok(post) = read_post(
-                alloc,
-                body.as_bytes(),
-                moment(at),
-                Duration::from_secs(300),
-            )
+            && let Ok(post) = reader.read(body.as_bytes(), moment(at), Duration::from_secs(300))
         {
             posts.push(post)?;
         }

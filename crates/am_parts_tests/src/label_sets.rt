@@ -1,7 +1,7 @@
 //! Label sets.
 
 use crate::expectation::expect;
-use am_labels::LabelSet;
+use am_labels::{LabelSet, PairBuffer};
 use std::alloc::{AllocError, Global};
 use std::test::Fail;
 
@@ -71,4 +71,84 @@ fn comparisons(rt: HostRuntime) -> Result<(), Fail> {
     let one = labels_of(rt.alloc(), &[("a", "1")])?;
     let other = labels_of(rt.alloc(), &[("a", "2")])?;
     expect(are_in_order(&one, &other), "another order")
+}
+
+// The name of a number, which has a character of two bytes.
+fn name_of(alloc: Global, number: u32) -> Result<String, AllocError> {
+    format!(in alloc; "\u{e9}{number}")
+}
+
+// The value of a number under a mark. Each fifth one is empty.
+fn value_of(alloc: Global, mark: &str, number: u32) -> Result<String, AllocError> {
+    if number % 5 == 0 {
+        Ok(String::new(alloc))
+    } else {
+        format!(in alloc; "{mark}{number}")
+    }
+}
+
+// Pairs of so many numbers, not in the order of their names.
+fn fill(alloc: Global, buffer: &mut PairBuffer, count: u32, mark: &str) -> Result<(), AllocError> {
+    for number in 0..count {
+        let name = name_of(alloc, number)?;
+        let value = value_of(alloc, mark, number)?;
+        buffer.push(name.as_str(), value.as_str())?;
+    }
+    Ok(())
+}
+
+// Whether each number has its value, and no other name is there.
+fn has_values(
+    alloc: Global,
+    labels: &LabelSet,
+    count: u32,
+    mark: &str,
+) -> Result<bool, AllocError> {
+    for number in 0..count {
+        let name = name_of(alloc, number)?;
+        let value = value_of(alloc, mark, number)?;
+        if !labels.contains_name(name.as_str()) || labels.get(name.as_str()) != value.as_str() {
+            return Ok(false);
+        }
+    }
+    let other = name_of(alloc, count)?;
+    Ok(
+        labels.len() as u64 == u64::from(count)
+            && !labels.contains_name(other.as_str())
+            && !labels.contains_name("")
+            && !labels.contains_name("zz"),
+    )
+}
+
+// Whether the names come in byte order, each once, with their values.
+fn come_in_order(labels: &LabelSet) -> bool {
+    let mut last = "";
+    for (name, value) in labels.names_and_values() {
+        if name <= last || labels.get(name) != value {
+            return false;
+        }
+        last = name;
+    }
+    true
+}
+
+#[test]
+fn many_labels_from_one_buffer(rt: HostRuntime) -> Result<(), Fail> {
+    let alloc = rt.alloc();
+    let mut buffer = PairBuffer::new(alloc);
+    for count in [0, 1, 2, 7, 8, 9, 17, 40, 900] {
+        buffer.clear();
+        fill(alloc, &mut buffer, count, "value")?;
+        let labels = LabelSet::from_buffer(alloc, &buffer)?;
+        let again = LabelSet::from_buffer(alloc, &buffer)?;
+        buffer.clear();
+        fill(alloc, &mut buffer, count, "another")?;
+        let others = LabelSet::from_buffer(alloc, &buffer)?;
+        assert!(rt; has_values(alloc, &labels, count, "value")?, "{count}");
+        assert!(rt; has_values(alloc, &others, count, "another")?, "{count}");
+        assert!(rt; come_in_order(&labels) && come_in_order(&others), "{count}");
+        assert!(rt; labels == again && is_copied(&labels)?, "{count}");
+        assert!(rt; (labels == others) == (count < 2), "{count}");
+    }
+    Ok(())
 }

@@ -1,7 +1,7 @@
 //! Reading a post: its limits, and that what is written otherwise is read alike.
 
 use crate::expectation::expect;
-use am_alert::{Alert, Moment, Post, PostFault, TimeFault, read_post, read_time};
+use am_alert::{Alert, Moment, Post, PostFault, PostReader, TimeFault, read_post, read_time};
 use am_labels::{LabelSet, SharedText, Text};
 use std::alloc::Global;
 use std::test::Fail;
@@ -264,4 +264,43 @@ fn is_one_other_too_many(alloc: Global) -> Result<bool, Fail> {
 fn number_of_alerts_read_as_a_value(rt: HostRuntime) -> Result<(), Fail> {
     expect(are_all_others_read(rt.alloc())?, "other alerts or faults")?;
     expect(is_one_other_too_many(rt.alloc())?, "one more is read")
+}
+
+// Whether a reader that read other posts before answers what a new one does.
+fn is_read_alike(alloc: Global, reader: &mut PostReader, body: &str) -> Result<bool, Fail> {
+    let now = moment("2024-01-01T10:00:00Z")?;
+    let kept = reader.read(body.as_bytes(), now, Duration::from_secs(300));
+    Ok(match (kept, read(alloc, body)?) {
+        (Ok(kept), Ok(new)) => {
+            kept.valid.as_slice() == new.valid.as_slice()
+                && kept.faults.as_slice().len() == new.faults.as_slice().len()
+        }
+        (Err(kept), Err(new)) => kept == new,
+        _ => false,
+    })
+}
+
+// Bodies that are refused, and an empty one.
+const REFUSED: [&str; 5] = [
+    "",
+    "[]",
+    "[{\"labels\":{\"a\":\"1\"}",
+    "[{\"labels\":{\"a\":\"1\"}},{\"labels\":{\"a\":1}}]",
+    "[{\"labels\":{\"a\":\"1\",\"b\":\"\"},\"startsAt\":\"2024-01-01T11:00:00Z\"}]",
+];
+
+#[test]
+fn one_reader_reads_post_after_post(rt: HostRuntime) -> Result<(), Fail> {
+    let alloc = rt.alloc();
+    let most = alerts_and(alloc, "]")?;
+    let mut reader = PostReader::new(alloc);
+    for body in WRITINGS {
+        assert!(rt; is_read_alike(alloc, &mut reader, body)?, "{body}");
+        for refused in REFUSED {
+            assert!(rt; is_read_alike(alloc, &mut reader, refused)?, "{refused}");
+        }
+    }
+    assert!(rt; is_read_alike(alloc, &mut reader, most.as_str())?);
+    assert!(rt; is_alert(alloc, WRITINGS[0], &written(alloc)?)?);
+    Ok(())
 }
