@@ -1,7 +1,9 @@
 /* Preloaded into a program, stands between it and the system, as the environment asks:
  *
  *   SHORT=N                  a read of standard input and a write of standard output move at most N bytes
- *   FAIL_READ=K ERRNO=E      the read of that number, from 1, fails with that error; so FAIL_WRITE for writes
+ *   FAIL_READ=K ERRNO=E      the read of that number, from 1, fails with that error; so FAIL_WRITE for writes, where with
+ *                            the error 0 the call moves nothing
+ *   INTERRUPT_READS=N        the first N reads are interrupted; so INTERRUPT_WRITES for writes
  *   REFUSE_THREAD=K          the thread of that number, from 1, isn't started
  *   JITTER=SEED              a thread rests now and then at its calls for a lock or a wait
  *   COUNT=FILE               at the end the file gets the numbers of reads, writes, threads and rests
@@ -51,20 +53,24 @@ static size_t cut(size_t size) {
     return most && most < size ? most : size;
 }
 
-static int fails(unsigned long *count, const char *name) {
-    if (next_of(count) != asked(name)) return 0;
-    errno = (int)asked("ERRNO");
+static int fails(unsigned long *count, const char *name, const char *interrupted) {
+    unsigned long number = next_of(count);
+    int is_interrupted = number <= asked(interrupted);
+    if (number != asked(name) && !is_interrupted) return 0;
+    errno = is_interrupted ? EINTR : (int)asked("ERRNO");
     return 1;
 }
 
 ssize_t read(int file, void *to, size_t size) {
     if (file != STDIN_FILENO) return call(SYS_read, file, (long)to, size, 0, 0, 0);
-    return fails(&reads, "FAIL_READ") ? -1 : call(SYS_read, file, (long)to, cut(size), 0, 0, 0);
+    if (fails(&reads, "FAIL_READ", "INTERRUPT_READS")) return -1;
+    return call(SYS_read, file, (long)to, cut(size), 0, 0, 0);
 }
 
 ssize_t write(int file, const void *from, size_t size) {
     if (file != STDOUT_FILENO) return call(SYS_write, file, (long)from, size, 0, 0, 0);
-    return fails(&writes, "FAIL_WRITE") ? -1 : call(SYS_write, file, (long)from, cut(size), 0, 0, 0);
+    if (fails(&writes, "FAIL_WRITE", "INTERRUPT_WRITES")) return errno ? -1 : 0;
+    return call(SYS_write, file, (long)from, cut(size), 0, 0, 0);
 }
 
 /* The first part that has bytes is as much as a short call may move. */

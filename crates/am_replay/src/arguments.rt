@@ -221,6 +221,3 @@ fn told(alloc: Global, error: &Error) -> ArgumentsFault
         Err(AllocError) => ArgumentsFault::NoMemory,
     }
 }
-
-#[cfg(test)]
-mod tests;

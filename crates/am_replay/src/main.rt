@@ -11,8 +11,6 @@ mod program;
 mod refusals;
 mod script_run;
 mod status;
-#[cfg(test)]
-mod tests;
 mod transcript;
 
 use crate::program::run;
