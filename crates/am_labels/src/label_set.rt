@@ -248,6 +248,9 @@ fn find_among_many<'a>(pairs: Pairs<'a>, name: &str) -> Option<&'a str>
 fn are_same(pairs: Pairs<'_>, others: Pairs<'_>) -> bool
     ensures { result ≡ pointwise same_pair pairs.entry others.entry }
 {
+    if pairs.lie_as(&others) {
+        return true;
+    }
     let (mut pairs, mut others) = (pairs, others);
     'pairs: loop {
         match (pairs.next(), others.next()) {

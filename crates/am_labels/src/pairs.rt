@@ -1,13 +1,13 @@
 //! Names with values that lie one behind the other in one text.
 
-ghost use Rattle.std.specs.Prelude.{◌≡◌, ◌<◌, [], ◌∷◌, ◌++◌, get_or, IfErr, IfOk, length};
+ghost use Rattle.std.specs.Prelude.{◌≡◌, ◌<◌, [], ◌∷◌, ◌++◌, get_or, IfErr, IfOk, IsTrue, length};
 ghost use Rattle.am_labels.specs.inside.Spans.{pairs_in, AreSpansOf};
 
 use std::alloc::{AllocError, Global};
 use std::marker::Model;
 
 /// Where a name and its value lie: the name from `start` to `middle`, the value from there to `end`.
-#[derive(Clone, Copy, Debug, Drop)]
+#[derive(Clone, Copy, Debug, Drop, PartialEq, Eq)]
 pub struct Span {
     start: usize,
     middle: usize,
@@ -67,6 +67,13 @@ impl<'a> Pairs<'a> {
         ensures { result ≡ length self.now }
     {
         self.spans.len()
+    }
+
+    /// Whether the pairs lie alike in texts that are the same, and so are the same.
+    pub(crate) fn lie_as(&self, others: &Pairs<'_>) -> bool
+        ensures { IsTrue result → self.now ≡ others.now }
+    {
+        self.text == others.text && self.spans == others.spans
     }
 
     /// One of those that are left.

@@ -13,7 +13,7 @@ loop-name-preserved c =
     let split : c.loop-name.name-iterator ≡ (name, value) ∷ rest = search rules in
     let below : text_cmp last name ≡ Less = lower _ (search rules) in
     let rising : is_sorted text_cmp c.args.pairs ≡ (below_all text_cmp name rest && is_sorted text_cmp rest) =
-        c.loop-name.invariant.3
-        ∙ ap (λ (pairs : List (List ℕ × List ℕ)). below_all text_cmp last pairs && is_sorted text_cmp pairs) split
-        ∙ one_more_rises last (name, value) rest below in
+    c.loop-name.invariant.3
+    ∙ ap (λ (pairs : List (List ℕ × List ℕ)). below_all text_cmp last pairs && is_sorted text_cmp pairs) split
+    ∙ one_more_rises last (name, value) rest below in
     (tt, tt, search rules, rising)

@@ -22,6 +22,6 @@ loop-other-preserved c =
     let rest = c.next.new.self in
     let split : c.loop-other.other-iterator ≡ (other, value) ∷ rest = search rules in
     let apart = λ (same : other ≡ name).
-        let found : bytes_eq other name ≡ true = (bytes_eq-Decides other name).1 same in
-        true≢false (search rules) in
+    let found : bytes_eq other name ≡ true = (bytes_eq-Decides other name).1 same in
+    true≢false (search rules) in
     (tt, tt, c.loop-other.invariant.2 ∙ ap (find text_cmp name) split ∙ passed_over name other value rest apart)

@@ -17,15 +17,15 @@ loop-name-preserved g c =
       tt,
       tt,
       λ plain.
-      let so_far = c.loop-name.invariant.2 plain in
-      let comma : HasWritten g.W.Write.write_str_gives c.loop-name.f (44 ∷ []) c.write_str.new.self = search rules in
-      let one = has_written_append _ _ _ _ _ _ comma (c.in_ok-write_pair-2.ensures comma.plain refl) in (
-        so_far.0 ++ 44 ∷ pair_text pair,
-        has_written_append _ _ _ _ _ _ so_far.1 one,
-        append_assoc so_far.0 (44 ∷ pair_text pair) (flat_map (λ p. 44 ∷ pair_text p) rest)
-        ∙ ap (λ (pairs : List (List ℕ × List ℕ)). so_far.0 ++ flat_map (λ p. 44 ∷ pair_text p) pairs) (sym split)
-        ∙ so_far.2,
-      ),
+          let so_far = c.loop-name.invariant.2 plain in
+          let comma : HasWritten g.W.Write.write_str_gives c.loop-name.f (44 ∷ []) c.write_str.new.self = search rules in
+          let one = has_written_append _ _ _ _ _ _ comma (c.in_ok-write_pair-2.ensures comma.plain refl) in (
+            so_far.0 ++ 44 ∷ pair_text pair,
+            has_written_append _ _ _ _ _ _ so_far.1 one,
+            append_assoc so_far.0 (44 ∷ pair_text pair) (flat_map (λ p. 44 ∷ pair_text p) rest)
+                ∙ ap (λ (pairs : List (List ℕ × List ℕ)). so_far.0 ++ flat_map (λ p. 44 ∷ pair_text p) pairs) (sym split)
+                ∙ so_far.2,
+          ),
     )
 
 pub returns : goal.returns
@@ -38,9 +38,9 @@ returns g c =
     let began = c.in_ok-write_pair.ensures plain refl in
     let so_far = c.loop-name.invariant.2 began.plain in
     let all : so_far.0 ≡ flat_map (λ p. 44 ∷ pair_text p) others =
-        sym (append-nil so_far.0)
-        ∙ ap (λ (pairs : List (List ℕ × List ℕ)). so_far.0 ++ flat_map (λ p. 44 ∷ pair_text p) pairs) (sym none)
-        ∙ so_far.2 ∙ search rules in
+    sym (append-nil so_far.0)
+    ∙ ap (λ (pairs : List (List ℕ × List ℕ)). so_far.0 ++ flat_map (λ p. 44 ∷ pair_text p) pairs) (sym none)
+    ∙ so_far.2 ∙ search rules in
     has_written_of_eq _ _ _ _ _
     (ap (λ (text : List ℕ). pair_text first ++ text) all ∙ (pairs_text-first first others ∙ ap pairs_text (sym split)))
     (has_written_append _ _ _ _ _ _ began so_far.1)
