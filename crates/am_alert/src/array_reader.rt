@@ -184,7 +184,7 @@ fn read_pairs(reader: &mut Reader<'_>, pairs: &mut PairBuffer) -> Result<bool, A
     }
 }
 
-// Whether a name comes behind another one in byte order, if there is one.
+// Whether a name comes after another one in byte order, if there is one.
 fn is_above(name: &str, last: Option<&str>) -> bool
     ensures { IsTrue result → IfSome last.entry (λ last. IsBefore last.now name.now) }
 {

@@ -92,7 +92,7 @@ one_more_span text spans span are is k d short =
       | inr past ↦ subst (IsSpanOf text) (sym (get_or_at spans span [] d k (omega (arith, length-append spans (span ∷ []))))) is
     ]
 
--- a pair more, whose texts come behind all others
+-- a pair more, whose texts come after all others
 pub one_more_pair : (text name value : List ℕ) (spans : List Span) → IsUtf8 name → IsUtf8 value → AreSpansOf text spans
     → pairs_in ((text ++ name) ++ value) (spans ++ last_span text name value ∷ []) ≡ pairs_in text spans ++ (name, value) ∷ []
 one_more_pair text name value spans of_name of_value are =

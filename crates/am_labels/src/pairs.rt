@@ -1,4 +1,4 @@
-//! Names with values that lie one behind the other in one text.
+//! Names with values that lie one after another in one text.
 
 ghost use Rattle.std.specs.Prelude.{◌≡◌, ◌<◌, [], ◌∷◌, ◌++◌, get_or, IfErr, IfOk, IsTrue, length};
 ghost use Rattle.am_labels.specs.inside.Spans.{pairs_in, AreSpansOf};
@@ -90,7 +90,7 @@ impl<'a> Pairs<'a> {
     }
 }
 
-/// Names with values that are put behind each other, seen by contracts as their list. They lie in two
+/// Names with values that are put after each other, seen by contracts as their list. They lie in two
 /// blocks of memory, which a buffer that is cleared keeps for the next ones.
 #[derive(Debug, Drop)]
 pub struct PairBuffer {
@@ -134,7 +134,7 @@ impl PairBuffer {
         })
     }
 
-    /// Puts a name with its value behind the others.
+    /// Puts a name with its value after the others. If memory runs out, the pairs stay as they were.
     pub fn push(&mut self, name: &str, value: &str) -> Result<(), AllocError>
         ensures pushed { IfOk result (λ done. self.new ≡ self.old ++ (name.now, value.now) ∷ []) }
         ensures kept { IfErr result (λ fault. self.new ≡ self.old) }

@@ -13,7 +13,7 @@ use std::sync::Arc;
 /// Names with values, seen by contracts as their list. They never change.
 #[derive(Debug, Drop)]
 pub(crate) struct SharedPairs {
-    // None if there are no pairs: it takes no memory.
+    // None has no pairs, and takes no memory.
     pairs: Option<Arc<PairBuffer, Global>>,
     // Made once, so that a look-up doesn't hash the texts anew.
     hash: u64,

@@ -1,4 +1,4 @@
--- How names with values lie in one text, one behind the other. Only code of this crate cites it.
+-- How names with values lie in one text, one after another. Only code of this crate cites it.
 use Rattle.std.specs.Prelude.{ℕ, ◌≤◌, List, map, All, slice_range}
 use Rattle.std.specs.Str.{IsCharBoundary}
 use Rattle.am_labels.specs.declared.pairs.Span.{Span}

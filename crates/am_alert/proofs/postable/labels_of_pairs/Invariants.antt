@@ -2,7 +2,7 @@ use Rattle.std.proofs.Common.{◌≡◌, ◌++◌, filter}
 use Rattle.am_alert.specs.Postables.{has_value}
 use Rattle.am_alert.proofs.postable.labels_of_pairs.Given as goal
 
--- those that are kept, and behind them those with a value that are left
+-- those that are kept, and after them those with a value that are left
 abbrev pub invariant-loop-name : goal.invariant-loop-name
 invariant-loop-name l =
     (goal.iterator-loop-name).can_next l.name-iterator ×

@@ -3,7 +3,7 @@ use Rattle.std.specs.List.{list_any}
 use Rattle.am_labels.specs.Texts.{same_text}
 use Rattle.am_config.proofs.group_by.labels_named.Given as goal
 
--- the labels so far whose names are among them, and behind them those that are left
+-- the labels so far whose names are among them, and after them those that are left
 abbrev pub invariant-loop-name : goal.invariant-loop-name
 invariant-loop-name l =
     (goal.iterator-loop-name).can_next l.name-iterator ×

@@ -4,7 +4,7 @@ use Rattle.std.specs.List.{flat_map}
 use Rattle.am_labels.specs.Printing.{pair_text}
 use Rattle.am_labels.proofs.label_set.write_pairs.Given as goal
 
--- what is written so far, and behind it those that are left, each with a comma before it, is all of them
+-- what is written so far, and after it those that are left, each with a comma before it, is all of them
 abbrev pub invariant-loop-name : goal.invariant-loop-name
 invariant-loop-name g l =
     (goal.iterator-loop-name g).can_next l.name-iterator ×
