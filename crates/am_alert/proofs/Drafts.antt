@@ -11,7 +11,7 @@ use Rattle.am_alert.specs.Postables.{◌>>=◌, annotations_of, given, if_given,
 use Rattle.am_alert.specs.TimeTexts.{time_of}
 use Rattle.am_alert.specs.declared.draft.Draft.{Draft}
 use Rattle.am_alert.specs.declared.postable.Postable.{Postable}
-use Rattle.am_alert.specs.inside.Drafts.{AreRead}
+use Rattle.am_alert.specs.inside.Drafts.{IsDraftOf}
 
 pub apart : (a b : List ℕ) → bytes_eq a b ≡ false → a ≡ b → ⊥
 apart a b other same = true≢false (sym ((bytes_eq-Decides a b).1 same) ∙ other)
@@ -30,7 +30,7 @@ time_given o = if_given None (λ value. option_and_then time_of (as_str value)) 
 abbrev text_given : Option Data → Option (List ℕ)
 text_given o = if_given [] as_str o
 
-module _ (draft : Draft) (k : List ℕ) (d : Data) (ms : Members) (read : AreRead draft ms) where
+module _ (draft : Draft) (k : List ℕ) (d : Data) (ms : Members) (read : IsDraftOf draft ms) where
   labels_stay : (codes "labels" ≡ k → ⊥) → option_and_then labels_of (given (codes "labels") (object (put k d ms))) ≡ draft.labels
   labels_stay other = ap (option_and_then labels_of) (elsewhere (codes "labels") k d ms other) ∙ read.labels
 
@@ -46,9 +46,9 @@ module _ (draft : Draft) (k : List ℕ) (d : Data) (ms : Members) (read : AreRea
   generator_stays : (codes "generatorURL" ≡ k → ⊥) → text_at (codes "generatorURL") (object (put k d ms)) ≡ Some draft.generator
   generator_stays other = ap text_given (elsewhere (codes "generatorURL") k d ms other) ∙ read.generator
 
-module _ (draft : Draft) (ms : Members) (read : AreRead draft ms) where
+module _ (draft : Draft) (ms : Members) (read : IsDraftOf draft ms) where
   pub takes_labels : (d : Data) (ls : Labels) → unless_null d ≡ Some d → labels_of d ≡ Some ls
-      → AreRead (record draft { labels = Some ls }) (put (codes "labels") d ms)
+      → IsDraftOf (record draft { labels = Some ls }) (put (codes "labels") d ms)
   takes_labels d ls some is = record {
     labels = ap (option_and_then labels_of) (here (codes "labels") d ms ∙ some) ∙ is;
     annotations = annotations_stay draft (codes "labels") d ms read (apart _ _ refl);
@@ -58,7 +58,7 @@ module _ (draft : Draft) (ms : Members) (read : AreRead draft ms) where
   }
 
   pub takes_annotations : (d : Data) (ls : Labels) → unless_null d ≡ Some d → annotations_of d ≡ Some ls
-      → AreRead (record draft { annotations = ls }) (put (codes "annotations") d ms)
+      → IsDraftOf (record draft { annotations = ls }) (put (codes "annotations") d ms)
   takes_annotations d ls some is = record {
     labels = labels_stay draft (codes "annotations") d ms read (apart _ _ refl);
     annotations = ap (if_given empty annotations_of) (here (codes "annotations") d ms ∙ some) ∙ is;
@@ -68,7 +68,7 @@ module _ (draft : Draft) (ms : Members) (read : AreRead draft ms) where
   }
 
   pub takes_start : (text : List ℕ) (time : Option ℕ) → time_of text ≡ Some time
-      → AreRead (record draft { start = time }) (put (codes "startsAt") (string text) ms)
+      → IsDraftOf (record draft { start = time }) (put (codes "startsAt") (string text) ms)
   takes_start text time is = record {
     labels = labels_stay draft (codes "startsAt") (string text) ms read (apart _ _ refl);
     annotations = annotations_stay draft (codes "startsAt") (string text) ms read (apart _ _ refl);
@@ -78,7 +78,7 @@ module _ (draft : Draft) (ms : Members) (read : AreRead draft ms) where
   }
 
   pub takes_finish : (text : List ℕ) (time : Option ℕ) → time_of text ≡ Some time
-      → AreRead (record draft { end = time }) (put (codes "endsAt") (string text) ms)
+      → IsDraftOf (record draft { end = time }) (put (codes "endsAt") (string text) ms)
   takes_finish text time is = record {
     labels = labels_stay draft (codes "endsAt") (string text) ms read (apart _ _ refl);
     annotations = annotations_stay draft (codes "endsAt") (string text) ms read (apart _ _ refl);
@@ -88,7 +88,7 @@ module _ (draft : Draft) (ms : Members) (read : AreRead draft ms) where
   }
 
   pub takes_generator : (text kept : List ℕ) → kept ≡ text
-      → AreRead (record draft { generator = kept }) (put (codes "generatorURL") (string text) ms)
+      → IsDraftOf (record draft { generator = kept }) (put (codes "generatorURL") (string text) ms)
   takes_generator text kept is = record {
     labels = labels_stay draft (codes "generatorURL") (string text) ms read (apart _ _ refl);
     annotations = annotations_stay draft (codes "generatorURL") (string text) ms read (apart _ _ refl);
@@ -100,7 +100,7 @@ module _ (draft : Draft) (ms : Members) (read : AreRead draft ms) where
   -- a member of another name changes nothing
   pub takes_other : (name : List ℕ) (d : Data) → (codes "labels" ≡ name → ⊥) → (codes "annotations" ≡ name → ⊥)
       → (codes "startsAt" ≡ name → ⊥) → (codes "endsAt" ≡ name → ⊥) → (codes "generatorURL" ≡ name → ⊥)
-      → AreRead draft (put name d ms)
+      → IsDraftOf draft (put name d ms)
   takes_other name d a b c e f = record {
     labels = labels_stay draft name d ms read a;
     annotations = annotations_stay draft name d ms read b;
@@ -137,7 +137,7 @@ chained draft (Some labels) (Some a) (Some s) (Some f) (Some g) l-is a-is s-is f
     made ∙ ap (option_map (element draft)) l-is
 
 -- what was read of all members is the element
-pub drafted : (draft : Draft) (ms : Members) → AreRead draft ms → postable_of (object ms) ≡ made draft draft.labels
+pub drafted : (draft : Draft) (ms : Members) → IsDraftOf draft ms → postable_of (object ms) ≡ made draft draft.labels
 unfolding postable_of
 drafted draft ms read =
     chained draft (option_and_then labels_of (given (codes "labels") (object ms))) (if_given empty annotations_of (given (codes "annotations") (object ms)))

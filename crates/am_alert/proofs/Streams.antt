@@ -14,7 +14,7 @@ use Rattle.serde_json.specs.Read.{of_items, of_json, of_members, read}
 use Rattle.am_alert.specs.Postables.{pairs_of, postable_of}
 use Rattle.am_alert.specs.Posts.{postables_of}
 use Rattle.am_alert.specs.declared.postable.Postable.{Postable}
-use Rattle.am_alert.specs.inside.Streams.{IsBefore, IsElementOf, IsTextOf, IsValueOf, value_within}
+use Rattle.am_alert.specs.inside.Streams.{IsBefore, IsElementOf, BeginsWithText, IsValueOf, value_within}
 
 -- ---- names and values
 
@@ -166,7 +166,7 @@ all_items p all ts r elements so_far ended = (
 
 -- ---- values
 
-pub text_read : (old new : List Token) (text : List ℕ) → old ≡ token.string text ∷ new → IsTextOf old new text
+pub text_read : (old new : List Token) (text : List ℕ) → old ≡ token.string text ∷ new → BeginsWithText old new text
 text_read old new text is levels = (json.string text, ap (value_within levels) is ∙ value_is (127 - levels) (token.string text ∷ new), refl)
 
 pub object_read : (levels : ℕ) (old inner new : List Token) (ms : Members) → old ≡ token.begin_object ∷ inner → 0 < 127 - levels

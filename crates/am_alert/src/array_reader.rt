@@ -6,7 +6,7 @@
 
 ghost use Rattle.std.specs.Prelude.{◌≡◌, ◌<◌, IfOk, IfSome, IsTrue, length};
 ghost use Rattle.am_alert.specs.inside.Streams.{AreElementsOf, AreMembersOf, ArePairsOf, AreTextsOf};
-ghost use Rattle.am_alert.specs.inside.Streams.{IsArrayOf, IsBefore, IsElementOf, IsTextOf, TakesMember};
+ghost use Rattle.am_alert.specs.inside.Streams.{IsArrayOf, IsBefore, IsElementOf, BeginsWithText, TakesMember};
 
 use crate::draft::Draft;
 use crate::elements::Elements;
@@ -136,7 +136,7 @@ fn read_member(
 
 // A text.
 fn read_text<'a>(reader: &mut Reader<'a>) -> Option<&'a str>
-    ensures read { IfSome result (λ text. IsTextOf reader.old reader.new text.now) }
+    ensures read { IfSome result (λ text. BeginsWithText reader.old reader.new text.now) }
     ensures shorter { IfSome result (λ _. length reader.new < length reader.old) }
 {
     match reader.next() {

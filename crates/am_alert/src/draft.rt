@@ -3,7 +3,7 @@
 ghost use Rattle.std.specs.Prelude.{◌≡◌, ◌≢◌, IfOk, IfSome, IsTrue, Some, codes};
 ghost use Rattle.serde_json.specs.Data.{Members, no_members};
 ghost use Rattle.am_alert.specs.TimeTexts.{time_of};
-ghost use Rattle.am_alert.specs.inside.Drafts.{AreRead, IsDrafted, TakesText};
+ghost use Rattle.am_alert.specs.inside.Drafts.{IsDraftOf, IsDrafted, TakesText};
 
 use crate::moment::Moment;
 use crate::postable::Postable;
@@ -24,7 +24,7 @@ pub(crate) struct Draft {
 
 impl Draft {
     pub(crate) fn new() -> Draft
-        ensures { AreRead result no_members }
+        ensures { IsDraftOf result no_members }
     {
         Draft {
             labels: None,
@@ -64,7 +64,7 @@ impl Draft {
 
     /// The element, if it has labels.
     pub(crate) fn into_postable(self) -> Option<Postable>
-        ensures { (members : Members) → AreRead self members → IsDrafted members result }
+        ensures { (members : Members) → IsDraftOf self members → IsDrafted members result }
     {
         let Draft {
             labels,

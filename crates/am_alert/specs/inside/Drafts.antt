@@ -8,7 +8,7 @@ use Rattle.am_alert.specs.declared.draft.Draft.{Draft}
 use Rattle.am_alert.specs.declared.postable.Postable.{Postable}
 
 -- the draft has what an element with these members gives
-pub record AreRead (draft : Draft) (members : Members) : Type 0 where
+pub record IsDraftOf (draft : Draft) (members : Members) : Type 0 where
   pub labels : option_and_then labels_of (given (codes "labels") (object members)) ≡ draft.labels
   pub annotations : if_given empty annotations_of (given (codes "annotations") (object members))
       ≡ Some draft.annotations
@@ -19,7 +19,7 @@ pub record AreRead (draft : Draft) (members : Members) : Type 0 where
 -- with one member more, a text, the draft has what there is then
 abbrev pub TakesText : List ℕ → List ℕ → Draft → Draft → Type 0
 TakesText name text was is =
-    (members : Members) → AreRead was members → AreRead is (put name (string text) members)
+    (members : Members) → IsDraftOf was members → IsDraftOf is (put name (string text) members)
 
 -- the element of these members, if it has labels
 abbrev pub IsDrafted : Members → Option Postable → Type 0

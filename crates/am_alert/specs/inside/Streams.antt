@@ -9,7 +9,7 @@ use Rattle.serde_json.specs.Read.{max_depth, of_items, of_json, of_members, read
 use Rattle.am_labels.specs.Texts.{text_cmp}
 use Rattle.am_alert.specs.Postables.{pairs_of, postable_of}
 use Rattle.am_alert.specs.Posts.{count, postables_of}
-use Rattle.am_alert.specs.inside.Drafts.{AreRead}
+use Rattle.am_alert.specs.inside.Drafts.{IsDraftOf}
 use Rattle.am_alert.specs.declared.draft.Draft.{Draft}
 use Rattle.am_alert.specs.declared.post.TheConstants.{MAX_ALERTS}
 use Rattle.am_alert.specs.declared.postable.Postable.{Postable}
@@ -47,16 +47,16 @@ AreMembers levels old new members = (js : json.Members)
 
 -- the same of the members of an element, of which this was read
 abbrev pub AreMembersOf : List Token → List Token → Draft → Type 0
-AreMembersOf old new draft = (members : Members) × AreMembers 2 old new members × AreRead draft members
+AreMembersOf old new draft = (members : Members) × AreMembers 2 old new members × IsDraftOf draft members
 
 -- the first tokens are those of a member's value, with which the draft has what there is then
 abbrev pub TakesMember : List ℕ → List Token → List Token → Draft → Draft → Type 0
 TakesMember name old new was is = (d : Data) × IsValueOf 2 old new d
-    × ((members : Members) → AreRead was members → AreRead is (put name d members))
+    × ((members : Members) → IsDraftOf was members → IsDraftOf is (put name d members))
 
 -- the first token is this text, within whatever
-abbrev pub IsTextOf : List Token → List Token → List ℕ → Type 0
-IsTextOf old new text = (levels : ℕ) → IsValueOf levels old new (string text)
+abbrev pub BeginsWithText : List Token → List Token → List ℕ → Type 0
+BeginsWithText old new text = (levels : ℕ) → IsValueOf levels old new (string text)
 
 -- the first tokens are those of an object of these names and texts
 abbrev pub AreTextsOf : List Token → List Token → List (List ℕ × List ℕ) → Type 0

@@ -1,7 +1,7 @@
 use Rattle.std.proofs.Common.{◌≤◌, length}
 use Rattle.json.specs.Json.{members, value}
 use Rattle.serde_json.specs.Data.{Members}
-use Rattle.am_alert.specs.inside.Drafts.{AreRead}
+use Rattle.am_alert.specs.inside.Drafts.{IsDraftOf}
 use Rattle.am_alert.proofs.Streams.{Members-so-far}
 use Rattle.am_alert.proofs.array_reader.read_members.Given as goal
 
@@ -9,7 +9,7 @@ use Rattle.am_alert.proofs.array_reader.read_members.Given as goal
 abbrev pub invariant-members : goal.invariant-members
 invariant-members l = (found : Members)
     × Members-so-far (value 125) (members (value 125) (length l.initial.reader) l.initial.reader) l.reader found
-    × AreRead l.draft found
+    × IsDraftOf l.draft found
     × (length l.reader ≤ length l.initial.reader)
 
 abbrev pub decreases-members : goal.decreases-members

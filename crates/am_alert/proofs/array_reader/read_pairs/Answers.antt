@@ -2,7 +2,7 @@ use Rattle.std.proofs.Common.{◌≡◌, ◌++◌, ◌∷◌, ◌∙◌, ◌<◌
 use Rattle.json.specs.Json.{members, read_key, value}
 use Rattle.json.proofs.Grammar.{read_key-shorter}
 use Rattle.serde_json.specs.Data.{string}
-use Rattle.am_alert.specs.inside.Streams.{IsTextOf}
+use Rattle.am_alert.specs.inside.Streams.{BeginsWithText}
 use Rattle.am_alert.proofs.Streams.{AreBefore, Members-so-far, all_before, all_members, later_name, no_member_yet, one_before, one_more_member, pairs_of_texts, put_last, text_members}
 use Rattle.am_alert.proofs.array_reader.read_pairs.Goals as goal
 
@@ -31,7 +31,7 @@ pairs-preserved c =
     let named : read_key l.reader ≡ Some (Some name, s) = grind arith in
     let given = c.in-Some-read_text.value.now in
     let r = c.read_text.new.reader in
-    let text : IsTextOf s r given = search rules in
+    let text : BeginsWithText s r given = search rules in
     let below = all_before (λ last. last.now) l.last l.pairs name l.invariant.1 (search rules) in
     let pushed : c.push.new.self ≡ l.pairs ++ (name, given) ∷ [] = search rules in
     let shorter : length r < length s = search rules in
