@@ -11,9 +11,9 @@ use Rattle.am_segment.specs.declared.joined_keys.Held.{Held}
 use Rattle.am_segment.specs.declared.joined_keys.JoinedKeys.TheInside.{Inside as Joined}
 
 -- the first of some numbers
-abbrev pub head_of : List ℕ → ℕ
-head_of [] = 0
-head_of (number ∷ numbers) = number
+abbrev pub first_in : List ℕ → ℕ
+first_in [] = 0
+first_in (number ∷ numbers) = number
 
 module _ {X : Type 0} where
   -- a builder as contracts see it
@@ -29,13 +29,13 @@ module _ {X : Type 0} where
   -- a key as contracts see it
   abbrev pub key_view : Key X → KeyView X
   key_view k = let part = k.part in
-      record { segment = part.segment; number = head_of part.numbers; keys = part.keys; items = part.items }
+      record { segment = part.segment; number = first_in part.numbers; keys = part.keys; items = part.items }
 
   -- each key but the last holds one part. The last holds all others, and what gives the block back
   abbrev pub HasItsShare : Key X → Type 0
   HasItsShare k = MatchOption k.last
-      ((head_of k.part.numbers + 1 < k.part.keys) × (k.part.count ≡ 1))
-      (λ last. (head_of k.part.numbers + 1 ≡ k.part.keys) × (k.part.count + head_of k.part.numbers ≡ 2 ^ 63)
+      ((first_in k.part.numbers + 1 < k.part.keys) × (k.part.count ≡ 1))
+      (λ last. (first_in k.part.numbers + 1 ≡ k.part.keys) × (k.part.count + first_in k.part.numbers ≡ 2 ^ 63)
       × (last.claim.at ≡ k.part.ptr) × (last.claim.items ≡ k.part.items)
       × (last.claim.segment ≡ k.part.segment))
 
@@ -43,8 +43,8 @@ module _ {X : Type 0} where
   pub record IsKey (k : Key X) : Type 0 where
     pub len : k.len ≡ length k.part.items
     pub within : k.len ≤ k.part.places
-    pub one : k.part.numbers ≡ head_of k.part.numbers ∷ []
-    pub number : head_of k.part.numbers < k.part.keys
+    pub one : k.part.numbers ≡ first_in k.part.numbers ∷ []
+    pub number : first_in k.part.numbers < k.part.keys
     pub few : k.part.keys ≤ 2 ^ 62
     pub share : HasItsShare k
 
