@@ -9,4 +9,5 @@ pub mod FromParts
 pub mod Bodies
 pub mod Rooms
 pub mod Drafts
+pub mod Tokens
 pub mod Streams

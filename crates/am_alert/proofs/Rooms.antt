@@ -1,11 +1,13 @@
 -- How long a compact text may be.
-use Rattle.std.proofs.Common.{◌≡◌, ℕ, ◌+◌, ◌*◌, ◌≤◌, Bool, true, false, cond, List, [], ◌∷◌, ◌++◌, length, nat_lt, Option, Some, None, sym, subst, arith}
+use Rattle.std.proofs.Common.{◌≡◌, ◌∙◌, ℕ, ◌+◌, ◌*◌, ◌≤◌, Bool, true, false, ◌||◌, cond, List, [], ◌∷◌, ◌++◌, length, nat_cmp, nat_lt, Option, Some, None, refl, sym, ap, subst, arith, Ordering, Less, Equal, Greater}
 use Rattle.std.specs.Prelude.{◌/◌, ◌%◌, is_some, IfSome}
 use Rattle.std.specs.Char.{digit_char}
+use Rattle.std.specs.Cmp.Lexicographic.{slice_cmp}
+use Rattle.std.specs.Ordering.{match_ordering}
 use Rattle.std.proofs.lemmas.List.{length-append}
 use Rattle.json.specs.Print.{escape, escape_byte, escape_letter, quoted}
-use Rattle.serde_json.specs.Data.{Data, array, object, Items, no_items, item, Members, no_members, member}
-use Rattle.serde_json.specs.Written.{compact_text, items_have_float, items_text, members_text}
+use Rattle.serde_json.specs.Data.{Data, array, boolean, object, Items, no_items, item, Members, no_members, member, put}
+use Rattle.serde_json.specs.Written.{compact_text, has_float, items_have_float, items_text, members_have_float, members_text}
 use Rattle.am_alert.specs.inside.Rooms.{HasRoom, ItemsHaveRoom, MembersHaveRoom}
 
 either_short : (b : Bool) (xs ys : List ℕ) → length xs ≤ 6 → length ys ≤ 6 → length (cond b xs ys) ≤ 6
@@ -72,3 +74,68 @@ object_room d ms room less (Some left) is fits h =
 pub within : (ds : Items) (room : ℕ) (o : Option ℕ) → is_some o ≡ true → IfSome o (ItemsHaveRoom ds room) → (items_have_float ds ≡ false) × (length (items_text false ds) ≤ room)
 within ds room None some h = cc
 within ds room (Some left) some h = let first = items_first ds in (h.0, omega (arith, first, h.1))
+
+-- ---- a member more takes no more than its name and its value, with a comma and a colon
+
+put_long_at : (o : Ordering) (k l : List ℕ) (d e : Data) (ms : Members) → slice_cmp nat_cmp k l ≡ o
+    → length (members_text true (put k d ms)) ≤ length (quoted k) + length (compact_text d) + length (members_text true ms) + 2
+    → length (members_text true (match_ordering o (member k d (member l e ms)) (member l d ms) (member l e (put k d ms))))
+    ≤ length (quoted k) + length (compact_text d) + length (members_text true (member l e ms)) + 2
+put_long_at Less k l d e ms is rest = let long = member_long k d (member l e ms) in omega (arith, long)
+put_long_at Equal k l d e ms is rest =
+    let new = member_long l d ms in
+    let old = member_long l e ms in
+    omega (arith, new, old)
+put_long_at Greater k l d e ms is rest =
+    let new = member_long l e (put k d ms) in
+    let old = member_long l e ms in
+    omega (arith, new, old, rest)
+
+put_long : (k : List ℕ) (d : Data) (ms : Members)
+    → length (members_text true (put k d ms)) ≤ length (quoted k) + length (compact_text d) + length (members_text true ms) + 2
+put_long k d no_members = let long = member_long k d no_members in omega (arith, long)
+put_long k d (member l e ms) = put_long_at _ k l d e ms refl (put_long k d ms)
+
+both_false : (a b : Bool) → (a || b) ≡ false → (a ≡ false) × (b ≡ false)
+both_false true b is = cc
+both_false false b is = (refl, is)
+
+neither : (a b : Bool) → a ≡ false → b ≡ false → (a || b) ≡ false
+neither a b a-is b-is = ap (λ a. a || b) a-is ∙ b-is
+
+put_no_float_at : (o : Ordering) (k l : List ℕ) (d e : Data) (ms : Members) → slice_cmp nat_cmp k l ≡ o → has_float d ≡ false
+    → members_have_float (member l e ms) ≡ false → members_have_float (put k d ms) ≡ false
+    → members_have_float (match_ordering o (member k d (member l e ms)) (member l d ms) (member l e (put k d ms))) ≡ false
+put_no_float_at Less k l d e ms is none before rest = neither (has_float d) (members_have_float (member l e ms)) none before
+put_no_float_at Equal k l d e ms is none before rest =
+    neither (has_float d) (members_have_float ms) none (both_false (has_float e) (members_have_float ms) before).1
+put_no_float_at Greater k l d e ms is none before rest =
+    neither (has_float e) (members_have_float (put k d ms)) (both_false (has_float e) (members_have_float ms) before).0 rest
+
+put_no_float : (k : List ℕ) (d : Data) (ms : Members) → has_float d ≡ false → members_have_float ms ≡ false → members_have_float (put k d ms) ≡ false
+put_no_float k d no_members none before = neither (has_float d) false none refl
+put_no_float k d (member l e ms) none before =
+    put_no_float_at _ k l d e ms refl none before (put_no_float k d ms none (both_false (has_float e) (members_have_float ms) before).1)
+
+pub one_more_fits : (k : List ℕ) (d : Data) (ms : Members) (room left after_name after : ℕ) → MembersHaveRoom ms room left
+    → length (quoted k) + after_name + 2 ≤ left → HasRoom d after_name after → MembersHaveRoom (put k d ms) room after
+one_more_fits k d ms room left after_name after fits name value =
+    let long = put_long k d ms in
+    (put_no_float k d ms value.0 fits.0, omega (arith, long, fits.1, name, value.1))
+
+pub none_fit : (room left : ℕ) → left + 1 ≤ room → MembersHaveRoom no_members room left
+none_fit room left fits = (refl, omega (arith, fits))
+
+pub wider : (ms : Members) (less room left : ℕ) → less ≤ room → MembersHaveRoom ms less left → MembersHaveRoom ms room left
+wider ms less room left fits h = (h.0, omega (arith, fits, h.1))
+
+pub items_wider : (ds : Items) (less room left : ℕ) → less ≤ room → ItemsHaveRoom ds less left → ItemsHaveRoom ds room left
+items_wider ds less room left fits h = (h.0, omega (arith, fits, h.1))
+
+pub object_fits : (ms : Members) (room less left : ℕ) → less + 1 ≤ room → MembersHaveRoom ms less left → HasRoom (object ms) room left
+object_fits ms room less left fits h = object_room (object ms) ms room less (Some left) refl fits h
+
+-- true and false take five bytes at most
+pub flag_fits : (flag : Bool) (room left : ℕ) → left + 5 ≤ room → HasRoom (boolean flag) room left
+flag_fits true room left fits = (refl, omega (arith, fits))
+flag_fits false room left fits = (refl, omega (arith, fits))

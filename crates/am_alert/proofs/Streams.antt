@@ -1,20 +1,20 @@
 -- Facts about the words of specs/inside/Streams.antt: a text that is read token by token.
-use Rattle.std.proofs.Common.{◌≡◌, ◌∙◌, ℕ, ◌-◌, ◌<◌, ◌≤◌, List, [], ◌∷◌, ◌++◌, length, Option, None, Some, refl, sym, ap, subst, arith, append_assoc, append-nil, Greater, nat_cmp}
+use Rattle.std.proofs.Common.{◌≡◌, ◌∙◌, ℕ, ◌+◌, ◌≤◌, true, false, ◌||◌, List, [], ◌∷◌, ◌++◌, length, Option, None, Some, refl, sym, ap, subst, arith, append_assoc, append-nil, Greater, nat_cmp}
 use Rattle.std.specs.Prelude.{IfSome, MatchOption, option_and_then, option_map}
 use Rattle.std.specs.Ordering.{ordering_reverse}
 use Rattle.std.specs.Cmp.Lexicographic.{slice_cmp, nat_list_cmp_total}
-use Rattle.json.specs.Json as json
-use Rattle.json.specs.Json.{parse_map}
-use Rattle.json.specs.Lex.{tokens}
 use Rattle.json.specs.Token.{Token}
-use Rattle.json.specs.Token as token
-use Rattle.json.proofs.Grammar.{items_end, items_more, members_end, members_more, read_key-shorter, value_is, value-begin_array, value-begin_object}
-use Rattle.serde_json.specs.Data.{Data, array, Items, no_items, item, Members, no_members, member, object, put, string}
-use Rattle.serde_json.specs.Read.{of_items, of_json, of_members, read}
+use Rattle.serde_json.specs.Data.{Data, Items, no_items, item, Members, no_members, member, put, string}
+use Rattle.serde_json.specs.Written.{items_have_float, items_text}
 use Rattle.am_alert.specs.Postables.{pairs_of, postable_of}
 use Rattle.am_alert.specs.Posts.{postables_of}
+use Rattle.am_alert.specs.WholeAlerts.{alert_in, whole_alerts_in}
+use Rattle.am_alert.specs.declared.alert.Alert.{Alert}
 use Rattle.am_alert.specs.declared.postable.Postable.{Postable}
-use Rattle.am_alert.specs.inside.Streams.{IsBefore, IsElementOf, BeginsWithText, IsValueOf, value_within}
+use Rattle.am_alert.specs.inside.Rooms.{HasRoom, ItemsHaveRoom}
+use Rattle.am_alert.specs.inside.Streams.{IsBefore, IsElementOf, IsValueOf}
+use Rattle.am_alert.proofs.Rooms.{item_long}
+use Rattle.am_alert.proofs.Tokens.{mapped_twice, same}
 
 -- ---- names and values
 
@@ -55,139 +55,65 @@ pub all_before : {A : Type 0} (now : A → List ℕ) (last : Option A) (pairs : 
 all_before now None pairs name h less = subst (AreBefore name) (sym h) tt
 all_before now (Some l) pairs name h less = h name less
 
--- ---- a member or an element more
+-- ---- an element more
 
-unmapped : {A : Type 0} (o : Option (A × List Token)) → o ≡ parse_map (λ a. a) o
-unmapped None = refl
-unmapped (Some p) = refl
-
-same : {A : Type 0} (o : Option A) → o ≡ option_map (λ a. a) o
-same None = refl
-same (Some a) = refl
-
-mapped_twice : {A B C : Type 0} (f : B → C) (g : A → B) (o : Option A) → option_map f (option_map g o) ≡ option_map (λ a. f (g a)) o
-mapped_twice f g None = refl
-mapped_twice f g (Some a) = refl
-
-both_fronts : {A B C : Type 0} (f : B → C) (g : A → B) (o : Option (A × List Token)) → parse_map f (parse_map g o) ≡ parse_map (λ a. f (g a)) o
-both_fronts f g None = refl
-both_fronts f g (Some p) = refl
-
--- a list of members is known up to those that are left: those before them, and the data that they are
-pub record Members-so-far (p : json.Parse json.Json) (all : Option (json.Members × List Token)) (left : List Token) (found : Members) : Type 0 where
-  pub n : ℕ
-  pub enough : length left ≤ n
-  pub front : json.Members → json.Members
-  pub is : all ≡ parse_map front (json.members p n left)
-  pub converts : (rest : json.Members) → of_members (front rest) no_members ≡ of_members rest found
-
-pub no_member_yet : (p : json.Parse json.Json) (all : Option (json.Members × List Token)) (ts : List Token) → all ≡ json.members p (length ts) ts → Members-so-far p all ts no_members
-no_member_yet p all ts is = record {
-  n = length ts;
-  enough = omega arith;
-  front = λ rest. rest;
-  is = is ∙ unmapped (json.members p (length ts) ts);
-  converts = λ rest. refl;
-}
-
-pub one_more_member : (p : json.Parse json.Json) (all : Option (json.Members × List Token)) (ts s r : List Token) (found : Members) (k : List ℕ) (j : json.Json) (d : Data)
-    → Members-so-far p all ts found → json.read_key ts ≡ Some (Some k, s) → p s ≡ Some (j, r) → of_json j ≡ Some d → length r ≤ length s
-    → Members-so-far p all r (put k d found)
-one_more_member p all ts s r found k j d so_far key value is shorter =
-    let less = read_key-shorter ts (Some k) s key in
-    let enough = so_far.enough in
-    record {
-      n = so_far.n - 1;
-      enough = omega arith;
-      front = λ rest. so_far.front (json.member k j rest);
-      is = so_far.is ∙ ap (parse_map so_far.front) (members_more p so_far.n k ts s r j (omega arith) key value) ∙ both_fronts so_far.front (json.member k j) (json.members p (so_far.n - 1) r);
-      converts = λ rest. so_far.converts (json.member k j rest) ∙ ap (option_and_then (λ d. of_members rest (put k d found))) is;
-    }
-
-pub all_members : (p : json.Parse json.Json) (all : Option (json.Members × List Token)) (ts r : List Token) (found : Members)
-    → Members-so-far p all ts found → json.read_key ts ≡ Some (None, r)
-    → (js : json.Members) × (all ≡ Some (js, r)) × (of_members js no_members ≡ Some found)
-all_members p all ts r found so_far key = (
-  so_far.front json.no_members,
-  so_far.is ∙ ap (parse_map so_far.front) (members_end p so_far.n ts r so_far.enough key),
-  so_far.converts json.no_members,
-)
-
--- the same of elements
-pub record Items-so-far (p : json.Parse json.Json) (all : Option (json.Items × List Token)) (left : List Token) (elements : List (Option Postable)) : Type 0 where
-  pub n : ℕ
-  pub enough : length left ≤ n
-  pub front : json.Items → json.Items
-  pub is : all ≡ parse_map front (json.items p n left)
-  pub values : Items → Items
-  pub converts : (rest : json.Items) → of_items (front rest) ≡ option_map values (of_items rest)
+-- the elements that items are made of, with the room that they leave
+pub record Elements-so-far (values : Items → Items) (elements : List (Option Postable)) (room left : ℕ) : Type 0 where
   pub postables : (rest : Items) → postables_of (values rest) ≡ elements ++ postables_of rest
+  pub floats : (rest : Items) → items_have_float rest ≡ false → items_have_float (values rest) ≡ false
+  pub long : (rest : Items) → length (items_text true (values rest)) + left + 1 ≤ room + length (items_text true rest)
 
-pub no_item_yet : (p : json.Parse json.Json) (all : Option (json.Items × List Token)) (ts : List Token) → all ≡ json.items p (length ts) ts → Items-so-far p all ts []
-no_item_yet p all ts is = record {
-  n = length ts;
-  enough = omega arith;
-  front = λ rest. rest;
-  is = is ∙ unmapped (json.items p (length ts) ts);
-  values = λ rest. rest;
-  converts = λ rest. same (of_items rest);
+pub no_element_yet : (room left : ℕ) → left + 1 ≤ room → Elements-so-far (λ rest. rest) [] room left
+no_element_yet room left fits = record {
   postables = λ rest. refl;
+  floats = λ rest none. none;
+  long = λ rest. omega (arith, fits);
 }
 
-pub one_more_item : (p : json.Parse json.Json) (all : Option (json.Items × List Token)) (ts r : List Token) (elements : List (Option Postable)) (j : json.Json) (d : Data) (element : Option Postable)
-    → Items-so-far p all ts elements → json.after_end_array ts ≡ None → p ts ≡ Some (j, r) → of_json j ≡ Some d → postable_of d ≡ element → length r < length ts
-    → Items-so-far p all r (elements ++ element ∷ [])
-one_more_item p all ts r elements j d element so_far going value is reads shorter =
-    let enough = so_far.enough in
-    record {
-      n = so_far.n - 1;
-      enough = omega arith;
-      front = λ rest. so_far.front (json.item j rest);
-      is = so_far.is ∙ ap (parse_map so_far.front) (items_more p so_far.n ts r j (omega arith) going value) ∙ both_fronts so_far.front (json.item j) (json.items p (so_far.n - 1) r);
-      values = λ rest. so_far.values (item d rest);
-      converts = λ rest. so_far.converts (json.item j rest)
-          ∙ ap (λ o. option_map so_far.values (option_and_then (λ d. option_map (item d) (of_items rest)) o)) is
-          ∙ mapped_twice so_far.values (item d) (of_items rest);
-      postables = λ rest. so_far.postables (item d rest)
-          ∙ ap (λ (one : Option Postable). elements ++ one ∷ postables_of rest) reads
-          ∙ sym (append_assoc elements (element ∷ []) (postables_of rest));
-    }
+pub one_more_element : (values : Items → Items) (elements : List (Option Postable)) (room left before after : ℕ) (d : Data) (element : Option Postable)
+    → Elements-so-far values elements room left → postable_of d ≡ element → before + 1 ≤ left → HasRoom d before after
+    → Elements-so-far (λ rest. values (item d rest)) (elements ++ element ∷ []) room after
+one_more_element values elements room left before after d element so_far reads comma fits = record {
+  postables = λ rest. so_far.postables (item d rest)
+      ∙ ap (λ (one : Option Postable). elements ++ one ∷ postables_of rest) reads
+      ∙ sym (append_assoc elements (element ∷ []) (postables_of rest));
+  floats = λ rest none. so_far.floats (item d rest) (ap (λ b. b || items_have_float rest) fits.0 ∙ none);
+  long = λ rest.
+      let so = so_far.long (item d rest) in
+      let more = item_long d rest in
+      omega (arith, so, more, comma, fits.1);
+}
 
-pub all_items : (p : json.Parse json.Json) (all : Option (json.Items × List Token)) (ts r : List Token) (elements : List (Option Postable))
-    → Items-so-far p all ts elements → json.after_end_array ts ≡ Some r
-    → (js : json.Items) × (ds : Items) × (all ≡ Some (js, r)) × (of_items js ≡ Some ds) × (elements ≡ postables_of ds)
-all_items p all ts r elements so_far ended = (
-  so_far.front json.no_items,
-  so_far.values no_items,
-  so_far.is ∙ ap (parse_map so_far.front) (items_end p so_far.n ts r so_far.enough ended),
-  so_far.converts json.no_items,
-  sym (so_far.postables no_items ∙ append-nil elements),
-)
+pub all_elements : (values : Items → Items) (elements : List (Option Postable)) (room left : ℕ) → Elements-so-far values elements room left
+    → (elements ≡ postables_of (values no_items)) × ItemsHaveRoom (values no_items) room left
+all_elements values elements room left so_far =
+    let long = so_far.long no_items in
+    (sym (so_far.postables no_items ∙ append-nil elements), (so_far.floats no_items refl, omega (arith, long)))
 
--- ---- values
+-- the whole alerts that items are made of
+abbrev pub Alerts-so-far : (Items → Items) → List Alert → Type 0
+Alerts-so-far values alerts = (rest : Items) → whole_alerts_in (values rest) ≡ option_map (λ (more : List Alert). alerts ++ more) (whole_alerts_in rest)
 
-pub text_read : (old new : List Token) (text : List ℕ) → old ≡ token.string text ∷ new → BeginsWithText old new text
-text_read old new text is levels = (json.string text, ap (value_within levels) is ∙ value_is (127 - levels) (token.string text ∷ new), refl)
+pub no_alert_yet : Alerts-so-far (λ rest. rest) []
+no_alert_yet rest = same (whole_alerts_in rest)
 
-pub object_read : (levels : ℕ) (old inner new : List Token) (ms : Members) → old ≡ token.begin_object ∷ inner → 0 < 127 - levels
-    → (js : json.Members) × (json.members (json.value (127 - levels - 1)) (length inner) inner ≡ Some (js, new)) × (of_members js no_members ≡ Some ms)
-    → IsValueOf levels old new (object ms)
-object_read levels old inner new ms is deep read = (
-  json.object read.0,
-  ap (value_within levels) is ∙ value-begin_object (127 - levels) inner deep ∙ ap (parse_map json.object) read.1,
-  ap (option_map object) read.2,
-)
+pub all_alerts : (values : Items → Items) (alerts : List Alert) → Alerts-so-far values alerts → whole_alerts_in (values no_items) ≡ Some alerts
+all_alerts values alerts so_far = so_far no_items ∙ ap Some (append-nil alerts)
 
--- a text whose tokens are an array's, and no more
-pub array_read : (text : List ℕ) (inner : List Token) (js : json.Items) (ds : Items) → tokens text ≡ token.begin_array ∷ inner
-    → json.items (json.value 126) (length inner) inner ≡ Some (js, []) → of_items js ≡ Some ds → read text ≡ Some (array ds)
-array_read text inner js ds is items converts =
-    ap (λ o. option_and_then of_json (option_and_then (λ p. json.if_last p.0 p.1) o))
-    (ap (json.value 127) is ∙ value-begin_array 127 inner (omega arith) ∙ ap (parse_map json.array) items)
-    ∙ ap (option_map array) converts
+mapped_alike : {A B : Type 0} (f g : A → B) (o : Option A) → ((a : A) → f a ≡ g a) → option_map f o ≡ option_map g o
+mapped_alike f g None alike = refl
+mapped_alike f g (Some a) alike = ap Some (alike a)
+
+pub one_more_alert : (values : Items → Items) (alerts : List Alert) (d : Data) (alert : Alert) → Alerts-so-far values alerts → alert_in d ≡ Some alert
+    → Alerts-so-far (λ rest. values (item d rest)) (alerts ++ alert ∷ [])
+one_more_alert values alerts d alert so_far is rest =
+    so_far (item d rest)
+    ∙ ap (λ (o : Option Alert). option_map (λ (more : List Alert). alerts ++ more) (option_and_then (λ (one : Alert). option_map (λ (more : List Alert). one ∷ more) (whole_alerts_in rest)) o)) is
+    ∙ mapped_twice (λ (more : List Alert). alerts ++ more) (λ (more : List Alert). alert ∷ more) (whole_alerts_in rest)
+    ∙ mapped_alike (λ (more : List Alert). alerts ++ alert ∷ more) (λ (more : List Alert). (alerts ++ alert ∷ []) ++ more) (whole_alerts_in rest) (λ more. sym (append_assoc alerts (alert ∷ []) more))
 
 -- an element, if there is one
-pub if_element : (old new : List Token) (d : Data) (element : Option Postable) → IsValueOf 1 old new d → postable_of d ≡ element
-    → IfSome element (IsElementOf old new)
-if_element old new d None value is = tt
-if_element old new d (Some element) value is = (d, value, is)
+pub if_element : (depth : ℕ) (old new : List Token) (room left : ℕ) (d : Data) (element : Option Postable) → IsValueOf depth old new d → HasRoom d room left
+    → postable_of d ≡ element → IfSome element (IsElementOf depth old new room left)
+if_element depth old new room left d None value fits is = tt
+if_element depth old new room left d (Some element) value fits is = (d, value, fits, is)

@@ -13,5 +13,6 @@ pub mod Bodies
 pub mod ValidAlerts
 pub mod FromParts
 pub mod WholeAlerts
+pub mod Tokens
 pub mod Laws
 pub mod inside

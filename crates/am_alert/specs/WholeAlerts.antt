@@ -1,7 +1,8 @@
 -- A whole alert as `types.Alert` of Alertmanager is written, over the value that its JSON is: it carries the
 -- moment of its report.
-use Rattle.std.specs.Prelude.{false, ℕ, List, [], codes, Option, Some, option_and_then, filter}
-use Rattle.serde_json.specs.Data.{Data}
+use Rattle.std.specs.Prelude.{false, ℕ, List, [], ◌∷◌, codes, Option, Some, option_and_then, option_map}
+use Rattle.std.specs.Prelude.{filter}
+use Rattle.serde_json.specs.Data.{Data, Items, no_items, item}
 use Rattle.serde_json.specs.Find.{get, as_bool, as_str}
 use Rattle.am_labels.specs.LabelSets.{last_holds}
 use Rattle.am_alert.specs.Postables.{◌>>=◌, has_value, if_given, texts_of}
@@ -36,3 +37,9 @@ alert_in d = do
     timeout = timeout;
     generator = generator;
   })
+
+-- the alerts of an array's elements
+abbrev pub whole_alerts_in : Items → Option (List Alert)
+whole_alerts_in no_items = Some []
+whole_alerts_in (item d ds) =
+    option_and_then (λ alert. option_map (λ rest. alert ∷ rest) (whole_alerts_in ds)) (alert_in d)

@@ -1,19 +1,23 @@
 //! The body of a post that is given as a value of JSON.
 
-ghost use Rattle.std.specs.Prelude.{◌≡◌, ◌+◌, ◌≤◌, IfOk, IfSome, None, length};
+ghost use Rattle.std.specs.Prelude.{◌≡◌, ◌<◌, ◌≤◌, IfOk, IfSome, None, length};
 ghost use Rattle.std.specs.Duration.{as_nanos};
 ghost use Rattle.json.specs.Print.{quoted};
 ghost use Rattle.serde_json.specs.Data.{array};
 ghost use Rattle.serde_json.specs.Find.{as_str};
 ghost use Rattle.serde_json.specs.View.{view, items_view, members_view};
 ghost use Rattle.am_alert.specs.Bodies.{IsBodyOf, IsPostOfBody};
+ghost use Rattle.am_alert.specs.Tokens.{IsNextBody};
 ghost use Rattle.am_alert.specs.inside.Rooms.{HasRoom, ItemsHaveRoom, MembersHaveRoom};
 
+use crate::array_reader::read_elements;
 use crate::elements::Elements;
 use crate::moment::Moment;
 use crate::post::{MAX_ALERTS, MAX_BYTES, Post, PostFault};
 use crate::post_reader::read_post;
-use am_labels::Text;
+use crate::room::{Room, text_left};
+use am_labels::{PairBuffer, Text};
+use json::{Reader, Token};
 use serde_json::{Map, Value};
 use std::alloc::{AllocError, Global};
 use std::time::Duration;
@@ -38,6 +42,31 @@ impl Body {
             Value::String(text) => Ok(Body::Text(Text { text })),
             Value::Array(items) => of_items(alloc, items),
             other => written(alloc, &other),
+        }
+    }
+
+    /// The body that comes next in a text that is read token by token: a text, or an array that is written as
+    /// clients write it, whose arrays and objects nest no deeper than this. None of anything else. The buffer
+    /// is for names and values.
+    pub fn read_next(
+        alloc: Global,
+        reader: &mut Reader<'_>,
+        pairs: &mut PairBuffer,
+        depth: usize,
+    ) -> Result<Option<Body>, AllocError>
+        ensures read { IfOk result (λ read. IfSome read (IsNextBody depth reader.old reader.new)) }
+        ensures shorter { IfOk result (λ read. IfSome read (λ _. length reader.new < length reader.old)) }
+    {
+        match reader.next() {
+            Some(Token::String(text)) => Ok(Some(Body::Text(Text::from_str(alloc, text)?))),
+            Some(Token::BeginArray) if depth > 0 => {
+                let mut room = Room::new(MAX_BYTES - 1);
+                match read_elements(alloc, reader, pairs, &mut room, depth - 1)? {
+                    Some(elements) => Ok(Some(Body::Elements(elements))),
+                    None => Ok(None),
+                }
+            }
+            _ => Ok(None),
         }
     }
 
@@ -119,11 +148,4 @@ fn members_left(levels: u32, room: usize, members: &Map<String, Value>) -> Optio
         left = room_left(levels, text_left(left.checked_sub(2)?, name)?, member)?;
     }
     Some(left)
-}
-
-// A byte is written as six at most.
-fn text_left(room: usize, text: &str) -> Option<usize>
-    ensures { IfSome result (λ left. length (quoted text.now) + left ≤ room) }
-{
-    room.checked_sub(text.len().checked_mul(6)?.checked_add(2)?)
 }

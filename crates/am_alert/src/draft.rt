@@ -1,10 +1,13 @@
-//! An element of a post while its members are read.
+//! An element of a post, or a whole alert, while its members are read.
 
 ghost use Rattle.std.specs.Prelude.{◌≡◌, ◌≢◌, IfOk, IfSome, IsTrue, Some, codes};
-ghost use Rattle.serde_json.specs.Data.{Members, no_members};
+ghost use Rattle.serde_json.specs.Data.{Members, no_members, object};
+ghost use Rattle.am_alert.specs.FromParts.{HasValues};
 ghost use Rattle.am_alert.specs.TimeTexts.{time_of};
-ghost use Rattle.am_alert.specs.inside.Drafts.{IsDraftOf, IsDrafted, TakesText};
+ghost use Rattle.am_alert.specs.WholeAlerts.{alert_in};
+ghost use Rattle.am_alert.specs.inside.Drafts.{IsDraftOf, IsDrafted, TakesFlag, TakesText};
 
+use crate::alert::Alert;
 use crate::moment::Moment;
 use crate::postable::Postable;
 use crate::time_text::{TimeFault, read_time};
@@ -19,6 +22,8 @@ pub(crate) struct Draft {
     pub(crate) annotations: LabelSet,
     pub(crate) start: Option<Moment>,
     pub(crate) end: Option<Moment>,
+    pub(crate) updated: Option<Moment>,
+    pub(crate) timeout: bool,
     pub(crate) generator: SharedText,
 }
 
@@ -31,6 +36,8 @@ impl Draft {
             annotations: LabelSet::new(),
             start: None,
             end: None,
+            updated: None,
+            timeout: false,
             generator: SharedText::new(),
         }
     }
@@ -55,14 +62,32 @@ impl Draft {
             self.end = end;
             return Ok(true);
         }
+        if name == "updatedAt" {
+            let Some(updated) = time_in(text)? else {
+                return Ok(false);
+            };
+            self.updated = updated;
+            return Ok(true);
+        }
         if name == "generatorURL" {
             self.generator = SharedText::from_text(alloc, Text::from_str(alloc, text)?)?;
             return Ok(true);
         }
-        Ok(true)
+        Ok(name != "timeout")
     }
 
-    /// The element, if it has labels.
+    /// Whether a member that is true or false is read.
+    pub(crate) fn take_flag(&mut self, name: &str, flag: bool) -> bool
+        ensures { IsTrue result → TakesFlag name.now flag self.old self.new }
+    {
+        if name != "timeout" {
+            return false;
+        }
+        self.timeout = flag;
+        true
+    }
+
+    /// The element of a post, if it has labels.
     pub(crate) fn into_postable(self) -> Option<Postable>
         ensures { (members : Members) → IsDraftOf self members → IsDrafted members result }
     {
@@ -71,6 +96,8 @@ impl Draft {
             annotations,
             start,
             end,
+            updated: _,
+            timeout: _,
             generator,
         } = self;
         match labels {
@@ -82,6 +109,36 @@ impl Draft {
                 generator,
             }),
             None => None,
+        }
+    }
+
+    /// The whole alert, if it has labels and all its moments.
+    pub(crate) fn into_alert(self) -> Option<Alert>
+        requires { (members : Members) × IsDraftOf self members }
+        ensures read { IfSome result (λ alert. (members : Members) → IsDraftOf self members
+            → alert_in (object members) ≡ Some alert) }
+        ensures valued { IfSome result (λ alert. HasValues alert.labels) }
+    {
+        let Draft {
+            labels,
+            annotations,
+            start,
+            end,
+            updated,
+            timeout,
+            generator,
+        } = self;
+        match (labels, start, end, updated) {
+            (Some(labels), Some(start), Some(end), Some(updated)) => Some(Alert {
+                labels,
+                annotations,
+                start,
+                end,
+                updated,
+                timeout,
+                generator,
+            }),
+            _ => None,
         }
     }
 }

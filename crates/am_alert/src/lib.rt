@@ -24,6 +24,7 @@ mod array_reader;
 mod body;
 mod civil_time;
 mod draft;
+mod draft_reader;
 mod elements;
 mod laws;
 mod merging;
@@ -31,6 +32,7 @@ mod moment;
 mod post;
 mod post_reader;
 mod postable;
+mod room;
 mod time_text;
 mod unjudged_alert;
 

@@ -1,21 +1,26 @@
 //! A whole alert that wasn't judged yet, from its parts or from the JSON that `types.Alert` is written as.
 
-ghost use Rattle.std.specs.Prelude.{◌≡◌, [], IfOk, false, option_and_then, option_map};
+ghost use Rattle.std.specs.Prelude.{◌≡◌, ◌<◌, [], IfOk, IfSome, false, length, option_and_then, option_map};
 ghost use Rattle.serde_json.specs.Data.{object};
 ghost use Rattle.serde_json.specs.Find.{as_bool, as_str};
 ghost use Rattle.serde_json.specs.View.{members_view, view};
 ghost use Rattle.am_alert.specs.FromParts.{alert_of, IsJudged};
 ghost use Rattle.am_alert.specs.Postables.{Reads, if_given, texts_of};
+ghost use Rattle.am_alert.specs.Tokens.{AreNextAlerts};
 ghost use Rattle.am_alert.specs.ValidAlerts.{IsWellFormed};
 ghost use Rattle.am_alert.specs.WholeAlerts.{alert_in, moment_at};
+ghost use Rattle.am_alert.specs.inside.Streams.{AreAlertsOf, IsWholeAlertOf};
 
 use crate::alert::Alert;
 use crate::alert_parts::{AlertParts, PartsFault};
+use crate::draft_reader::read_draft;
 use crate::elements::fault_of;
 use crate::moment::Moment;
 use crate::postable::{MemberFault, get, labels_with_values, pairs_from, remove};
+use crate::room::Room;
 use crate::time_text::{TimeFault, read_time};
-use am_labels::{LabelSet, SharedText, Text};
+use am_labels::{LabelSet, PairBuffer, SharedText, Text};
+use json::{Reader, Token};
 use serde_json::{Map, Value};
 use std::alloc::{AllocError, Global};
 use std::marker::Model;
@@ -81,6 +86,30 @@ impl UnjudgedAlert {
         }
     }
 
+    /// The alerts of the array that comes next in a text that is read token by token, or none if it isn't
+    /// written as `types.Alert` is, with names in byte order. Its arrays and objects may nest so deep; the
+    /// buffer is for names and values.
+    pub fn read_next(
+        alloc: Global,
+        reader: &mut Reader<'_>,
+        pairs: &mut PairBuffer,
+        depth: usize,
+    ) -> Result<Option<Vec<UnjudgedAlert>>, AllocError>
+        ensures read { IfOk result (λ read. IfSome read
+            (λ alerts. AreNextAlerts depth reader.old reader.new alerts.items)) }
+        ensures shorter { IfOk result (λ read. IfSome read (λ _. length reader.new < length reader.old)) }
+    {
+        match reader.next() {
+            Some(Token::BeginArray) if depth > 0 => {
+                match read_alerts(alloc, reader, pairs, depth - 1)? {
+                    Some(alerts) => Ok(Some(alerts)),
+                    None => Ok(None),
+                }
+            }
+            _ => Ok(None),
+        }
+    }
+
     /// The alert, which shares its texts with this one, if it is valid as an alert of a post has to be.
     pub fn judge(&self) -> Result<Alert, PartsFault>
         ensures judged { IsJudged self.now result }
@@ -90,6 +119,47 @@ impl UnjudgedAlert {
             Some(fault) => Err(PartsFault::Invalid(fault)),
             None => Ok(self.alert.copy()?),
         }
+    }
+}
+
+// The whole alerts up to the bracket that closes their array.
+fn read_alerts(
+    alloc: Global,
+    reader: &mut Reader<'_>,
+    pairs: &mut PairBuffer,
+    depth: usize,
+) -> Result<Option<Vec<UnjudgedAlert>>, AllocError>
+    ensures read { IfOk result (λ read. IfSome read
+        (λ alerts. AreAlertsOf depth reader.old reader.new alerts.items)) }
+    ensures shorter { IfOk result (λ read. IfSome read (λ _. length reader.new < length reader.old)) }
+{
+    let mut alerts = Vec::with_capacity(alloc, 1)?;
+    'alerts: while !reader.take_end_array() {
+        let Some(alert) = read_alert(alloc, reader, pairs, depth)? else {
+            return Ok(None);
+        };
+        alerts.push(alert)?;
+    }
+    Ok(Some(alerts))
+}
+
+fn read_alert(
+    alloc: Global,
+    reader: &mut Reader<'_>,
+    pairs: &mut PairBuffer,
+    depth: usize,
+) -> Result<Option<UnjudgedAlert>, AllocError>
+    ensures read { IfOk result (λ read. IfSome read (IsWholeAlertOf depth reader.old reader.new)) }
+    ensures shorter { IfOk result (λ read. IfSome read (λ _. length reader.new < length reader.old)) }
+{
+    // A put has no limit of its own.
+    let mut room = Room::new(usize::MAX);
+    let Some(draft) = read_draft(alloc, reader, pairs, &mut room, depth)? else {
+        return Ok(None);
+    };
+    match draft.into_alert() {
+        Some(alert) => Ok(Some(UnjudgedAlert { alert })),
+        None => Ok(None),
     }
 }
 

@@ -8,7 +8,7 @@ ghost use Rattle.am_replay.specs.Statuses.{exit_status_of, reason_of};
 pub enum Status {
     /// The script was run. Calls may have been refused, but none for being out of memory.
     Done,
-    /// The arguments of the command line were refused, and nothing was printed.
+    /// The arguments of the command line were refused, and nothing was run.
     BadArguments,
     /// The script was refused, and nothing was run.
     Refused,

@@ -1,7 +1,9 @@
+pub mod LineFeeds
 pub mod Lines
 pub mod JsonLines
 pub mod Puts
 pub mod Labels
+pub mod LineMembers
 pub mod Naming
 pub mod Checking
 pub mod SingleLines

@@ -6,7 +6,7 @@ use Rattle.serde_json.specs.Find.{as_str}
 use Rattle.am_alert.specs.Postables.{pairs_of}
 use Rattle.am_alert.specs.declared.alert.Alert.{Alert}
 use Rattle.am_alert.specs.WholeAlerts.{alert_in}
-use Rattle.am_script.specs.Puts.{alerts_in}
+use Rattle.am_alert.specs.WholeAlerts.{whole_alerts_in}
 
 joined : {A : Type 0} (front : List A) (one : A) (rest : Option (List A)) → option_map (λ more. (front ++ one ∷ []) ++ more) rest ≡ option_map (λ more. front ++ more) (option_map (λ more. one ∷ more) rest)
 joined front one None = refl
@@ -25,9 +25,9 @@ pair_joins front new name text d ms all grown reads so_far =
 -- one more element was read
 pub alert_joins : (front new : List Alert) (alert : Alert) (d : Data) (ds : Items) (all : Option (List Alert))
     → new ≡ front ++ alert ∷ [] → alert_in d ≡ Some alert
-    → option_map (λ more. front ++ more) (alerts_in (item d ds)) ≡ all
-    → option_map (λ more. new ++ more) (alerts_in ds) ≡ all
+    → option_map (λ more. front ++ more) (whole_alerts_in (item d ds)) ≡ all
+    → option_map (λ more. new ++ more) (whole_alerts_in ds) ≡ all
 alert_joins front new alert d ds all grown reads so_far =
-    ap (λ (alerts : List Alert). option_map (λ more. alerts ++ more) (alerts_in ds)) grown
-    ∙ (joined front alert (alerts_in ds)
-    ∙ (ap (λ o. option_map (λ more. front ++ more) (option_and_then (λ one. option_map (λ more. one ∷ more) (alerts_in ds)) o)) (sym reads) ∙ so_far))
+    ap (λ (alerts : List Alert). option_map (λ more. alerts ++ more) (whole_alerts_in ds)) grown
+    ∙ (joined front alert (whole_alerts_in ds)
+    ∙ (ap (λ o. option_map (λ more. front ++ more) (option_and_then (λ one. option_map (λ more. one ∷ more) (whole_alerts_in ds)) o)) (sym reads) ∙ so_far))

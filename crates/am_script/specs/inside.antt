@@ -2,3 +2,4 @@
 pub mod Counting
 pub mod Intakes
 pub mod AlertTokens
+pub mod LineMembers

@@ -1,11 +1,11 @@
 //! Adding bytes to a script's text, up to the first excess over a limit.
 
 ghost use Rattle.std.specs.Prelude.{◌≡◌, ◌<◌, ◌∷◌, [], ◌++◌, length, IfOk};
-ghost use Rattle.std.specs.List.{position};
-ghost use Rattle.am_script.specs.Script.{is_line_feed, lines_of};
+ghost use Rattle.am_script.specs.Script.{lines_of};
 ghost use Rattle.am_script.specs.inside.Intakes.{TakesIn};
 
 use crate::limits::{LONGEST_LINE, MOST_LINES};
+use crate::line_feed::line_feed;
 use std::alloc::{AllocError, Global};
 use std::marker::Model;
 
@@ -113,12 +113,6 @@ fn first_line(bytes: &[u8]) -> (&[u8], &[u8])
         Some(end) => bytes.split_at(end + 1),
         None => bytes.split_at(bytes.len()),
     }
-}
-
-fn line_feed(bytes: &[u8]) -> Option<usize>
-    ensures { result ≡ position is_line_feed bytes.now }
-{
-    bytes.iter().position(|byte| *byte == b'\n')
 }
 
 fn without_line_feed(line: &[u8]) -> &[u8]

@@ -1,21 +1,100 @@
-//! Reading the command of one line: its JSON, then its members in their order.
+//! Reading the command of a line. A line that is written as programs write it is read token by token, any other by
+//! the value that its JSON is: its members, in their order.
 
+ghost use Rattle.std.specs.Prelude.{IfOk, IsUtf8, Ok};
 ghost use Rattle.serde_json.specs.View.{view};
 ghost use Rattle.am_script.specs.Commands.{command_for, command_of};
 ghost use Rattle.am_script.specs.Commands.{IsCommandOf, IsLineFrom, IsLineOf, ReadsCommand};
+ghost use Rattle.am_script.specs.inside.LineMembers.{IsObjectOf};
 
 use crate::command::{Command, Line, LineFault, Verb};
+use crate::line_members::LineMembers;
 use crate::members::{
     given_moment_at, kind_at, labels_at, max_at, moment_at, name_at, take_member, thread_at,
     verb_at,
 };
 use crate::put_reader::alerts_at;
 use am_alert::Body;
+use am_labels::PairBuffer;
+use json::Scratch;
 use serde_json::Value;
 use std::alloc::Global;
 
-/// The command of a line.
-pub fn read_line(alloc: Global, number: u32, bytes: &[u8]) -> Result<Line, LineFault>
+/// Reads lines one after another. The memory that reading one takes is kept for the next: 16 KiB, and as much as
+/// the longest line has bytes.
+#[derive(Drop)]
+pub struct LineReader {
+    alloc: Global,
+    scratch: Scratch,
+    // Names and values of the alert at hand.
+    pairs: PairBuffer,
+}
+
+impl LineReader {
+    /// It takes no memory of the allocator's yet.
+    pub fn new(alloc: Global) -> LineReader {
+        LineReader {
+            alloc,
+            scratch: Scratch::new(alloc),
+            pairs: PairBuffer::new(alloc),
+        }
+    }
+
+    /// The command of a line.
+    pub fn read_line(&mut self, number: u32, bytes: &[u8]) -> Result<Line, LineFault>
+        ensures { IsLineOf number bytes.now result }
+    {
+        match self.line_from_tokens(number, bytes) {
+            Ok(line) => Ok(line),
+            Err(LineFault::NoMemory) => Err(LineFault::NoMemory),
+            Err(LineFault::BadLine) => line_from_value(self.alloc, number, bytes),
+        }
+    }
+
+    /// The command of a line, whichever thread it names or none.
+    pub fn read_command(&mut self, bytes: &[u8]) -> Result<Command, LineFault>
+        ensures { IsCommandOf bytes.now result }
+    {
+        match self.command_from_tokens(bytes) {
+            Ok(command) => Ok(command),
+            Err(LineFault::NoMemory) => Err(LineFault::NoMemory),
+            Err(LineFault::BadLine) => command_from_value(self.alloc, bytes),
+        }
+    }
+
+    // A line that is written as programs write it. Of another it says nothing.
+    fn line_from_tokens(&mut self, number: u32, bytes: &[u8]) -> Result<Line, LineFault>
+        ensures { IfOk result (λ line. IsLineOf number bytes.now (Ok line)) }
+    {
+        let members = self.members_of(bytes)?;
+        let line = members.into_line(self.alloc, number)?;
+        Ok(line)
+    }
+
+    // The same of its command.
+    fn command_from_tokens(&mut self, bytes: &[u8]) -> Result<Command, LineFault>
+        ensures { IfOk result (λ command. IsCommandOf bytes.now (Ok command)) }
+    {
+        let members = self.members_of(bytes)?;
+        let command = members.into_command(self.alloc)?;
+        Ok(command)
+    }
+
+    fn members_of(&mut self, bytes: &[u8]) -> Result<LineMembers, LineFault>
+        ensures { IfOk result (λ members. IsUtf8 bytes.now × IsObjectOf bytes.now members) }
+    {
+        let Ok(text) = str::from_utf8(bytes) else {
+            return Err(LineFault::BadLine);
+        };
+        match LineMembers::read(self.alloc, text, &mut self.scratch, &mut self.pairs)? {
+            Some(members) => Ok(members),
+            None => Err(LineFault::BadLine),
+        }
+    }
+}
+
+// A line by the value that its JSON is.
+fn line_from_value(alloc: Global, number: u32, bytes: &[u8]) -> Result<Line, LineFault>
     ensures { IsLineOf number bytes.now result }
 {
     match Value::from_slice(alloc, bytes) {
@@ -39,8 +118,8 @@ fn line_of(alloc: Global, number: u32, value: Value) -> Result<Line, LineFault>
     })
 }
 
-/// The command of a line, whichever thread it names or none.
-pub fn read_command(alloc: Global, bytes: &[u8]) -> Result<Command, LineFault>
+// The same of its command.
+fn command_from_value(alloc: Global, bytes: &[u8]) -> Result<Command, LineFault>
     ensures { IsCommandOf bytes.now result }
 {
     match Value::from_slice(alloc, bytes) {
@@ -58,7 +137,7 @@ fn command_of(alloc: Global, value: Value) -> Result<Command, LineFault>
     command_for(alloc, value, verb)
 }
 
-fn command_for(alloc: Global, value: Value, verb: Verb) -> Result<Command, LineFault>
+pub(crate) fn command_for(alloc: Global, value: Value, verb: Verb) -> Result<Command, LineFault>
     ensures { ReadsCommand (view value) result
         (λ body. command_for body (view value) verb) }
 {

@@ -1,10 +1,10 @@
 //! Reading the alerts of a command `put`.
 
 ghost use Rattle.serde_json.specs.View.{items_view, view};
-ghost use Rattle.am_alert.specs.WholeAlerts.{alert_in};
+ghost use Rattle.am_alert.specs.WholeAlerts.{alert_in, whole_alerts_in};
 ghost use Rattle.am_script.specs.Commands.{IsReadAs};
 ghost use Rattle.am_script.specs.Members.{ReadsAs};
-ghost use Rattle.am_script.specs.Puts.{alerts_at, alerts_in};
+ghost use Rattle.am_script.specs.Puts.{alerts_at};
 
 use crate::command::LineFault;
 use crate::members::take_member;
@@ -24,7 +24,7 @@ pub(crate) fn alerts_at(alloc: Global, value: Value) -> Result<PutAlerts, LineFa
 }
 
 fn alerts_of_each(alloc: Global, elements: Vec<Value>) -> Result<Vec<UnjudgedAlert>, LineFault>
-    ensures { ReadsAs (λ alerts. alerts.items) result (alerts_in (items_view elements.items)) }
+    ensures { ReadsAs (λ alerts. alerts.items) result (whole_alerts_in (items_view elements.items)) }
 {
     let mut alerts = Vec::with_capacity(alloc, elements.len())?;
     for element in elements {

@@ -2,16 +2,16 @@
 
 ghost use Rattle.std.specs.Prelude.{◌≡◌, ◌⊎◌, ◌<◌, ◌≤◌, [], ◌∷◌, ◌++◌, length};
 ghost use Rattle.std.specs.Prelude.{true, false, Some, Ok, Err, IfOk, IfErr, OnOk, OnErr};
-ghost use Rattle.std.specs.List.{position};
 ghost use Rattle.am_script.specs.Names.{HoldsNames};
 ghost use Rattle.am_script.specs.ScriptTexts.{fault_text, refusal_text};
-ghost use Rattle.am_script.specs.Script.{Checks, Continues, IsRefused, Stops, is_line_feed};
+ghost use Rattle.am_script.specs.Script.{Checks, Continues, IsRefused, Stops};
 ghost use Rattle.am_script.specs.Script.{config_line, is_well_named, lines_of};
 
 use crate::command::{Line, LineFault};
 use crate::kind::Kind;
 use crate::limits::{LONGEST_LINE, MOST_LINES};
-use crate::line_reader::read_line;
+use crate::line_feed::line_feed;
+use crate::line_reader::LineReader;
 use crate::names::follow;
 use crate::thread::Thread;
 use am_labels::Text;
@@ -92,11 +92,12 @@ pub fn read_script(alloc: Global, text: &[u8]) -> Result<Vec<Line>, ScriptFault>
         lines: Vec::new(alloc),
         names: BTreeMap::new(alloc),
     };
+    let mut reader = LineReader::new(alloc);
     let mut rest = text;
     let mut number = 1;
     while !rest.is_empty() {
         let (bytes, after) = split_line(rest);
-        match checked.add(alloc, number, bytes) {
+        match checked.add(&mut reader, number, bytes) {
             Ok(()) => number += 1,
             Err(fault) => return Err(fault),
         }
@@ -127,12 +128,6 @@ fn split_line(text: &[u8]) -> (&[u8], &[u8])
     }
 }
 
-fn line_feed(text: &[u8]) -> Option<usize>
-    ensures { result ≡ position is_line_feed text.now }
-{
-    text.iter().position(|byte| *byte == b'\n')
-}
-
 fn refused<T>(number: u32, fault: Fault) -> Result<T, ScriptFault>
     ensures { result ≡ Err (ScriptFault.Refused (record { number = number; fault = fault })) }
 {
@@ -149,7 +144,7 @@ struct Checked {
 
 impl Checked {
     // Checks the line of this number.
-    fn add(&mut self, alloc: Global, number: u32, bytes: &[u8]) -> Result<(), ScriptFault>
+    fn add(&mut self, reader: &mut LineReader, number: u32, bytes: &[u8]) -> Result<(), ScriptFault>
         requires { 1 ≤ number }
         ensures ok { OnOk result
             (Continues number self.old.lines.items bytes.now self.new.lines.items) }
@@ -162,7 +157,7 @@ impl Checked {
         if number <= 1 || bytes.is_empty() {
             return Ok(());
         }
-        match read_line(alloc, number, bytes) {
+        match reader.read_line(number, bytes) {
             Ok(line) => self.add_line(number, line),
             Err(LineFault::BadLine) => refused(number, Fault::BadLine),
             Err(LineFault::NoMemory) => Err(ScriptFault::NoMemory),

@@ -6,7 +6,7 @@ ghost use Rattle.am_serve.specs.Answering.{Answers, Obeys, has_free_name, refuse
 
 use am_provider::{Gate, Recorded};
 use am_runner::{Context, Form, Session, write_answers, write_count};
-use am_script::{Command, Fault, LONGEST_LINE, LineFault, read_command, write_fault};
+use am_script::{Command, Fault, LONGEST_LINE, LineFault, LineReader, write_fault};
 use std::alloc::{AllocError, Global};
 use std::sync::Wait;
 
@@ -15,6 +15,7 @@ use std::sync::Wait;
 pub fn answer_line<'p, 'c, N: Recorded, R: Wait, G: Gate>(
     context: &Context<'p, 'c, N, R, G>,
     session: &mut Session<'p, 'c, N>,
+    reader: &mut LineReader,
     form: Form,
     number: u64,
     bytes: &[u8],
@@ -30,7 +31,7 @@ pub fn answer_line<'p, 'c, N: Recorded, R: Wait, G: Gate>(
     if bytes.len() > LONGEST_LINE {
         return refused(alloc, form, number, Fault::TooLarge);
     }
-    match read_command(alloc, bytes) {
+    match reader.read_command(bytes) {
         Ok(command) => obey(context, session, form, number, &command),
         Err(LineFault::BadLine) => refused(alloc, form, number, Fault::BadLine),
         Err(LineFault::NoMemory) => Err(AllocError),

@@ -11,7 +11,7 @@ use crate::answering::answer_line;
 use crate::reading::next_line;
 use am_provider::{Gate, Recorded};
 use am_runner::{Context, Form, Session};
-use am_script::{Command, Failure, write_text};
+use am_script::{Command, Failure, LineReader, write_text};
 use std::alloc::AllocError;
 use std::io::{BufRead, Write};
 use std::sync::Wait;
@@ -36,11 +36,12 @@ pub fn serve<'p, 'c, N: Recorded, R: Wait, G: Gate, I: BufRead, O: Write>(
         (setting_of N.places N.policy context.now.provider.now.resolve_timeout) form first session.old
         (I.remaining input.old) (O.contents out.old) (O.contents out.new)) }
 {
+    let mut reader = LineReader::new(context.alloc);
     for number in first..u64::MAX {
         let Some(bytes) = next_line(context.alloc, input)? else {
             return Ok(());
         };
-        serve_line(context, session, form, number, &bytes, out)?;
+        serve_line(context, session, &mut reader, form, number, &bytes, out)?;
         if number % LINES_BETWEEN_TRIMS == 0 {
             trim(context, session)?;
         }
@@ -52,6 +53,7 @@ pub fn serve<'p, 'c, N: Recorded, R: Wait, G: Gate, I: BufRead, O: Write>(
 fn serve_line<'p, 'c, N: Recorded, R: Wait, G: Gate, O: Write>(
     context: &Context<'p, 'c, N, R, G>,
     session: &mut Session<'p, 'c, N>,
+    reader: &mut LineReader,
     form: Form,
     number: u64,
     bytes: &[u8],
@@ -64,7 +66,7 @@ fn serve_line<'p, 'c, N: Recorded, R: Wait, G: Gate, O: Write>(
         (setting_of N.places N.policy context.now.provider.now.resolve_timeout) form number session.old
         beginning × Appends (O.contents out.old) (O.contents out.new) beginning) }
 {
-    let text = answer_line(context, session, form, number, bytes)?;
+    let text = answer_line(context, session, reader, form, number, bytes)?;
     write_text(out, text.as_bytes())?;
     match out.flush() {
         Ok(()) => Ok(()),

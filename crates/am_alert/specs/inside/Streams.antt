@@ -1,27 +1,22 @@
--- What is read of a post's text, token by token: of the tokens at hand, these are a value's, and those are
--- left. A post's array nests in a text as deep as `serde_json` reads.
-use Rattle.std.specs.Prelude.{◌≡◌, ◌-◌, ◌≤◌, List, ℕ, Option, Some, length}
+-- What is read of an array of elements, token by token: of the tokens at hand, these are a value's, and those
+-- are left. A depth is how deep arrays and objects may still nest; of a room, the value's compact text leaves
+-- this.
+pub use Rattle.am_alert.specs.Tokens.{AreItems, AreMembers, IsValueOf}
+use Rattle.std.specs.Prelude.{◌≡◌, ◌≤◌, List, ℕ, Option, Some}
 use Rattle.std.specs.declared.cmp.Ordering.TheVariants.{Less}
-use Rattle.json.specs.Json as json
 use Rattle.json.specs.Token.{Token}
-use Rattle.serde_json.specs.Data.{Data, Items, Members, array, no_members, object, put, string}
-use Rattle.serde_json.specs.Read.{max_depth, of_items, of_json, of_members, read}
+use Rattle.serde_json.specs.Data.{Data, Items, Members, array, object, put, string}
+use Rattle.serde_json.specs.Read.{read}
 use Rattle.am_labels.specs.Texts.{text_cmp}
 use Rattle.am_alert.specs.Postables.{pairs_of, postable_of}
 use Rattle.am_alert.specs.Posts.{count, postables_of}
+use Rattle.am_alert.specs.WholeAlerts.{alert_in, whole_alerts_in}
 use Rattle.am_alert.specs.inside.Drafts.{IsDraftOf}
+use Rattle.am_alert.specs.inside.Rooms.{HasRoom, ItemsHaveRoom, MembersHaveRoom}
+use Rattle.am_alert.specs.declared.alert.Alert.{Alert}
 use Rattle.am_alert.specs.declared.draft.Draft.{Draft}
 use Rattle.am_alert.specs.declared.post.TheConstants.{MAX_ALERTS}
 use Rattle.am_alert.specs.declared.postable.Postable.{Postable}
-
--- a value within so many others
-abbrev pub value_within : ℕ → json.Parse json.Json
-value_within levels = json.value (max_depth - levels)
-
--- the first tokens are those of this value
-abbrev pub IsValueOf : ℕ → List Token → List Token → Data → Type 0
-IsValueOf levels old new d =
-    (j : json.Json) × (value_within levels old ≡ Some (j, new)) × (of_json j ≡ Some d)
 
 -- a text is the array of these elements, which are as many as a post may have
 abbrev pub IsArrayOf : List ℕ → List (Option Postable) → Type 0
@@ -29,44 +24,53 @@ IsArrayOf text elements = (ds : Items) × (read text ≡ Some (array ds)) × (co
     × (elements ≡ postables_of ds)
 
 -- the first tokens are those of these elements, and of the bracket that closes their array
-abbrev pub AreElementsOf : List Token → List Token → List (Option Postable) → Type 0
-AreElementsOf old new elements = (js : json.Items) × (ds : Items)
-    × (json.items (value_within 1) (length old) old ≡ Some (js, new)) × (of_items js ≡ Some ds)
-    × (count ds ≤ MAX_ALERTS) × (elements ≡ postables_of ds)
+abbrev pub AreElementsOf : ℕ → List Token → List Token → ℕ → ℕ → List (Option Postable) → Type 0
+AreElementsOf depth old new room left elements = (ds : Items) × AreItems depth old new ds
+    × (count ds ≤ MAX_ALERTS) × (elements ≡ postables_of ds) × ItemsHaveRoom ds room left
 
 -- the first tokens are those of this element
-abbrev pub IsElementOf : List Token → List Token → Postable → Type 0
-IsElementOf old new element = (d : Data) × IsValueOf 1 old new d × (postable_of d ≡ Some element)
+abbrev pub IsElementOf : ℕ → List Token → List Token → ℕ → ℕ → Postable → Type 0
+IsElementOf depth old new room left element = (d : Data) × IsValueOf depth old new d
+    × HasRoom d room left × (postable_of d ≡ Some element)
 
--- the first tokens are those of these members, within so many others, and of the brace that closes their
--- object
-abbrev pub AreMembers : ℕ → List Token → List Token → Members → Type 0
-AreMembers levels old new members = (js : json.Members)
-    × (json.members (value_within levels) (length old) old ≡ Some (js, new))
-    × (of_members js no_members ≡ Some members)
+-- the first tokens are those of whole alerts, and of the bracket that closes their array
+abbrev pub AreAlertsOf : ℕ → List Token → List Token → List Alert → Type 0
+AreAlertsOf depth old new alerts = (ds : Items)
+    × AreItems depth old new ds × (whole_alerts_in ds ≡ Some alerts)
 
--- the same of the members of an element, of which this was read
-abbrev pub AreMembersOf : List Token → List Token → Draft → Type 0
-AreMembersOf old new draft = (members : Members) × AreMembers 2 old new members × IsDraftOf draft members
+-- the first tokens are those of this whole alert
+abbrev pub IsWholeAlertOf : ℕ → List Token → List Token → Alert → Type 0
+IsWholeAlertOf depth old new alert = (d : Data) × IsValueOf depth old new d × (alert_in d ≡ Some alert)
+
+-- the first tokens are those of members, of which this was read, and of the brace that closes their object
+abbrev pub AreMembersOf : ℕ → List Token → List Token → ℕ → ℕ → Draft → Type 0
+AreMembersOf depth old new room left draft = (members : Members) × AreMembers depth old new members
+    × MembersHaveRoom members room left × IsDraftOf draft members
+
+-- the first tokens are those of an object, of whose members this was read
+abbrev pub IsDraftAhead : ℕ → List Token → List Token → ℕ → ℕ → Draft → Type 0
+IsDraftAhead depth old new room left draft = (members : Members) × IsValueOf depth old new (object members)
+    × HasRoom (object members) room left × IsDraftOf draft members
 
 -- the first tokens are those of a member's value, with which the draft has what there is then
-abbrev pub TakesMember : List ℕ → List Token → List Token → Draft → Draft → Type 0
-TakesMember name old new was is = (d : Data) × IsValueOf 2 old new d
-    × ((members : Members) → IsDraftOf was members → IsDraftOf is (put name d members))
+abbrev pub TakesMember : ℕ → List ℕ → List Token → List Token → ℕ → ℕ → Draft → Draft → Type 0
+TakesMember depth name old new room left was is = (d : Data) × IsValueOf depth old new d
+    × HasRoom d room left × ((members : Members) → IsDraftOf was members → IsDraftOf is (put name d members))
 
--- the first token is this text, within whatever
-abbrev pub BeginsWithText : List Token → List Token → List ℕ → Type 0
-BeginsWithText old new text = (levels : ℕ) → IsValueOf levels old new (string text)
+-- the first token is this text, whatever may nest
+abbrev pub BeginsWithText : List Token → List Token → ℕ → ℕ → List ℕ → Type 0
+BeginsWithText old new room left text =
+    ((depth : ℕ) → IsValueOf depth old new (string text)) × HasRoom (string text) room left
 
 -- the first tokens are those of an object of these names and texts
-abbrev pub AreTextsOf : List Token → List Token → List (List ℕ × List ℕ) → Type 0
-AreTextsOf old new pairs = (members : Members)
-    × IsValueOf 2 old new (object members) × (pairs_of members ≡ Some pairs)
+abbrev pub AreTextsOf : ℕ → List Token → List Token → ℕ → ℕ → List (List ℕ × List ℕ) → Type 0
+AreTextsOf depth old new room left pairs = (members : Members) × IsValueOf depth old new (object members)
+    × HasRoom (object members) room left × (pairs_of members ≡ Some pairs)
 
 -- the first tokens are those of these names and texts, and of the brace that closes their object
-abbrev pub ArePairsOf : List Token → List Token → List (List ℕ × List ℕ) → Type 0
-ArePairsOf old new pairs = (members : Members)
-    × AreMembers 3 old new members × (pairs_of members ≡ Some pairs)
+abbrev pub ArePairsOf : ℕ → List Token → List Token → ℕ → ℕ → List (List ℕ × List ℕ) → Type 0
+ArePairsOf depth old new room left pairs = (members : Members) × AreMembers depth old new members
+    × MembersHaveRoom members room left × (pairs_of members ≡ Some pairs)
 
 -- the first of two texts is below the other in byte order
 abbrev pub IsBefore : List ℕ → List ℕ → Type 0
