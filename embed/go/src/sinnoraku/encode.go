@@ -3,6 +3,7 @@ package sinnoraku
 import (
 	"errors"
 	"fmt"
+	"sort"
 	"strconv"
 	"time"
 	"unicode/utf8"
@@ -135,19 +136,36 @@ func checkAlert(alert *types.Alert) error {
 	return nil
 }
 
-// appendLabels writes an object of texts. The program puts them in order.
+// appendLabels writes an object of texts, the names in order: so written, the program reads them without a detour.
 func appendLabels(line []byte, labels model.LabelSet) []byte {
+	var room [16]model.LabelName
 	line = append(line, '{')
-	for name, value := range labels {
+	for at, name := range inOrder(labels, room[:0]) {
+		if at > 0 {
+			line = append(line, ',')
+		}
 		line = appendText(line, string(name))
 		line = append(line, ':')
-		line = appendText(line, string(value))
-		line = append(line, ',')
-	}
-	if len(labels) > 0 {
-		line = line[:len(line)-1]
+		line = appendText(line, string(labels[name]))
 	}
 	return append(line, '}')
+}
+
+// inOrder adds the names to a list, and puts them in byte order. Few are put in their places one by one.
+func inOrder(labels model.LabelSet, names []model.LabelName) []model.LabelName {
+	for name := range labels {
+		names = append(names, name)
+	}
+	if len(names) > 16 {
+		sort.Slice(names, func(i, j int) bool { return names[i] < names[j] })
+		return names
+	}
+	for next := 1; next < len(names); next++ {
+		for at := next; at > 0 && names[at] < names[at-1]; at-- {
+			names[at], names[at-1] = names[at-1], names[at]
+		}
+	}
+	return names
 }
 
 // appendText writes a text of valid UTF-8 as JSON has it: quotes, backslashes and control characters are escaped.
