@@ -1,5 +1,5 @@
 -- What an index of routes finds, and that it passes over no route that may match.
-use Rattle.std.proofs.Common.{◌≡◌, ℕ, zero, suc, ◌+◌, ◌<◌, ◌≤◌, Bool, true, false, cond, ◌&&◌, ◌||◌, List, [], ◌∷◌, ◌++◌, Option, Some, None, length, get_or, take, nat_lt, nat_le, bytes_eq, refl, sym, ap, subst, ◌∙◌, arith}
+use Rattle.std.proofs.Common.{◌≡◌, ℕ, zero, suc, ◌+◌, ◌<◌, ◌≤◌, Bool, true, false, cond, ◌&&◌, ◌||◌, List, [], ◌∷◌, ◌++◌, Option, Some, None, length, get_or, take, drop, ◌-◌, nat_eq, nat_lt, nat_le, bytes_eq, refl, sym, ap, subst, ◌∙◌, arith}
 use Rattle.std.proofs.lemmas.List.{take_more, length-take-le}
 use Rattle.std.specs.Cmp.Lexicographic.{bytes_decides}
 use Rattle.std.specs.List.{AllByRecursion, find, list_any, list_all, slice_get}
@@ -13,7 +13,7 @@ use Rattle.am_config.specs.Routes.{Forest, no_routes, route, count_of}
 use Rattle.am_config.specs.RouteLists.{route_view, forest_of}
 use Rattle.am_routes.specs.declared.name_index.NameIndex.{NameIndex}
 use Rattle.am_routes.specs.Looking.{is_equal, first_equality, may_match}
-use Rattle.am_routes.specs.inside.ChildIndexes.{children_from, offsets_from, filings, places_from, is_unfiled, is_filed, has_name, is_found, is_met, IsFirstFrom, earlier}
+use Rattle.am_routes.specs.inside.ChildIndexes.{children_from, offsets_from, filings, places_from, is_unfiled, is_filed, listed, has_name, is_found, is_kept, is_met, IsFirstFrom, earlier, without, places_left, IsIndexOf, AreLeftOf}
 use Rattle.am_routes.proofs.Cases.{by_bool}
 
 -- ---- places
@@ -131,7 +131,88 @@ right_holds : (a b : Bool) → b ≡ true → (a || b) ≡ true
 right_holds true b s = refl
 right_holds false b s = s
 
--- of two tests
+-- ---- the indexes that are left
+
+slice_get-drop : {X : Type 0} (k : ℕ) (xs : List X) (i j : ℕ) → j ≡ k + i → slice_get (drop k xs) i ≡ slice_get xs j
+slice_get-drop zero xs i j e = let same : i ≡ j = omega arith in ap (slice_get xs) same
+slice_get-drop (suc k) [] i j e = refl
+slice_get-drop (suc k) (x ∷ xs) i zero e = absurd (omega arith)
+slice_get-drop (suc k) (x ∷ xs) i (suc j) e = slice_get-drop k xs i j (omega arith)
+
+first_counted : {X : Type 0} (test : X → Bool) (from n : ℕ) (xs : List X) → from ≤ n → IsFound test from n xs (slice_get (places_from test n xs) 0)
+first_counted test from n [] low = λ j x h is. absurd (cc)
+first_counted {X} test from n (x ∷ xs) low =
+    let rest = first_counted test from (n + 1) xs (omega arith) in
+    let others = places_from test (n + 1) xs in
+    by_bool {P = IsFound test from n (x ∷ xs) (slice_get (places_from test n (x ∷ xs)) 0)} (test x)
+    (λ t. subst (λ (b : Bool). IsFound test from n (x ∷ xs) (slice_get (cond b (n ∷ others) others) 0)) (sym t) (0, omega arith, low, (x, refl, t), λ i y h k is. absurd (omega arith)))
+    (λ f. subst (λ (b : Bool). IsFound test from n (x ∷ xs) (slice_get (cond b (n ∷ others) others) 0)) (sym f) (later_found test from n x xs (slice_get others 0) (λ h. f) rest))
+
+-- the first of them is the first that passes
+pub first-left : {X : Type 0} (test : X → Bool) (from : ℕ) (xs : List X) → IsFirstFrom test from xs (slice_get (places_left test from xs) 0)
+first-left {X} test from xs = counted (slice_get (places_left test from xs) 0) (first_counted test from from (drop from xs) (omega arith))
+  where
+    counted : (found : Option ℕ) → IsFound test from from (drop from xs) found → IsFirstFrom test from xs found
+    counted None none = λ k x h is. none (k - from) x (omega arith) (slice_get-drop from xs (k - from) k (omega arith) ∙ is)
+    counted (Some at) some = (
+      some.2,
+      (some.3.0, sym (slice_get-drop from xs some.0 at some.1) ∙ some.3.1, some.3.2),
+      λ k x h less is. some.4 (k - from) x (omega arith) (omega (arith, some.1)) (slice_get-drop from xs (k - from) k (omega arith) ∙ is),
+    )
+
+-- what stays the same at each step is the same at the end
+pub same-along : {X : Type 0} (F : ℕ → X) (from steps : ℕ) → ((k : ℕ) → from ≤ k → k < from + steps → F k ≡ F (suc k)) → F from ≡ F (from + steps)
+same-along F from zero step = let here : from ≡ from + 0 = omega arith in ap F here
+same-along F from (suc steps) step =
+    let on : suc (from + steps) ≡ from + suc steps = omega arith in
+    same-along F from steps (λ k h less. step k h (omega arith)) ∙ (step (from + steps) (omega arith) (omega arith) ∙ ap F on)
+
+left_passed : {X : Type 0} (test : X → Bool) (n k : ℕ) (xs : List X) → ((x : X) → slice_get xs k ≡ Some x → test x ≡ false) → places_from test n (drop k xs) ≡ places_from test (n + 1) (drop (suc k) xs)
+left_passed test n zero [] fails = refl
+left_passed test n (suc k) [] fails = refl
+left_passed test n zero (x ∷ xs) fails = ap (λ b. cond b (n ∷ places_from test (n + 1) xs) (places_from test (n + 1) xs)) (fails x refl)
+left_passed test n (suc k) (x ∷ xs) fails = left_passed test n k xs fails
+
+not_first : (n : ℕ) (places : List ℕ) → ((i d : ℕ) → i < length places → n + 1 ≤ get_or places i d) → without n places ≡ places
+not_first n [] above = refl
+not_first n (place ∷ places) above =
+    let up : n + 1 ≤ place = above 0 0 (omega arith) in
+    let differs : nat_eq place n ≡ false = grind arith in
+    ap (λ b. cond b places (place ∷ places)) differs
+
+left_without : {X : Type 0} (test : X → Bool) (n k : ℕ) (xs : List X) → without n (places_from test n (drop k xs)) ≡ places_from test (n + 1) (drop (suc k) xs)
+left_without test n zero [] = refl
+left_without test n (suc k) [] = refl
+left_without test n zero (x ∷ xs) =
+    let rest = places_from test (n + 1) xs in
+    let same : nat_eq n n ≡ true = grind arith in
+    elim (test x) as (λ b. without n (cond b (n ∷ rest) rest) ≡ rest) [ true ↦ ap (λ b. cond b rest (n ∷ rest)) same | false ↦ not_first n rest (at_least test (n + 1) xs) ]
+left_without test n (suc k) (x ∷ xs) = left_without test n k xs
+
+-- those after one before which none passes
+pub left-past : {X : Type 0} (test : X → Bool) (from at : ℕ) (xs : List X) → from ≤ at → ((k : ℕ) (x : X) → from ≤ k → k < at → slice_get xs k ≡ Some x → test x ≡ false)
+    → without at (places_left test from xs) ≡ places_left test (at + 1) xs
+left-past test from at xs reach before =
+    let steps = at - from in
+    let on : from + steps ≡ at = omega arith in
+    let next : suc at ≡ at + 1 = omega arith in
+    let step : (k : ℕ) → from ≤ k → k < from + steps → places_left test k xs ≡ places_left test (suc k) xs =
+    λ k h less. let more : k + 1 ≡ suc k = omega arith in left_passed test k k xs (λ x is. before k x h (omega arith) is) ∙ ap (λ n. places_from test n (drop (suc k) xs)) more in
+    ap (without at) (same-along (λ k. places_left test k xs) from steps step ∙ ap (λ k. places_left test k xs) on)
+    ∙ (left_without test at at xs ∙ ap (λ k. places_from test (at + 1) (drop k xs)) next)
+
+pub places-alike : {X : Type 0} (one other : X → Bool) (at : ℕ) (xs : List X) → ((x : X) → one x ≡ other x) → places_from one at xs ≡ places_from other at xs
+places-alike one other at [] alike = refl
+places-alike one other at (x ∷ xs) alike =
+    ap (λ b. cond b (at ∷ places_from one (at + 1) xs) (places_from one (at + 1) xs)) (alike x)
+    ∙ ap (λ l. cond (other x) (at ∷ l) l) (places-alike one other (at + 1) xs alike)
+
+pub places-none : {X : Type 0} (at : ℕ) (xs : List X) → [] ≡ places_from (λ x. false) at xs
+places-none at [] = refl
+places-none at (x ∷ xs) = places-none (at + 1) xs
+
+-- ---- one test or another
+
 pub first-either : {X : Type 0} (one other : X → Bool) (from : ℕ) (xs : List X) (a b : Option ℕ) → IsFirstFrom one from xs a → IsFirstFrom other from xs b → IsFirstFrom (λ x. one x || other x) from xs (earlier a b)
 first-either one other from xs None None p q = λ k x h is. neither (one x) (other x) (p k x h is) (q k x h is)
 first-either one other from xs None (Some at) p q =
@@ -339,13 +420,62 @@ kept-first test places from xs found answer are =
     let is : found ≡ find (nat_le from) (places_from test 0 xs) = answer (subst IsNonDecreasing (sym are) (places-rise test 0 xs)) ∙ ap (find (nat_le from)) are in
     subst (IsFirstFrom test from xs) (sym is) (first-place test from xs)
 
--- without any index those are met that have no equality matcher
-pub met-none : (labels : Labels) (filing : Option MatcherView) → is_unfiled filing ≡ is_met labels [] filing
-met-none labels filing = elim (is_unfiled filing) as (λ b. b ≡ (b || false)) [ true ↦ refl | false ↦ refl ]
-
 -- with one more those too that it keeps for the label's value
 pub met-more : (labels : Labels) (indexes : List NameIndex) (index : NameIndex) (filing : Option MatcherView)
     → (is_met labels indexes filing || is_filed index.name.now (value_of labels index.name.now) filing) ≡ is_met labels (indexes ++ index ∷ []) filing
 met-more labels indexes index filing =
     let test = λ (index : NameIndex). is_filed index.name.now (value_of labels index.name.now) filing in
     elim (is_unfiled filing) as (λ b. ((b || list_any test indexes) || test index) ≡ (b || list_any test (indexes ++ index ∷ []))) [ true ↦ refl | false ↦ sym (list_any-push test indexes index) ]
+
+-- what can't match has an equality matcher, and the first of the indexes doesn't keep it
+pub unfiled-fails : (labels : Labels) (filing : Option MatcherView) → may_match labels filing ≡ false → is_unfiled filing ≡ false
+unfiled-fails labels None fails = fails
+unfiled-fails labels (Some m) fails = refl
+
+first_fails : (labels : Labels) (indexes : List NameIndex) (filing : Option MatcherView) → is_met labels indexes filing ≡ false → is_kept labels (take 1 indexes) filing ≡ false
+first_fails labels [] filing fails = refl
+first_fails labels (index ∷ indexes) filing fails = part (is_unfiled filing) (is_filed index.name.now (value_of labels index.name.now) filing) (is_kept labels indexes filing) fails
+  where
+    part : (a b c : Bool) → (a || (b || c)) ≡ false → (b || false) ≡ false
+    part false false c f = refl
+    part false true c f = absurd (cc)
+    part true b c f = absurd (cc)
+
+pub kept-fails : (labels : Labels) (indexes : List NameIndex) (f : Forest) (k : ℕ) (filing : Option MatcherView) → list_all (is_found indexes) (filings f) ≡ true → slice_get (filings f) k ≡ Some filing → may_match labels filing ≡ false → is_kept labels (take 1 indexes) filing ≡ false
+kept-fails labels indexes f k filing all is fails = first_fails labels indexes filing (met-may_match labels indexes f k filing all is ∙ fails)
+
+-- what the first index keeps for a label set's value
+pub kept-listed : (labels : Labels) (index : NameIndex) (all : List (Option MatcherView)) → IsIndexOf all index → listed (value_of labels index.name.now) index ≡ places_from (is_kept labels (index ∷ [])) 0 all
+kept-listed labels index all is =
+    is (value_of labels index.name.now)
+    ∙ places-alike (is_filed index.name.now (value_of labels index.name.now)) (is_kept labels (index ∷ [])) 0 all (λ filing. sym (alone (is_filed index.name.now (value_of labels index.name.now) filing)))
+  where
+    alone : (b : Bool) → (b || false) ≡ b
+    alone true = refl
+    alone false = refl
+
+pub filed-none : (labels : Labels) (indexes : List NameIndex) (all : List (Option MatcherView)) → slice_get indexes 0 ≡ None → [] ≡ places_left (is_kept labels (take 1 indexes)) 0 all
+filed-none labels [] all none = places-none 0 all
+filed-none labels (index ∷ indexes) all none = absurd (cc)
+
+pub filed-first : (labels : Labels) (indexes : List NameIndex) (index : NameIndex) (all : List (Option MatcherView)) → slice_get indexes 0 ≡ Some index → AllByRecursion (IsIndexOf all) indexes
+    → listed (value_of labels index.name.now) index ≡ places_left (is_kept labels (take 1 indexes)) 0 all
+filed-first labels [] index all some are = absurd (cc)
+filed-first labels (one ∷ indexes) index all some are =
+    let same : one ≡ index = (cc) in
+    subst (λ (index : NameIndex). listed (value_of labels index.name.now) index ≡ places_from (is_kept labels (one ∷ [])) 0 all) same (kept-listed labels one all are.0)
+
+-- what is left after the first one that may match
+pub left-after : (labels : Labels) (from : ℕ) (routes : Forest) (offsets unfiled filed : List ℕ) (indexes : List NameIndex) (at : ℕ)
+    → AreLeftOf labels from routes offsets unfiled filed indexes → IsFirstFrom (may_match labels) from (filings routes) (Some at)
+    → AreLeftOf labels (at + 1) routes offsets (without at unfiled) (without at filed) indexes
+left-after labels from routes offsets unfiled filed indexes at left first =
+    let all = filings routes in
+    (
+      left.0,
+      ap (without at) left.1
+          ∙ left-past is_unfiled from at all first.0 (λ k filing h less is. unfiled-fails labels filing (first.2 k filing h less is)),
+      ap (without at) left.2
+          ∙ left-past (is_kept labels (take 1 indexes)) from at all first.0 (λ k filing h less is. kept-fails labels indexes routes k filing left.3.1 is (first.2 k filing h less is)),
+      left.3,
+    )

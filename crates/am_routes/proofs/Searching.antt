@@ -1,39 +1,38 @@
 -- A tree's searches in pre-order, and what asking them one after another comes to.
 use Rattle.std.proofs.Common.{◌≡◌, ◌≢◌, ℕ, zero, suc, ◌+◌, ◌-◌, ◌<◌, ◌≤◌, Bool, true, false, not, ◌&&◌, cond, List, [], ◌∷◌, ◌++◌, Option, Some, None, length, take, drop, get_or, set, refl, sym, ap, subst, ◌∙◌, arith, length-append}
-use Rattle.std.proofs.lemmas.List.{append_assoc, append-nil, drop_more, drop-drop, drop_at, take_more, set_at, get_or_at, set-get_or}
+use Rattle.std.proofs.lemmas.List.{append_assoc, append-nil, drop_more, drop-drop, drop_at, take_more, set_at, set-get_or}
 use Rattle.std.specs.List.{slice_get}
 use Rattle.std.specs.Option.{IfSome}
 use Rattle.std.proofs.lemmas.Option.{slice_get_within}
-use Rattle.am_routes.specs.declared.child_index.Child.{Child}
-use Rattle.am_routes.specs.declared.matching.RouteSearch.{RouteSearch}
+use Rattle.am_routes.specs.declared.candidates.Child.{Child}
 use Rattle.am_config.specs.declared.route.Route.{Route}
 use Rattle.am_labels.specs.LabelSets.{Labels}
-use Rattle.am_labels.specs.Matchers.{MatcherView, all_admitted}
+use Rattle.am_labels.specs.Matchers.{MatcherView, admitted, all_admitted}
 use Rattle.am_config.specs.Routes.{RouteView, Forest, no_routes, route, count_of}
 use Rattle.am_config.specs.RouteLists.{route_view, forest_of}
 use Rattle.am_routes.specs.RouteAnswers.{Node, own_answer, joined_with, answer_of}
-use Rattle.am_routes.specs.Looking.{first_equality, may_match, looked_from, routes_looked_at}
+use Rattle.am_routes.specs.Looking.{is_equal, first_equality, may_match, looked_from, routes_looked_at}
 use Rattle.am_routes.specs.inside.ChildIndexes.{ChildView, children_from, filings, drop_routes, offset_at, IsChildOf, IsNextChild}
-use Rattle.am_routes.specs.inside.Searches.{searches_of, BeginAt}
+use Rattle.am_routes.specs.inside.Searches.{other_matchers, in_pre_order, levels_of, BeginAt}
 use Rattle.am_routes.proofs.Cases.{by_bool}
-use Rattle.am_routes.proofs.ChildIndexes.{filed-fails}
+use Rattle.am_routes.proofs.ChildIndexes.{filed-fails, same-along}
 
-pub length-searches : (f : Forest) → length (searches_of f) ≡ count_of f
-length-searches no_routes = refl
-length-searches (route first below others) =
-    omega (arith, length-append (searches_of below) (searches_of others), length-searches below, length-searches others)
+module _ {X : Type 0} (of : RouteView → Forest → X) where
+  pub length-in_pre_order : (f : Forest) → length (in_pre_order of f) ≡ count_of f
+  length-in_pre_order no_routes = refl
+  length-in_pre_order (route first below others) =
+      omega (arith, length-append (in_pre_order of below) (in_pre_order of others), length-in_pre_order below, length-in_pre_order others)
 
-pub searches-push : (rs : List Route) (r : Route) → searches_of (forest_of (rs ++ r ∷ [])) ≡ searches_of (forest_of rs) ++ searches_of (forest_of (r ∷ []))
-searches-push [] r = refl
-searches-push (one ∷ rs) r =
-    let search : RouteSearch = record { matchers = one.matchers; children = one.children } in
-    ap (λ rest. search ∷ (searches_of one.children ++ rest)) (searches-push rs r)
-    ∙ ap (λ rest. search ∷ rest) (sym (append_assoc (searches_of one.children) (searches_of (forest_of rs)) (searches_of (forest_of (r ∷ [])))))
+  in_pre_order-push : (rs : List Route) (r : Route) → in_pre_order of (forest_of (rs ++ r ∷ [])) ≡ in_pre_order of (forest_of rs) ++ in_pre_order of (forest_of (r ∷ []))
+  in_pre_order-push [] r = refl
+  in_pre_order-push (one ∷ rs) r =
+      ap (λ rest. of (route_view one) one.children ∷ (in_pre_order of one.children ++ rest)) (in_pre_order-push rs r)
+      ∙ ap (λ rest. of (route_view one) one.children ∷ rest) (sym (append_assoc (in_pre_order of one.children) (in_pre_order of (forest_of rs)) (in_pre_order of (forest_of (r ∷ [])))))
 
--- the routes so far have the searches of one more
-pub searches-more : (rs : List Route) (i : ℕ) (r : Route) → i < length rs → r ≡ get_or rs i r → searches_of (forest_of (take i rs)) ++ searches_of (forest_of (r ∷ [])) ≡ searches_of (forest_of (take (i + 1) rs))
-searches-more rs i r early is =
-    sym (ap (λ l. searches_of (forest_of l)) (take_more rs i r early ∙ ap (λ one. take i rs ++ one ∷ []) (sym is)) ∙ searches-push (take i rs) r)
+  -- the routes so far with one more
+  pub in_pre_order-more : (rs : List Route) (i : ℕ) (r : Route) → i < length rs → r ≡ get_or rs i r → in_pre_order of (forest_of (take i rs)) ++ in_pre_order of (forest_of (r ∷ [])) ≡ in_pre_order of (forest_of (take (i + 1) rs))
+  in_pre_order-more rs i r early is =
+      sym (ap (λ l. in_pre_order of (forest_of l)) (take_more rs i r early ∙ ap (λ one. take i rs ++ one ∷ []) (sym is)) ∙ in_pre_order-push (take i rs) r)
 
 -- a route has fewer below it than there are in a list that it is of
 pub count-below : (rs : List Route) (i : ℕ) (d : Route) → i < length rs → count_of (get_or rs i d).children < count_of (forest_of rs)
@@ -41,69 +40,86 @@ count-below [] i d h = absurd (omega arith)
 count-below (r ∷ rs) zero d h = omega arith
 count-below (r ∷ rs) (suc i) d h = let rest : count_of (get_or rs i d).children < count_of (forest_of rs) = count-below rs i d (omega arith) in omega arith
 
-head_at : (at : ℕ) (searches tail : List RouteSearch) (search d : RouteSearch) → drop at searches ≡ search ∷ tail → (get_or searches at d ≡ search) × (drop (at + 1) searches ≡ tail) × (at + 1 + length tail ≡ length searches)
-head_at zero searches tail search d e = (ap (λ l. get_or l 0 d) e, ap (drop 1) e, omega (arith, ap length e))
-head_at (suc at) [] tail search d e = absurd (cc)
-head_at (suc at) (one ∷ searches) tail search d e =
-    let rest = head_at at searches tail search d e in
-    let here : drop (suc at + 1) (one ∷ searches) ≡ drop (at + 1) searches = let on : suc at + 1 ≡ suc (at + 1) = omega arith in ap (λ n. drop n (one ∷ searches)) on in
+head_at : {X : Type 0} (at : ℕ) (all tail : List X) (one d : X) → drop at all ≡ one ∷ tail → (get_or all at d ≡ one) × (drop (at + 1) all ≡ tail) × (at + 1 + length tail ≡ length all)
+head_at zero all tail one d e = (ap (λ l. get_or l 0 d) e, ap (drop 1) e, omega (arith, ap length e))
+head_at (suc at) [] tail one d e = absurd (cc)
+head_at (suc at) (first ∷ all) tail one d e =
+    let rest = head_at at all tail one d e in
+    let here : drop (suc at + 1) (first ∷ all) ≡ drop (at + 1) all = let on : suc at + 1 ≡ suc (at + 1) = omega arith in ap (λ n. drop n (first ∷ all)) on in
     (rest.0, here ∙ rest.1, omega (arith, rest.2))
 
-module _ (at : ℕ) (first : RouteView) (below others : Forest) (searches : List RouteSearch) (begins : BeginAt at (searches_of (route first below others)) searches) where
-  abbrev own : RouteSearch
-  own = record { matchers = first.matchers; children = below }
+module _ {X : Type 0} (of : RouteView → Forest → X) where
+  module _ (at : ℕ) (first : RouteView) (below others : Forest) (all : List X) (begins : BeginAt at (in_pre_order of (route first below others)) all) where
+    abbrev behind : List X
+    behind = (in_pre_order of below ++ in_pre_order of others) ++ begins.0
 
-  pub search-first : (d : RouteSearch) → get_or searches at d ≡ record { matchers = first.matchers; children = below }
-  search-first d = (head_at at searches ((searches_of below ++ searches_of others) ++ begins.0) own d begins.1).0
+    pub search-first : (d : X) → get_or all at d ≡ of first below
+    search-first d = (head_at at all behind (of first below) d begins.1).0
 
-  after : drop (at + 1) searches ≡ (searches_of below ++ searches_of others) ++ begins.0
-  after = (head_at at searches ((searches_of below ++ searches_of others) ++ begins.0) own own begins.1).1
+    after : drop (at + 1) all ≡ behind
+    after = (head_at at all behind (of first below) (of first below) begins.1).1
 
-  pub search-bound : at + 1 + count_of below ≤ length searches
-  search-bound =
-      let long = (head_at at searches ((searches_of below ++ searches_of others) ++ begins.0) own own begins.1).2 in
-      omega (arith, long, length-append (searches_of below ++ searches_of others) begins.0, length-append (searches_of below) (searches_of others), length-searches below)
+    pub search-bound : at + 1 + count_of below ≤ length all
+    search-bound =
+        let long = (head_at at all behind (of first below) (of first below) begins.1).2 in
+        omega (arith, long, length-append (in_pre_order of below ++ in_pre_order of others) begins.0, length-append (in_pre_order of below) (in_pre_order of others), length-in_pre_order of below)
 
-  pub search-below : BeginAt (at + 1) (searches_of below) searches
-  search-below = (searches_of others ++ begins.0, after ∙ append_assoc (searches_of below) (searches_of others) begins.0)
+    pub search-below : BeginAt (at + 1) (in_pre_order of below) all
+    search-below = (in_pre_order of others ++ begins.0, after ∙ append_assoc (in_pre_order of below) (in_pre_order of others) begins.0)
 
-  pub search-others : BeginAt (at + 1 + count_of below) (searches_of others) searches
-  search-others = (
-    begins.0,
-    sym (drop-drop (count_of below) (at + 1) searches)
-        ∙ (ap (drop (count_of below)) (after ∙ append_assoc (searches_of below) (searches_of others) begins.0)
-        ∙ drop_at (searches_of below) (searches_of others ++ begins.0) (count_of below) (length-searches below)),
-  )
+    pub search-others : BeginAt (at + 1 + count_of below) (in_pre_order of others) all
+    search-others = (
+      begins.0,
+      sym (drop-drop (count_of below) (at + 1) all)
+          ∙ (ap (drop (count_of below)) (after ∙ append_assoc (in_pre_order of below) (in_pre_order of others) begins.0)
+          ∙ drop_at (in_pre_order of below) (in_pre_order of others ++ begins.0) (count_of below) (length-in_pre_order of below)),
+    )
 
-  pub search-alone : BeginAt at (searches_of (route first below no_routes)) searches
-  search-alone = (
-    searches_of others ++ begins.0,
-    begins.1
-        ∙ (ap (λ l. own ∷ l) (append_assoc (searches_of below) (searches_of others) begins.0)
-        ∙ ap (λ l. own ∷ (l ++ (searches_of others ++ begins.0))) (sym (append-nil (searches_of below)))),
-  )
+    pub search-alone : BeginAt at (in_pre_order of (route first below no_routes)) all
+    search-alone = (
+      in_pre_order of others ++ begins.0,
+      begins.1
+          ∙ (ap (λ l. of first below ∷ l) (append_assoc (in_pre_order of below) (in_pre_order of others) begins.0)
+          ∙ ap (λ l. of first below ∷ (l ++ (in_pre_order of others ++ begins.0))) (sym (append-nil (in_pre_order of below)))),
+    )
 
--- the searches of a route below one begin as far after its own as the route comes
-pub child-begins : (number offset : ℕ) (f : Forest) (at : ℕ) (child : ChildView) (searches : List RouteSearch) → BeginAt (number + offset) (searches_of f) searches → slice_get (children_from offset f) at ≡ Some child
-    → BeginAt (number + child.offset) (searches_of (route child.first child.below no_routes)) searches
-child-begins number offset no_routes at child searches begins is = absurd (cc)
-child-begins number offset (route first below others) zero child searches begins is =
-    let here : record { offset = offset; first = first; below = below } ≡ child = (cc) in
-    subst (λ (child : ChildView). BeginAt (number + child.offset) (searches_of (route child.first child.below no_routes)) searches) here (search-alone (number + offset) first below others searches begins)
-child-begins number offset (route first below others) (suc at) child searches begins is =
-    let on : number + offset + 1 + count_of below ≡ number + (offset + 1 + count_of below) = omega arith in
-    child-begins number (offset + 1 + count_of below) others at child searches (subst (λ n. BeginAt n (searches_of others) searches) on (search-others (number + offset) first below others searches begins)) is
+  -- what is kept of a route below one begins as far after the one's own as the route comes
+  pub child-begins : (number offset : ℕ) (f : Forest) (at : ℕ) (child : ChildView) (all : List X) → BeginAt (number + offset) (in_pre_order of f) all → slice_get (children_from offset f) at ≡ Some child
+      → BeginAt (number + child.offset) (in_pre_order of (route child.first child.below no_routes)) all
+  child-begins number offset no_routes at child all begins is = absurd (cc)
+  child-begins number offset (route first below others) zero child all begins is =
+      let here : record { offset = offset; first = first; below = below } ≡ child = (cc) in
+      subst (λ (child : ChildView). BeginAt (number + child.offset) (in_pre_order of (route child.first child.below no_routes)) all) here (search-alone (number + offset) first below others all begins)
+  child-begins number offset (route first below others) (suc at) child all begins is =
+      let on : number + offset + 1 + count_of below ≡ number + (offset + 1 + count_of below) = omega arith in
+      child-begins number (offset + 1 + count_of below) others at child all (subst (λ n. BeginAt n (in_pre_order of others) all) on (search-others (number + offset) first below others all begins)) is
 
 -- the routes from an index on
 pub forest-drop : (rs : List Route) (i : ℕ) (r : Route) → i < length rs → r ≡ get_or rs i r → forest_of (drop i rs) ≡ route (route_view r) r.children (forest_of (drop (i + 1) rs))
 forest-drop rs i r h is = ap forest_of (drop_more rs i r h ∙ ap (λ one. one ∷ drop (i + 1) rs) (sym is))
 
--- a search that is asked stays as it is
-pub asked : (searches : List RouteSearch) (at : ℕ) (one : RouteSearch) (matchers : List MatcherView) → matchers ≡ (get_or searches at one).matchers
-    → set searches at (record { matchers = matchers; children = (get_or searches at one).children }) ≡ searches
-asked searches at one matchers same =
-    ap (λ matchers. set searches at (record { matchers = matchers; children = (get_or searches at one).children })) same
-    ∙ set-get_or searches at one
+-- matchers that are asked stay as they are
+pub asked : (others : List (List MatcherView)) (at : ℕ) (one d : List MatcherView) → one ≡ get_or others at d → set others at one ≡ others
+asked others at one d same = ap (set others at) same ∙ set-get_or others at d
+
+-- a route matches if the index gave it and its other matchers admit the label set
+pub matchers-split : (labels : Labels) (matchers : List MatcherView) → all_admitted matchers labels ≡ (may_match labels (first_equality matchers) && all_admitted (other_matchers matchers) labels)
+matchers-split labels [] = refl
+matchers-split labels (one ∷ matchers) =
+    by_bool {P = all_admitted (one ∷ matchers) labels ≡ (may_match labels (first_equality (one ∷ matchers)) && all_admitted (other_matchers (one ∷ matchers)) labels)} (is_equal one.operator)
+    (λ t. sym (ap (λ b. may_match labels (cond b (Some one) (first_equality matchers)) && all_admitted (cond b matchers (one ∷ other_matchers matchers)) labels) t))
+    (λ f.
+    ap (λ b. admitted one labels && b) (matchers-split labels matchers)
+    ∙ (swapped (admitted one labels) (may_match labels (first_equality matchers)) (all_admitted (other_matchers matchers) labels)
+    ∙ sym (ap (λ b. may_match labels (cond b (Some one) (first_equality matchers)) && all_admitted (cond b matchers (one ∷ other_matchers matchers)) labels) f)))
+  where
+    swapped : (a b c : Bool) → (a && (b && c)) ≡ (b && (a && c))
+    swapped true b c = refl
+    swapped false true c = refl
+    swapped false false c = refl
+
+pub others-decide : (labels : Labels) (matchers : List MatcherView) → may_match labels (first_equality matchers) ≡ true → all_admitted matchers labels ≡ all_admitted (other_matchers matchers) labels
+others-decide labels matchers may = matchers-split labels matchers ∙ ap (λ b. b && all_admitted (other_matchers matchers) labels) may
 
 -- ---- what one route adds
 
@@ -228,13 +244,6 @@ looked-passed labels (route first below others) (suc at) fails = looked-passed l
 pub filings-le-count : (f : Forest) → length (filings f) ≤ count_of f
 filings-le-count no_routes = omega arith
 filings-le-count (route first below others) = let rest : length (filings others) ≤ count_of others = filings-le-count others in omega arith
-
--- what stays the same at each step is the same at the end
-pub same-along : {X : Type 0} (F : ℕ → X) (from steps : ℕ) → ((k : ℕ) → from ≤ k → k < from + steps → F k ≡ F (suc k)) → F from ≡ F (from + steps)
-same-along F from zero step = let here : from ≡ from + 0 = omega arith in ap F here
-same-along F from (suc steps) step =
-    let on : suc (from + steps) ≡ from + suc steps = omega arith in
-    same-along F from steps (λ k h less. step k h (omega arith)) ∙ (step (from + steps) (omega arith) (omega arith) ∙ ap F on)
 
 pub drop-past : (f : Forest) (at : ℕ) → length (filings f) ≤ at → drop_routes at f ≡ no_routes
 drop-past no_routes at past = refl
@@ -380,6 +389,18 @@ module _ (labels : Labels) (number : ℕ) (f : Forest) (child : Child) (is : IsC
       ∙ (ap (λ k. 1 + (own + looked_from labels (drop_routes k f))) index
       ∙ ap (λ n. 1 + (own + n)) (next-looked labels f (child.at + 1) next following))))
 
+  -- one that doesn't match adds nothing, but it was looked at
+  pub answer-fails : (next : Option Child) → all_admitted r.matchers labels ≡ false → IsNextChild labels (child.at + 1) f next → pending_answer labels number f (Some child) ≡ pending_answer labels number f next
+  answer-fails next refused following =
+      answer-goes_on next (ap (λ b. b && not r.continues) refused) following
+      ∙ ap (λ own. own ++ pending_answer labels number f next) (alone-fails labels (number + child.offset) (route_view r) r.children no_routes refused)
+
+  pub looked-fails : (next : Option Child) → may_match labels (first_equality r.matchers) ≡ true → all_admitted r.matchers labels ≡ false → IsNextChild labels (child.at + 1) f next → pending_looked labels f (Some child) ≡ 1 + pending_looked labels f next
+  looked-fails next may refused following =
+      let none : 1 + (0 + pending_looked labels f next) ≡ 1 + pending_looked labels f next = omega arith in
+      looked-goes_on next may (ap (λ b. b && not r.continues) refused) following
+      ∙ (ap (λ b. 1 + (cond b (looked_from labels r.children) 0 + pending_looked labels f next)) refused ∙ none)
+
 -- ---- what a route adds after those below it were asked
 
 no_more_found : (old below : List Node) (new : List Node) → new ≡ old ++ below → length new ≡ length old → below ≡ []
@@ -399,12 +420,9 @@ module _ (labels : Labels) (at : ℕ) (r : Route) (old new : List Node) (found :
       let some : 0 < length (answer_of labels (at + 1) r.children) = omega (arith, ap length found ∙ length-append old (answer_of labels (at + 1) r.children), more) in
       found ∙ ap (λ own. old ++ own) (sym (alone-below labels at (route_view r) r.children no_routes admits some))
 
--- a route's search, once the index of those below it is written
-pub search-written : (before : List RouteSearch) (one : RouteSearch) (below : Forest) (d : RouteSearch) (at : ℕ) → at ≡ length before → d ≡ get_or ((before ++ one ∷ []) ++ searches_of below) at d
-    → set ((before ++ one ∷ []) ++ searches_of below) at (record { matchers = d.matchers; children = below }) ≡ before ++ (record { matchers = one.matchers; children = below } ∷ searches_of below)
-search-written before one below d at on is =
-    let all = append_assoc before (one ∷ []) (searches_of below) in
-    let here : d ≡ one = is ∙ (ap (λ l. get_or l at d) all ∙ get_or_at before one (searches_of below) d at (sym on)) in
-    ap (λ (m : List MatcherView). set ((before ++ one ∷ []) ++ searches_of below) at (record { matchers = m; children = below })) (ap (λ (s : RouteSearch). s.matchers) here)
-    ∙ (ap (λ l. set l at (record { matchers = one.matchers; children = below })) all
-    ∙ set_at before one (searches_of below) (record { matchers = one.matchers; children = below }) at (sym on))
+-- the indexes, once the one of a route is written
+pub level-written : (before : List Forest) (none below : Forest) (at : ℕ) → at ≡ length before
+    → set ((before ++ none ∷ []) ++ levels_of below) at below ≡ before ++ (below ∷ levels_of below)
+level-written before none below at on =
+    ap (λ l. set l at below) (append_assoc before (none ∷ []) (levels_of below))
+    ∙ set_at before none (levels_of below) below at (sym on)

@@ -3,12 +3,11 @@
 ghost use Rattle.std.specs.Prelude.{◌≡◌, IfOk};
 ghost use Rattle.am_config.specs.Routes.{no_routes};
 ghost use Rattle.am_config.specs.RouteLists.{forest_of};
-ghost use Rattle.am_routes.specs.Looking.{may_match};
-ghost use Rattle.am_routes.specs.inside.ChildIndexes.{earlier, filings, has_name, is_unfiled};
-ghost use Rattle.am_routes.specs.inside.ChildIndexes.{offsets_from, places_from};
-ghost use Rattle.am_routes.specs.inside.ChildIndexes.{AreIndexesOf, IsFirstFrom, IsNextChild};
+ghost use Rattle.am_routes.specs.inside.ChildIndexes.{filings, has_name, is_unfiled};
+ghost use Rattle.am_routes.specs.inside.ChildIndexes.{offsets_from, places_from, AreIndexesOf};
 
-use crate::name_index::{NameIndex, first_equality, place_from};
+use crate::candidates::Candidates;
+use crate::name_index::{NameIndex, first_equality};
 use am_config::Route;
 use am_labels::LabelSet;
 use std::alloc::{AllocError, Global};
@@ -25,16 +24,6 @@ pub(crate) struct ChildIndex<'t> {
     unfiled: Vec<usize>,
     // The others, by the name that they are filed under, and then by the value.
     names: Vec<NameIndex<'t>>,
-}
-
-/// One of the routes.
-#[derive(Clone, Copy)]
-pub(crate) struct Child<'t> {
-    /// Its index among them.
-    pub(crate) at: usize,
-    /// How far after the route above it comes in pre-order.
-    pub(crate) offset: usize,
-    pub(crate) route: &'t Route,
 }
 
 impl<'t> Model for ChildIndex<'t> {
@@ -83,38 +72,17 @@ impl<'t> ChildIndex<'t> {
         })
     }
 
-    /// The first route from an index on that may match a label set: its first equality matcher, if it
-    /// has any, admits it.
-    pub(crate) fn next(&self, labels: &LabelSet, from: usize) -> Option<Child<'t>>
-        ensures { IsNextChild labels.now from self.now result }
+    /// The routes that may match a label set.
+    pub(crate) fn candidates<'i>(&'i self, labels: &'i LabelSet) -> Candidates<'i, 't>
+        ensures { result ≡ record { labels = labels.now; from = 0; routes = self.now } }
     {
-        let at = self.next_place(labels, from)?;
-        Some(Child {
-            at,
-            offset: self.offsets[at],
-            route: &self.routes[at],
-        })
-    }
-
-    // The index of that route.
-    fn next_place(&self, labels: &LabelSet, from: usize) -> Option<usize>
-        ensures { IsFirstFrom (may_match labels.now) from (filings self.now) result }
-    {
-        let mut first = place_from(&self.unfiled, from);
-        for index in &self.names {
-            first = earlier(first, index.next(labels, from));
-        }
-        first
-    }
-}
-
-// The lower of two indexes.
-fn earlier(one: Option<usize>, other: Option<usize>) -> Option<usize>
-    ensures { result ≡ earlier one other }
-{
-    match (one, other) {
-        (Some(at), Some(other)) => Some(at.min(other)),
-        (None, place) | (place, None) => place,
+        Candidates::new(
+            self.routes,
+            &self.offsets,
+            &self.unfiled,
+            &self.names,
+            labels,
+        )
     }
 }
 

@@ -20,6 +20,7 @@
 //! This crate knows of no provider and sends nothing: it is given alerts and moments.
 #![tactic(auto)]
 
+mod candidates;
 mod child_index;
 mod dispatcher;
 mod group;

@@ -1,16 +1,17 @@
 //! Asking a routing tree which of its routes a label set matches.
 
-ghost use Rattle.std.specs.Prelude.{◌≡◌, ◌+◌, [], ◌∷◌, ◌++◌, min, IfOk, OnOk};
+ghost use Rattle.std.specs.Prelude.{◌≡◌, ◌+◌, [], ◌∷◌, ◌++◌, min, true, IfOk, OnOk};
 ghost use Rattle.am_labels.specs.Matchers.{all_admitted};
 ghost use Rattle.am_config.specs.RouteLists.{forest_of, root_of};
 ghost use Rattle.am_routes.specs.Looking.{routes_looked_at};
 ghost use Rattle.am_routes.specs.RouteAnswers.{answer_of, IsAnswerOf};
-ghost use Rattle.am_routes.specs.inside.Searches.{nodes_in, searches_of, BeginAt};
+ghost use Rattle.am_routes.specs.inside.Searches.{levels_of, nodes_in, other_matchers, others_of};
+ghost use Rattle.am_routes.specs.inside.Searches.{AreSearchesOf, BeginAt};
 
 use crate::child_index::ChildIndex;
 use crate::route_id::RouteId;
 use am_config::{Route, RouteTree};
-use am_labels::{LabelSet, PreparedMatchers};
+use am_labels::{LabelSet, Matchers, Operator, PreparedMatchers};
 use std::alloc::{AllocError, Global};
 use std::marker::Model;
 
@@ -19,8 +20,9 @@ use std::marker::Model;
 #[derive(Drop)]
 pub struct PreparedTree<'t> {
     tree: &'t RouteTree,
-    // In pre-order.
-    searches: Vec<RouteSearch<'t>>,
+    searches: Searches<'t>,
+    // What `matches` found last. Its memory is used again.
+    found: Found<'t>,
 }
 
 impl<'t> Model for PreparedTree<'t> {
@@ -33,11 +35,11 @@ impl<'t> Model for PreparedTree<'t> {
     ghost coded = { routes.the_row.coded };
 
     ghost use Rattle.am_config.specs.RouteLists.{root_of};
-    ghost use Rattle.am_routes.specs.inside.Searches.{searches_of};
+    ghost use Rattle.am_routes.specs.inside.Searches.{AreSearchesOf};
 
     ghost view = { λ p. root_of p.tree.now };
 
-    ghost invariant = { λ p. p.searches.items ≡ searches_of (root_of p.tree.now) };
+    ghost invariant = { λ p. AreSearchesOf p.tree.now.root p.searches };
 }
 
 impl<'t> PreparedTree<'t> {
@@ -48,9 +50,17 @@ impl<'t> PreparedTree<'t> {
     pub fn new(alloc: Global, tree: &'t RouteTree) -> Result<PreparedTree<'t>, AllocError>
         ensures { IfOk result (λ prepared. prepared ≡ root_of tree.now) }
     {
-        let mut searches = Vec::new(alloc);
+        let mut searches = Searches {
+            root: tree.root.matchers.prepare(alloc)?,
+            levels: Vec::new(alloc),
+            others: Vec::new(alloc),
+        };
         prepare(alloc, &tree.root, &mut searches)?;
-        Ok(PreparedTree { tree, searches })
+        Ok(PreparedTree {
+            tree,
+            searches,
+            found: Found::nothing(alloc),
+        })
     }
 
     /// The routes that a label set matches, in pre-order. A route whose matchers fail gives nothing.
@@ -60,12 +70,10 @@ impl<'t> PreparedTree<'t> {
         ensures answer { IfOk result (λ ids. IsAnswerOf labels.now self.old ids.items) }
         ensures same { self.new ≡ self.old }
     {
-        let found = self.find(labels)?;
-        let mut ids = Vec::with_capacity(*found.allocator(), found.len())?;
-        for one in &found {
-            ids.push(one.id)?;
-        }
-        Ok(ids)
+        self.found.clear();
+        let root = &self.tree.root;
+        search(&mut self.searches, root, labels, &mut self.found)?;
+        self.found.ids()
     }
 
     /// How many of the routes below the root `matches` looks at for a label set. A route that asks for
@@ -76,7 +84,10 @@ impl<'t> PreparedTree<'t> {
             looked ≡ min (routes_looked_at labels.now self.old) u64.MAX) }
         ensures same { self.new ≡ self.old }
     {
-        Ok(self.search(labels)?.looked)
+        let mut found = Found::nothing(*self.found.routes.allocator());
+        let root = &self.tree.root;
+        search(&mut self.searches, root, labels, &mut found)?;
+        Ok(found.looked())
     }
 
     /// As `matches`, with the routes themselves.
@@ -85,24 +96,10 @@ impl<'t> PreparedTree<'t> {
             nodes_in found.items ≡ answer_of labels.now 0 self.old) }
         ensures same { self.new ≡ self.old }
     {
-        Ok(self.search(labels)?.routes)
-    }
-
-    // The routes that a label set matches, and how many were looked at for them.
-    fn search(&mut self, labels: &LabelSet) -> Result<Found<'t>, AllocError>
-        ensures routes { IfOk result (λ found.
-            nodes_in found.routes.items ≡ answer_of labels.now 0 self.old) }
-        ensures looked { IfOk result (λ found.
-            min found.looked u64.MAX ≡ min (routes_looked_at labels.now self.old) u64.MAX) }
-        ensures same { self.new ≡ self.old }
-    {
-        let mut found = Found {
-            routes: Vec::new(*self.searches.allocator()),
-            looked: 0,
-        };
+        let mut found = Found::nothing(*self.found.routes.allocator());
         let root = &self.tree.root;
-        ask(&mut self.searches, root, 0, labels, &mut found)?;
-        Ok(found)
+        search(&mut self.searches, root, labels, &mut found)?;
+        Ok(found.routes)
     }
 }
 
@@ -133,72 +130,156 @@ pub(crate) struct Found<'t> {
     looked: u64,
 }
 
-// What is kept to ask one route: its matchers with their searches, and the index of those below it.
+impl<'t> Found<'t> {
+    ghost use Rattle.am_routes.specs.inside.Searches.{ids_of};
+
+    fn nothing(alloc: Global) -> Found<'t>
+        ensures { (result.routes.items ≡ []) × (result.looked ≡ 0) }
+    {
+        Found {
+            routes: Vec::new(alloc),
+            looked: 0,
+        }
+    }
+
+    // It keeps its memory.
+    fn clear(&mut self)
+        ensures { (self.new.routes.items ≡ []) × (self.new.looked ≡ 0) }
+    {
+        self.routes.clear();
+        self.looked = 0;
+    }
+
+    fn looked(&self) -> u64
+        ensures { result ≡ self.now.looked }
+    {
+        self.looked
+    }
+
+    fn ids(&self) -> Result<Vec<RouteId>, AllocError>
+        ensures { IfOk result (λ ids. ids.items ≡ ids_of (nodes_in self.now.routes.items)) }
+    {
+        let mut ids = Vec::with_capacity(*self.routes.allocator(), self.routes.len())?;
+        for one in &self.routes {
+            ids.push(one.id)?;
+        }
+        Ok(ids)
+    }
+}
+
+// What is kept to ask the routes of a tree.
 #[derive(Drop)]
-pub(crate) struct RouteSearch<'t> {
-    matchers: PreparedMatchers<'t>,
-    children: ChildIndex<'t>,
+pub(crate) struct Searches<'t> {
+    // The root's matchers.
+    root: PreparedMatchers<'t>,
+    // Of each route, in pre-order, the index of those below it.
+    levels: Vec<ChildIndex<'t>>,
+    // Of each route, in pre-order, the matchers that are asked once the index above it has settled the
+    // first equality matcher: all but that one.
+    others: Vec<PreparedMatchers<'t>>,
 }
 
 // Adds the searches of a route and of those below it, in pre-order.
 fn prepare<'t>(
     alloc: Global,
     route: &'t Route,
-    searches: &mut Vec<RouteSearch<'t>>,
+    searches: &mut Searches<'t>,
 ) -> Result<(), AllocError>
-    ensures { OnOk result
-        (searches.new.items ≡ searches.old.items ++ searches_of (forest_of (route.now ∷ []))) }
+    ensures levels { OnOk result (searches.new.levels.items
+        ≡ searches.old.levels.items ++ levels_of (forest_of (route.now ∷ []))) }
+    ensures others { OnOk result (searches.new.others.items
+        ≡ searches.old.others.items ++ others_of (forest_of (route.now ∷ []))) }
+    ensures root { OnOk result (searches.new.root ≡ searches.old.root) }
 {
-    let number = searches.len();
+    let number = searches.levels.len();
     let children = route.children.as_slice();
-    searches.push(RouteSearch {
-        matchers: route.matchers.prepare(alloc)?,
-        children: ChildIndex::none(alloc),
-    })?;
+    searches.levels.push(ChildIndex::none(alloc))?;
+    searches.others.push(prepare_others(alloc, &route.matchers)?)?;
     let mut offsets = Vec::with_capacity(alloc, children.len())?;
     for child in children {
-        offsets.push(searches.len() - number)?;
+        offsets.push(searches.levels.len() - number)?;
         prepare(alloc, child, searches)?;
     }
-    searches[number].children = ChildIndex::new(alloc, children, offsets)?;
+    searches.levels[number] = ChildIndex::new(alloc, children, offsets)?;
     Ok(())
 }
 
-// Asks a route, which has the number, and those below it, and adds those that a label set matches.
-// It answers whether the route's own matchers admit the label set.
+// Matchers made ready, without the first of them that is an equality matcher.
+fn prepare_others(alloc: Global, matchers: &Matchers) -> Result<PreparedMatchers<'_>, AllocError>
+    ensures { IfOk result (λ others. others ≡ other_matchers matchers.now) }
+{
+    let mut others = Vec::new(alloc);
+    let mut is_passed = false;
+    for matcher in matchers.as_slice() {
+        if !is_passed && matcher.operator() == Operator::Equal {
+            is_passed = true;
+        } else {
+            others.push(matcher.prepare()?)?;
+        }
+    }
+    Ok(PreparedMatchers { matchers: others })
+}
+
+// Asks a tree, and adds the routes that a label set matches.
+fn search<'t>(
+    searches: &mut Searches<'t>,
+    root: &'t Route,
+    labels: &LabelSet,
+    found: &mut Found<'t>,
+) -> Result<(), AllocError>
+    requires { AreSearchesOf root.now searches.old }
+    ensures found { OnOk result (nodes_in found.new.routes.items
+        ≡ nodes_in found.old.routes.items ++ answer_of labels.now 0 (forest_of (root.now ∷ []))) }
+    ensures looked { OnOk result (min found.new.looked u64.MAX
+        ≡ min (found.old.looked + routes_looked_at labels.now (forest_of (root.now ∷ []))) u64.MAX) }
+    ensures kept { AreSearchesOf root.now searches.new }
+{
+    if !searches.root.admits(labels) {
+        return Ok(());
+    }
+    ask(&searches.levels, &mut searches.others, root, 0, labels, found)
+}
+
+// Adds those routes that a label set matches of a route that it matches, which has the number, and of
+// those below it.
 fn ask<'t>(
-    searches: &mut [RouteSearch<'t>],
+    levels: &[ChildIndex<'t>],
+    others: &mut [PreparedMatchers<'t>],
     route: &'t Route,
     number: usize,
     labels: &LabelSet,
     found: &mut Found<'t>,
-) -> Result<bool, AllocError>
-    requires { BeginAt number (searches_of (forest_of (route.now ∷ []))) searches.old }
-    ensures admits { IfOk result (λ admits. admits ≡ all_admitted route.now.matchers labels.now) }
+) -> Result<(), AllocError>
+    requires levels { BeginAt number (levels_of (forest_of (route.now ∷ []))) levels.now }
+    requires others { BeginAt number (others_of (forest_of (route.now ∷ []))) others.old }
+    requires matches { all_admitted route.now.matchers labels.now ≡ true }
     ensures found { OnOk result (nodes_in found.new.routes.items
         ≡ nodes_in found.old.routes.items
         ++ answer_of labels.now number (forest_of (route.now ∷ []))) }
     ensures looked { OnOk result (min found.new.looked u64.MAX
         ≡ min (found.old.looked + routes_looked_at labels.now (forest_of (route.now ∷ []))) u64.MAX) }
-    ensures same { searches.new ≡ searches.old }
+    ensures same { others.new ≡ others.old }
 {
-    if !searches[number].matchers.admits(labels) {
-        return Ok(false);
-    }
     let had = found.routes.len();
-    let mut next = searches[number].children.next(labels, 0);
+    let mut candidates = levels[number].candidates(labels);
+    let mut next = candidates.next();
     while let Some(child) = next {
         found.looked = found.looked.saturating_add(1);
-        let admits = ask(searches, child.route, number + child.offset, labels, found)?;
-        next = if admits && !child.route.continues {
-            None
+        let at = number + child.offset;
+        next = if !others[at].admits(labels) {
+            candidates.next()
         } else {
-            searches[number].children.next(labels, child.at + 1)
+            ask(levels, others, child.route, at, labels, found)?;
+            if child.route.continues {
+                candidates.next()
+            } else {
+                None
+            }
         };
     }
     if found.routes.len() == had {
         let id = RouteId(number as u64);
         found.routes.push(FoundRoute { id, route })?;
     }
-    Ok(true)
+    Ok(())
 }

@@ -63,15 +63,23 @@ impl<'t> NameIndex<'t> {
         self.name
     }
 
-    /// The index of the first of its routes, from an index on, that asks for the value that a label
-    /// set has. A missing label counts as empty.
+    /// The indexes of its routes that ask for the value that a label set has. A missing label counts as
+    /// empty.
+    pub(crate) fn places(&self, labels: &LabelSet) -> &[usize]
+        ensures { result.now ≡ listed (value_of labels.now self.now.name.now) self.now }
+    {
+        match self.values.get(labels.get(self.name)) {
+            Some(places) => places,
+            None => &[],
+        }
+    }
+
+    /// The first of these that isn't below an index.
     pub(crate) fn next(&self, labels: &LabelSet, from: usize) -> Option<usize>
         ensures { (all : List (Option MatcherView)) → IsIndexOf all self.now → IsFirstFrom
             (is_filed self.now.name.now (value_of labels.now self.now.name.now)) from all result }
     {
-        let value = labels.get(self.name);
-        let places = self.values.get(value)?;
-        place_from(places, from)
+        place_from(self.places(labels), from)
     }
 }
 
@@ -87,8 +95,8 @@ pub(crate) fn first_equality<'m>(matchers: &'m [Matcher]) -> Option<&'m Matcher>
     None
 }
 
-/// The first of some rising indexes that isn't below one.
-pub(crate) fn place_from(places: &[usize], from: usize) -> Option<usize>
+// The first of some rising indexes that isn't below one.
+fn place_from(places: &[usize], from: usize) -> Option<usize>
     ensures { IsNonDecreasing places.now → result ≡ find (nat_le from) places.now }
 {
     places

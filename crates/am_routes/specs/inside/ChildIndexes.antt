@@ -1,16 +1,17 @@
 -- How the routes below a route are found that may match a label set: by their first equality matchers. Only
 -- code of this crate cites it.
 use Rattle.std.specs.Prelude.{◌≡◌, ◌≤◌, ◌<◌, ℕ, zero, suc, ◌+◌, Bool, true, false, ◌&&◌, ◌||◌}
-use Rattle.std.specs.Prelude.{if◌then◌else◌, List, [], ◌∷◌, map, Option, None, Some, IfSome, slice_get}
-use Rattle.std.specs.Prelude.{bytes_eq, nat_lt}
+use Rattle.std.specs.Prelude.{if◌then◌else◌, List, [], ◌∷◌, map, take, drop, Option, None, Some, IfSome}
+use Rattle.std.specs.Prelude.{slice_get, bytes_eq, nat_eq, nat_lt, refl}
+use Rattle.std.specs.Coded.{Coded, code_by, coded×, coded_ℕ}
 use Rattle.std.specs.HashMap.{get_by}
 use Rattle.std.specs.List.{AllByRecursion, list_any, list_all}
 use Rattle.std.specs.Option.{option_map, option_map_or}
-use Rattle.am_labels.specs.LabelSets.{Labels, value_of}
+use Rattle.am_labels.specs.LabelSets.{Labels, value_of, coded_labels}
 use Rattle.am_labels.specs.Matchers.{MatcherView}
 use Rattle.am_config.specs.Routes.{RouteView, Forest, no_routes, route, count_of}
 use Rattle.am_config.specs.RouteLists.{route_view}
-use Rattle.am_routes.specs.declared.child_index.Child.{Child}
+use Rattle.am_routes.specs.declared.candidates.Child.{Child}
 use Rattle.am_routes.specs.declared.name_index.NameIndex.{NameIndex}
 use Rattle.am_routes.specs.Looking.{first_equality, may_match}
 
@@ -76,12 +77,14 @@ abbrev pub AreIndexesOf : List (Option MatcherView) → List NameIndex → Type 
 AreIndexesOf all indexes =
     AllByRecursion (IsIndexOf all) indexes × (list_all (is_found indexes) all ≡ true)
 
+-- whether one of some indexes keeps a route for the value that a label set has
+abbrev pub is_kept : Labels → List NameIndex → Option MatcherView → Bool
+is_kept labels indexes filing =
+    list_any (λ index. is_filed index.name.now (value_of labels index.name.now) filing) indexes
+
 -- whether a route is found for a label set: it has no equality matcher, or one of some indexes keeps it
--- for the value that the label set has
 abbrev pub is_met : Labels → List NameIndex → Option MatcherView → Bool
-is_met labels indexes filing =
-    is_unfiled filing
-    || list_any (λ index. is_filed index.name.now (value_of labels index.name.now) filing) indexes
+is_met labels indexes filing = is_unfiled filing || is_kept labels indexes filing
 
 -- the offsets, the indexes and those without an equality matcher are those of the routes
 abbrev pub AreKeptOf : Forest → List ℕ → List ℕ → List NameIndex → Type 0
@@ -131,3 +134,34 @@ abbrev pub IsNextChild : Labels → ℕ → Forest → Option Child → Type 0
 IsNextChild labels from routes next =
     IsFirstFrom (may_match labels) from (filings routes) (option_map (λ child. child.at) next)
     × IfSome next (IsChildOf routes)
+
+-- indexes without one, if that is their first
+abbrev pub without : ℕ → List ℕ → List ℕ
+without at [] = []
+without at (place ∷ places) = if nat_eq place at then places else place ∷ places
+
+-- the indexes of those that pass a test, from an index on
+abbrev pub places_left : {X : Type 0} → (X → Bool) → ℕ → List X → List ℕ
+places_left test from xs = places_from test from (drop from xs)
+
+-- candidates, as contracts see them: those of some routes that come from an index on and may match
+pub record CandidatesView : Type 0 where
+  pub labels : Labels
+  pub from : ℕ
+  pub routes : Forest
+
+-- they are stored as the tuple of their fields
+abbrev pub coded_candidates : Coded Forest → Coded CandidatesView
+coded_candidates forest =
+    code_by (Labels × (ℕ × Forest)) (coded× coded_labels (coded× coded_ℕ forest))
+    (λ c. (c.labels, (c.from, c.routes)))
+    (λ p. record { labels = p.0; from = p.1.0; routes = p.1.1 }) (λ _. refl)
+
+-- the offsets and the indexes are those of the routes, and of the routes from an index on these have no
+-- equality matcher, and these the first of the indexes keeps
+abbrev pub AreLeftOf : Labels → ℕ → Forest → List ℕ → List ℕ → List ℕ → List NameIndex → Type 0
+AreLeftOf labels from routes offsets unfiled filed indexes =
+    (offsets ≡ offsets_from 1 routes)
+    × (unfiled ≡ places_left is_unfiled from (filings routes))
+    × (filed ≡ places_left (is_kept labels (take 1 indexes)) from (filings routes))
+    × AreIndexesOf (filings routes) indexes

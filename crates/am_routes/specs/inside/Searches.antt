@@ -1,9 +1,13 @@
 -- How the searches of a tree's routes are kept: in pre-order. Only code of this crate cites it.
-use Rattle.std.specs.Prelude.{◌≡◌, ℕ, List, [], ◌∷◌, ◌++◌, map, drop}
+use Rattle.std.specs.Prelude.{◌≡◌, ℕ, if◌then◌else◌, List, [], ◌∷◌, ◌++◌, map, drop}
+use Rattle.am_labels.specs.Matchers.{MatcherView}
+use Rattle.am_config.specs.declared.route.Route.{Route}
+use Rattle.am_config.specs.Routes.{RouteView, Forest, no_routes, route}
+use Rattle.am_config.specs.RouteLists.{route_view, forest_of}
 use Rattle.am_routes.specs.declared.matching.FoundRoute.{FoundRoute}
-use Rattle.am_routes.specs.declared.matching.RouteSearch.{RouteSearch}
-use Rattle.am_config.specs.Routes.{Forest, no_routes, route}
-use Rattle.am_config.specs.RouteLists.{route_view}
+use Rattle.am_routes.specs.declared.matching.Searches.{Searches}
+use Rattle.am_routes.specs.declared.route_id.RouteId.{RouteId}
+use Rattle.am_routes.specs.Looking.{is_equal}
 use Rattle.am_routes.specs.RouteAnswers.{Node}
 
 -- a route that was found, as a node
@@ -14,12 +18,37 @@ node_of found = record { number = found.id.0; route = route_view found.route.now
 abbrev pub nodes_in : List FoundRoute → List Node
 nodes_in found = map node_of found
 
--- the searches of routes, each before those of the routes below it
-abbrev pub searches_of : Forest → List RouteSearch
-searches_of no_routes = []
-searches_of (route first below others) =
-    record { matchers = first.matchers; children = below } ∷ (searches_of below ++ searches_of others)
+-- the numbers of nodes
+abbrev pub ids_of : List Node → List RouteId
+ids_of nodes = map (λ node. record { 0 = node.number }) nodes
 
--- some searches are those from an index on
-abbrev pub BeginAt : ℕ → List RouteSearch → List RouteSearch → Type 0
-BeginAt at some all = (rest : List RouteSearch) × (drop at all ≡ some ++ rest)
+-- matchers without the first equality matcher
+abbrev pub other_matchers : List MatcherView → List MatcherView
+other_matchers [] = []
+other_matchers (matcher ∷ matchers) =
+    if is_equal matcher.operator then matchers else matcher ∷ other_matchers matchers
+
+-- something of each of some routes, before that of each route below it
+abbrev pub in_pre_order : {X : Type 0} → (RouteView → Forest → X) → Forest → List X
+in_pre_order of no_routes = []
+in_pre_order of (route first below others) =
+    of first below ∷ (in_pre_order of below ++ in_pre_order of others)
+
+-- the routes below each
+abbrev pub levels_of : Forest → List Forest
+levels_of routes = in_pre_order (λ first below. below) routes
+
+-- the matchers of each but its first equality matcher
+abbrev pub others_of : Forest → List (List MatcherView)
+others_of routes = in_pre_order (λ first below. other_matchers first.matchers) routes
+
+-- the searches of a tree
+abbrev pub AreSearchesOf : Route → Searches → Type 0
+AreSearchesOf root searches =
+    (searches.root ≡ root.matchers)
+    × (searches.levels.items ≡ levels_of (forest_of (root ∷ [])))
+    × (searches.others.items ≡ others_of (forest_of (root ∷ [])))
+
+-- some elements are those from an index on
+abbrev pub BeginAt : {X : Type 0} → ℕ → List X → List X → Type 0
+BeginAt {X} at some all = (rest : List X) × (drop at all ≡ some ++ rest)

@@ -1,4 +1,5 @@
 use Rattle.std.proofs.Common.{◌≡◌, ◌++◌, ◌+◌, min}
+use Rattle.std.specs.Option.{IfSome}
 use Rattle.am_config.specs.Routes.{count_of}
 use Rattle.am_routes.specs.RouteAnswers.{answer_of}
 use Rattle.am_routes.specs.Looking.{looked_from}
@@ -13,11 +14,12 @@ decreases-ask l = count_of l.route.now.children
 abbrev pub invariant-loop-next : goal.invariant-loop-next
 invariant-loop-next l = record {
   pending : IsPending l.labels l.route.children l.next;
+  left : IfSome l.next (λ child. l.candidates ≡ record { labels = l.labels; from = child.at + 1; routes = l.route.children });
   found : nodes_in l.found.routes.items ++ pending_answer l.labels l.number l.route.children l.next
       ≡ nodes_in l.initial.found.routes.items ++ answer_of l.labels (l.number + 1) l.route.children;
   looked : min (l.found.looked + pending_looked l.labels l.route.children l.next) 18446744073709551615
       ≡ min (l.initial.found.looked + looked_from l.labels l.route.children) 18446744073709551615;
-  same : l.searches ≡ l.fn.searches;
+  same : l.others ≡ l.fn.others;
 }
 
 abbrev pub decreases-loop-next : goal.decreases-loop-next

@@ -1,6 +1,6 @@
 use Rattle.std.proofs.Common.{◌≡◌, map, take}
 use Rattle.am_routes.specs.declared.matching.FoundRoute.{FoundRoute}
-use Rattle.am_routes.proofs.matching.PreparedTree.matches.Given as goal
+use Rattle.am_routes.proofs.matching.Found.ids.Given as goal
 
 -- the ids of the routes so far
 abbrev pub invariant-loop-one : goal.invariant-loop-one

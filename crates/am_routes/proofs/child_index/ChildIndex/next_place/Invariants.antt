@@ -1,7 +1,0 @@
-use Rattle.std.proofs.Common.{take}
-use Rattle.am_routes.specs.inside.ChildIndexes.{filings, is_met, IsFirstFrom}
-use Rattle.am_routes.proofs.child_index.ChildIndex.next_place.Given as goal
-
--- the first of those that are found without the indexes that are left
-abbrev pub invariant-loop-index : goal.invariant-loop-index
-invariant-loop-index l = IsFirstFrom (is_met l.labels (take l.index-index l.index-items)) l.from (filings l.self) l.first
