@@ -470,8 +470,7 @@ pub left-after : (labels : Labels) (from : ℕ) (routes : Forest) (offsets unfil
     → AreLeftOf labels from routes offsets unfiled filed indexes → IsFirstFrom (may_match labels) from (filings routes) (Some at)
     → AreLeftOf labels (at + 1) routes offsets (without at unfiled) (without at filed) indexes
 left-after labels from routes offsets unfiled filed indexes at left first =
-    let all = filings routes in
-    (
+    let all = filings routes in (
       left.0,
       ap (without at) left.1
           ∙ left-past is_unfiled from at all first.0 (λ k filing h less is. unfiled-fails labels filing (first.2 k filing h less is)),

@@ -56,6 +56,7 @@ impl<'i, 't> Model for Candidates<'i, 't> {
 }
 
 impl<'i, 't> Candidates<'i, 't> {
+    #[inline(always)]
     pub(crate) fn new(
         routes: &'t [Route],
         offsets: &'i [usize],
@@ -82,6 +83,7 @@ impl<'i, 't> Candidates<'i, 't> {
     }
 
     /// The first of them, which is then no longer one of them.
+    #[inline(always)]
     pub(crate) fn next(&mut self) -> Option<Child<'t>>
         ensures next { IsNextChild self.old.labels self.old.from self.old.routes result }
         ensures left { IfSome result (λ child. self.new ≡ record self.old { from = child.at + 1 }) }
@@ -98,6 +100,7 @@ impl<'i, 't> Candidates<'i, 't> {
     }
 
     // The index of the first of them.
+    #[inline(always)]
     fn first_place(&self) -> Option<usize>
         ensures { IsFirstFrom (may_match self.now.labels) self.now.from (filings self.now.routes) result }
     {
@@ -110,6 +113,7 @@ impl<'i, 't> Candidates<'i, 't> {
 }
 
 // The indexes of all but the first of some names.
+#[inline(always)]
 fn others<'i, 't>(names: &'i [NameIndex<'t>]) -> &'i [NameIndex<'t>]
     ensures { result.now ≡ drop 1 names.now }
 {
@@ -117,6 +121,7 @@ fn others<'i, 't>(names: &'i [NameIndex<'t>]) -> &'i [NameIndex<'t>]
 }
 
 // The first of some indexes of routes.
+#[inline(always)]
 fn first_of(places: &[usize]) -> Option<usize>
     ensures { result ≡ slice_get places.now 0 }
 {
@@ -124,6 +129,7 @@ fn first_of(places: &[usize]) -> Option<usize>
 }
 
 // Indexes of routes without one, if that is their first.
+#[inline(always)]
 fn without(places: &[usize], at: usize) -> &[usize]
     ensures { result.now ≡ without at places.now }
 {
@@ -134,6 +140,7 @@ fn without(places: &[usize], at: usize) -> &[usize]
 }
 
 // The lower of two indexes.
+#[inline(always)]
 fn earlier(one: Option<usize>, other: Option<usize>) -> Option<usize>
     ensures { result ≡ earlier one other }
 {

@@ -73,6 +73,7 @@ impl<'t> ChildIndex<'t> {
     }
 
     /// The routes that may match a label set.
+    #[inline(always)]
     pub(crate) fn candidates<'i>(&'i self, labels: &'i LabelSet) -> Candidates<'i, 't>
         ensures { result ≡ record { labels = labels.now; from = 0; routes = self.now } }
     {

@@ -194,7 +194,9 @@ fn prepare<'t>(
     let number = searches.levels.len();
     let children = route.children.as_slice();
     searches.levels.push(ChildIndex::none(alloc))?;
-    searches.others.push(prepare_others(alloc, &route.matchers)?)?;
+    searches
+        .others
+        .push(prepare_others(alloc, &route.matchers)?)?;
     let mut offsets = Vec::with_capacity(alloc, children.len())?;
     for child in children {
         offsets.push(searches.levels.len() - number)?;
@@ -237,7 +239,14 @@ fn search<'t>(
     if !searches.root.admits(labels) {
         return Ok(());
     }
-    ask(&searches.levels, &mut searches.others, root, 0, labels, found)
+    ask(
+        &searches.levels,
+        &mut searches.others,
+        root,
+        0,
+        labels,
+        found,
+    )
 }
 
 // Adds those routes that a label set matches of a route that it matches, which has the number, and of

@@ -105,8 +105,7 @@ ask-requires t c =
     let others = asked c.loop-next.others (number + child.offset) c.admits.new.self d c.admits.ensures.same in
     let matches : all_admitted r.matchers labels ≡ true =
     child_matches number c.args.route.now child labels c.args.others.now c.loop-next.others d c.requires.others c.loop-next.invariant.same pending
-    ∙ (sym c.admits.ensures.answer ∙ c.if-not-admits.false) in
-    (
+    ∙ (sym c.admits.ensures.answer ∙ c.if-not-admits.false) in (
       falls,
       (
         child_at level number c.args.route.now child c.args.levels.now c.args.levels.now c.requires.levels refl pending.0,
