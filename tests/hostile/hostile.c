@@ -6,11 +6,14 @@
  *   INTERRUPT_READS=N        the first N reads are interrupted; so INTERRUPT_WRITES for writes
  *   REFUSE_THREAD=K          the thread of that number, from 1, isn't started
  *   JITTER=SEED              a thread rests now and then at its calls for a lock or a wait
- *   COUNT=FILE               at the end the file gets the numbers of reads, writes, threads and rests
+ *   HOLD_THREAD=K HOLD_FOR=M the thread of that number, from 1, waits first, alone: the others begin only then. Once it is
+ *                            woken it rests until all others have ended, or M milliseconds
+ *   COUNT=FILE               at the end the file gets the numbers of reads, writes, threads, rests and threads held
  */
 #define _GNU_SOURCE
 #include <dlfcn.h>
 #include <errno.h>
+#include <linux/futex.h>
 #include <pthread.h>
 #include <stdarg.h>
 #include <stdio.h>
@@ -20,7 +23,11 @@
 #include <time.h>
 #include <unistd.h>
 
-static unsigned long reads, writes, threads, rests;
+static unsigned long reads, writes, threads, rests, holds;
+/* Whether the held thread has begun to wait, and how many threads have ended. */
+static unsigned long waits, ended;
+/* Whether this thread is the one to be held. */
+static __thread int is_held;
 
 /* The system's own call, past what stands here. */
 static long call(long number, long a, long b, long c, long d, long e, long f) {
@@ -86,10 +93,47 @@ ssize_t writev(int file, const struct iovec *parts, int count) {
     return count ? write(file, parts->iov_base, parts->iov_len) : 0;
 }
 
+static unsigned long now_of(unsigned long *count) { return __atomic_load_n(count, __ATOMIC_SEQ_CST); }
+
+static void pause_for(long nanoseconds) {
+    struct timespec pause = {0, nanoseconds};
+    call(SYS_nanosleep, (long)&pause, 0, 0, 0, 0, 0);
+}
+
+struct begun {
+    void *(*start)(void *);
+    void *with;
+    int is_held;
+};
+
+/* How each thread begins if one is to be held: the others once that one waits, or after ten seconds. */
+static void *begin(void *given) {
+    struct begun begun = *(struct begun *)given;
+    free(given);
+    is_held = begun.is_held;
+    for (int tries = 0; !is_held && !now_of(&waits) && tries < 10000; tries++) pause_for(1000000);
+    void *answer = begun.start(begun.with);
+    next_of(&ended);
+    return answer;
+}
+
 int pthread_create(pthread_t *thread, const pthread_attr_t *how, void *(*start)(void *), void *with) {
     static int (*real)(pthread_t *, const pthread_attr_t *, void *(*)(void *), void *);
     if (!real) *(void **)&real = dlsym(RTLD_NEXT, "pthread_create");
-    return next_of(&threads) == asked("REFUSE_THREAD") ? EAGAIN : real(thread, how, start, with);
+    unsigned long number = next_of(&threads);
+    if (number == asked("REFUSE_THREAD")) return EAGAIN;
+    if (!asked("HOLD_THREAD")) return real(thread, how, start, with);
+    struct begun *begun = malloc(sizeof *begun);
+    if (!begun) return EAGAIN;
+    *begun = (struct begun){start, with, number == asked("HOLD_THREAD")};
+    return real(thread, how, begin, begun);
+}
+
+/* The held thread was woken for the first time. */
+static void hold(void) {
+    is_held = 0;
+    next_of(&holds);
+    for (unsigned long left = asked("HOLD_FOR"); left && now_of(&ended) + 1 < now_of(&threads); left--) pause_for(1000000);
 }
 
 /* Rests for up to 100 microseconds at every fourth call or so. */
@@ -99,9 +143,8 @@ static void rest(void) {
     if (!seed) return;
     unsigned long mixed = (next_of(&calls) + seed) * 0x9E3779B97F4A7C15ul;
     if (mixed >> 62) return;
-    struct timespec pause = {0, (long)(mixed >> 32) % 100000};
     next_of(&rests);
-    call(SYS_nanosleep, (long)&pause, 0, 0, 0, 0, 0);
+    pause_for((long)(mixed >> 32) % 100000);
 }
 
 #define RESTS(name)                                                                   \
@@ -127,14 +170,21 @@ long syscall(long number, ...) {
     for (int at = 0; at < 6; at++) with[at] = va_arg(rest_of, long);
     va_end(rest_of);
     if (number == SYS_futex) rest();
-    return call(number, with[0], with[1], with[2], with[3], with[4], with[5]);
+    int command = (int)with[1] & FUTEX_CMD_MASK;
+    int is_first_wait = is_held && number == SYS_futex && (command == FUTEX_WAIT || command == FUTEX_WAIT_BITSET);
+    if (is_first_wait) next_of(&waits);
+    long answer = call(number, with[0], with[1], with[2], with[3], with[4], with[5]);
+    int error = errno;
+    if (is_first_wait) hold();
+    errno = error;
+    return answer;
 }
 
 __attribute__((destructor)) static void tell(void) {
     const char *name = getenv("COUNT");
     FILE *file = name ? fopen(name, "w") : NULL;
     if (file) {
-        fprintf(file, "%lu %lu %lu %lu\n", reads, writes, threads, rests);
+        fprintf(file, "%lu %lu %lu %lu %lu\n", reads, writes, threads, rests, holds);
         fclose(file);
     }
 }
