@@ -4,6 +4,7 @@ ghost use Rattle.std.specs.Prelude.{◌≡◌, ◌++◌, ◌∷◌, [], IfOk, op
 ghost use Rattle.am_replay.specs.Live.{IsEnd, IsFailure, IsLive, IsTold, LivesUnder, line_or_empty};
 ghost use Rattle.am_runner.specs.Sessions.{setting_of};
 
+use crate::advice::fault_advice;
 use crate::arguments::Arguments;
 use crate::first_line::FirstLine;
 use crate::refusals::{FIRST_LINE_TOO_LARGE, advise, refused_config, refused_script};
@@ -12,7 +13,7 @@ use crate::transcript::counts_line;
 use am_config::Config;
 use am_provider::{Counts, Parts, Provider, Recorded};
 use am_runner::{Context, Form, Freely, Session};
-use am_script::{Failure, config_advice, script_advice, write_text};
+use am_script::{Failure, script_advice, write_text};
 use am_serve::{next_line, serve};
 use std::alloc::{AllocError, Global};
 use std::io::{BufRead, Write};
@@ -37,8 +38,9 @@ pub fn live<R: Wait, I: BufRead, O: Write, E: Write>(
     match FirstLine::read(alloc, bytes_of(&line)) {
         Ok(FirstLine::Read(config)) => live_under(rt, alloc, arguments, &config, input, out),
         Ok(FirstLine::Refused(fault)) => {
+            let advice = fault_advice(alloc, bytes_of(&line), &fault).ok();
             let status = refuse(refused_config(alloc, arguments.form, fault), out);
-            advise(err, status, &config_advice(alloc, bytes_of(&line)).ok());
+            advise(err, status, &advice);
             status
         },
         Ok(FirstLine::TooLong) => {

@@ -4,6 +4,7 @@
 //! It reads and prints, and decides nothing about alerts.
 #![tactic(auto)]
 
+mod advice;
 mod arguments;
 mod first_line;
 mod live;

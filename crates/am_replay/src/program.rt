@@ -7,6 +7,7 @@ ghost use Rattle.am_replay.specs.Printing.{ran_out_of_memory, transcript_text};
 ghost use Rattle.am_replay.specs.Programs.{IsProgram, IsRunAs, IsTelling};
 ghost use Rattle.am_replay.specs.Replays.{ComesTo, IsReplay, status_of};
 
+use crate::advice::fault_advice;
 use crate::arguments::{Arguments, ArgumentsFault, Mode};
 use crate::first_line::FirstLine;
 use crate::live::live;
@@ -16,8 +17,7 @@ use crate::status::Status;
 use am_config::Config;
 use am_runner::{Form, NotRun};
 use am_script::{
-    Failure, Line, ScriptFault, config_advice, config_line, read_input, read_script, script_advice,
-    write_text,
+    Failure, Line, ScriptFault, config_line, read_input, read_script, script_advice, write_text,
 };
 use std::alloc::Global;
 use std::io::{BufReader, Read, Write};
@@ -130,8 +130,8 @@ fn printout_of<R: Threads + Wait + Sync>(
             Ok(refused(output, advice.ok()))
         }
         FirstLine::Refused(fault) => {
+            let advice = fault_advice(alloc, config_line(&text), &fault);
             let output = refused_config(alloc, arguments.form, fault)?;
-            let advice = config_advice(alloc, config_line(&text));
             Ok(refused(output, advice.ok()))
         }
         FirstLine::Read(config) => printout_under(rt, alloc, arguments, &config, text),
