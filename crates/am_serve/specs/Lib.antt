@@ -1,3 +1,4 @@
 pub mod Reading
 pub mod Answering
+pub mod inside
 pub mod Serving
