@@ -37,13 +37,16 @@ fn post_ten<N: Recorded, R: Wait>(rt: &R, provider: &Provider<N>, caller: &mut C
     }
 }
 
-// Reads until it is told the end. `next` takes no lock and no memory; here it is asked again at once where
-// nothing is there.
-fn read_all<N: Recorded, R: Wait>(rt: &R, subscription: &mut Subscription<'_, N>) {
+// Reads until it is told the end. `next` takes no lock and no memory; while nothing is there, the thread sleeps.
+fn read_all<N: Recorded, R: Wait>(
+    rt: &R,
+    provider: &Provider<N>,
+    subscription: &mut Subscription<'_, N>,
+) {
     for _turn in rt.forever() {
         match subscription.next() {
             Step::Item(_alert) => {}
-            Step::Pending => thread::yield_now(),
+            Step::Pending => subscription.wait_past(rt, provider),
             Step::Closed | Step::Cut => break,
         }
     }
@@ -95,7 +98,7 @@ fn post_and_read<N: Recorded + Send + Sync, R: Threads + Wait + Sync>(
     thread::join(
         rt,
         move || post_all(rt, provider, first, second),
-        move || read_all(rt, lent),
+        move || read_all(rt, provider, lent),
     );
     provider.leave(rt, reader, subscription).taken
 }

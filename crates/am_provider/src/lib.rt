@@ -38,6 +38,7 @@
 //!     let parts = Parts::make(alloc, 256, 2)?;                  // 2 callers
 //!     let (provider, callers) = Provider::<Brand>::begin(alloc, parts, Policy::Refuse, timeout)?;
 //!     let mut subscription = provider.subscribe(rt, caller)?;   // in a thread that has this caller
+//!     subscription.wait_past(rt, &provider);                    // sleeps while there is nothing for it
 //!     provider.post(rt, caller, &NoGate, body, now)?;
 //!     let ended = provider.leave(rt, caller, subscription);
 //!     let settled = provider.settle(rt, callers);               // when all callers are back
@@ -59,6 +60,7 @@ mod recorded_book;
 mod sending;
 mod settled;
 mod subscription;
+mod waiters;
 
 pub use am_cast::{AlreadyClosed, MAX_PLACES};
 pub use answers::{Counts, Ended, Policy, Posted, PostedIf, Slice, Step};

@@ -27,6 +27,7 @@ use crate::pass::Pass;
 use crate::recorded_book::RecordedBook;
 use crate::settled::Settled;
 use crate::subscription::Subscription;
+use crate::waiters::Waiters;
 use am_alert::{Alert, Moment, Post, read_post};
 use am_cast::AlreadyClosed;
 use am_history::{Front, HistoryTable, Opened, open};
@@ -45,6 +46,7 @@ pub struct Provider<N: Recorded> {
     cast: Cast<N>,
     table: HistoryTable<Entry, N>,
     book: Mutex<RecordedBook<N>>,
+    pub(crate) waiters: Waiters,
     alloc: Global,
     /// How long a report without an end lasts.
     pub resolve_timeout: Duration,
@@ -92,6 +94,7 @@ impl<N: Recorded> Provider<N> {
             cast,
             table,
             book: Mutex::new(RecordedBook { book, history }),
+            waiters: Waiters::new(),
             alloc,
             resolve_timeout,
         };
@@ -136,9 +139,13 @@ impl<N: Recorded> Provider<N> {
             AddsOwn caller.old.pass now post.valid posted.place caller.new.pass) }
         ensures err { OnErr result (caller.new.pass ≡ caller.old.pass) }
     {
-        let mut book = self.lock(rt);
-        gate.held(rt);
-        book.post(&self.cast, &self.table, caller, post, now)
+        let answer = {
+            let mut book = self.lock(rt);
+            gate.held(rt);
+            book.post(&self.cast, &self.table, caller, post, now)
+        };
+        self.waiters.wake();
+        answer
     }
 
     /// Posts those valid alerts that a filter accepts (what `provider/mem`'s Put does by its callback's
@@ -158,9 +165,13 @@ impl<N: Recorded> Provider<N> {
         ensures { AnswersPostIf F.FnMut accepts N.policy N.places now post
             caller.old.pass caller.new.pass caller.old.front caller.new.front result }
     {
-        let mut book = self.lock(rt);
-        gate.held(rt);
-        book.post_if(&self.cast, &self.table, caller, post, now, accepts)
+        let answer = {
+            let mut book = self.lock(rt);
+            gate.held(rt);
+            book.post_if(&self.cast, &self.table, caller, post, now, accepts)
+        };
+        self.waiters.wake();
+        answer
     }
 
     /// A subscription to what is stored and to what comes from now on. It reads without the lock.
@@ -232,7 +243,9 @@ impl<N: Recorded> Provider<N> {
         ensures sees { SeesCall caller.old.front caller.new.front (AnswersClose result) }
         ensures pass { caller.new.pass ≡ caller.old.pass }
     {
-        self.lock(rt).close(&self.cast, &self.table, caller)
+        let answer = self.lock(rt).close(&self.cast, &self.table, caller);
+        self.waiters.wake();
+        answer
     }
 
     /// Discards the calls of the journal that no open subscription needs, and answers how many.
@@ -316,6 +329,7 @@ impl<N: Recorded> Provider<N> {
             cast,
             table,
             book,
+            waiters: _,
             alloc: _,
             resolve_timeout: _,
         } = self;

@@ -1,7 +1,7 @@
 //! A subscriber's place. It reads without the provider: no lock, no memory, no waiting.
 
 ghost use Rattle.std.specs.Prelude.{◌≡◌, ◌+◌, ◌<◌, ◌^◌, IfNone, IfSome, Some, false, true, length};
-ghost use Rattle.am_provider.specs.Subscriptions.{taken};
+ghost use Rattle.am_provider.specs.Subscriptions.{taken, HasNoNews};
 ghost use Rattle.am_provider.specs.inside.Advances.{Advances, AdvancesPast, CanShow, IsShown, Notes};
 ghost use Rattle.am_provider.specs.inside.Slices.{AdvancesSlice, CanShowFrom, IsSliceShown, ShowsOpening};
 ghost use Rattle.am_provider.specs.Posts.{HasMet};
@@ -119,6 +119,14 @@ impl<'a, N: Origin> Subscription<'a, N> {
         ensures { result ≡ self.now.cursor.lane.number }
     {
         self.cursor.lane() as u32
+    }
+
+    /// Whether `next` may answer anything but `Pending`: by what is known and, if that was all shown, by a look
+    /// at the log.
+    pub fn has_news(&self) -> bool
+        ensures { result ≡ false → HasNoNews self.now }
+    {
+        self.shown < self.opening.as_slice().len() || self.cursor.has_news()
     }
 
     /// How many alerts were stored at the subscription.

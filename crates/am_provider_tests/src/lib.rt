@@ -35,6 +35,8 @@ mod reports;
 #[cfg(test)]
 mod shown;
 #[cfg(test)]
+mod sleepers;
+#[cfg(test)]
 mod slices;
 #[cfg(test)]
 mod slow_lanes;

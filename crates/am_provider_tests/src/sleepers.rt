@@ -1,0 +1,161 @@
+//! Eight readers that sleep while nothing is there for them: each post wakes all of them, and so does the close.
+
+ghost use Rattle.std.specs.Prelude.{◌≡◌};
+
+use crate::bodies::{body_of, moment};
+use crate::days::{Settings, Stopped, begin_day};
+use crate::many_threads::post_one;
+use am_provider::{Caller, Parts, Provider, Recorded, Settled, Step, Subscription};
+use std::alloc::Global;
+use std::marker::Brand;
+use std::sync::Wait;
+use std::sync::atomic::{AtomicU32, Ordering};
+use std::test::Fail;
+use std::thread;
+use std::thread::Threads;
+
+const READERS: u32 = 8;
+
+const ROUNDS: u32 = 10_000;
+
+/// How many readers have come, and how many alerts all of them were shown.
+#[derive(Drop)]
+struct Heard {
+    readers: AtomicU32,
+    alerts: AtomicU32,
+}
+
+// Reads until it is told the end, and sleeps while nothing is there.
+fn read_or_sleep<N: Recorded, R: Wait>(
+    rt: &R,
+    provider: &Provider<N>,
+    subscription: &mut Subscription<'_, N>,
+    heard: &Heard,
+) {
+    for _turn in rt.forever() {
+        match subscription.next() {
+            Step::Item(_alert) => {
+                heard.alerts.fetch_add(1, Ordering::SeqCst);
+            }
+            Step::Pending => subscription.wait_past(rt, provider),
+            Step::Closed | Step::Cut => break,
+        }
+    }
+}
+
+// Each reader in a thread of its own, from its subscription to its leave.
+fn read_each<N: Recorded + Send + Sync, R: Threads + Wait + Sync>(
+    rt: &R,
+    provider: &Provider<N>,
+    readers: &mut [Caller<N>],
+    heard: &Heard,
+) {
+    thread::for_each_mut(
+        rt,
+        readers,
+        READERS as usize,
+        &|_at, caller| {
+            if let Ok(mut subscription) = provider.subscribe(rt, caller) {
+                heard.readers.fetch_add(1, Ordering::SeqCst);
+                read_or_sleep(rt, provider, &mut subscription, heard);
+                provider.leave(rt, caller, subscription);
+            }
+        },
+    );
+}
+
+// Waits until the count is there, for so many turns at the most.
+fn comes_to(count: &AtomicU32, wanted: u32) -> bool {
+    for _turn in 0..10_000_000u32 {
+        if count.load(Ordering::SeqCst) >= wanted {
+            return true;
+        }
+        thread::yield_now();
+    }
+    false
+}
+
+// Posts an alert each time that all readers were shown the last one, and closes. Answers how many rounds came to
+// an end.
+fn post_each<N: Recorded, R: Wait>(
+    rt: &R,
+    alloc: Global,
+    provider: &Provider<N>,
+    poster: &mut Caller<N>,
+    heard: &Heard,
+) -> u32 {
+    let mut rounds: u32 = 0;
+    if comes_to(&heard.readers, READERS) {
+        for round in 0..ROUNDS {
+            let Ok(body) = body_of(alloc, round % 10) else {
+                break;
+            };
+            if !post_one(rt, provider, poster, body.as_bytes(), moment(3_000_000))
+                || !comes_to(&heard.alerts, READERS * (round + 1))
+            {
+                break;
+            }
+            rounds += 1;
+        }
+    }
+    let _closed = provider.close(rt, poster);
+    rounds
+}
+
+fn one_and_eight<N: Recorded + Send + Sync, R: Threads + Wait + Sync>(
+    rt: &R,
+    alloc: Global,
+    provider: &Provider<N>,
+    callers: &mut [Caller<N>],
+    heard: &Heard,
+) -> Result<u32, Stopped> {
+    let (poster, readers) = callers.split_first_mut().ok_or(Stopped::Refused)?;
+    let (rounds, _read) = thread::join(
+        rt,
+        move || post_each(rt, alloc, provider, poster, heard),
+        move || read_each(rt, provider, readers, heard),
+    );
+    Ok(rounds)
+}
+
+fn one_and_eight_over<N: Recorded + Send + Sync, R: Threads + Wait + Sync>(
+    rt: &R,
+    alloc: Global,
+    parts: Parts,
+    settings: Settings,
+) -> Result<(u32, u32, Settled), Stopped>
+    requires table { parts.log.board.shared.table_id ≡ N.table }
+    requires ledger { (parts.ledger.name ≡ N.name) × (parts.ledger.parts ≡ N.parts) }
+    requires history { parts.history.board.shared.table_id ≡ N.timeline }
+    requires entries { (parts.history.ledger.name ≡ N.entries)
+        × (parts.history.ledger.parts ≡ N.holders) }
+    requires limits { (parts.log.places ≡ N.places) × (settings.policy ≡ N.policy) }
+{
+    let (provider, mut callers) = begin_day::<N>(alloc, parts, settings)?;
+    let heard = Heard {
+        readers: AtomicU32::new(0),
+        alerts: AtomicU32::new(0),
+    };
+    let outcome = one_and_eight(rt, alloc, &provider, &mut callers, &heard);
+    let settled = provider.settle(rt, callers);
+    Ok((outcome?, heard.alerts.load(Ordering::SeqCst), settled))
+}
+
+fn one_and_eight_of<R: Threads + Wait + Sync>(
+    rt: &R,
+    alloc: Global,
+    settings: Settings,
+) -> Result<(u32, u32, Settled), Stopped> {
+    let parts = settings.parts(alloc)?;
+    one_and_eight_over::<Brand, R>(rt, alloc, parts, settings)
+}
+
+#[test]
+fn sleepers_are_woken(rt: HostRuntime) -> Result<(), Fail> {
+    let (rounds, shown, settled) = one_and_eight_of(&rt, rt.alloc(), Settings::of(16, 9))?;
+    assert_eq!(rt; rounds, ROUNDS);
+    assert_eq!(rt; shown, READERS * ROUNDS);
+    assert!(rt; settled.complete);
+    assert_eq!(rt; settled.ended.len(), READERS as usize);
+    Ok(())
+}
