@@ -16,7 +16,7 @@ use Rattle.am_cast.specs.Writers.{Calm}
 use Rattle.am_cast.proofs.Accounts.{is_account_of}
 use Rattle.am_cast.proofs.Slots.{at_length}
 
-suc_times : (n places : ℕ) → suc n * places ≡ n * places + places
+pub suc_times : (n places : ℕ) → suc n * places ≡ n * places + places
 suc_times n places = grind (arith)
 
 -- a slot within eight turns is one of eight lanes

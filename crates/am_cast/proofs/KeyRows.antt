@@ -348,5 +348,9 @@ module _ {X : Type 0} where
   changed_sorted bs n old new s h at r a = sorted_set bs n new s h
       (r (length bs) n (subst (λ (b : BucketView X). HaveRemainder (length bs) n b.rows) (sym (bucket_is bs n old h at)) (s.each n h).0)) a
 
-  pub within : (bs : List (BucketView X)) (n len : ℕ) → AreSorted bs → len ≡ length bs → n % len < length bs
-  within bs n len s e = let some = s.some in subst (λ (k : ℕ). n % len < k) e (mod-lt n (omega arith))
+  -- an index that was reckoned of the buckets under another name
+  pub index_is : (bs was : List (BucketView X)) (index place : ℕ) → bs ≡ was → index ≡ place % length was → index ≡ place % length bs
+  index_is bs was index place same is = is ∙ ap (λ (bs : List (BucketView X)). place % length bs) (sym same)
+
+  pub within : (bs was : List (BucketView X)) (index place : ℕ) → AreSorted bs → bs ≡ was → index ≡ place % length was → index < length bs
+  within bs was index place s same is = subst (λ (k : ℕ). k < length bs) (sym (index_is bs was index place same is)) (mod-lt place s.some)

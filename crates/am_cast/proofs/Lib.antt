@@ -12,6 +12,7 @@ pub mod Notes
 pub mod Seats
 pub mod Shown
 pub mod Rests
+pub mod RingPlaces
 pub mod Runs
 pub mod Slots
 pub mod Splits

@@ -9,7 +9,7 @@ use Rattle.am_cast.specs.declared.views.Account.{Account}
 use Rattle.am_cast.specs.declared.views.WriterView.{WriterView}
 use Rattle.am_cast.specs.Rule.{first_account, first_writer, live, bit}
 use Rattle.am_cast.specs.declared.views.View.{View}
-use Rattle.am_cast.specs.Changes.{with_account, without_own, longer, grown, grown_as, laying, retired, back_if}
+use Rattle.am_cast.specs.Changes.{with_account, without_own, longer, grown, grown_as, laying, retired, back_if, given_out}
 use Rattle.am_cast.proofs.steps.Retire.{either_bool}
 use Rattle.am_cast.proofs.Tails.{grown_live, grown_else}
 use Rattle.am_cast.specs.Steps.{SeatState}
@@ -17,8 +17,9 @@ use Rattle.am_cast.specs.Seats.{some_or, writer_of, account_of}
 use Rattle.am_cast.specs.Writers.{IsCalm, Calm, HasRoom, SameAdmission}
 use Rattle.am_cast.specs.inside.Filling.{FilledTo, AllLaid, AreReady, filled_as}
 use Rattle.am_cast.specs.declared.writer.lane_account.LaneAccount.{LaneAccount}
-use Rattle.am_cast.specs.declared.writer.lane_account.Stand.TheVariants.{Idle}
+use Rattle.am_cast.specs.declared.writer.lane_account.Stand.TheVariants.{Idle, Live}
 use Rattle.am_cast.specs.inside.LaneAccounts.{IsKeptAs, no_lane}
+use Rattle.am_cast.specs.inside.RingPlaces.{RingPlaceView}
 use Rattle.am_cast.specs.inside.WriterStates.{WriterStateOk}
 
 module _ {B K A : Type 0} where
@@ -150,6 +151,18 @@ module _ {K A : Type 0} where
     bound = m.bound;
   }
 
+  -- a lane that was given out has the log's length as its word
+  pub given_kept : (note : Option A) (n count : ℕ) (b : Account K A) (lanes : List LaneAccount) (l : ℕ) → l < 8 → length lanes ≡ 8 → count ≡ n → n ≤ LONGEST_LOG
+      → IsKeptAs (given_out note n b) (get_or (set lanes l record { stand = Live; word = 4 * count }) l no_lane)
+  given_kept note n count b lanes l small long is few = subst (λ (a : LaneAccount). IsKeptAs (given_out note n b) a) (sym (get_or-set_same lanes l record { stand = Live; word = 4 * count } no_lane (omega arith))) record {
+    stand_is = refl;
+    known_is = omega arith;
+    live_is = λ _. omega arith;
+    cut_is = λ e. absurd (omega arith);
+    rest_is = λ _. refl;
+    bound = omega arith;
+  }
+
   pub retired_live : (b : Account K A) → b.away ≡ false → retired b ≡ record b { stand = 0; loads = b.loads + 1 }
   retired_live b e = λ i. record (back_if (e i) b) { stand = 0; loads = b.loads + 1 }
 
@@ -163,13 +176,13 @@ grown_numbers (suc (suc n)) b = (refl, refl, refl, refl)
 
 module _ {B K A : Type 0} where
   -- the log has grown, and its place went to another seat
-  pub state_longer : (T t t' : TableId) (m m' : SeatState B K A) (places count : ℕ) (closed : Bool) (lanes : List LaneAccount) (x : B) (w : View B K A)
-      → WriterStateOk T t m places count closed lanes → t' ≡ t → m'.1 ≡ [] → w ≡ record m.0 { writer = Some (longer x (writer_of m.0)); own = w.own } → m'.0 ≡ without_own w → count < LONGEST_LOG
-      → WriterStateOk T t' m' places (count + 1) closed lanes
-  state_longer T t t' m m' places count closed lanes x w ok same bare grew handed few =
+  pub state_longer : (T t t' : TableId) (m m' : SeatState B K A) (next next' : RingPlaceView) (closed : Bool) (lanes : List LaneAccount) (x : B) (w : View B K A)
+      → WriterStateOk T t m next.places next.number closed lanes → t' ≡ t → m'.1 ≡ [] → w ≡ record m.0 { writer = Some (longer x (writer_of m.0)); own = w.own } → m'.0 ≡ without_own w → next.number < LONGEST_LOG → next' ≡ record next { number = next.number + 1 }
+      → WriterStateOk T t' m' next'.places next'.number closed lanes
+  state_longer T t t' m m' next next' closed lanes x w ok same bare grew handed few on =
       let q : WriterView B K A = writer_of m.0 in let all = ok.all in
       let is : m'.0.writer ≡ Some (longer x q) = ap (λ (w : View B K A). w.writer) handed ∙ ap (λ (w : View B K A). w.writer) grew in
-      let now : writer_of m'.0 ≡ longer x q = ap (λ (o : Option (WriterView B K A)). some_or (first_writer 0) o) is in record {
+      let now : writer_of m'.0 ≡ longer x q = ap (λ (o : Option (WriterView B K A)). some_or (first_writer 0) o) is in subst (λ (r : RingPlaceView). WriterStateOk T t' m' r.places r.number closed lanes) (sym on) record {
         same = same ∙ ok.same;
         writer = (is ∙ ap (λ (q : WriterView B K A). let o : Option (WriterView B K A) = Some q in o) (sym now), bare);
         alone = ap (λ (w : View B K A). w.lane) handed ∙ ap (λ (w : View B K A). w.lane) grew ∙ ok.alone;

@@ -72,7 +72,6 @@ pub(crate) use pass::pass_place;
 pub(crate) use publish::publish_batch;
 pub(crate) use recover::recover_key;
 pub(crate) use retire::retire_lane;
-pub(crate) use slot::slot_at;
 pub(crate) use take::take_key;
 pub(crate) use take_in::take_in;
 pub(crate) use tell::{new_seat, tell_seat};

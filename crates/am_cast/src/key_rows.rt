@@ -1,8 +1,8 @@
 //! The writer's keys: those that came home wait in rows, one for each place, until the eighth is
 //! there and ends the segment.
-ghost use Rattle.std.specs.Prelude.{true, false, ◌≡◌, ◌≢◌, ℕ, ◌<◌, ◌≤◌, List, ◌∷◌, ◌++◌, [], length, Some, None, IfOk, OnOk, option_copied};
+ghost use Rattle.std.specs.Prelude.{true, false, ◌≡◌, ◌≢◌, ℕ, ◌%◌, ◌<◌, ◌≤◌, List, ◌∷◌, ◌++◌, [], length, slice_index_or, Some, None, IfOk, OnOk, option_copied};
 ghost use Rattle.am_segment.specs.Segments.{KeyView};
-ghost use Rattle.am_cast.specs.inside.KeyRows.{bucket_of, row_at, MayTake, row_with};
+ghost use Rattle.am_cast.specs.inside.KeyRows.{bucket_of, no_bucket, row_at, MayTake, row_with};
 
 mod bucket;
 mod row;
@@ -55,21 +55,23 @@ impl<T> KeyRows<T> {
         self.buckets[at].keys(place)
     }
 
-    /// Makes room for the place's row among the others.
-    pub(crate) fn reserve(&mut self, place: u64) -> Result<(), AllocError>
+    /// Makes room for a row more in the bucket at the index.
+    pub(crate) fn reserve(&mut self, index: usize) -> Result<(), AllocError>
+        requires { index < length self.old }
         ensures count { length self.new ≡ length self.old }
         ensures rows { (p : ℕ) → row_at self.new p ≡ row_at self.old p }
-        ensures room { OnOk result (1 ≤ (bucket_of self.new place).room) }
+        ensures room { OnOk result (1 ≤ (slice_index_or self.new index no_bucket).room) }
     {
-        let at = (place % self.buckets.len() as u64) as usize;
-        self.buckets[at].reserve()
+        self.buckets[index].reserve()
     }
 
-    /// The key goes to the others of its place. The eighth ends its segment.
-    pub(crate) fn bring(&mut self, place: u64, key: SegKey<T>)
+    /// The key goes to the others of its place, in the bucket at the index. The eighth ends its
+    /// segment.
+    pub(crate) fn bring(&mut self, index: usize, place: u64, key: SegKey<T>)
     where
         T: Drop,
-        requires { (keys : List (KeyView T)) × (row_at self.old place ≡ Some keys)
+        requires index { index ≡ place % length self.old }
+        requires row { (keys : List (KeyView T)) × (row_at self.old place ≡ Some keys)
             × MayTake keys key }
         ensures count { length self.new ≡ length self.old }
         ensures here { (keys : List (KeyView T)) → row_at self.old place ≡ Some keys
@@ -77,20 +79,19 @@ impl<T> KeyRows<T> {
         ensures others { (p : ℕ) → p ≢ place → row_at self.new p ≡ row_at self.old p }
         ensures room { (p : ℕ) → (bucket_of self.old p).room ≤ (bucket_of self.new p).room }
     {
-        let at = (place % self.buckets.len() as u64) as usize;
-        self.buckets[at].bring(place, key);
+        self.buckets[index].bring(place, key);
     }
 
-    /// A row more, of a place that had none.
-    pub(crate) fn insert(&mut self, row: Row<T>)
+    /// A row more in the bucket at the index, of a place that had none.
+    pub(crate) fn insert(&mut self, index: usize, row: Row<T>)
+        requires index { index ≡ row.place % length self.old }
         requires room { 1 ≤ (bucket_of self.old row.place).room }
         requires none { row_at self.old row.place ≡ None }
         ensures count { length self.new ≡ length self.old }
         ensures here { row_at self.new row.place ≡ Some row.keys }
         ensures others { (p : ℕ) → p ≢ row.place → row_at self.new p ≡ row_at self.old p }
     {
-        let at = (row.place() % self.buckets.len() as u64) as usize;
-        self.buckets[at].insert(row);
+        self.buckets[index].insert(row);
     }
 
     /// The end of rows that are all gone.

@@ -14,6 +14,7 @@ use crate::feed::Feed;
 use crate::key_rows::KeyRows;
 use crate::limits::{LANES, WORDS};
 use crate::pass::Pass;
+use crate::ring_place::RingPlace;
 use crate::writer::Writer;
 use crate::writer::lane_account::{LaneAccount, Stand};
 use crate::writer::state::WriterState;
@@ -127,8 +128,7 @@ pub fn begin<T: Drop, P, A, N: Feed>(
     let state = WriterState {
         seat,
         rows,
-        places,
-        count: 0,
+        next: RingPlace::new(0, places),
         closed: false,
         lanes: [LaneAccount {
             stand: Stand::Idle,
@@ -159,8 +159,7 @@ pub fn end<T: Drop, P, A, N: Feed>(cast: Cast<T, P, A, N>, writer: Writer<T, P, 
     let WriterState {
         seat,
         rows,
-        places: _,
-        count: _,
+        next: _,
         closed: _,
         lanes: _,
         of: _,

@@ -1,11 +1,11 @@
 //! A place, and the index of its slot in each lane's ring.
-ghost use Rattle.std.specs.Prelude.{◌≡◌, ◌+◌, ◌<◌, ◌≤◌};
+ghost use Rattle.std.specs.Prelude.{◌≡◌, ◌+◌, ◌%◌, ◌<◌, ◌≤◌};
 ghost use Rattle.am_cast.specs.declared.limits.TheConstants.{LANES, LONGEST_LOG, MAX_PLACES};
 ghost use Rattle.am_cast.specs.Rule.{slot};
 
 use std::marker::Model;
 
-/// The index is kept beside the number, so that going on needs no division.
+/// The index is kept beside the number, so that neither going on nor a place a little back needs a division.
 #[derive(Drop)]
 pub(crate) struct RingPlace {
     number: u64,
@@ -39,6 +39,36 @@ impl RingPlace {
         ensures { result ≡ self.now.number }
     {
         self.number
+    }
+
+    /// How many slots each lane's ring has.
+    pub(crate) fn places(&self) -> u64
+        ensures { result ≡ self.now.places }
+    {
+        self.places
+    }
+
+    /// Its index in each lane's ring.
+    pub(crate) fn index(&self) -> usize
+        ensures { result ≡ self.now.number % self.now.places }
+    {
+        self.index as usize
+    }
+
+    /// The index of this place or of an earlier one. It divides only where that one is more than a whole
+    /// ring back.
+    pub(crate) fn index_of(&self, place: u64) -> usize
+        requires { place ≤ self.now.number }
+        ensures { result ≡ place % self.now.places }
+    {
+        let back = self.number - place;
+        if back <= self.index {
+            (self.index - back) as usize
+        } else if back <= self.places {
+            (self.index + self.places - back) as usize
+        } else {
+            (place % self.places) as usize
+        }
     }
 
     /// The index of the slot of the lane's key of this place.

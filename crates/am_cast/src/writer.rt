@@ -57,7 +57,7 @@ impl<T: Drop, P, A, N: Feed> Writer<T, P, A, N> {
     pub fn len(&self) -> u64
         ensures { (result ≡ length self.now.tail.log) × (result ≤ LONGEST_LOG) }
     {
-        self.state.count
+        self.state.next.number()
     }
 
     /// The keys of the place that the writer keeps until the others are home. It keeps none of a place that
@@ -73,7 +73,7 @@ impl<T: Drop, P, A, N: Feed> Writer<T, P, A, N> {
     pub fn freed(&self, place: u64) -> bool
         ensures { IsTrue result ↔ IsFreedFor self.now place }
     {
-        place < self.state.count && self.kept(place).is_none()
+        place < self.len() && self.kept(place).is_none()
     }
 
     pub fn is_closed(&self) -> bool

@@ -1,5 +1,5 @@
 -- The seats of a new log.
-use Rattle.std.specs.Prelude.{◌≡◌, ℕ, ◌<◌, ◌≤◌, [], List, None}
+use Rattle.std.specs.Prelude.{◌≡◌, ℕ, ◌<◌, ◌≤◌, [], List, length, None}
 use Rattle.atomic_table.specs.Seated.{TableId}
 use Rattle.am_segment.specs.Segments.{KeyView}
 use Rattle.am_cast.specs.declared.limits.TheConstants.{MAX_PLACES, WORDS}
@@ -16,4 +16,5 @@ pub record PartsOk {T P A : Type 0} (table seat_table : TableId) (m : SeatState 
   pub same : seat_table ≡ table
   pub first : m.0 ≡ first_view places
   pub bare : m.1 ≡ []
+  pub as_many : length rows ≡ places
   pub no_keys : (p : ℕ) → row_at rows p ≡ None

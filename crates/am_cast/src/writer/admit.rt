@@ -86,24 +86,25 @@ impl<T: Drop, P, A, N: Feed> WriterState<T, P, A, N> {
             (new_lane (Some note.now.value) lane self.old.known.tail (account_of self.old.known lane))) }
     {
         let top = &cast.board.shared;
+        let count = self.next.number();
         let mut seat = board::admit_lane::<BatchView<T, P>, SegKey<T>, A, SegmentKeys<T, P>, Brand>(
             top,
             &mut self.seat,
             lane,
-            self.count,
+            count,
             note,
         );
         self.lanes[lane] = LaneAccount {
             stand: Stand::Live,
-            word: 4 * self.count,
+            word: 4 * count,
         };
         board::open_lane(top, &mut seat, lane);
         Cursor {
             cast,
             seat,
             number: lane,
-            next: RingPlace::new(self.count, self.places),
-            seen: self.count,
+            next: RingPlace::new(count, self.next.places()),
+            seen: count,
             closed: false,
             cut: false,
             shown: 0,

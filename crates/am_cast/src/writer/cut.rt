@@ -177,12 +177,12 @@ impl<T: Drop, P, A, N: Feed> WriterState<T, P, A, N> {
         let known = self.known_of(lane);
         let found = self.sever(cast, lane, word);
         if found == word {
-            let to = self.count;
+            let to = self.next.number();
             self.clear_to(cast, lane, known + word / 2 % 2, to);
             return found;
         }
         if found == u64::MAX {
-            let to = self.count;
+            let to = self.next.number();
             self.clear_to(cast, lane, known, to);
             return found;
         }

@@ -81,7 +81,7 @@ impl<T: Drop, P, A, N: Feed> WriterState<T, P, A, N> {
         let from = self.known_of(lane);
         let found = self.load(cast, lane);
         if found == u64::MAX {
-            let to = self.count;
+            let to = self.next.number();
             self.clear_to(cast, lane, from, to);
             return found;
         }

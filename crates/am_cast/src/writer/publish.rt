@@ -126,7 +126,7 @@ impl<T: Drop, P, A, N: Feed> WriterState<T, P, A, N> {
         ensures known { self.new.known ≡ self.old.known }
         ensures ok { OnOk result (1 ≤ (bucket_of self.new.rows (length self.old.known.tail.log)).room) }
     {
-        self.rows.reserve(self.count)
+        self.rows.reserve(self.next.index())
     }
 
     /// One place more, which is the other seat's own.
@@ -190,7 +190,7 @@ impl<T: Drop, P, A, N: Feed> WriterState<T, P, A, N> {
             is_live (account_of self.old.known l)) LANES result.keys }
     {
         let end = self.live_end();
-        let mut row = Row::new(self.count);
+        let mut row = Row::new(self.next.number());
         self.put_key(cast, 0, first, &mut row);
         let mut rest = Some(rest);
         for lane in 1..end {
@@ -235,7 +235,7 @@ impl<T: Drop, P, A, N: Feed> WriterState<T, P, A, N> {
             × (b.stop < b.cleared + self.old.known.tail.places) }
         ensures { OneAccount self.old self.new lane (laying key (account_of self.old.known lane)) }
     {
-        let at = board::slot_at(self.places, lane, self.count);
+        let at = self.next.slot(lane);
         board::fill_slot(&cast.board.shared, &mut self.seat, at, lane, key);
     }
 
@@ -260,18 +260,19 @@ impl<T: Drop, P, A, N: Feed> WriterState<T, P, A, N> {
             (batch_of_tag tag.now))) }
     {
         let top = &cast.board.shared;
+        let index = self.next.index();
         board::publish_batch::<BatchView<T, P>, SegKey<T>, A, SegmentKeys<T, P>, Brand, Tag<T, P>>(
             top,
             &mut self.seat,
-            self.count,
+            self.next.number(),
             tag,
         );
-        self.count += 1;
+        self.next.go_on();
         board::hand_own(top, &mut self.seat, to);
         if row.is_full() {
             row.end();
         } else {
-            self.rows.insert(row);
+            self.rows.insert(index, row);
         }
     }
 }

@@ -59,7 +59,7 @@ impl<T: Drop, P, A, N: Feed> WriterState<T, P, A, N> {
         ensures sound { Sound self.old.known.tail (account_of self.old.known lane) (lane_of other.me.0) lane }
     {
         let from = self.known_of(lane);
-        let to = self.count;
+        let to = self.next.number();
         self.take_home(cast, lane, other);
         self.clear_to(cast, lane, from, to);
     }

@@ -17,6 +17,7 @@ use crate::cursor::Cast;
 use crate::feed::Feed;
 use crate::key_rows::KeyRows;
 use crate::limits::LANES;
+use crate::ring_place::RingPlace;
 use crate::writer::lane_account::{LaneAccount, Stand};
 use std::marker::{Model, PhantomData};
 
@@ -24,16 +25,15 @@ use std::marker::{Model, PhantomData};
 pub(crate) struct WriterState<T, P, A, N: Feed> {
     pub(crate) seat: LogSeat<T, P, A>,
     pub(crate) rows: KeyRows<T>,
-    /// How many places a live lane may be behind.
-    pub(crate) places: u64,
-    /// The log's length.
-    pub(crate) count: u64,
+    /// The next place. Its number is the log's length, and a live lane may be a whole ring behind it.
+    pub(crate) next: RingPlace,
     pub(crate) closed: bool,
     pub(crate) lanes: [LaneAccount; LANES],
     pub(crate) of: PhantomData<N>,
 }
 
 impl<T, P, A, N: Feed> Model for WriterState<T, P, A, N> {
+    ghost use Rattle.std.specs.Prelude.{◌≡◌, length};
     ghost use Rattle.am_cast.specs.inside.WriterStates.{WriterStateView};
     ghost use Rattle.am_cast.specs.Seats.{writer_of};
     ghost use Rattle.am_cast.specs.inside.WriterStates.{WriterStateOk};
@@ -43,8 +43,8 @@ impl<T, P, A, N: Feed> Model for WriterState<T, P, A, N> {
 
     ghost view = { λ w. record { known = writer_of w.seat.me.0; rows = w.rows } };
 
-    ghost invariant = { λ w. WriterStateOk N.table w.seat.table_id w.seat.me w.places w.count w.closed w.lanes
-        × RowsFit (writer_of w.seat.me.0) w.rows };
+    ghost invariant = { λ w. WriterStateOk N.table w.seat.table_id w.seat.me w.next.places w.next.number w.closed w.lanes
+        × RowsFit (writer_of w.seat.me.0) w.rows × (length w.rows ≡ w.next.places) };
 }
 
 impl<T: Drop, P, A, N: Feed> WriterState<T, P, A, N> {
@@ -80,7 +80,7 @@ impl<T: Drop, P, A, N: Feed> WriterState<T, P, A, N> {
             → length self.now.known.tail.log < (account_of self.now.known lane).known
             + self.now.known.tail.places }
     {
-        self.count - self.known_of(lane) >= self.places
+        self.next.number() - self.known_of(lane) >= self.next.places()
     }
 
     pub(crate) fn known_of(&self, lane: usize) -> u64
@@ -99,9 +99,10 @@ impl<T: Drop, P, A, N: Feed> WriterState<T, P, A, N> {
         ensures only { OnlyAccount self.old self.new lane (clearing (account_of self.old.known lane)) }
         ensures room { KeepsRoom self.old.rows self.new.rows }
     {
-        let at = board::slot_at(self.places, lane, place);
+        let index = self.next.index_of(place);
+        let at = lane * self.next.places() as usize + index;
         let key = board::clear_slot(&cast.board.shared, &mut self.seat, at, lane);
-        self.rows.bring(place, key);
+        self.rows.bring(index, place, key);
     }
 
     /// The lane's keys of the places from `from` to `to` are taken out.
@@ -124,7 +125,7 @@ impl<T: Drop, P, A, N: Feed> WriterState<T, P, A, N> {
         requires { self.old.known.tail.closed ≡ false }
         ensures { self.new ≡ record self.old { known = shut self.old.known } }
     {
-        board::close_log(&cast.board.shared, &mut self.seat, self.count);
+        board::close_log(&cast.board.shared, &mut self.seat, self.next.number());
         self.closed = true;
     }
 

@@ -12,4 +12,5 @@ invariant_of-self g c = (
   search rules,
   subst (λ (w : View (BatchView g.row.T.Denot g.row.P.Denot) (KeyView g.row.T.Denot) g.row.A.Denot). Rattle.am_cast.specs.inside.Waiting.RowsFit (writer_of w) c.self.inside.rows) (sym c.close_log.ensures.writer)
       (fits_tail (writer_of c.self.inside.seat.me.0) (shut (writer_of c.self.inside.seat.me.0)) c.self.inside.rows refl refl c.self.invariant.1),
+  c.self.invariant.2,
 )
