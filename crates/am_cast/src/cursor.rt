@@ -57,7 +57,8 @@ impl<'a, T, P, A, N: Feed> Cursor<'a, T, P, A, N> {
     }
 
     /// Whether `next` may answer anything but `Pending`: by what is known and, if that was all shown, by a load of
-    /// the log's length and of the lane's word. A caller that sleeps while there is nothing looks so first.
+    /// the log's length. A lane is cut for a batch, so the length tells of a cut too. A caller that sleeps while
+    /// there is nothing looks so first.
     pub fn has_news(&self) -> bool
         ensures { result ≡ false → HasNoNews self.now }
     {
@@ -75,7 +76,7 @@ impl<'a, T, P, A, N: Feed> Cursor<'a, T, P, A, N> {
         self.shown < key.len()
     }
 
-    // Whether a place is there behind the one in hand, the log is closed, or the lane was cut.
+    // Whether a place is there after the one in hand, or the log is closed.
     fn finds_more(&self) -> bool
         ensures { result ≡ false
             → self.now.lane.passed + bit self.now.lane.held ≡ length self.now.lane.front }
@@ -84,7 +85,7 @@ impl<'a, T, P, A, N: Feed> Cursor<'a, T, P, A, N> {
             Some(_) => self.next.number() + 1,
             None => self.next.number(),
         };
-        next < self.seen || board::has_changed(&self.cast.board.shared, self.number, self.seen)
+        next < self.seen || board::has_grown(&self.cast.board.shared, self.seen)
     }
 
     // One item more is shown, if the place in hand has one. Answers whether it has.

@@ -3,8 +3,9 @@
 ghost use Rattle.std.specs.Prelude.{◌≡◌};
 
 use crate::bodies::{body_of, moment};
-use crate::days::{Settings, Stopped, begin_day};
+use crate::days::{Day, Settings, Stopped, begin_day, spend};
 use crate::many_threads::post_one;
+use crate::stage::Stage;
 use am_provider::{Caller, Parts, Provider, Recorded, Settled, Step, Subscription};
 use std::alloc::Global;
 use std::marker::Brand;
@@ -157,5 +158,53 @@ fn sleepers_are_woken(rt: HostRuntime) -> Result<(), Fail> {
     assert_eq!(rt; shown, READERS * ROUNDS);
     assert!(rt; settled.complete);
     assert_eq!(rt; settled.ended.len(), READERS as usize);
+    Ok(())
+}
+
+/// Whether a subscription has news before an alert that was stored is shown, and none after it; the same of one that
+/// was posted; and whether it has news after a close.
+#[derive(Drop)]
+struct News;
+
+// The next alert is shown.
+fn show<N: Recorded>(subscription: &mut Subscription<'_, N>) -> bool {
+    matches!(subscription.next(), Step::Item(_))
+}
+
+fn news_of<N: Recorded, R: Wait>(
+    stage: &Stage<'_, N, R>,
+    caller: &mut Caller<N>,
+    subscription: &mut Subscription<'_, N>,
+) -> Result<[bool; 5], Stopped> {
+    let stored = subscription.has_news();
+    let stored_shown = show(subscription) && !subscription.has_news();
+    stage.post(caller, body_of(stage.alloc, 2)?.as_bytes(), 11)?;
+    let posted = subscription.has_news();
+    let posted_shown = show(subscription) && !subscription.has_news();
+    stage.provider.close(stage.rt, caller)?;
+    let closed = subscription.has_news();
+    Ok([stored, stored_shown, posted, posted_shown, closed])
+}
+
+impl Day for News {
+    type Outcome = [bool; 5];
+
+    fn spend<N: Recorded, R: Wait>(
+        &self,
+        stage: &Stage<'_, N, R>,
+        caller: &mut Caller<N>,
+    ) -> Result<[bool; 5], Stopped> {
+        stage.post(caller, body_of(stage.alloc, 1)?.as_bytes(), 10)?;
+        let mut subscription = stage.provider.subscribe(stage.rt, caller)?;
+        let news = news_of(stage, caller, &mut subscription);
+        stage.provider.leave(stage.rt, caller, subscription);
+        news
+    }
+}
+
+#[test]
+fn news_until_all_is_shown(rt: HostRuntime) -> Result<(), Fail> {
+    let (news, _settled) = spend(&rt, rt.alloc(), Settings::of(16, 1), &News)?;
+    assert_eq!(rt; news.as_slice(), [true; 5].as_slice());
     Ok(())
 }

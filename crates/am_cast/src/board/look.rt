@@ -1,7 +1,7 @@
 //! A lane looks how long the log is.
-ghost use Rattle.std.specs.Prelude.{true, length, ◌≡◌, ◌<◌, ◌≤◌};
+ghost use Rattle.std.specs.Prelude.{true, length, ◌≡◌, ◌≤◌};
 ghost use mathlib.Core.List.{IsPrefix};
-ghost use Rattle.am_cast.specs.declared.limits.TheConstants.{LANES, LONGEST_LOG};
+ghost use Rattle.am_cast.specs.declared.limits.TheConstants.{LONGEST_LOG};
 ghost use Rattle.am_cast.specs.Changes.{seeing, with_lane};
 ghost use Rattle.am_cast.specs.Steps.{Looks};
 ghost use Rattle.am_cast.specs.Seats.{IsLane, IsSized, lane_of};
@@ -35,14 +35,10 @@ pub(crate) fn look_at_log<B, K, A, R: Keyed<B, K>>(
     (n / 2, n % 2 == 1)
 }
 
-/// Whether the log is longer than that or closed, or the lane was cut. It loads both words without a seat, so
-/// that nothing is known of what they show.
-pub(crate) fn has_changed<B, K, A, R: Keyed<B, K>>(
-    top: &AnyTop<B, K, A, R>,
-    lane: usize,
-    seen: u64,
-) -> bool
-    requires { IsSized top.now.table_id × (lane < LANES) × (seen ≤ LONGEST_LOG) }
+/// Whether the log is longer than that, or closed. It loads the tail without a seat, so that nothing is known of
+/// what the word shows.
+pub(crate) fn has_grown<B, K, A, R: Keyed<B, K>>(top: &AnyTop<B, K, A, R>, seen: u64) -> bool
+    requires { IsSized top.now.table_id × (seen ≤ LONGEST_LOG) }
 {
-    top.peek(0) != 2 * seen || top.peek(16 * lane + 16) % 2 == 1
+    top.peek(0) != 2 * seen
 }
