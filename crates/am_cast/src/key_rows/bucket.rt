@@ -1,6 +1,6 @@
 //! The rows of the places with one remainder: mostly one, and older ones while a key that was cut off is out.
-ghost use Rattle.std.specs.Prelude.{true, false, ◌≡◌, ◌≢◌, ℕ, ◌+◌, ◌<◌, ◌≤◌, List, [], ◌∷◌, ◌++◌, Some, None, IfSome, IfNone, OnOk, OnErr, option_copied};
-ghost use Rattle.am_segment.specs.Segments.{KeyView};
+ghost use Rattle.std.specs.Prelude.{true, false, ◌≡◌, ◌≢◌, ℕ, ◌+◌, ◌<◌, ◌≤◌, suc, List, [], ◌∷◌, ◌++◌, length, slice_index_or, take, drop, Some, None, IfSome, IfNone, OnOk, OnErr, option_copied};
+ghost use Rattle.am_segment.specs.Segments.{KeyView, AreAllKeys};
 ghost use Rattle.am_cast.specs.inside.KeyRows.{RowView, find_row, HasNoRow, AreApart, MayTake, row_with, IsRowOf, HaveRemainder};
 
 use crate::key_rows::row::Row;
@@ -85,8 +85,22 @@ impl<T> Bucket<T> {
         };
         self.rows[index].add(key);
         if self.rows[index].is_full() {
-            self.rows.remove(index).end();
+            self.end_row(index);
         }
+    }
+
+    /// The segment of the row at the index ends. It stands apart, so that the seven keys before take little
+    /// code.
+    #[inline(never)]
+    fn end_row(&mut self, index: usize)
+    where
+        T: Drop,
+        requires { (index < length self.old.rows) × ((row : RowView T)
+            → row ≡ slice_index_or self.old.rows index row → AreAllKeys row.keys) }
+        ensures rows { self.new.rows ≡ take index self.old.rows ++ drop (suc index) self.old.rows }
+        ensures room { self.old.room ≤ self.new.room }
+    {
+        self.rows.remove(index).end();
     }
 
     /// A row more, of a place that had none.

@@ -105,7 +105,9 @@ impl<T: Drop, P, A, N: Feed> WriterState<T, P, A, N> {
         self.rows.bring(index, place, key);
     }
 
-    /// The lane's keys of the places from `from` to `to` are taken out.
+    /// The lane's keys of the places from `from` to `to` are taken out. It is part of its callers, since it is
+    /// mostly one key.
+    #[inline(always)]
     pub(crate) fn clear_to(&mut self, cast: &Cast<T, P, A, N>, lane: usize, from: u64, to: u64)
         requires bounds { (lane < LANES) × (from ≤ to) × (to ≤ length self.old.known.tail.log)
             × (length self.old.known.accounts ≡ LANES) }

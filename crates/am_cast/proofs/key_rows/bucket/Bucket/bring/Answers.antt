@@ -1,4 +1,4 @@
-use Rattle.std.proofs.Common.{List, sym, ap, ◌∙◌}
+use Rattle.std.proofs.Common.{ℕ, ◌<◌, List, length, length-set, sym, ap, ◌∙◌, subst}
 use Rattle.am_cast.specs.inside.KeyRows.{BucketView}
 use Rattle.am_cast.proofs.KeyRows.{Brought, may_add, may_end, one_more, last_more}
 use Rattle.am_cast.proofs.key_rows.bucket.Bucket.bring.Given as given
@@ -8,12 +8,14 @@ pub add-requires : goal.add-requires
 add-requires g c = let r = c.requires in
     may_add c.args.place c.args.self.now.rows c.self.inside.rows.items c.in-Some.index c.index_mut.result.now c.args.key (ap (λ (b : BucketView g.row.T.Denot). b.rows) c.self.view_is) r.apart c.in-Some.ensures.some c.index_mut.ensures.value r.row
 
-pub end-requires : goal.end-requires
-end-requires g c = let r = c.requires in
-    may_end c.args.place c.args.self.now.rows c.self.inside.rows.items c.in-Some.index c.index_mut.result.now c.add.new.self c.index.result.now c.remove.result c.args.key (ap (λ (b : BucketView g.row.T.Denot). b.rows) c.self.view_is) r.apart c.in-Some.ensures.some c.index_mut.ensures.value r.row c.add.ensures c.index.ensures (sym c.is_full.ensures ∙ c.if-is_full.true) c.remove.ensures.value
+pub end_row-requires : goal.end_row-requires
+end_row-requires g c = let r = c.requires in let rows = c.self.inside.rows.items in let small = c.in-Some.ensures.some.0 in (
+  subst (λ (n : ℕ). c.in-Some.index < n) (ap (λ (b : BucketView g.row.T.Denot). length b.rows) (sym c.self.view_is) ∙ sym (length-set rows c.in-Some.index c.add.new.self)) small,
+  λ row o. may_end c.args.place c.args.self.now.rows c.self.inside.rows.items c.in-Some.index c.index_mut.result.now c.add.new.self c.index.result.now row c.args.key (ap (λ (b : BucketView g.row.T.Denot). b.rows) c.self.view_is) r.apart c.in-Some.ensures.some c.index_mut.ensures.value r.row c.add.ensures c.index.ensures (sym c.is_full.ensures ∙ c.if-is_full.true) o,
+)
 
-gone : (g : given.Over) (c : goal.After-end g) → Brought c.args.place c.args.self.now.rows c.remove.new.self.items c.args.key
-gone g c = last_more c.args.place c.args.self.now.rows c.self.inside.rows.items c.remove.new.self.items c.in-Some.index c.index_mut.result.now c.add.new.self c.index.result.now c.args.key (ap (λ (b : BucketView g.row.T.Denot). b.rows) c.self.view_is) c.requires.apart c.in-Some.ensures.some c.index_mut.ensures.value c.add.ensures c.index.ensures (sym c.is_full.ensures ∙ c.if-is_full.true) c.remove.ensures.items
+gone : (g : given.Over) (c : goal.After-end_row g) → Brought c.args.place c.args.self.now.rows c.end_row.new.self.rows c.args.key
+gone g c = last_more c.args.place c.args.self.now.rows c.self.inside.rows.items c.end_row.new.self.rows c.in-Some.index c.index_mut.result.now c.add.new.self c.index.result.now c.args.key (ap (λ (b : BucketView g.row.T.Denot). b.rows) c.self.view_is) c.requires.apart c.in-Some.ensures.some c.index_mut.ensures.value c.add.ensures c.index.ensures (sym c.is_full.ensures ∙ c.if-is_full.true) c.end_row.ensures.rows
 
 pub returns-then-is_full-clause-here : goal.returns-then-is_full-clause-here
 returns-then-is_full-clause-here g c = (gone g c).here
