@@ -96,7 +96,7 @@ fn post_each<N: Recorded, R: Wait>(
             {
                 break;
             }
-            rounds += 1;
+            rounds = round + 1;
         }
     }
     let _closed = provider.close(rt, poster);
