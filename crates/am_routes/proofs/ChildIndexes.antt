@@ -11,9 +11,10 @@ use Rattle.am_labels.specs.Matchers.{MatcherView, accepts, admitted, all_admitte
 use Rattle.am_config.specs.declared.route.Route.{Route}
 use Rattle.am_config.specs.Routes.{Forest, no_routes, route, count_of}
 use Rattle.am_config.specs.RouteLists.{route_view, forest_of}
+use Rattle.am_routes.specs.declared.child_entry.ChildEntry.{ChildEntry}
 use Rattle.am_routes.specs.declared.name_index.NameIndex.{NameIndex}
 use Rattle.am_routes.specs.Looking.{is_equal, first_equality, may_match}
-use Rattle.am_routes.specs.inside.ChildIndexes.{children_from, offsets_from, filings, places_from, is_unfiled, is_filed, listed, has_name, is_found, is_kept, is_met, IsFirstFrom, earlier, without, places_left, IsIndexOf, AreLeftOf}
+use Rattle.am_routes.specs.inside.ChildIndexes.{ChildView, children_from, offsets_from, entry_of, entries_from, has_no_routes, filings, places_from, is_unfiled, is_filed, listed, has_name, is_found, is_kept, is_met, IsFirstFrom, earlier, without, places_left, IsIndexOf, AreLeftOf}
 use Rattle.am_routes.proofs.Cases.{by_bool}
 
 -- ---- places
@@ -334,13 +335,41 @@ met-may_match labels indexes f k (Some m) all is =
 
 -- ---- a route at an index
 
-pub child-at : (offset : ℕ) (rs : List Route) (at : ℕ) (r : Route) (own : ℕ) → at < length rs → r ≡ get_or rs at r → own ≡ get_or (offsets_from offset (forest_of rs)) at own
-    → slice_get (children_from offset (forest_of rs)) at ≡ Some (record { offset = own; first = route_view r; below = r.children })
+-- whether there are no routes shows in their list
+pub none-of_routes : (rs : List Route) (f : Forest) → forest_of rs ≡ f → (nat_eq (length rs) 0) ≡ has_no_routes f
+none-of_routes [] f is = ap has_no_routes is
+none-of_routes (r ∷ rs) f is = let some : nat_eq (length (r ∷ rs)) 0 ≡ false = grind arith in some ∙ ap has_no_routes is
+
+abbrev pub seen : ℕ → Route → ChildView
+seen offset r = record { offset = offset; first = route_view r; below = r.children }
+
+-- by what is kept of it
+pub child-at : (offset : ℕ) (rs : List Route) (at : ℕ) (r : Route) (own : ChildEntry) → at < length rs → r ≡ get_or rs at r → own ≡ get_or (entries_from offset (forest_of rs)) at own
+    → (slice_get (children_from offset (forest_of rs)) at ≡ Some (seen own.offset r)) × (own ≡ entry_of (seen own.offset r))
 child-at offset [] at r own early is comes = absurd (omega arith)
 child-at offset (one ∷ rs) zero r own early is comes =
-    ap (λ (r : Route). Some (record { offset = offset; first = route_view r; below = r.children })) (sym is)
-    ∙ ap (λ (n : ℕ). Some (record { offset = n; first = route_view r; below = r.children })) (sym comes)
+    let place : own.offset ≡ offset = ap (λ (e : ChildEntry). e.offset) comes in (
+      ap (λ (r : Route). Some (seen offset r)) (sym is) ∙ ap (λ n. Some (seen n r)) (sym place),
+      comes ∙ (ap (λ (r : Route). entry_of (seen offset r)) (sym is) ∙ ap (λ n. entry_of (seen n r)) (sym place)),
+    )
 child-at offset (one ∷ rs) (suc at) r own early is comes = child-at (offset + 1 + count_of one.children) rs at r own (omega arith) is comes
+
+-- by how far it comes after the route above it
+pub entry-at : (offset : ℕ) (rs : List Route) (at : ℕ) (r : Route) (own : ℕ) (d : ChildEntry) → at < length rs → r ≡ get_or rs at r → own ≡ get_or (offsets_from offset (forest_of rs)) at own
+    → get_or (entries_from offset (forest_of rs)) at d ≡ entry_of (seen own r)
+entry-at offset [] at r own d early is comes = absurd (omega arith)
+entry-at offset (one ∷ rs) zero r own d early is comes =
+    ap (λ (r : Route). entry_of (seen offset r)) (sym is) ∙ ap (λ n. entry_of (seen n r)) (sym comes)
+entry-at offset (one ∷ rs) (suc at) r own d early is comes = entry-at (offset + 1 + count_of one.children) rs at r own d (omega arith) is comes
+
+pub get_or-default : {X : Type 0} (xs : List X) (i : ℕ) (d e : X) → i < length xs → get_or xs i d ≡ get_or xs i e
+get_or-default [] i d e early = absurd (omega arith)
+get_or-default (x ∷ xs) zero d e early = refl
+get_or-default (x ∷ xs) (suc i) d e early = get_or-default xs i d e (omega arith)
+
+pub length-entries : (offset : ℕ) (rs : List Route) → length (entries_from offset (forest_of rs)) ≡ length rs
+length-entries offset [] = refl
+length-entries offset (r ∷ rs) = let rest : length (entries_from (offset + 1 + count_of r.children) (forest_of rs)) ≡ length rs = length-entries (offset + 1 + count_of r.children) rs in omega arith
 
 pub length-offsets : (offset : ℕ) (rs : List Route) → length (offsets_from offset (forest_of rs)) ≡ length rs
 length-offsets offset [] = refl
@@ -466,10 +495,10 @@ filed-first labels (one ∷ indexes) index all some are =
     subst (λ (index : NameIndex). listed (value_of labels index.name.now) index ≡ places_from (is_kept labels (one ∷ [])) 0 all) same (kept-listed labels one all are.0)
 
 -- what is left after the first one that may match
-pub left-after : (labels : Labels) (from : ℕ) (routes : Forest) (offsets unfiled filed : List ℕ) (indexes : List NameIndex) (at : ℕ)
-    → AreLeftOf labels from routes offsets unfiled filed indexes → IsFirstFrom (may_match labels) from (filings routes) (Some at)
-    → AreLeftOf labels (at + 1) routes offsets (without at unfiled) (without at filed) indexes
-left-after labels from routes offsets unfiled filed indexes at left first =
+pub left-after : (labels : Labels) (from : ℕ) (routes : Forest) (entries : List ChildEntry) (unfiled filed : List ℕ) (indexes : List NameIndex) (at : ℕ)
+    → AreLeftOf labels from routes entries unfiled filed indexes → IsFirstFrom (may_match labels) from (filings routes) (Some at)
+    → AreLeftOf labels (at + 1) routes entries (without at unfiled) (without at filed) indexes
+left-after labels from routes entries unfiled filed indexes at left first =
     let all = filings routes in (
       left.0,
       ap (without at) left.1

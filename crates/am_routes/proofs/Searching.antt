@@ -12,8 +12,8 @@ use Rattle.am_config.specs.Routes.{RouteView, Forest, no_routes, route, count_of
 use Rattle.am_config.specs.RouteLists.{route_view, forest_of}
 use Rattle.am_routes.specs.RouteAnswers.{Node, own_answer, joined_with, answer_of}
 use Rattle.am_routes.specs.Looking.{is_equal, first_equality, may_match, looked_from, routes_looked_at}
-use Rattle.am_routes.specs.inside.ChildIndexes.{ChildView, children_from, filings, drop_routes, offset_at, IsChildOf, IsNextChild}
-use Rattle.am_routes.specs.inside.Searches.{other_matchers, in_pre_order, levels_of, BeginAt}
+use Rattle.am_routes.specs.inside.ChildIndexes.{ChildView, children_from, filings, drop_routes, offset_at, view_of, IsChildOf, IsNextChild, has_no_routes, other_matchers}
+use Rattle.am_routes.specs.inside.Searches.{in_pre_order, levels_of, BeginAt}
 use Rattle.am_routes.proofs.Cases.{by_bool}
 use Rattle.am_routes.proofs.ChildIndexes.{filed-fails, same-along}
 
@@ -255,7 +255,7 @@ drop-past (route first below others) (suc at) past = drop-past others at (omega 
 -- what it and those after it answer
 abbrev pub pending_answer : Labels → ℕ → Forest → Option Child → List Node
 pending_answer labels number below None = []
-pending_answer labels number below (Some child) = answer_of labels (number + child.offset) (drop_routes child.at below)
+pending_answer labels number below (Some child) = answer_of labels (number + child.entry.offset) (drop_routes child.at below)
 
 -- how many of them are looked at
 abbrev pub pending_looked : Labels → Forest → Option Child → ℕ
@@ -278,9 +278,6 @@ filing_of_child offset (route first below others) zero child is =
     ap (λ (child : ChildView). Some (first_equality child.first.matchers)) here
 filing_of_child offset (route first below others) (suc at) child is = filing_of_child (offset + 1 + count_of below) others at child is
 
-abbrev view_of : Child → ChildView
-view_of child = record { offset = child.offset; first = route_view child.route.now; below = child.route.now.children }
-
 -- the routes from an index on come to what the next one does with those after it
 pub next-answer : (labels : Labels) (number : ℕ) (f : Forest) (from : ℕ) (next : Option Child) → IsNextChild labels from f next → answer_from labels number 1 f from ≡ pending_answer labels number f next
 next-answer labels number f from None is =
@@ -290,7 +287,7 @@ next-answer labels number f from None is =
 next-answer labels number f from (Some child) is =
     let steps = child.at - from in
     let on : from + steps ≡ child.at = omega (arith, is.0.0) in
-    let here = at-child 1 f child.at (view_of child) is.1 in
+    let here = at-child 1 f child.at (view_of child) is.1.0 in
     same-along (answer_from labels number 1 f) from steps (λ k h less. answer-passed labels number 1 f k (λ filing got. is.0.2 k filing h (omega arith) got))
     ∙ (ap (answer_from labels number 1 f) on ∙ ap (λ n. answer_of labels (number + n) (drop_routes child.at f)) here.1)
 
@@ -307,13 +304,13 @@ next-looked labels f from (Some child) is =
 pub next-pending : (labels : Labels) (f : Forest) (from : ℕ) (next : Option Child) → IsNextChild labels from f next → IsPending labels f next
 next-pending labels f from None is = tt
 next-pending labels f from (Some child) is =
-    let same : Some is.0.1.0 ≡ Some (first_equality child.route.now.matchers) = sym is.0.1.1 ∙ filing_of_child 1 f child.at (view_of child) is.1 in
+    let same : Some is.0.1.0 ≡ Some (first_equality child.route.now.matchers) = sym is.0.1.1 ∙ filing_of_child 1 f child.at (view_of child) is.1.0 in
     let filing : is.0.1.0 ≡ first_equality child.route.now.matchers = (cc) in
     (is.1, ap (may_match labels) (sym filing) ∙ is.0.1.2)
 
 -- one that is asked has a route at its index
 pub child-within : (f : Forest) (child : Child) → IsChildOf f child → child.at < length (filings f)
-child-within f child one = slice_get_within (filings f) child.at (first_equality child.route.now.matchers) (filing_of_child 1 f child.at (view_of child) one)
+child-within f child one = slice_get_within (filings f) child.at (first_equality child.route.now.matchers) (filing_of_child 1 f child.at (view_of child) one.0)
 
 pub some-left : (f : Forest) (child : Child) → IsChildOf f child → 0 < pending_count f (Some child)
 some-left f child one = let within : child.at < length (filings f) = child-within f child one in omega arith
@@ -346,24 +343,24 @@ module _ (labels : Labels) (number : ℕ) (f : Forest) (child : Child) (is : IsC
   abbrev others : Forest
   others = drop_routes (suc child.at) f
 
-  here : (drop_routes child.at f ≡ route (route_view r) r.children others) × (offset_at child.at 1 f ≡ child.offset) × (offset_at (suc child.at) 1 f ≡ child.offset + 1 + count_of r.children)
-  here = at-child 1 f child.at (view_of child) is
+  here : (drop_routes child.at f ≡ route (route_view r) r.children others) × (offset_at child.at 1 f ≡ child.entry.offset) × (offset_at (suc child.at) 1 f ≡ child.entry.offset + 1 + count_of r.children)
+  here = at-child 1 f child.at (view_of child) is.0
 
   -- the last one that is asked
-  pub answer-stops : all_admitted r.matchers labels ≡ true → r.continues ≡ false → pending_answer labels number f (Some child) ≡ answer_of labels (number + child.offset) (forest_of (r ∷ []))
+  pub answer-stops : all_admitted r.matchers labels ≡ true → r.continues ≡ false → pending_answer labels number f (Some child) ≡ answer_of labels (number + child.entry.offset) (forest_of (r ∷ []))
   answer-stops admits last =
-      ap (answer_of labels (number + child.offset)) here.0
-      ∙ alone-stops labels (number + child.offset) (route_view r) r.children others admits last
+      ap (answer_of labels (number + child.entry.offset)) here.0
+      ∙ alone-stops labels (number + child.entry.offset) (route_view r) r.children others admits last
 
   -- one after which the next is asked
   pub answer-goes_on : (next : Option Child) → (all_admitted r.matchers labels && not r.continues) ≡ false → IsNextChild labels (child.at + 1) f next
-      → pending_answer labels number f (Some child) ≡ answer_of labels (number + child.offset) (forest_of (r ∷ [])) ++ pending_answer labels number f next
+      → pending_answer labels number f (Some child) ≡ answer_of labels (number + child.entry.offset) (forest_of (r ∷ [])) ++ pending_answer labels number f next
   answer-goes_on next more following =
-      let own = answer_of labels (number + child.offset) (forest_of (r ∷ [])) in
-      let on : number + child.offset + 1 + count_of r.children ≡ number + offset_at (suc child.at) 1 f = omega (arith, here.2) in
+      let own = answer_of labels (number + child.entry.offset) (forest_of (r ∷ [])) in
+      let on : number + child.entry.offset + 1 + count_of r.children ≡ number + offset_at (suc child.at) 1 f = omega (arith, here.2) in
       let index : suc child.at ≡ child.at + 1 = omega arith in
-      ap (answer_of labels (number + child.offset)) here.0
-      ∙ (alone-goes_on labels (number + child.offset) (route_view r) r.children others more
+      ap (answer_of labels (number + child.entry.offset)) here.0
+      ∙ (alone-goes_on labels (number + child.entry.offset) (route_view r) r.children others more
       ∙ (ap (λ n. own ++ answer_of labels n others) on
       ∙ (ap (λ k. own ++ answer_from labels number 1 f k) index
       ∙ ap (λ l. own ++ l) (next-answer labels number f (child.at + 1) next following))))
@@ -393,7 +390,7 @@ module _ (labels : Labels) (number : ℕ) (f : Forest) (child : Child) (is : IsC
   pub answer-fails : (next : Option Child) → all_admitted r.matchers labels ≡ false → IsNextChild labels (child.at + 1) f next → pending_answer labels number f (Some child) ≡ pending_answer labels number f next
   answer-fails next refused following =
       answer-goes_on next (ap (λ b. b && not r.continues) refused) following
-      ∙ ap (λ own. own ++ pending_answer labels number f next) (alone-fails labels (number + child.offset) (route_view r) r.children no_routes refused)
+      ∙ ap (λ own. own ++ pending_answer labels number f next) (alone-fails labels (number + child.entry.offset) (route_view r) r.children no_routes refused)
 
   pub looked-fails : (next : Option Child) → may_match labels (first_equality r.matchers) ≡ true → all_admitted r.matchers labels ≡ false → IsNextChild labels (child.at + 1) f next → pending_looked labels f (Some child) ≡ 1 + pending_looked labels f next
   looked-fails next may refused following =
@@ -419,6 +416,25 @@ module _ (labels : Labels) (at : ℕ) (r : Route) (old new : List Node) (found :
   own-kept more =
       let some : 0 < length (answer_of labels (at + 1) r.children) = omega (arith, ap length found ∙ length-append old (answer_of labels (at + 1) r.children), more) in
       found ∙ ap (λ own. old ++ own) (sym (alone-below labels at (route_view r) r.children no_routes admits some))
+
+-- one without routes below it answers itself, and none are looked at below it
+pub leaf-itself : (labels : Labels) (at : ℕ) (r : Route) → has_no_routes r.children ≡ true → all_admitted r.matchers labels ≡ true → answer_of labels at (forest_of (r ∷ [])) ≡ record { number = at; route = route_view r } ∷ []
+leaf-itself labels at r leaf admits = alone-itself labels at (route_view r) r.children no_routes admits (none r.children leaf)
+  where
+    none : (below : Forest) → has_no_routes below ≡ true → answer_of labels (at + 1) below ≡ []
+    none no_routes leaf = refl
+    none (route first below others) leaf = absurd (cc)
+
+pub leaf-looked : (labels : Labels) (r : Route) → has_no_routes r.children ≡ true → routes_looked_at labels (forest_of (r ∷ [])) ≡ 0
+leaf-looked labels r leaf = ap (λ n. cond (all_admitted r.matchers labels) n 0) (none r.children leaf) ∙ nothing (all_admitted r.matchers labels)
+  where
+    nothing : (b : Bool) → cond {A = ℕ} b 0 0 ≡ 0
+    nothing true = refl
+    nothing false = refl
+
+    none : (below : Forest) → has_no_routes below ≡ true → looked_from labels below ≡ 0
+    none no_routes leaf = refl
+    none (route first below others) leaf = absurd (cc)
 
 -- the indexes, once the one of a route is written
 pub level-written : (before : List Forest) (none below : Forest) (at : ℕ) → at ≡ length before

@@ -6,6 +6,7 @@ ghost use Rattle.am_routes.specs.Looking.{may_match};
 ghost use Rattle.am_routes.specs.inside.ChildIndexes.{earlier, filings, without, AreKeptOf};
 ghost use Rattle.am_routes.specs.inside.ChildIndexes.{IsFirstFrom, IsNextChild};
 
+use crate::child_entry::ChildEntry;
 use crate::name_index::NameIndex;
 use am_config::Route;
 use am_labels::LabelSet;
@@ -16,8 +17,8 @@ use std::marker::Model;
 #[derive(Drop)]
 pub(crate) struct Candidates<'i, 't> {
     routes: &'t [Route],
-    // How far after the route above it each route comes in pre-order.
-    offsets: &'i [usize],
+    // What is read of each route.
+    entries: &'i [ChildEntry],
     labels: &'i LabelSet,
     // The index that the next one has at least.
     from: usize,
@@ -35,8 +36,8 @@ pub(crate) struct Candidates<'i, 't> {
 pub(crate) struct Child<'t> {
     /// Its index among them.
     pub(crate) at: usize,
-    /// How far after the route above it comes in pre-order.
-    pub(crate) offset: usize,
+    /// What is read of it.
+    pub(crate) entry: ChildEntry,
     pub(crate) route: &'t Route,
 }
 
@@ -52,19 +53,19 @@ impl<'i, 't> Model for Candidates<'i, 't> {
     ghost view = { λ c. record { labels = c.labels.now; from = c.from; routes = forest_of c.routes.now } };
 
     ghost invariant = { λ c. AreLeftOf c.labels.now c.from (forest_of c.routes.now)
-        c.offsets.now c.unfiled.now c.filed.now c.names.now };
+        c.entries.now c.unfiled.now c.filed.now c.names.now };
 }
 
 impl<'i, 't> Candidates<'i, 't> {
     #[inline(always)]
     pub(crate) fn new(
         routes: &'t [Route],
-        offsets: &'i [usize],
+        entries: &'i [ChildEntry],
         unfiled: &'i [usize],
         names: &'i [NameIndex<'t>],
         labels: &'i LabelSet,
     ) -> Candidates<'i, 't>
-        requires { AreKeptOf (forest_of routes.now) offsets.now unfiled.now names.now }
+        requires { AreKeptOf (forest_of routes.now) entries.now unfiled.now names.now }
         ensures { result ≡ record { labels = labels.now; from = 0; routes = forest_of routes.now } }
     {
         let filed = match names.first() {
@@ -73,7 +74,7 @@ impl<'i, 't> Candidates<'i, 't> {
         };
         Candidates {
             routes,
-            offsets,
+            entries,
             labels,
             from: 0,
             unfiled,
@@ -94,7 +95,7 @@ impl<'i, 't> Candidates<'i, 't> {
         self.filed = without(self.filed, at);
         Some(Child {
             at,
-            offset: self.offsets[at],
+            entry: self.entries[at],
             route: &self.routes[at],
         })
     }

@@ -4,9 +4,10 @@ ghost use Rattle.std.specs.Prelude.{◌≡◌, IfOk};
 ghost use Rattle.am_config.specs.Routes.{no_routes};
 ghost use Rattle.am_config.specs.RouteLists.{forest_of};
 ghost use Rattle.am_routes.specs.inside.ChildIndexes.{filings, has_name, is_unfiled};
-ghost use Rattle.am_routes.specs.inside.ChildIndexes.{offsets_from, places_from, AreIndexesOf};
+ghost use Rattle.am_routes.specs.inside.ChildIndexes.{entries_from, offsets_from, places_from, AreIndexesOf};
 
 use crate::candidates::Candidates;
+use crate::child_entry::ChildEntry;
 use crate::name_index::{NameIndex, first_equality};
 use am_config::Route;
 use am_labels::LabelSet;
@@ -18,8 +19,8 @@ use std::marker::Model;
 #[derive(Drop)]
 pub(crate) struct ChildIndex<'t> {
     routes: &'t [Route],
-    // How far after the route above it each route comes in pre-order.
-    offsets: Vec<usize>,
+    // What is read of each route.
+    entries: Vec<ChildEntry>,
     // The indexes of the routes without an equality matcher.
     unfiled: Vec<usize>,
     // The others, by the name that they are filed under, and then by the value.
@@ -39,7 +40,7 @@ impl<'t> Model for ChildIndex<'t> {
 
     ghost view = { λ c. forest_of c.routes.now };
 
-    ghost invariant = { λ c. AreKeptOf (forest_of c.routes.now) c.offsets.items c.unfiled.items c.names.items };
+    ghost invariant = { λ c. AreKeptOf (forest_of c.routes.now) c.entries.items c.unfiled.items c.names.items };
 }
 
 impl<'t> ChildIndex<'t> {
@@ -49,7 +50,7 @@ impl<'t> ChildIndex<'t> {
     {
         ChildIndex {
             routes: &[],
-            offsets: Vec::new(alloc),
+            entries: Vec::new(alloc),
             unfiled: Vec::new(alloc),
             names: Vec::new(alloc),
         }
@@ -59,14 +60,14 @@ impl<'t> ChildIndex<'t> {
     pub(crate) fn new(
         alloc: Global,
         routes: &'t [Route],
-        offsets: Vec<usize>,
+        offsets: &[usize],
     ) -> Result<ChildIndex<'t>, AllocError>
-        requires { offsets.items ≡ offsets_from 1 (forest_of routes.now) }
+        requires { offsets.now ≡ offsets_from 1 (forest_of routes.now) }
         ensures { IfOk result (λ index. index ≡ forest_of routes.now) }
     {
         Ok(ChildIndex {
             routes,
-            offsets,
+            entries: entries(alloc, routes, offsets)?,
             unfiled: unfiled(alloc, routes)?,
             names: index_names(alloc, routes)?,
         })
@@ -79,12 +80,28 @@ impl<'t> ChildIndex<'t> {
     {
         Candidates::new(
             self.routes,
-            &self.offsets,
+            &self.entries,
             &self.unfiled,
             &self.names,
             labels,
         )
     }
+}
+
+// What is read of each route.
+fn entries(
+    alloc: Global,
+    routes: &[Route],
+    offsets: &[usize],
+) -> Result<Vec<ChildEntry>, AllocError>
+    requires { offsets.now ≡ offsets_from 1 (forest_of routes.now) }
+    ensures { IfOk result (λ entries. entries.items ≡ entries_from 1 (forest_of routes.now)) }
+{
+    let mut entries = Vec::with_capacity(alloc, routes.len())?;
+    for at in 0..routes.len() {
+        entries.push(ChildEntry::of(&routes[at], offsets[at]))?;
+    }
+    Ok(entries)
 }
 
 // The indexes of the routes without an equality matcher.

@@ -21,6 +21,7 @@
 #![tactic(auto)]
 
 mod candidates;
+mod child_entry;
 mod child_index;
 mod dispatcher;
 mod group;

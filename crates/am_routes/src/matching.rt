@@ -1,11 +1,12 @@
 //! Asking a routing tree which of its routes a label set matches.
 
-ghost use Rattle.std.specs.Prelude.{◌≡◌, ◌+◌, [], ◌∷◌, ◌++◌, min, true, IfOk, OnOk};
+ghost use Rattle.std.specs.Prelude.{◌≡◌, ◌+◌, ◌<◌, [], ◌∷◌, ◌++◌, get_or, length, min, true, IfOk, OnOk};
 ghost use Rattle.am_labels.specs.Matchers.{all_admitted};
-ghost use Rattle.am_config.specs.RouteLists.{forest_of, root_of};
+ghost use Rattle.am_config.specs.RouteLists.{forest_of, root_of, route_view};
 ghost use Rattle.am_routes.specs.Looking.{routes_looked_at};
 ghost use Rattle.am_routes.specs.RouteAnswers.{answer_of, IsAnswerOf};
-ghost use Rattle.am_routes.specs.inside.Searches.{levels_of, nodes_in, other_matchers, others_of};
+ghost use Rattle.am_routes.specs.inside.ChildIndexes.{has_no_routes, has_none, other_matchers};
+ghost use Rattle.am_routes.specs.inside.Searches.{levels_of, nodes_in, others_of};
 ghost use Rattle.am_routes.specs.inside.Searches.{AreSearchesOf, BeginAt};
 
 use crate::child_index::ChildIndex;
@@ -150,6 +151,16 @@ impl<'t> Found<'t> {
         self.looked = 0;
     }
 
+    fn add(&mut self, number: usize, route: &'t Route) -> Result<(), AllocError>
+        ensures added { OnOk result (nodes_in self.new.routes.items ≡ nodes_in self.old.routes.items
+            ++ record { number = number; route = route_view route.now } ∷ []) }
+        ensures looked { OnOk result (self.new.looked ≡ self.old.looked) }
+    {
+        let id = RouteId(number as u64);
+        self.routes.push(FoundRoute { id, route })?;
+        Ok(())
+    }
+
     fn looked(&self) -> u64
         ensures { result ≡ self.now.looked }
     {
@@ -202,7 +213,7 @@ fn prepare<'t>(
         offsets.push(searches.levels.len() - number)?;
         prepare(alloc, child, searches)?;
     }
-    searches.levels[number] = ChildIndex::new(alloc, children, offsets)?;
+    searches.levels[number] = ChildIndex::new(alloc, children, &offsets)?;
     Ok(())
 }
 
@@ -244,6 +255,7 @@ fn search<'t>(
         &mut searches.others,
         root,
         0,
+        root.children.as_slice().is_empty(),
         labels,
         found,
     )
@@ -256,9 +268,11 @@ fn ask<'t>(
     others: &mut [PreparedMatchers<'t>],
     route: &'t Route,
     number: usize,
+    is_leaf: bool,
     labels: &LabelSet,
     found: &mut Found<'t>,
 ) -> Result<(), AllocError>
+    requires leaf { is_leaf ≡ has_no_routes route.now.children }
     requires levels { BeginAt number (levels_of (forest_of (route.now ∷ []))) levels.now }
     requires others { BeginAt number (others_of (forest_of (route.now ∷ []))) others.old }
     requires matches { all_admitted route.now.matchers labels.now ≡ true }
@@ -269,17 +283,28 @@ fn ask<'t>(
         ≡ min (found.old.looked + routes_looked_at labels.now (forest_of (route.now ∷ []))) u64.MAX) }
     ensures same { others.new ≡ others.old }
 {
+    if is_leaf {
+        return found.add(number, route);
+    }
     let had = found.routes.len();
     let mut candidates = levels[number].candidates(labels);
     let mut next = candidates.next();
     while let Some(child) = next {
         found.looked = found.looked.saturating_add(1);
-        let at = number + child.offset;
-        next = if !others[at].admits(labels) {
+        let at = number + child.entry.offset;
+        next = if !others_admit(others, at, child.entry.is_settled, labels) {
             candidates.next()
         } else {
-            ask(levels, others, child.route, at, labels, found)?;
-            if child.route.continues {
+            ask(
+                levels,
+                others,
+                child.route,
+                at,
+                child.entry.is_leaf,
+                labels,
+                found,
+            )?;
+            if child.entry.continues {
                 candidates.next()
             } else {
                 None
@@ -287,8 +312,27 @@ fn ask<'t>(
         };
     }
     if found.routes.len() == had {
-        let id = RouteId(number as u64);
-        found.routes.push(FoundRoute { id, route })?;
+        found.add(number, route)?;
     }
     Ok(())
+}
+
+// Whether those matchers of a route admit a label set that are asked once its first equality matcher is
+// settled. If it is known that there are none, they aren't looked at.
+#[inline(always)]
+fn others_admit(
+    others: &mut [PreparedMatchers<'_>],
+    at: usize,
+    is_settled: bool,
+    labels: &LabelSet,
+) -> bool
+    requires within { at < length others.old }
+    requires settled { is_settled ≡ has_none (get_or others.old at []) }
+    ensures answer { result ≡ all_admitted (get_or others.old at []) labels.now }
+    ensures same { others.new ≡ others.old }
+{
+    if is_settled {
+        return true;
+    }
+    others[at].admits(labels)
 }

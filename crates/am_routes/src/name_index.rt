@@ -12,6 +12,7 @@ ghost use Rattle.am_routes.specs.inside.ChildIndexes.{filings, is_filed, listed,
 
 use am_config::Route;
 use am_labels::{LabelSet, Matcher, Operator};
+use smallvec::SmallVec;
 use std::alloc::{AllocError, Global};
 use std::collections::HashMap;
 
@@ -19,8 +20,9 @@ use std::collections::HashMap;
 #[derive(Drop)]
 pub(crate) struct NameIndex<'t> {
     name: &'t str,
-    // The indexes of the routes, in their order.
-    values: HashMap<&'t str, Vec<usize>>,
+    // The indexes of the routes, in their order. One alone, as most values have it, needs no list of its
+    // own.
+    values: HashMap<&'t str, SmallVec<usize, 1>>,
 }
 
 impl<'t> NameIndex<'t> {
@@ -69,7 +71,7 @@ impl<'t> NameIndex<'t> {
         ensures { result.now ≡ listed (value_of labels.now self.now.name.now) self.now }
     {
         match self.values.get(labels.get(self.name)) {
-            Some(places) => places,
+            Some(places) => places.as_slice(),
             None => &[],
         }
     }

@@ -12,8 +12,9 @@ use Rattle.am_labels.specs.Matchers.{MatcherView}
 use Rattle.am_config.specs.Routes.{RouteView, Forest, no_routes, route, count_of}
 use Rattle.am_config.specs.RouteLists.{route_view}
 use Rattle.am_routes.specs.declared.candidates.Child.{Child}
+use Rattle.am_routes.specs.declared.child_entry.ChildEntry.{ChildEntry}
 use Rattle.am_routes.specs.declared.name_index.NameIndex.{NameIndex}
-use Rattle.am_routes.specs.Looking.{first_equality, may_match}
+use Rattle.am_routes.specs.Looking.{is_equal, first_equality, may_match}
 
 -- a route of some in order, with those below it, and how far after the route above it comes in pre-order
 pub record ChildView : Type 0 where
@@ -31,6 +32,35 @@ children_from offset (route first below others) =
 -- how far each comes after the one above
 abbrev pub offsets_from : ℕ → Forest → List ℕ
 offsets_from offset routes = map (λ child. child.offset) (children_from offset routes)
+
+-- matchers without the first equality matcher
+abbrev pub other_matchers : List MatcherView → List MatcherView
+other_matchers [] = []
+other_matchers (matcher ∷ matchers) =
+    if is_equal matcher.operator then matchers else matcher ∷ other_matchers matchers
+
+-- no elements
+abbrev pub has_none : {X : Type 0} → List X → Bool
+has_none [] = true
+has_none (x ∷ xs) = false
+
+-- no routes
+abbrev pub has_no_routes : Forest → Bool
+has_no_routes no_routes = true
+has_no_routes (route first below others) = false
+
+-- what is kept of a route below another
+abbrev pub entry_of : ChildView → ChildEntry
+entry_of child = record {
+  offset = child.offset;
+  is_settled = has_none (other_matchers child.first.matchers);
+  is_leaf = has_no_routes child.below;
+  continues = child.first.continues;
+}
+
+-- what is kept of each
+abbrev pub entries_from : ℕ → Forest → List ChildEntry
+entries_from offset routes = map entry_of (children_from offset routes)
 
 -- the first equality matcher of each
 abbrev pub filings : Forest → List (Option MatcherView)
@@ -86,10 +116,10 @@ is_kept labels indexes filing =
 abbrev pub is_met : Labels → List NameIndex → Option MatcherView → Bool
 is_met labels indexes filing = is_unfiled filing || is_kept labels indexes filing
 
--- the offsets, the indexes and those without an equality matcher are those of the routes
-abbrev pub AreKeptOf : Forest → List ℕ → List ℕ → List NameIndex → Type 0
-AreKeptOf routes offsets unfiled indexes =
-    (offsets ≡ offsets_from 1 routes)
+-- the entries, the indexes and those without an equality matcher are those of the routes
+abbrev pub AreKeptOf : Forest → List ChildEntry → List ℕ → List NameIndex → Type 0
+AreKeptOf routes entries unfiled indexes =
+    (entries ≡ entries_from 1 routes)
     × (unfiled ≡ places_from is_unfiled 0 (filings routes))
     × AreIndexesOf (filings routes) indexes
 
@@ -120,14 +150,19 @@ offset_at zero offset (route first below others) = offset
 offset_at (suc at) offset (route first below others) =
     offset_at at (offset + 1 + count_of below) others
 
--- a route below another is the one at its index
+-- a route below another, by what is kept of it and by itself
+abbrev pub view_of : Child → ChildView
+view_of child = record {
+  offset = child.entry.offset;
+  first = route_view child.route.now;
+  below = child.route.now.children;
+}
+
+-- a route below another is the one at its index, and what is kept of it is its own
 abbrev pub IsChildOf : Forest → Child → Type 0
 IsChildOf routes child =
-    slice_get (children_from 1 routes) child.at ≡ Some (record {
-      offset = child.offset;
-      first = route_view child.route.now;
-      below = child.route.now.children;
-    })
+    (slice_get (children_from 1 routes) child.at ≡ Some (view_of child))
+    × (child.entry ≡ entry_of (view_of child))
 
 -- the first route from an index on that may match a label set
 abbrev pub IsNextChild : Labels → ℕ → Forest → Option Child → Type 0
@@ -157,11 +192,11 @@ coded_candidates forest =
     (λ c. (c.labels, (c.from, c.routes)))
     (λ p. record { labels = p.0; from = p.1.0; routes = p.1.1 }) (λ _. refl)
 
--- the offsets and the indexes are those of the routes, and of the routes from an index on these have no
+-- the entries and the indexes are those of the routes, and of the routes from an index on these have no
 -- equality matcher, and these the first of the indexes keeps
-abbrev pub AreLeftOf : Labels → ℕ → Forest → List ℕ → List ℕ → List ℕ → List NameIndex → Type 0
-AreLeftOf labels from routes offsets unfiled filed indexes =
-    (offsets ≡ offsets_from 1 routes)
+abbrev pub AreLeftOf : Labels → ℕ → Forest → List ChildEntry → List ℕ → List ℕ → List NameIndex → Type 0
+AreLeftOf labels from routes entries unfiled filed indexes =
+    (entries ≡ entries_from 1 routes)
     × (unfiled ≡ places_left is_unfiled from (filings routes))
     × (filed ≡ places_left (is_kept labels (take 1 indexes)) from (filings routes))
     × AreIndexesOf (filings routes) indexes

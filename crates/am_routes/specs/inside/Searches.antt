@@ -1,5 +1,5 @@
 -- How the searches of a tree's routes are kept: in pre-order. Only code of this crate cites it.
-use Rattle.std.specs.Prelude.{◌≡◌, ℕ, if◌then◌else◌, List, [], ◌∷◌, ◌++◌, map, drop}
+use Rattle.std.specs.Prelude.{◌≡◌, ℕ, List, [], ◌∷◌, ◌++◌, map, drop}
 use Rattle.am_labels.specs.Matchers.{MatcherView}
 use Rattle.am_config.specs.declared.route.Route.{Route}
 use Rattle.am_config.specs.Routes.{RouteView, Forest, no_routes, route}
@@ -7,7 +7,7 @@ use Rattle.am_config.specs.RouteLists.{route_view, forest_of}
 use Rattle.am_routes.specs.declared.matching.FoundRoute.{FoundRoute}
 use Rattle.am_routes.specs.declared.matching.Searches.{Searches}
 use Rattle.am_routes.specs.declared.route_id.RouteId.{RouteId}
-use Rattle.am_routes.specs.Looking.{is_equal}
+use Rattle.am_routes.specs.inside.ChildIndexes.{other_matchers}
 use Rattle.am_routes.specs.RouteAnswers.{Node}
 
 -- a route that was found, as a node
@@ -21,12 +21,6 @@ nodes_in found = map node_of found
 -- the numbers of nodes
 abbrev pub ids_of : List Node → List RouteId
 ids_of nodes = map (λ node. record { 0 = node.number }) nodes
-
--- matchers without the first equality matcher
-abbrev pub other_matchers : List MatcherView → List MatcherView
-other_matchers [] = []
-other_matchers (matcher ∷ matchers) =
-    if is_equal matcher.operator then matchers else matcher ∷ other_matchers matchers
 
 -- something of each of some routes, before that of each route below it
 abbrev pub in_pre_order : {X : Type 0} → (RouteView → Forest → X) → Forest → List X

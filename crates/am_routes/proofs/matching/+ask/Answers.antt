@@ -1,26 +1,32 @@
-use Rattle.std.proofs.Common.{rules, ◌≡◌, ◌++◌, ◌∷◌, [], ℕ, ◌+◌, ◌<◌, ◌≤◌, Bool, true, false, not, ◌&&◌, None, Some, List, Option, length, get_or, min, refl, sym, ap, subst, ◌∙◌, arith}
+use Rattle.std.proofs.Common.{rules, ◌≡◌, ◌++◌, ◌∷◌, [], ℕ, ◌+◌, ◌<◌, ◌≤◌, Bool, true, false, not, ◌&&◌, None, Some, Ok, Err, Result, List, Option, length, get_or, min, refl, sym, ap, subst, ◌∙◌, arith}
 use Rattle.std.proofs.lemmas.List.{append_assoc, append-nil, length-map}
 use Rattle.std.specs.Option.{IfSome}
+use Rattle.std.specs.Result.{OnOk}
 use Rattle.am_config.specs.declared.route.Route.{Route}
 use Rattle.am_config.specs.Routes.{RouteView, Forest, no_routes, count_of}
 use Rattle.am_config.specs.RouteLists.{route_view, forest_of}
 use Rattle.am_labels.specs.LabelSets.{Labels}
 use Rattle.am_labels.specs.Matchers.{MatcherView, all_admitted}
 use Rattle.am_routes.specs.declared.candidates.Child.{Child}
+use Rattle.am_routes.specs.declared.child_entry.ChildEntry.{ChildEntry}
 use Rattle.am_routes.specs.RouteAnswers.{answer_of}
 use Rattle.am_routes.specs.Looking.{looked_from, routes_looked_at}
-use Rattle.am_routes.specs.inside.ChildIndexes.{CandidatesView, IsChildOf, IsNextChild}
-use Rattle.am_routes.specs.inside.Searches.{node_of, nodes_in, others_of, other_matchers, in_pre_order, BeginAt}
-use Rattle.am_routes.proofs.Searching.{search-first, search-bound, search-below, asked, others-decide, child-begins, child-fewer, drop-none, answer-first, pending_answer, pending_looked, pending_count, IsPending, some-left, next-answer, next-looked, next-pending, next-fewer, answer-stops, answer-goes_on, looked-stops, looked-goes_on, own-kept, answer-fails, looked-fails}
+use Rattle.am_routes.specs.inside.ChildIndexes.{CandidatesView, view_of, IsChildOf, IsNextChild, has_none, other_matchers}
+use Rattle.am_routes.specs.inside.Searches.{node_of, nodes_in, others_of, in_pre_order, BeginAt}
+use Rattle.am_routes.proofs.Searching.{search-first, search-bound, search-below, others-decide, child-begins, child-fewer, drop-none, answer-first, pending_answer, pending_looked, pending_count, IsPending, some-left, next-answer, next-looked, next-pending, next-fewer, answer-stops, answer-goes_on, looked-stops, looked-goes_on, own-kept, own-pushed, leaf-itself, leaf-looked, answer-fails, looked-fails}
 use Rattle.am_routes.proofs.matching.+ask.Goals as goal
+
+on_ok : {A E P Q : Type 0} (o : Result A E) → (P → Q) → OnOk o P → OnOk o Q
+on_ok (Ok x) step is = step is
+on_ok (Err e) step is = tt
 
 -- what is kept of each route of a tree, of a route below the one that is asked
 child_at : {X : Type 0} (of : RouteView → Forest → X) (number : ℕ) (r : Route) (child : Child) (all now : List X) → BeginAt number (in_pre_order of (forest_of (r ∷ []))) all → now ≡ all → IsChildOf r.children child
-    → BeginAt (number + child.offset) (in_pre_order of (forest_of (child.route.now ∷ []))) now
+    → BeginAt (number + child.entry.offset) (in_pre_order of (forest_of (child.route.now ∷ []))) now
 child_at of number r child all now begins same one =
-    subst (BeginAt (number + child.offset) (in_pre_order of (forest_of (child.route.now ∷ [])))) (sym same)
-    (child-begins of number 1 r.children child.at (record { offset = child.offset; first = route_view child.route.now; below = child.route.now.children }) all
-    (search-below of number (route_view r) r.children no_routes all begins) one)
+    subst (BeginAt (number + child.entry.offset) (in_pre_order of (forest_of (child.route.now ∷ [])))) (sym same)
+    (child-begins of number 1 r.children child.at (view_of child) all
+    (search-below of number (route_view r) r.children no_routes all begins) one.0)
 
 abbrev level : RouteView → Forest → Forest
 level first below = below
@@ -30,10 +36,10 @@ other first below = other_matchers first.matchers
 
 -- whether a route below the one that is asked matches
 child_matches : (number : ℕ) (r : Route) (child : Child) (labels : Labels) (all now : List (List MatcherView)) (d : List MatcherView) → BeginAt number (others_of (forest_of (r ∷ []))) all → now ≡ all → IsPending labels r.children (Some child)
-    → all_admitted child.route.now.matchers labels ≡ all_admitted (get_or now (number + child.offset) d) labels
+    → all_admitted child.route.now.matchers labels ≡ all_admitted (get_or now (number + child.entry.offset) d) labels
 child_matches number r child labels all now d begins same pending =
     others-decide labels child.route.now.matchers pending.1
-    ∙ ap (λ m. all_admitted m labels) (sym (search-first other (number + child.offset) (route_view child.route.now) child.route.now.children no_routes now (child_at other number r child all now begins same pending.0) d))
+    ∙ ap (λ m. all_admitted m labels) (sym (search-first other (number + child.entry.offset) (route_view child.route.now) child.route.now.children no_routes now (child_at other number r child all now begins same pending.0) d))
 
 -- the route that is asked next, after one
 after_one : (labels : Labels) (f : Forest) (at : ℕ) (candidates : CandidatesView) (next : Option Child) → candidates ≡ record { labels = labels; from = at + 1; routes = f } → IsNextChild candidates.labels candidates.from candidates.routes next → IsNextChild labels (at + 1) f next
@@ -67,28 +73,22 @@ overflow_add-at t c =
     let r = child.route.now in
     let pending = subst (IsPending c.args.labels.now c.args.route.now.children) c.in-Some.is c.loop-next.invariant.pending in
     let begins = child_at other c.args.number c.args.route.now child c.args.others.now c.loop-next.others c.requires.others c.loop-next.invariant.same pending.0 in
-    let bound : c.args.number + child.offset + 1 + count_of r.children ≤ length c.loop-next.others = search-bound other (c.args.number + child.offset) (route_view r) r.children no_routes c.loop-next.others begins in
-    let early : c.args.number + child.offset < length c.loop-next.others = omega arith in
+    let bound : c.args.number + child.entry.offset + 1 + count_of r.children ≤ length c.loop-next.others = search-bound other (c.args.number + child.entry.offset) (route_view r) r.children no_routes c.loop-next.others begins in
+    let early : c.args.number + child.entry.offset < length c.loop-next.others = omega arith in
     search rules
 
-pub bounds-others-at : goal.bounds-others-at
-bounds-others-at t c =
+pub others_admit-requires : goal.others_admit-requires
+others_admit-requires t c =
     let child = c.in-Some.child in
     let r = child.route.now in
     let pending = subst (IsPending c.args.labels.now c.args.route.now.children) c.in-Some.is c.loop-next.invariant.pending in
     let begins = child_at other c.args.number c.args.route.now child c.args.others.now c.loop-next.others c.requires.others c.loop-next.invariant.same pending.0 in
-    let bound : c.args.number + child.offset + 1 + count_of r.children ≤ length c.loop-next.others = search-bound other (c.args.number + child.offset) (route_view r) r.children no_routes c.loop-next.others begins in
-    omega arith
-
-pub offset_bounds-others-at : goal.offset_bounds-others-at
-offset_bounds-others-at t c =
-    let child = c.in-Some.child in
-    let r = child.route.now in
-    let pending = subst (IsPending c.args.labels.now c.args.route.now.children) c.in-Some.is c.loop-next.invariant.pending in
-    let begins = child_at other c.args.number c.args.route.now child c.args.others.now c.loop-next.others c.requires.others c.loop-next.invariant.same pending.0 in
-    let bound : c.args.number + child.offset + 1 + count_of r.children ≤ length c.loop-next.others = search-bound other (c.args.number + child.offset) (route_view r) r.children no_routes c.loop-next.others begins in
-    let early : c.args.number + child.offset < length c.loop-next.others = omega arith in
-    search rules
+    let bound : c.args.number + child.entry.offset + 1 + count_of r.children ≤ length c.loop-next.others = search-bound other (c.args.number + child.entry.offset) (route_view r) r.children no_routes c.loop-next.others begins in
+    record {
+      within = omega arith;
+      settled = ap (λ (e : ChildEntry). e.is_settled) pending.0.1
+          ∙ ap has_none (sym (search-first other (c.args.number + child.entry.offset) (route_view r) r.children no_routes c.loop-next.others begins []));
+    }
 
 pub ask-requires : goal.ask-requires
 ask-requires t c =
@@ -97,31 +97,34 @@ ask-requires t c =
     let child = c.in-Some.child in
     let r = child.route.now in
     let f = c.args.route.now.children in
-    let d = c.index-others-at.result in
+    let d : List MatcherView = [] in
     let pending = subst (IsPending labels f) c.in-Some.is c.loop-next.invariant.pending in
-    let fewer : count_of r.children < count_of f = child-fewer 1 f child.at (record { offset = child.offset; first = route_view r; below = r.children }) pending.0 in
+    let fewer : count_of r.children < count_of f = child-fewer 1 f child.at (view_of child) pending.0.0 in
     let depth : count_of f ≡ t = c.decreases in
     let falls : count_of r.children < t = omega arith in
-    let others = asked c.loop-next.others (number + child.offset) c.admits.new.self d c.admits.ensures.same in
+    let others : c.others_admit.new.others ≡ c.loop-next.others = c.others_admit.ensures.same in
     let matches : all_admitted r.matchers labels ≡ true =
     child_matches number c.args.route.now child labels c.args.others.now c.loop-next.others d c.requires.others c.loop-next.invariant.same pending
-    ∙ (sym c.admits.ensures.answer ∙ c.if-not-admits.false) in (
+    ∙ (sym c.others_admit.ensures.answer ∙ c.if-not-others_admit.false) in (
       falls,
       (
-        child_at level number c.args.route.now child c.args.levels.now c.args.levels.now c.requires.levels refl pending.0,
-        (child_at other number c.args.route.now child c.args.others.now _ c.requires.others (others ∙ c.loop-next.invariant.same) pending.0, matches),
+        ap (λ (e : ChildEntry). e.is_leaf) pending.0.1,
+        (
+          child_at level number c.args.route.now child c.args.levels.now c.args.levels.now c.requires.levels refl pending.0,
+          (child_at other number c.args.route.now child c.args.others.now _ c.requires.others (others ∙ c.loop-next.invariant.same) pending.0, matches),
+        ),
       ),
     )
 
-pub loop-next-smaller-then-not-admits : goal.loop-next-smaller-then-not-admits
-loop-next-smaller-then-not-admits t c =
+pub loop-next-smaller-then-not-others_admit : goal.loop-next-smaller-then-not-others_admit
+loop-next-smaller-then-not-others_admit t c =
     let labels = c.args.labels.now in
     let child = c.in-Some.child in
     let f = c.args.route.now.children in
     let pending = subst (IsPending labels f) c.in-Some.is c.loop-next.invariant.pending in
     let left = subst (λ next. IfSome next (λ child. c.loop-next.candidates ≡ record { labels = labels; from = child.at + 1; routes = f })) c.in-Some.is c.loop-next.invariant.left in
-    let after = c.next-next-then-not-admits.result in
-    let next = after_one labels f child.at c.loop-next.candidates after left c.next-next-then-not-admits.ensures.next in
+    let after = c.next-next-then-not-others_admit.result in
+    let next = after_one labels f child.at c.loop-next.candidates after left c.next-next-then-not-others_admit.ensures.next in
     subst (λ one. pending_count f after < pending_count f one) (sym c.in-Some.is) (next-fewer labels f child after pending.0 next)
 
 pub loop-next-smaller-then-child : goal.loop-next-smaller-then-child
@@ -142,22 +145,22 @@ loop-next-smaller t c =
     let pending = subst (IsPending c.args.labels.now f) c.in-Some.is c.loop-next.invariant.pending in
     subst (λ next. 0 < pending_count f next) (sym c.in-Some.is) (some-left f child pending.0)
 
-pub loop-next-preserved-then-not-admits : goal.loop-next-preserved-then-not-admits
-loop-next-preserved-then-not-admits t c =
+pub loop-next-preserved-then-not-others_admit : goal.loop-next-preserved-then-not-others_admit
+loop-next-preserved-then-not-others_admit t c =
     let labels = c.args.labels.now in
     let number = c.args.number in
     let child = c.in-Some.child in
     let r = child.route.now in
     let f = c.args.route.now.children in
-    let d = c.index-others-at.result in
+    let d : List MatcherView = [] in
     let pending = subst (IsPending labels f) c.in-Some.is c.loop-next.invariant.pending in
     let left = subst (λ next. IfSome next (λ child. c.loop-next.candidates ≡ record { labels = labels; from = child.at + 1; routes = f })) c.in-Some.is c.loop-next.invariant.left in
-    let after = c.next-next-then-not-admits.result in
-    let next = after_one labels f child.at c.loop-next.candidates after left c.next-next-then-not-admits.ensures.next in
-    let others = asked c.loop-next.others (number + child.offset) c.admits.new.self d c.admits.ensures.same in
+    let after = c.next-next-then-not-others_admit.result in
+    let next = after_one labels f child.at c.loop-next.candidates after left c.next-next-then-not-others_admit.ensures.next in
+    let others : c.others_admit.new.others ≡ c.loop-next.others = c.others_admit.ensures.same in
     let refused : all_admitted r.matchers labels ≡ false =
     child_matches number c.args.route.now child labels c.args.others.now c.loop-next.others d c.requires.others c.loop-next.invariant.same pending
-    ∙ (sym c.admits.ensures.answer ∙ c.if-not-admits.true) in
+    ∙ (sym c.others_admit.ensures.answer ∙ c.if-not-others_admit.true) in
     let old = nodes_in c.loop-next.found.routes.items in
     let counted : pending_looked labels f (Some child) ≡ 1 + pending_looked labels f after = looked-fails labels number f child pending.0 after pending.1 refused next in
     let before : min (c.loop-next.found.looked + pending_looked labels f (Some child)) 18446744073709551615 ≡ min (c.args.found.now.looked + looked_from labels f) 18446744073709551615 =
@@ -165,7 +168,7 @@ loop-next-preserved-then-not-admits t c =
     let one : c.saturating_add-found.result ≡ min (c.loop-next.found.looked + 1) 18446744073709551615 = c.saturating_add-found.ensures in
     record {
       pending = next-pending labels f (child.at + 1) after next;
-      left = left_after labels f (child.at + 1) c.loop-next.candidates c.next-next-then-not-admits.new.self after left c.next-next-then-not-admits.ensures.left;
+      left = left_after labels f (child.at + 1) c.loop-next.candidates c.next-next-then-not-others_admit.new.self after left c.next-next-then-not-others_admit.ensures.left;
       found = ap (λ l. old ++ l) (sym (answer-fails labels number f child pending.0 after refused next))
           ∙ (ap (λ n. old ++ pending_answer labels number f n) (sym c.in-Some.is) ∙ c.loop-next.invariant.found);
       looked = omega (arith, counted, before, one);
@@ -179,15 +182,15 @@ loop-next-preserved-then-child t c =
     let child = c.in-Some.child in
     let r = child.route.now in
     let f = c.args.route.now.children in
-    let d = c.index-others-at.result in
+    let d : List MatcherView = [] in
     let pending = subst (IsPending labels f) c.in-Some.is c.loop-next.invariant.pending in
     let left = subst (λ next. IfSome next (λ child. c.loop-next.candidates ≡ record { labels = labels; from = child.at + 1; routes = f })) c.in-Some.is c.loop-next.invariant.left in
     let after = c.next.result in
     let next = after_one labels f child.at c.loop-next.candidates after left c.next.ensures.next in
-    let others = asked c.loop-next.others (number + child.offset) c.admits.new.self d c.admits.ensures.same in
-    let more : (all_admitted r.matchers labels && not r.continues) ≡ false = goes_on (all_admitted r.matchers labels) r.continues c.if-child.true in
+    let others : c.others_admit.new.others ≡ c.loop-next.others = c.others_admit.ensures.same in
+    let more : (all_admitted r.matchers labels && not r.continues) ≡ false = goes_on (all_admitted r.matchers labels) r.continues (sym (ap (λ (e : ChildEntry). e.continues) pending.0.1) ∙ c.if-child.true) in
     let old = nodes_in c.loop-next.found.routes.items in
-    let own = answer_of labels (number + child.offset) (forest_of (r ∷ [])) in
+    let own = answer_of labels (number + child.entry.offset) (forest_of (r ∷ [])) in
     let goes = answer-goes_on labels number f child pending.0 after more next in
     let counted : pending_looked labels f (Some child) ≡ 1 + (routes_looked_at labels (forest_of (r ∷ [])) + pending_looked labels f after) = looked-goes_on labels number f child pending.0 after pending.1 more next in
     let before : min (c.loop-next.found.looked + pending_looked labels f (Some child)) 18446744073709551615 ≡ min (c.args.found.now.looked + looked_from labels f) 18446744073709551615 =
@@ -217,13 +220,13 @@ loop-next-preserved t c =
     let child = c.in-Some.child in
     let r = child.route.now in
     let f = c.args.route.now.children in
-    let d = c.index-others-at.result in
+    let d : List MatcherView = [] in
     let pending = subst (IsPending labels f) c.in-Some.is c.loop-next.invariant.pending in
-    let others = asked c.loop-next.others (number + child.offset) c.admits.new.self d c.admits.ensures.same in
+    let others : c.others_admit.new.others ≡ c.loop-next.others = c.others_admit.ensures.same in
     let admits : all_admitted r.matchers labels ≡ true =
     child_matches number c.args.route.now child labels c.args.others.now c.loop-next.others d c.requires.others c.loop-next.invariant.same pending
-    ∙ (sym c.admits.ensures.answer ∙ c.if-not-admits.false) in
-    let last : r.continues ≡ false = c.if-child.false in
+    ∙ (sym c.others_admit.ensures.answer ∙ c.if-not-others_admit.false) in
+    let last : r.continues ≡ false = sym (ap (λ (e : ChildEntry). e.continues) pending.0.1) ∙ c.if-child.false in
     let old = nodes_in c.loop-next.found.routes.items in
     let stops = answer-stops labels number f child pending.0 admits last in
     let both : (all_admitted r.matchers labels && not r.continues) ≡ true = ap (λ b. b && not r.continues) admits ∙ ap not last in
@@ -256,3 +259,20 @@ returns-else-len-had-clause-found t c =
     let long_new : length (nodes_in new.items) ≡ c.len.result = length-map new.items node_of ∙ (sym new.ok.0 ∙ sym c.len.ensures) in
     let long_old : length (nodes_in old.items) ≡ c.len-had.result = length-map old.items node_of ∙ (sym old.ok.0 ∙ sym c.len-had.ensures) in
     own-kept labels number r (nodes_in old.items) (nodes_in new.items) found c.requires.matches (λ e. c.if-len-had.false (sym long_new ∙ (e ∙ long_old)))
+
+pub returns-then-is_leaf-clause-found : goal.returns-then-is_leaf-clause-found
+returns-then-is_leaf-clause-found t c =
+    let labels = c.args.labels.now in
+    let r = c.args.route.now in
+    let leaf = sym c.requires.leaf ∙ c.if-is_leaf.true in
+    on_ok c.add.result (λ added. added ∙ ap (λ l. nodes_in c.args.found.now.routes.items ++ l) (sym (leaf-itself labels c.args.number r leaf c.requires.matches))) c.add.ensures.added
+
+pub returns-then-is_leaf-clause-looked : goal.returns-then-is_leaf-clause-looked
+returns-then-is_leaf-clause-looked t c =
+    let labels = c.args.labels.now in
+    let r = c.args.route.now in
+    let leaf = sym c.requires.leaf ∙ c.if-is_leaf.true in
+    let none : routes_looked_at labels (forest_of (r ∷ [])) ≡ 0 = leaf-looked labels r leaf in
+    let old = c.args.found.now.looked in
+    let here : old ≡ old + routes_looked_at labels (forest_of (r ∷ [])) = omega (arith, none) in
+    on_ok c.add.result (λ looked. ap (λ n. min n 18446744073709551615) (looked ∙ here)) c.add.ensures.looked

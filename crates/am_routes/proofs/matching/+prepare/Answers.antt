@@ -3,8 +3,8 @@ use Rattle.std.proofs.lemmas.List.{append_assoc, append-nil, take_all}
 use Rattle.am_config.specs.declared.route.Route.{Route}
 use Rattle.am_config.specs.Routes.{Forest, RouteView, count_of}
 use Rattle.am_config.specs.RouteLists.{forest_of}
-use Rattle.am_routes.specs.inside.ChildIndexes.{offsets_from}
-use Rattle.am_routes.specs.inside.Searches.{levels_of, others_of, other_matchers}
+use Rattle.am_routes.specs.inside.ChildIndexes.{offsets_from, other_matchers}
+use Rattle.am_routes.specs.inside.Searches.{levels_of, others_of}
 use Rattle.am_routes.proofs.ChildIndexes.{offsets-more}
 use Rattle.am_routes.proofs.Searching.{count-below, length-in_pre_order, in_pre_order-more, level-written}
 use Rattle.am_routes.proofs.matching.+prepare.Goals as goal

@@ -1,5 +1,5 @@
 use Rattle.std.proofs.Common.{◌≡◌, ◌++◌, cond, drop}
-use Rattle.am_routes.specs.inside.Searches.{other_matchers}
+use Rattle.am_routes.specs.inside.ChildIndexes.{other_matchers}
 use Rattle.am_routes.proofs.matching.prepare_others.Given as goal
 
 -- what is kept so far, with what is kept of the matchers that are left, is all that is kept

@@ -12,8 +12,8 @@ loop-index-init c =
     let v = c.args.self.now in
     let all = filings v.routes in
     let names = c.self.inside.names.now in
-    let kept : AreLeftOf v.labels v.from v.routes c.self.inside.offsets.now c.self.inside.unfiled.now c.self.inside.filed.now names =
-    subst (λ (v : CandidatesView). AreLeftOf v.labels v.from v.routes c.self.inside.offsets.now c.self.inside.unfiled.now c.self.inside.filed.now names) c.self.view_is c.self.invariant in
+    let kept : AreLeftOf v.labels v.from v.routes c.self.inside.entries.now c.self.inside.unfiled.now c.self.inside.filed.now names =
+    subst (λ (v : CandidatesView). AreLeftOf v.labels v.from v.routes c.self.inside.entries.now c.self.inside.unfiled.now c.self.inside.filed.now names) c.self.view_is c.self.invariant in
     let one : IsFirstFrom is_unfiled v.from all c.first_of.result =
     subst (IsFirstFrom is_unfiled v.from all) (sym (c.first_of.ensures ∙ ap (λ l. slice_get l 0) kept.1)) (first-left is_unfiled v.from all) in
     let other : IsFirstFrom (is_kept v.labels (take 1 names)) v.from all c.first_of-2.result =
@@ -32,8 +32,8 @@ loop-index-preserved c =
     let index = c.index-item.result in
     let name = index.name.now in
     let early : i < length items = omega arith in
-    let kept : AreLeftOf v.labels v.from v.routes c.self.inside.offsets.now c.self.inside.unfiled.now c.self.inside.filed.now names =
-    subst (λ (v : CandidatesView). AreLeftOf v.labels v.from v.routes c.self.inside.offsets.now c.self.inside.unfiled.now c.self.inside.filed.now names) c.self.view_is c.self.invariant in
+    let kept : AreLeftOf v.labels v.from v.routes c.self.inside.entries.now c.self.inside.unfiled.now c.self.inside.filed.now names =
+    subst (λ (v : CandidatesView). AreLeftOf v.labels v.from v.routes c.self.inside.entries.now c.self.inside.unfiled.now c.self.inside.filed.now names) c.self.view_is c.self.invariant in
     let is : IsIndexOf all index = subst (IsIndexOf all) (sym (c.index-item.is ∙ (ap (λ l. get_or l i index) c.others-index-items.ensures ∙ get_or-drop 1 names i index))) (all_by-get (IsIndexOf all) names (1 + i) index kept.3.0 (omega (arith, ap length c.others-index-items.ensures, length-drop 1 names))) in
     let before = take 1 names ++ take i items in
     let more : take 1 names ++ take (i + 1) items ≡ before ++ index ∷ [] =
@@ -54,8 +54,8 @@ returns c =
     let names = c.self.inside.names.now in
     let items = c.others-index-items.result.now in
     let i = c.loop-index.index-index in
-    let kept : AreLeftOf v.labels v.from v.routes c.self.inside.offsets.now c.self.inside.unfiled.now c.self.inside.filed.now names =
-    subst (λ (v : CandidatesView). AreLeftOf v.labels v.from v.routes c.self.inside.offsets.now c.self.inside.unfiled.now c.self.inside.filed.now names) c.self.view_is c.self.invariant in
+    let kept : AreLeftOf v.labels v.from v.routes c.self.inside.entries.now c.self.inside.unfiled.now c.self.inside.filed.now names =
+    subst (λ (v : CandidatesView). AreLeftOf v.labels v.from v.routes c.self.inside.entries.now c.self.inside.unfiled.now c.self.inside.filed.now names) c.self.view_is c.self.invariant in
     let whole : take 1 names ++ take i items ≡ names =
     ap (λ l. take 1 names ++ l) (take_all i items (omega arith) ∙ c.others-index-items.ensures) ∙ take-append-drop 1 names in
     first-alike (is_met v.labels (take 1 names ++ take i items)) (may_match v.labels) v.from all c.loop-index.first

@@ -1,10 +1,11 @@
-use Rattle.std.proofs.Common.{rules, ◌≡◌, ◌<◌, ℕ, zero, suc, refl, List, [], ◌∷◌, Some, length, get_or, sym, ap, subst, ◌∙◌, arith, slice_get}
+use Rattle.std.proofs.Common.{rules, ◌≡◌, ◌<◌, ℕ, false, List, Some, length, get_or, sym, ap, subst, ◌∙◌, arith, slice_get}
 use Rattle.std.proofs.lemmas.Option.{slice_get_within}
 use Rattle.am_config.specs.declared.route.Route.{Route}
-use Rattle.am_config.specs.RouteLists.{route_view, forest_of}
+use Rattle.am_config.specs.RouteLists.{forest_of}
+use Rattle.am_routes.specs.declared.child_entry.ChildEntry.{ChildEntry}
 use Rattle.am_routes.specs.Looking.{may_match}
-use Rattle.am_routes.specs.inside.ChildIndexes.{children_from, offsets_from, filings, CandidatesView, IsFirstFrom}
-use Rattle.am_routes.proofs.ChildIndexes.{child-at, length-filings, length-offsets, left-after}
+use Rattle.am_routes.specs.inside.ChildIndexes.{children_from, entry_of, entries_from, filings, CandidatesView, IsFirstFrom}
+use Rattle.am_routes.proofs.ChildIndexes.{child-at, get_or-default, length-filings, length-entries, left-after, seen}
 use Rattle.am_routes.proofs.candidates.Candidates.next.Goals as goal
 
 within : (v : CandidatesView) (rs : List Route) (at : ℕ) → forest_of rs ≡ v.routes → IsFirstFrom (may_match v.labels) v.from (filings v.routes) (Some at) → at < length rs
@@ -12,11 +13,6 @@ within v rs at is first =
     let early : at < length (filings v.routes) = slice_get_within (filings v.routes) at first.1.0 first.1.1 in
     let long : length (filings v.routes) ≡ length rs = ap (λ f. length (filings f)) (sym is) ∙ length-filings rs in
     omega arith
-
-get_or-default : (xs : List ℕ) (i d e : ℕ) → i < length xs → get_or xs i d ≡ get_or xs i e
-get_or-default [] i d e early = absurd (omega arith)
-get_or-default (x ∷ xs) zero d e early = refl
-get_or-default (x ∷ xs) (suc i) d e early = get_or-default xs i d e (omega arith)
 
 pub overflow_add-self : goal.overflow_add-self
 overflow_add-self c =
@@ -27,14 +23,14 @@ pub offset_bounds-self-inside-at : goal.offset_bounds-self-inside-at
 offset_bounds-self-inside-at c =
     let rs = c.self.inside.routes.now in
     let early : c.in_ok-at.at < length rs = within c.args.self.now rs c.in_ok-at.at (ap (λ (v : CandidatesView). v.routes) c.self.view_is) c.in_ok-at.ensures in
-    let within : c.in_ok-at.at < length c.self.inside.offsets.now = omega (arith, ap length c.self.invariant.0, length-offsets 1 rs) in
+    let within : c.in_ok-at.at < length c.self.inside.entries.now = omega (arith, ap length c.self.invariant.0, length-entries 1 rs) in
     search rules
 
 pub bounds-self-inside-at : goal.bounds-self-inside-at
 bounds-self-inside-at c =
     let rs = c.self.inside.routes.now in
     let early : c.in_ok-at.at < length rs = within c.args.self.now rs c.in_ok-at.at (ap (λ (v : CandidatesView). v.routes) c.self.view_is) c.in_ok-at.ensures in
-    omega (arith, ap length c.self.invariant.0, length-offsets 1 rs)
+    omega (arith, ap length c.self.invariant.0, length-entries 1 rs)
 
 pub offset_bounds-self-inside-at-2 : goal.offset_bounds-self-inside-at-2
 offset_bounds-self-inside-at-2 c =
@@ -49,7 +45,7 @@ invariant_of-self c =
     let inside = c.self.inside in
     let first : IsFirstFrom (may_match inside.labels.now) inside.from (filings (forest_of inside.routes.now)) (Some c.in_ok-at.at) =
     subst (λ (v : CandidatesView). IsFirstFrom (may_match v.labels) v.from (filings v.routes) (Some c.in_ok-at.at)) (sym c.self.view_is) c.in_ok-at.ensures in
-    let left = left-after inside.labels.now inside.from (forest_of inside.routes.now) inside.offsets.now inside.unfiled.now inside.filed.now inside.names.now c.in_ok-at.at c.self.invariant first in
+    let left = left-after inside.labels.now inside.from (forest_of inside.routes.now) inside.entries.now inside.unfiled.now inside.filed.now inside.names.now c.in_ok-at.at c.self.invariant first in
     (left.0, c.without-self-inside.ensures ∙ left.1, c.without-self-inside-2.ensures ∙ left.2, left.3)
 
 pub returns-clause-next : goal.returns-clause-next
@@ -59,11 +55,15 @@ returns-clause-next c =
     let r = c.index-self-at.result in
     let routes : forest_of rs ≡ c.args.self.now.routes = ap (λ (v : CandidatesView). v.routes) c.self.view_is in
     let early : at < length rs = within c.args.self.now rs at routes c.in_ok-at.ensures in
-    let d = get_or c.self.inside.offsets.now at 0 in
-    let long : at < length c.self.inside.offsets.now = omega (arith, ap length c.self.invariant.0, length-offsets 1 rs) in
-    let offset : d ≡ get_or (offsets_from 1 (forest_of rs)) at d = get_or-default c.self.inside.offsets.now at 0 d long ∙ ap (λ l. get_or l at d) c.self.invariant.0 in (
+    let entries = c.self.inside.entries.now in
+    let long : at < length entries = omega (arith, ap length c.self.invariant.0, length-entries 1 rs) in
+    let none : ChildEntry = record { offset = 0; is_settled = false; is_leaf = false; continues = false } in
+    let own = get_or entries at none in
+    let comes : own ≡ get_or (entries_from 1 (forest_of rs)) at own = get_or-default entries at none own long ∙ ap (λ l. get_or l at own) c.self.invariant.0 in
+    let one = child-at 1 rs at r own early c.index-self-at.is comes in (
       c.in_ok-at.ensures,
-      ap (λ f. slice_get (children_from 1 f) at) (sym routes)
-          ∙ (child-at 1 rs at r d early c.index-self-at.is offset
-          ∙ ap (λ (r : Route). Some (record { offset = d; first = route_view r; below = r.children })) c.index-self-at.is),
+      (
+        ap (λ f. slice_get (children_from 1 f) at) (sym routes) ∙ (one.0 ∙ ap (λ (r : Route). Some (seen own.offset r)) c.index-self-at.is),
+        one.1 ∙ ap (λ (r : Route). entry_of (seen own.offset r)) c.index-self-at.is,
+      ),
     )
