@@ -96,6 +96,17 @@ fn nap<R: Clock>(rt: &R) {
     thread::sleep(rt, Duration::from_micros(NAP));
 }
 
+// How often in a row a reader that finds nothing yields before it sleeps, as a channel's reader does.
+const YIELDS: u32 = 100;
+
+fn idle<R: Clock>(rt: &R, turns: u32) {
+    if turns < YIELDS {
+        thread::yield_now();
+    } else {
+        nap(rt);
+    }
+}
+
 // Publishes all items in batches, waiting while the log is full, and closes the log. Returns whether
 // there was memory.
 fn publish_all<N: Feed, R: Clock>(
@@ -153,15 +164,20 @@ fn read_all<N: Feed, R: Clock>(rt: &R, cursor: &mut Option<Cursor<'_, u64, u64, 
     let Some(cursor) = cursor else {
         return shown;
     };
+    let mut idle_turns: u32 = 0;
     for _turn in 0..u64::MAX {
         match cursor.next_slice() {
             Slice::Items(items) => {
+                idle_turns = 0;
                 shown.items = shown.items.wrapping_add(items.len() as u64);
                 for item in items {
                     shown.sum = shown.sum.wrapping_add(*item);
                 }
             }
-            Slice::Pending => nap(rt),
+            Slice::Pending => {
+                idle(rt, idle_turns);
+                idle_turns = idle_turns.saturating_add(1);
+            }
             Slice::Closed | Slice::Cut => return shown,
         }
     }
