@@ -16,7 +16,7 @@ returns-in_err-write_text-clause-err g c =
     on_err_of c.from_residual-in_err-write_text.result (
       part.0,
       inr (c.args.bytes.now, part.1, c.answer_line.new.session, subst (λ (printed : List ℕ). Answers c.args.context.now.config.now (setting_of g.N.Recorded.places g.N.Recorded.policy c.args.context.now.provider.now.resolve_timeout) c.args.form c.args.number c.args.bytes.now c.args.session.now printed c.answer_line.new.session) (sym part.2) answered),
-      part.4,
+      part.3,
     )
 
 pub returns-clause-err : goal.returns-clause-err
