@@ -76,12 +76,20 @@ impl Shown {
     }
 }
 
-// A batch of numbers from a first one on.
-fn batch_of(alloc: Global, first: u64, count: usize) -> Result<SegmentBuilder<u64>, AllocError>
+// A batch of numbers from a first one on, in what an earlier one left if there is such a one.
+fn batch_of<N: Feed>(
+    alloc: Global,
+    writer: &mut Writer<u64, u64, u64, N>,
+    first: u64,
+    count: usize,
+) -> Result<SegmentBuilder<u64>, AllocError>
     requires { 0 < count }
     ensures { IfOk result (λ batch. 0 < length batch.items) }
 {
-    let mut batch = SegmentBuilder::with_places(alloc, count)?;
+    let mut batch = match writer.spare(count) {
+        Some(batch) => batch,
+        None => SegmentBuilder::with_places(alloc, count)?,
+    };
     let _pushed = batch.push(first);
     for at in 1..count {
         let _pushed = batch.push(first.wrapping_add(at as u64));
@@ -119,7 +127,7 @@ fn publish_all<N: Feed, R: Clock>(
 ) -> bool {
     for number in 0..load.batches {
         let first = number.wrapping_mul(load.items as u64);
-        match batch_of(alloc, first, load.items) {
+        match batch_of(alloc, writer, first, load.items) {
             Ok(batch) => publish(rt, cast, writer, pass, batch),
             Err(_) => {
                 let _closed = writer.close(cast);

@@ -1,15 +1,17 @@
 //! The writer's keys: those that came home wait in rows, one for each place, until the eighth is
 //! there and ends the segment.
-ghost use Rattle.std.specs.Prelude.{true, false, ◌≡◌, ◌≢◌, ℕ, ◌%◌, ◌<◌, ◌≤◌, List, ◌∷◌, ◌++◌, [], length, slice_index_or, Some, None, IfOk, OnOk, option_copied};
-ghost use Rattle.am_segment.specs.Segments.{KeyView};
+ghost use Rattle.std.specs.Prelude.{true, false, ◌≡◌, ◌≢◌, ℕ, ◌%◌, ◌<◌, ◌≤◌, List, ◌∷◌, ◌++◌, [], length, slice_index_or, Some, None, IfSome, IfOk, OnOk, option_copied};
+ghost use Rattle.am_segment.specs.Segments.{AreAllKeys, KeyView};
 ghost use Rattle.am_cast.specs.inside.KeyRows.{bucket_of, no_bucket, row_at, MayTake, row_with};
 
 mod bucket;
 mod row;
+mod spares;
 
-use am_segment::{JoinedKeys, SegKey};
+use am_segment::{JoinedKeys, SegKey, SegmentBuilder};
 pub(crate) use bucket::Bucket;
 pub(crate) use row::Row;
+use spares::Spares;
 use std::alloc::{AllocError, Global};
 use std::marker::Model;
 
@@ -17,6 +19,8 @@ use std::marker::Model;
 /// newer ones until its last key is home.
 pub(crate) struct KeyRows<T> {
     buckets: Vec<Bucket<T>>,
+    // What is left of segments that have ended, at most one for each place.
+    spares: Spares<T>,
 }
 
 impl<T> Model for KeyRows<T> {
@@ -40,11 +44,15 @@ impl<T> KeyRows<T> {
         ensures count { IfOk result (λ rows. length rows ≡ places) }
         ensures none { IfOk result (λ rows. (p : ℕ) → row_at rows p ≡ None) }
     {
-        let mut buckets = Vec::with_capacity(alloc, places)?;
+        let spares = Spares::new(alloc, places)?;
+        let Ok(mut buckets) = Vec::with_capacity(alloc, places) else {
+            spares.end();
+            return Err(AllocError);
+        };
         for _remainder in 0..places {
             buckets.push_reserved(Bucket::new(alloc));
         }
-        Ok(KeyRows { buckets })
+        Ok(KeyRows { buckets, spares })
     }
 
     /// The keys of the place that wait for others, if there are any.
@@ -79,7 +87,27 @@ impl<T> KeyRows<T> {
         ensures others { (p : ℕ) → p ≢ place → row_at self.new p ≡ row_at self.old p }
         ensures room { (p : ℕ) → (bucket_of self.old p).room ≤ (bucket_of self.new p).room }
     {
-        self.buckets[index].bring(place, key);
+        if let Some(builder) = self.buckets[index].bring(place, key) {
+            self.spares.keep(builder);
+        }
+    }
+
+    /// The segment of a row with all of its keys ends.
+    pub(crate) fn end_row(&mut self, row: Row<T>)
+    where
+        T: Drop,
+        requires { AreAllKeys row.keys }
+        ensures { self.new ≡ self.old }
+    {
+        self.spares.keep(row.end());
+    }
+
+    /// What is left of a segment that has ended, if it has places for so many items.
+    pub(crate) fn spare(&mut self, places: usize) -> Option<SegmentBuilder<T>>
+        ensures spare { IfSome result (λ builder. builder ≡ record { items = []; places = places }) }
+        ensures same { self.new ≡ self.old }
+    {
+        self.spares.take(places)
     }
 
     /// A row more in the bucket at the index, of a place that had none.
@@ -98,7 +126,11 @@ impl<T> KeyRows<T> {
     pub(crate) fn end(self)
         requires { (p : ℕ) → row_at self p ≡ None }
     {
-        let KeyRows { mut buckets } = self;
+        let KeyRows {
+            mut buckets,
+            spares,
+        } = self;
+        spares.end();
         while let Some(bucket) = buckets.pop() {
             bucket.end();
         }

@@ -1,7 +1,7 @@
 //! The writer of a log: its type, and what it answers at once. Each call that takes several steps has a file
 //! in `writer/`, from the public function down to the steps of `board`. Its caller holds it under a lock.
 ghost use mathlib.Core.List.{IsPrefix};
-ghost use Rattle.std.specs.Prelude.{◌↔◌, IsTrue, ◌≡◌, ◌≢◌, ◌<◌, ◌≤◌, true, false, length, ℕ, OnOk, OnErr, IsOk, option_copied};
+ghost use Rattle.std.specs.Prelude.{◌↔◌, IsTrue, ◌≡◌, ◌≢◌, ◌<◌, ◌≤◌, true, false, length, ℕ, [], OnOk, OnErr, IfSome, IsOk, option_copied};
 ghost use Rattle.am_cast.specs.declared.limits.TheConstants.{LONGEST_LOG};
 ghost use Rattle.am_cast.specs.declared.batch_view.BatchView.{BatchView};
 ghost use Rattle.am_cast.specs.Rule.{idle, cut, Once};
@@ -25,7 +25,7 @@ use crate::limits::LANES;
 use crate::pass::Pass;
 use crate::writer::lane_account::Stand;
 use crate::writer::state::WriterState;
-use am_segment::JoinedKeys;
+use am_segment::{JoinedKeys, SegmentBuilder};
 use std::marker::Model;
 
 /// Contracts see it as what it knows of its log.
@@ -74,6 +74,15 @@ impl<T: Drop, P, A, N: Feed> Writer<T, P, A, N> {
         ensures { IsTrue result ↔ IsFreedFor self.now place }
     {
         place < self.len() && self.kept(place).is_none()
+    }
+
+    /// A builder without items that a segment has left which has ended, if one has places for so many items. It
+    /// takes no memory.
+    pub fn spare(&mut self, places: usize) -> Option<SegmentBuilder<T>>
+        ensures spare { IfSome result (λ batch. batch ≡ record { items = []; places = places }) }
+        ensures same { self.new ≡ self.old }
+    {
+        self.state.rows.spare(places)
     }
 
     pub fn is_closed(&self) -> bool

@@ -57,10 +57,20 @@ fn are_keys_of(keys: &JoinedKeys<u64>, name: u64) -> bool {
         && (keys.len() == 6 || keys.len() == 7)
 }
 
-fn batch_of(alloc: Global, name: u64) -> Result<SegmentBuilder<u64>, AllocError>
-    ensures { IfOk result (λ batch. 0 < length batch.items) }
+// A batch in what an earlier one of its size left, if there is such a one.
+fn batch_of<N: Feed>(
+    alloc: Global,
+    writer: &mut Writer<u64, u64, u64, N>,
+    name: u64,
+) -> Result<SegmentBuilder<u64>, AllocError>
+    ensures some { IfOk result (λ batch. 0 < length batch.items) }
+    ensures same { writer.new ≡ writer.old }
 {
-    let mut batch = SegmentBuilder::with_places(alloc, 3)?;
+    let places = count_of(name) as usize;
+    let mut batch = match writer.spare(places) {
+        Some(batch) => batch,
+        None => SegmentBuilder::with_places(alloc, places)?,
+    };
     let _pushed = batch.push(item_of(name, 0));
     for at in 1..count_of(name) {
         let _pushed = batch.push(item_of(name, at));
@@ -97,7 +107,7 @@ impl<'a, N: Feed> Both<'a, N> {
         let said = 7;
         self.harvest()?;
         let may = self.state.apply(Event::Publish(name))?;
-        let batch = batch_of(self.alloc, name)?;
+        let batch = batch_of(self.alloc, writer, name)?;
         match writer.publish(self.cast, batch, Snapshot::of(&said), pass) {
             Ok(place) => Ok(may && place == name && self.note(name)?),
             Err(Refused { fault, batch }) => {
@@ -128,7 +138,7 @@ impl<'a, N: Feed> Both<'a, N> {
         if let Some(lane) = full {
             return Ok(!may && self.full_lane() == Some(lane));
         }
-        let batch = batch_of(self.alloc, name)?;
+        let batch = batch_of(self.alloc, writer, name)?;
         match writer.publish_harvested(self.cast, batch, Snapshot::of(&said), pass) {
             Ok(place) => Ok(may && place == name && self.note(name)?),
             Err(batch) => {
@@ -174,7 +184,7 @@ impl<'a, N: Feed> Both<'a, N> {
         let name = self.length;
         let said = 7;
         self.harvest()?;
-        let batch = batch_of(self.alloc, name)?;
+        let batch = batch_of(self.alloc, writer, name)?;
         match writer.publish_cutting(self.cast, batch, Snapshot::of(&said), pass) {
             Ok(made) => {
                 let mut same = made.place == name;

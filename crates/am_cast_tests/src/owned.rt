@@ -120,6 +120,73 @@ fn run_of<R: Wait>(rt: &R, alloc: Global) -> Result<[u64; 6], AllocError> {
     run::<Brand, R>(rt, alloc, parts)
 }
 
+// Whether a segment of that size that has ended can be had, which is then freed.
+fn frees_one<N: Feed>(writer: &mut Writer<Vec<u64>, u64, u64, N>, places: usize) -> bool {
+    match writer.spare(places) {
+        Some(segment) => {
+            let fits = segment.places() == places;
+            segment.free();
+            fits
+        }
+        None => false,
+    }
+}
+
+// Three posts that nobody reads, and then what is left of their segments, of which a log of two places
+// keeps two; then one more, of which no segment of another size is made.
+fn end_some<N: Feed>(
+    alloc: Global,
+    cast: &Cast<Vec<u64>, u64, u64, N>,
+    writer: &mut Writer<Vec<u64>, u64, u64, N>,
+    pass: &mut Pass<Vec<u64>, u64, u64, N>,
+) -> Result<[bool; 6], AllocError> {
+    let before = frees_one(writer, 2);
+    for number in 0..3 {
+        let _posted = post(alloc, cast, writer, pass, number)?;
+    }
+    let left = [
+        frees_one(writer, 2),
+        frees_one(writer, 2),
+        frees_one(writer, 2),
+    ];
+    let _posted = post(alloc, cast, writer, pass, 7)?;
+    let other = frees_one(writer, 1);
+    let after = frees_one(writer, 2);
+    Ok([before, left[0], left[1], left[2], other, after])
+}
+
+fn end_in<N: Feed, R: Wait>(
+    rt: &R,
+    alloc: Global,
+    parts: Parts<Vec<u64>, u64, u64>,
+) -> Result<[bool; 6], AllocError>
+    requires { parts.board.shared.table_id ≡ N.table }
+{
+    let Log {
+        cast,
+        mut writer,
+        mut pass,
+    } = begin_log::<Vec<u64>, N>(parts)?;
+    let left = end_some(alloc, &cast, &mut writer, &mut pass);
+    end_log(rt, cast, writer);
+    left
+}
+
+fn end_of<R: Wait>(rt: &R, alloc: Global) -> Result<[bool; 6], AllocError> {
+    let parts = Parts::make(alloc, 2)?;
+    end_in::<Brand, R>(rt, alloc, parts)
+}
+
+#[test]
+fn as_many_segments_are_left_as_places(rt: HostRuntime) -> Result<(), Fail> {
+    let left = end_of(&rt, rt.alloc())?;
+    assert_eq!(rt;
+        left.as_slice(),
+        [false, true, true, false, false, false].as_slice()
+    );
+    Ok(())
+}
+
 #[test]
 fn shown_unread_and_never_asked_for(rt: HostRuntime) -> Result<(), Fail> {
     let saw = run_of(&rt, rt.alloc())?;

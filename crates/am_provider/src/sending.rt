@@ -17,18 +17,25 @@ use am_cast::{PublishFault, Published, Refused};
 use am_segment::SegmentBuilder;
 use am_store::lanes::OpenLane;
 use am_store::{Call, SharedAlert};
-use std::alloc::{AllocError, Global};
+use std::alloc::AllocError;
 use std::snapshot::Snapshot;
 
 /// The pass as the log has it.
 pub(crate) type LogPass<N> = am_cast::Pass<Item, Call, OpenLane, N>;
 
-// A segment of these alerts.
-fn segment_of(alloc: Global, batch: Vec<SharedAlert>) -> Result<SegmentBuilder<Item>, AllocError>
+// A segment of these alerts. If one of their number has ended, it lies where that one was.
+fn segment_of<N: Origin>(
+    writer: &mut Writer<N>,
+    batch: Vec<SharedAlert>,
+) -> Result<SegmentBuilder<Item>, AllocError>
     requires { 0 < length batch.items }
-    ensures { IfOk result (λ segment. segment.items ≡ alerts_in batch.items) }
+    ensures segment { IfOk result (λ segment. segment.items ≡ alerts_in batch.items) }
+    ensures same { writer.new ≡ writer.old }
 {
-    let mut segment = SegmentBuilder::with_places(alloc, batch.len())?;
+    let mut segment = match writer.spare(batch.len()) {
+        Some(segment) => segment,
+        None => SegmentBuilder::with_places(*batch.allocator(), batch.len())?,
+    };
     for alert in batch {
         match segment.push(Item::new(alert)) {
             Ok(()) => {}
@@ -55,7 +62,7 @@ pub(crate) fn send_batch<N: Origin>(
     ensures unsent { IfErr result (λ fault. IsUnsent policy writer.old writer.new fault) }
     ensures err { OnErr result (pass.new ≡ pass.old) }
 {
-    let segment = segment_of(*batch.allocator(), batch)?;
+    let segment = segment_of(writer, batch)?;
     match send(writer, cast, policy, segment, call, pass) {
         Ok(sent) => {
             // The writer hears which places are the pass's: the new one is above them all.

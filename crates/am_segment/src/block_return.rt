@@ -1,8 +1,9 @@
-//! How a block ends: its items are dropped, and it goes back to its allocator.
+//! How a segment ends: its items are dropped, and its block is a builder's again.
 
-ghost use Rattle.std.specs.Prelude.{◌≡◌, ◌^◌, ◌≤◌, length};
+ghost use Rattle.std.specs.Prelude.{◌≡◌, ◌^◌, ◌≤◌, [], length};
 
 use crate::block::{Block, Claim, Part};
+use crate::builder::SegmentBuilder;
 use std::alloc::Global;
 
 /// What gives a shared block back once its parts are together: the last key has it.
@@ -15,25 +16,32 @@ pub(crate) struct BlockReturn<T> {
 }
 
 impl<T: Drop> BlockReturn<T> {
-    /// Drops the `count` items and frees the block, for all parts of it.
-    pub(crate) fn clear(self, count: usize, all: Part<T>)
+    /// Drops the `count` items, for all parts of the block. It is then to be filled anew.
+    pub(crate) fn into_builder(self, count: usize, all: Part<T>) -> SegmentBuilder<T>
         requires count { count ≡ length self.claim.items }
         requires all { (all.ptr ≡ self.claim.at) × (all.segment ≡ self.claim.segment)
             × (all.count ≡ 2 ^ 63) }
+        ensures { result.items ≡ [] }
     {
         let BlockReturn {
             places,
             claim,
             alloc,
         } = self;
-        clear(alloc, claim.settle(all), places, count);
+        SegmentBuilder {
+            block: without_items(claim.settle(all), count),
+            places,
+            count: 0,
+            alloc,
+        }
     }
 }
 
-/// Drops the `count` items of a block, the last one first, and frees it.
-pub(crate) fn clear<T: Drop>(alloc: Global, block: Block<T, Global>, places: usize, count: usize)
-    requires count { (count ≡ length block.items) × (count ≤ places) }
-    requires block { (block.places ≡ places) × (block.alloc ≡ alloc) }
+/// Drops the `count` items of a block, the last one first.
+pub(crate) fn without_items<T: Drop>(block: Block<T, Global>, count: usize) -> Block<T, Global>
+    requires { (count ≡ length block.items) × (count ≤ block.places) }
+    ensures items { result.items ≡ [] }
+    ensures block { (result.places ≡ block.places) × (result.alloc ≡ block.alloc) }
 {
     let mut block = block;
     let mut rest = count;
@@ -41,5 +49,5 @@ pub(crate) fn clear<T: Drop>(alloc: Global, block: Block<T, Global>, places: usi
         rest -= 1;
         drop(block.pop(rest));
     }
-    block.free(&alloc, places);
+    block
 }

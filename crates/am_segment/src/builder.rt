@@ -5,7 +5,7 @@ ghost use Rattle.std.specs.Prelude.{IsOk, IfOk, IfErr, OnOk};
 ghost use Rattle.am_segment.specs.Segments.{key_with, keys_of, AreAllKeys};
 
 use crate::block::Block;
-use crate::block_return::{BlockReturn, clear};
+use crate::block_return::{BlockReturn, without_items};
 use crate::key::{MAX_KEYS, SegKey};
 use crate::key_run::KeyRun;
 use crate::seal_fault::SealFault;
@@ -16,10 +16,10 @@ use std_alloc::room::may_hold;
 /// One block with places for items, of which the first ones are filled. Its keys must be handed out,
 /// as a list by `seal` or one by one, or it must be discarded.
 pub struct SegmentBuilder<T> {
-    block: Block<T, Global>,
-    places: usize,
-    count: usize,
-    alloc: Global,
+    pub(crate) block: Block<T, Global>,
+    pub(crate) places: usize,
+    pub(crate) count: usize,
+    pub(crate) alloc: Global,
 }
 
 impl<T> Model for SegmentBuilder<T> {
@@ -54,6 +54,13 @@ impl<T> SegmentBuilder<T> {
         })
     }
 
+    /// How many items it has places for.
+    pub fn places(&self) -> usize
+        ensures { result ≡ self.now.places }
+    {
+        self.places
+    }
+
     /// Adds an item behind the others. It comes back where all places are filled.
     pub fn push(&mut self, item: T) -> Result<(), T>
         ensures pushed { OnOk result (self.new.items ≡ self.old.items ++ item ∷ []) }
@@ -81,7 +88,20 @@ impl<T> SegmentBuilder<T> {
             count,
             alloc,
         } = self;
-        clear(alloc, block, places, count);
+        without_items(block, count).free(&alloc, places);
+    }
+
+    /// Frees the block, where there are no items to drop.
+    pub fn free(self)
+        requires { self.items ≡ [] }
+    {
+        let SegmentBuilder {
+            block,
+            places,
+            count: _,
+            alloc,
+        } = self;
+        block.free(&alloc, places);
     }
 
     /// So many keys to the items, in order of their numbers.

@@ -1,5 +1,5 @@
 //! Keys of one segment that came together, and the end of a segment: once all of its keys are
-//! joined, its items are dropped, and its block is freed.
+//! joined, its items are dropped, and its block is freed or filled anew.
 
 ghost use Rattle.std.specs.Prelude.{◌≡◌, ◌+◌, ◌-◌, ◌≤◌, [], ◌∷◌, ◌++◌, length};
 ghost use Rattle.std.specs.List.{All, range_with_len};
@@ -9,6 +9,7 @@ ghost use Rattle.am_segment.specs.inside.Shares.{HoldShares, lasts};
 
 use crate::block::Part;
 use crate::block_return::BlockReturn;
+use crate::builder::SegmentBuilder;
 use crate::key::SegKey;
 use crate::key_run::KeyRun;
 use std::marker::Model;
@@ -109,15 +110,25 @@ impl<T> JoinedKeys<T> {
         self.count += count;
     }
 
+    /// Drops the segment's items, for all of its keys. Its block is then to be filled anew, or to be freed.
+    pub fn into_builder(self) -> SegmentBuilder<T>
+    where
+        T: Drop,
+        requires { AreAllKeys self }
+        ensures { result.items ≡ [] }
+    {
+        let JoinedKeys { count: _, held } = self;
+        let Some(held) = held else { unreachable!() };
+        held.end()
+    }
+
     /// Drops the segment's items and frees it, for all of its keys.
     pub fn reunite(self)
     where
         T: Drop,
         requires { AreAllKeys self }
     {
-        let JoinedKeys { count: _, held } = self;
-        let Some(held) = held else { unreachable!() };
-        held.end();
+        self.into_builder().free();
     }
 }
 
@@ -134,7 +145,7 @@ pub fn reunite<T: Drop>(keys: Vec<SegKey<T>>)
         all = all.join(hold(key));
     }
     keys.destroy_empty();
-    all.end();
+    all.end().free();
 }
 
 // What a key held.
@@ -204,15 +215,16 @@ impl<T> Held<T> {
         }
     }
 
-    // All keys' parts are the block: its items are dropped, and it is freed.
-    fn end(self)
+    // All keys' parts are the block: its items are dropped.
+    fn end(self) -> SegmentBuilder<T>
     where
         T: Drop,
         requires all { (length self.part.numbers ≡ self.part.keys)
             × (lasts self.part.keys self.part.numbers ≡ 1) }
+        ensures { result.items ≡ [] }
     {
         let Held { part, len, last } = self;
         let Some(back) = last else { unreachable!() };
-        back.clear(len, part);
+        back.into_builder(len, part)
     }
 }

@@ -10,6 +10,7 @@
 //!                          key 0    key 1    key 2             each reads every item
 //! JoinedKeys              keys 2 and 0, in the room of one
 //! reunite                 all three keys, in any order: the items are dropped, the block is freed
+//! into_builder            the same, but the block is there to be filled anew
 //! ```
 //!
 //! What a key owns: a share of the right to read. The block's items are lent for a lifetime of

@@ -4,7 +4,7 @@ ghost use Rattle.am_segment.specs.Segments.{AreAllKeys, MayJoin, MayJoinRest, re
 ghost use Rattle.am_cast.specs.declared.limits.TheConstants.{LANES};
 
 use crate::limits::LANES;
-use am_segment::{JoinedKeys, KeyRun, SegKey};
+use am_segment::{JoinedKeys, KeyRun, SegKey, SegmentBuilder};
 use std::marker::Model;
 
 /// A row. It must come to an end.
@@ -68,13 +68,14 @@ impl<T> Row<T> {
         self.keys.add_rest(rest);
     }
 
-    /// The segment ends: its items are dropped, and its block is freed.
-    pub(crate) fn end(self)
+    /// The segment ends: its items are dropped, and an empty builder is left of it.
+    pub(crate) fn end(self) -> SegmentBuilder<T>
     where
         T: Drop,
         requires { AreAllKeys self.keys }
+        ensures { result.items ≡ [] }
     {
         let Row { place: _, keys } = self;
-        keys.reunite();
+        keys.into_builder()
     }
 }

@@ -270,7 +270,7 @@ impl<T: Drop, P, A, N: Feed> WriterState<T, P, A, N> {
         self.next.go_on();
         board::hand_own(top, &mut self.seat, to);
         if row.is_full() {
-            row.end();
+            self.rows.end_row(row);
         } else {
             self.rows.insert(index, row);
         }

@@ -3,4 +3,4 @@ use Rattle.am_store.specs.Shared.{alerts_in}
 use Rattle.am_provider.proofs.sending.segment_of.Given as goal
 
 abbrev pub invariant-loop-alert : goal.invariant-loop-alert
-invariant-loop-alert l = (l.segment.items ++ alerts_in l.alert-iterator.rest.items ≡ alerts_in l.fn.batch.items) × (l.segment.places ≡ length l.fn.batch.items)
+invariant-loop-alert g l = (l.segment.items ++ alerts_in l.alert-iterator.rest.items ≡ alerts_in l.fn.batch.items) × (l.segment.places ≡ length l.fn.batch.items)

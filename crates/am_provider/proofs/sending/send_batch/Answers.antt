@@ -17,7 +17,8 @@ pub returns-in-Ok-clause-sent : goal.returns-in-Ok-clause-sent
 returns-in-Ok-clause-sent g c =
     let sent = c.in-Ok.ensures.sent in
     let x = sent.batch in
-    let items = subst (λ (items : List Alert). IsSent c.args.policy c.args.writer.now c.send.new.writer c.args.pass.now c.confirm.new.pass c.args.call.now items c.in-Ok.sent.place c.in-Ok.sent.cut) c.in_ok-segment.ensures (record {
+    let from = c.segment_of.new.writer in
+    let items = subst (λ (items : List Alert). IsSent c.args.policy from c.send.new.writer c.args.pass.now c.confirm.new.pass c.args.call.now items c.in-Ok.sent.place c.in-Ok.sent.cut) c.in_ok-segment.ensures.segment (record {
       next = sent.next;
       still_open = sent.still_open;
       batch = (x.0, x.1, x.2, x.3, c.confirm.ensures.own ∙ x.4);
@@ -26,12 +27,13 @@ returns-in-Ok-clause-sent g c =
       cuts = sent.cuts;
       kept = sent.kept;
     }) in
-    subst (λ (log : LogView). IsSent c.args.policy c.args.writer.now log c.args.pass.now c.confirm.new.pass c.args.call.now (alerts_in c.args.batch.items) c.in-Ok.sent.place c.in-Ok.sent.cut) (sym c.confirm.ensures.same) items
+    let confirmed = subst (λ (log : LogView). IsSent c.args.policy from log c.args.pass.now c.confirm.new.pass c.args.call.now (alerts_in c.args.batch.items) c.in-Ok.sent.place c.in-Ok.sent.cut) (sym c.confirm.ensures.same) items in
+    subst (λ (log : LogView). IsSent c.args.policy log c.confirm.new.self c.args.pass.now c.confirm.new.pass c.args.call.now (alerts_in c.args.batch.items) c.in-Ok.sent.place c.in-Ok.sent.cut) c.in_ok-segment.ensures.same confirmed
 
 pub returns-in-Ok-clause-above : goal.returns-in-Ok-clause-above
 returns-in-Ok-clause-above g c =
     let sent = c.in-Ok.ensures.sent in
     let x = sent.batch in
     let longer = ap (λ (log : LogView). log.tail.log) c.confirm.ensures.same ∙ ap (λ (tail : Tail Batch). tail.log) x.3 in
-    all_below c.args.pass.now.own c.confirm.new.pass.own c.args.writer.now.tail.log c.confirm.new.self.tail.log x.0 c.in-Ok.sent.place
+    all_below c.args.pass.now.own c.confirm.new.pass.own c.segment_of.new.writer.tail.log c.confirm.new.self.tail.log x.0 c.in-Ok.sent.place
     (c.confirm.ensures.own ∙ x.4) longer sent.next c.confirm.ensures.stand c.confirm.ensures.once
