@@ -1,17 +1,21 @@
 -- What a live run comes to.
-use Rattle.std.proofs.Common.{◌≡◌, ◌∙◌, ◌+◌, ℕ, List, [], ◌∷◌, ◌++◌, length, Option, Some, None, Result, Ok, Err, IfOk, String, string_bytes, refl, sym, ap, subst, arith, length-append, append-nil}
+use Rattle.std.proofs.Common.{◌≡◌, ◌≢◌, ◌∙◌, ◌+◌, ℕ, List, [], ◌∷◌, ◌++◌, length, Option, Some, None, Result, Ok, Err, IfOk, String, string_bytes, refl, sym, ap, subst, arith, length-append, append-nil}
 use Rattle.std.specs.List.{All}
 use Rattle.std.specs.declared.alloc.Global.{Global}
 use Rattle.std.specs.Io.KnownBytes.{Appends, Keeps}
 use Rattle.am_config.specs.declared.config.Config.{Config}
+use Rattle.json.specs.Json.{object}
+use Rattle.json.specs.Print.{print}
+use Rattle.json.specs.Tree.{json_tokens}
 use Rattle.am_script.specs.Outputs.{AppendsBeginning}
 use Rattle.am_provider.specs.declared.answers.Counts.{Counts}
 use Rattle.am_runner.specs.Sessions.{Setting}
 use Rattle.am_runner.specs.declared.form.Form.{Form}
+use Rattle.am_runner.specs.declared.form.Form.TheVariants as forms
 use Rattle.am_serve.specs.Reading.{IsNext}
 use Rattle.am_replay.specs.FirstLines.{IsFirstLine}
 use Rattle.am_replay.specs.Live.{IsEnd, IsLive, IsLived, IsRefusedAs, IsTold, LivesUnder, line_or_empty, lived, last_line_cut_short, no_memory, not_begun, not_written, refused, refusal_cut_short}
-use Rattle.am_replay.specs.Printing.{counts_line}
+use Rattle.am_replay.specs.Printing.{counts_line, counts_members, counts_text}
 use Rattle.am_replay.specs.declared.arguments.Arguments.{Arguments}
 use Rattle.am_replay.specs.declared.first_line.FirstLine.{FirstLine}
 use Rattle.am_replay.specs.declared.status.Status.{Status}
@@ -42,10 +46,18 @@ refusal_told arguments input old new line rest first wanted (Err error) NoThread
 refusal_told arguments input old new line rest first wanted (Err error) ReadFailed next is as_text same told = absurd told
 refusal_told arguments input old new line rest first wanted (Err error) WriteFailed next is as_text same told = absurd told
 
+-- a text that ends in a line feed isn't empty
+some_line : (text : List ℕ) → text ++ 10 ∷ [] ≢ []
+some_line text none = let long = length-append text (10 ∷ []) in let same = ap length none in omega (arith, long, same)
+
+some_counts : (form : Form) (counts : Counts) → counts_line form counts ≢ []
+some_counts forms.Text counts none = some_line (counts_text counts) none
+some_counts forms.Json counts none = some_line (print (json_tokens (object (counts_members counts)))) none
+
 pub counts_told : (setting : Setting) (form : Form) (config : Config) (input rest old mid new : Option (List ℕ)) (counts : Counts) (status : Status) → IsLived config setting form input rest old mid counts → IsEnd form counts mid status new → LivesUnder setting form config input old status new
 counts_told setting form config input rest old mid new counts Done is told = lived counts is told
 counts_told setting form config input rest old mid new counts WriteFailed is told = last_line_cut_short counts is not_written told
-counts_told setting form config input rest old mid new counts OutOfMemory is told = last_line_cut_short counts is no_memory ([], counts_line form counts, refl, appends_kept_none mid new told)
+counts_told setting form config input rest old mid new counts OutOfMemory is told = last_line_cut_short counts is no_memory (record { written = []; rest = counts_line form counts; whole = refl; some = some_counts form counts; appended = appends_kept_none mid new told })
 counts_told setting form config input rest old mid new counts BadArguments is told = absurd told
 counts_told setting form config input rest old mid new counts Refused is told = absurd told
 counts_told setting form config input rest old mid new counts CallOutOfMemory is told = absurd told

@@ -1,9 +1,9 @@
 -- Facts about the words of specs/Replays.antt, and of specs/Runs.antt below it.
-use Rattle.std.proofs.Common.{◌≡◌, ℕ, ◌+◌, Bool, List, [], ◌∷◌, ◌++◌, true, length, map, Option, Some, None, Result, Ok, Err, IfOk, ap, sym, subst, refl, ◌∙◌}
+use Rattle.std.proofs.Common.{◌≡◌, ℕ, ◌+◌, Bool, List, [], ◌∷◌, ◌++◌, true, false, length, map, Option, Some, None, Result, Ok, Err, IfOk, ap, sym, subst, refl, ◌∙◌}
 use Rattle.std.proofs.lemmas.List.{map-append, length-append, length-map}
 use Rattle.std.specs.Global.{Vec}
 use Rattle.std.specs.declared.alloc.AllocError.{AllocError}
-use Rattle.std.specs.Io.KnownBytes.{Keeps}
+use Rattle.std.specs.Io.KnownBytes.{Appends, Keeps}
 use Rattle.am_alert.specs.declared.alert.Alert.{Alert}
 use Rattle.am_store.specs.declared.call.Call.{Call}
 use Rattle.am_cast.specs.Posters.{PassView}
@@ -17,16 +17,18 @@ use Rattle.am_runner.specs.Working.{AreWork, Outcome, none, one_more_thread}
 use Rattle.am_replay.specs.declared.arguments.Arguments.{Arguments}
 use Rattle.am_runner.specs.declared.answer.Answer.{Answer}
 use Rattle.am_replay.specs.Printing.{transcript_text, ran_out_of_memory}
-use Rattle.am_replay.specs.Replays.{ComesTo, ran, runs_in_order, status_of}
+use Rattle.am_replay.specs.Replays.{ComesTo, IsPrinted, IsReplay, no_config, ran, refused, runs_in_order, status_of, too_long}
 use Rattle.am_replay.specs.Runs.{AreCountsOf, IsRun}
 use Rattle.am_config.specs.declared.config.Config.{Config}
 use Rattle.am_replay.specs.FirstLines.{IsFirstLine}
 use Rattle.am_replay.specs.declared.first_line.FirstLine.TheVariants.{Read}
 use Rattle.am_replay.specs.declared.transcript.Transcript.{Transcript}
+use Rattle.am_script.specs.Inputs.{IsReadOf}
+use Rattle.am_script.specs.Outputs.{AppendsBeginning}
 use Rattle.am_script.specs.Script.{Checks, lines_of}
 use Rattle.am_script.specs.declared.command.Line.{Line}
 use Rattle.am_replay.specs.declared.status.Status.{Status}
-use Rattle.am_replay.specs.declared.status.Status.TheVariants.{Refused}
+use Rattle.am_replay.specs.declared.status.Status.TheVariants.{Refused, WriteFailed}
 
 pub if_ok_both : {T E : Type 0} {P Q S : T → Type 0} (r : Result T E) → IfOk r P → IfOk r Q → ((x : T) → P x → Q x → S x) → IfOk r S
 if_ok_both (Ok x) one two f = f x one two
@@ -91,3 +93,21 @@ map_twice f g (x ∷ xs) = ap (λ rest. g (f x) ∷ rest) (map_twice f g xs)
 pub keeps_same : (known : Option (List ℕ)) → Keeps known known
 keeps_same None = tt
 keeps_same (Some bytes) = refl
+
+ended : {arguments : Arguments} {input old new : Option (List ℕ)} (out_of_memory : Bool) → IsPrinted arguments input old new (status_of out_of_memory) → IsReplay arguments input old (status_of out_of_memory) new
+ended true printed = printed
+ended false printed = printed
+
+printed_so : {arguments : Arguments} {input old new : Option (List ℕ)} {text output : List ℕ} {status : Status} → ComesTo arguments text status output → IsPrinted arguments input old new status → IsReplay arguments input old status new
+printed_so (too_long first) printed = printed
+printed_so (no_config fault first) printed = printed
+printed_so (refused config refusal first checks) printed = printed
+printed_so (ran config transcript settled first checks runs) printed = ended (ran_out_of_memory transcript.answers.items) printed
+
+-- all that a script comes to was printed
+pub replayed : (arguments : Arguments) (input old new : Option (List ℕ)) (text output : List ℕ) (status : Status) → IsReadOf input text → ComesTo arguments text status output → Appends old new output → IsReplay arguments input old status new
+replayed arguments input old new text output status read so printed = printed_so so (record { text = text; output = output; read = read; comes = so; printed = printed })
+
+-- a write of it failed
+pub cut_short : (arguments : Arguments) (input old new : Option (List ℕ)) (text output : List ℕ) (status : Status) → IsReadOf input text → ComesTo arguments text status output → AppendsBeginning old new output → IsReplay arguments input old WriteFailed new
+cut_short arguments input old new text output status read so printed = record { text = text; status = status; output = output; read = read; comes = so; printed = printed }

@@ -14,9 +14,9 @@ returns-in_err-write_text-clause-err g c =
     let answered : Answers c.args.context.now.config.now (setting_of g.N.Recorded.places g.N.Recorded.policy c.args.context.now.provider.now.resolve_timeout) c.args.form c.args.number c.args.bytes.now c.args.session.now text c.answer_line.new.session =
     subst (λ (printed : List ℕ). Answers c.args.context.now.config.now (setting_of g.N.Recorded.places g.N.Recorded.policy c.args.context.now.provider.now.resolve_timeout) c.args.form c.args.number c.args.bytes.now c.args.session.now printed c.answer_line.new.session) (sym c.as_bytes.ensures.value) c.in_ok-text.ensures in
     on_err_of c.from_residual-in_err-write_text.result (
-      part.0,
-      inr (c.args.bytes.now, part.1, c.answer_line.new.session, subst (λ (printed : List ℕ). Answers c.args.context.now.config.now (setting_of g.N.Recorded.places g.N.Recorded.policy c.args.context.now.provider.now.resolve_timeout) c.args.form c.args.number c.args.bytes.now c.args.session.now printed c.answer_line.new.session) (sym part.2) answered),
-      part.3,
+      part.written,
+      inr (c.args.bytes.now, part.rest, c.answer_line.new.session, subst (λ (printed : List ℕ). Answers c.args.context.now.config.now (setting_of g.N.Recorded.places g.N.Recorded.policy c.args.context.now.provider.now.resolve_timeout) c.args.form c.args.number c.args.bytes.now c.args.session.now printed c.answer_line.new.session) (sym part.whole) answered),
+      part.appended,
     )
 
 pub returns-clause-err : goal.returns-clause-err
