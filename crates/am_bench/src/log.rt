@@ -6,6 +6,7 @@ ghost use Rattle.am_cast.specs.declared.limits.TheConstants.{MAX_PLACES};
 
 use crate::failure::Failure;
 use crate::printed::Printed;
+use crate::stopwatch::since;
 use crate::words::number;
 use am_cast::{
     Begun, Cast, Cursor, Feed, LANES, MAX_PLACES, Parts, Pass, Refused, Slice, Writer, begin, end,
@@ -17,7 +18,7 @@ use std::snapshot::Snapshot;
 use std::sync::Wait;
 use std::thread;
 use std::thread::Threads;
-use std::time::{Clock, Duration};
+use std::time::{Clock, Duration, Instant};
 
 /// How much is published, and to how many readers.
 #[derive(Clone, Copy, Debug, Drop)]
@@ -303,7 +304,8 @@ fn run<N: Feed + Send + Sync, R: Threads + Wait + Clock + Sync>(
     if well { Ok(shown) } else { Err(AllocError) }
 }
 
-/// Runs a load, and prints how many items the readers received in all, and their sum.
+/// Runs a load, and prints how many items the readers received in all, and their sum, and how long that
+/// took.
 pub(crate) fn time<R: Threads + Wait + Clock + Sync>(
     rt: &R,
     alloc: Global,
@@ -311,7 +313,9 @@ pub(crate) fn time<R: Threads + Wait + Clock + Sync>(
     printed: &mut Printed,
 ) -> Result<(), Failure> {
     let parts = Parts::<u64, u64, u64>::make(alloc, load.places)?;
+    let begin = Instant::now(rt);
     let shown = run::<Brand, R>(rt, parts, alloc, load)?;
+    write!(printed.nanoseconds, "{}\n", since(rt, begin))?;
     write!(printed.counts, "{} {}\n", shown.items, shown.sum)?;
     Ok(())
 }

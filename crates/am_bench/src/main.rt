@@ -8,8 +8,8 @@
 //!     am_bench each
 //!
 //! The first word says what to time; `each` runs a small load of each. What is printed is a count that
-//! the script checks, and the time is that of the whole run. Only `provider` measures for itself: it
-//! prints nanoseconds to standard error.
+//! the script checks, and the time is that of the whole run. `log` and `provider` measure for
+//! themselves: they print nanoseconds to standard error.
 //!
 //! The exit status is 1 for arguments that aren't of this form, and 3 if memory runs out.
 #![tactic(auto)]
@@ -20,6 +20,7 @@ mod log;
 mod printed;
 mod provider;
 mod routes;
+mod stopwatch;
 mod words;
 
 use crate::failure::Failure;

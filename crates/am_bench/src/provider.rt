@@ -10,6 +10,7 @@ ghost use Rattle.am_provider.specs.declared.answers.Policy.TheVariants.{Refuse};
 
 use crate::failure::Failure;
 use crate::printed::Printed;
+use crate::stopwatch::since;
 use crate::words::{number, small_number};
 use am_alert::{Moment, Post, PostReader};
 use am_cast::{LANES, MAX_PLACES};
@@ -22,9 +23,9 @@ use std::hint::spin_loop;
 use std::marker::Brand;
 use std::sync::atomic::{AtomicU64, Ordering};
 use std::sync::{Mutex, Wait};
+use std::thread;
 use std::thread::Threads;
 use std::time::{Clock, Duration, Instant};
-use std::{io, thread};
 
 // 2024-01-01T00:00:00Z, in nanoseconds since 0001-01-01T00:00:00Z.
 const NEW_YEAR: u128 = 63_839_664_000_000_000_000;
@@ -213,17 +214,6 @@ fn count_shown<N: Origin, R: Clock>(rt: &R, subscription: &mut Subscription<'_, 
         }
     }
     shown
-}
-
-// How many nanoseconds have passed.
-fn since<R: Clock>(rt: &R, begin: io::Result<Instant>) -> u128 {
-    match begin {
-        Ok(begin) => match begin.elapsed(rt) {
-            Ok(gone) => gone.as_nanos(),
-            Err(_) => 0,
-        },
-        Err(_) => 0,
-    }
 }
 
 // Subscribes, and reads until the log ends.
