@@ -3,3 +3,4 @@ pub mod Readings
 pub mod OneMatcher
 pub mod Patterns
 pub mod Searching
+pub mod Choices

@@ -1,4 +1,5 @@
 -- Definitions that only code of this crate cites.
+pub mod Choices
 pub mod Comparisons
 pub mod Pairs
 pub mod Searches

@@ -1,22 +1,22 @@
-//! How a matcher compares, with its compiled pattern. Only `matcher.rt` uses it.
+//! How a matcher compares, with its pattern. Only `matcher.rt` uses it.
 
 ghost use Rattle.std.specs.Prelude.{◌≡◌, IfOk, OnErr, true, List, ℕ};
 ghost use Rattle.am_labels.specs.Matchers.{is_of_pattern};
-ghost use Rattle.am_labels.specs.inside.Comparisons.{IsComparisonOf, IsComparisonWith, IsCompiledOf, operator_of};
+ghost use Rattle.am_labels.specs.inside.Comparisons.{IsComparisonOf, IsComparisonWith, operator_of};
 ghost use Rattle.am_labels.specs.inside.Searches.{IsSearchWith, searched_operator};
 
 use crate::match_fault::MatchFault;
 use crate::operator::Operator;
+use crate::pattern::Pattern;
 use crate::search::Search;
-use regex::{Error, Regex};
 use std::alloc::{AllocError, Global};
 
 #[derive(Debug, Drop)]
 pub(crate) enum Comparison {
     Equal,
     NotEqual,
-    MatchRegexp(Regex),
-    MatchNotRegexp(Regex),
+    MatchRegexp(Pattern),
+    MatchNotRegexp(Pattern),
 }
 
 impl Comparison {
@@ -30,8 +30,8 @@ impl Comparison {
         Ok(match operator {
             Operator::Equal => Comparison::Equal,
             Operator::NotEqual => Comparison::NotEqual,
-            Operator::MatchRegexp => Comparison::MatchRegexp(compile(alloc, value)?),
-            Operator::MatchNotRegexp => Comparison::MatchNotRegexp(compile(alloc, value)?),
+            Operator::MatchRegexp => Comparison::MatchRegexp(Pattern::read(alloc, value)?),
+            Operator::MatchNotRegexp => Comparison::MatchNotRegexp(Pattern::read(alloc, value)?),
         })
     }
 
@@ -57,20 +57,8 @@ impl Comparison {
         Ok(match self {
             Comparison::Equal => Search::Equal,
             Comparison::NotEqual => Search::NotEqual,
-            Comparison::MatchRegexp(regex) => Search::MatchRegexp(regex.matcher(alloc)?),
-            Comparison::MatchNotRegexp(regex) => Search::MatchNotRegexp(regex.matcher(alloc)?),
+            Comparison::MatchRegexp(pattern) => Search::MatchRegexp(pattern.search(alloc)?),
+            Comparison::MatchNotRegexp(pattern) => Search::MatchNotRegexp(pattern.search(alloc)?),
         })
-    }
-}
-
-// The pattern of a value, anchored at both ends.
-fn compile(alloc: Global, value: &str) -> Result<Regex, MatchFault>
-    ensures { IsCompiledOf value.now result }
-{
-    let source = format!(in alloc; "^(?:{value})$")?;
-    match Regex::new(alloc, source.as_str()) {
-        Ok(regex) => Ok(regex),
-        Err(Error::OutOfMemory) => Err(MatchFault::NoMemory),
-        Err(_) => Err(MatchFault::BadPattern),
     }
 }

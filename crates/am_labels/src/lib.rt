@@ -17,6 +17,7 @@
 //! This crate knows nothing of alerts.
 #![tactic(auto)]
 
+mod choice;
 mod comparison;
 mod label_name;
 mod label_set;
@@ -27,6 +28,7 @@ mod matcher_text;
 mod matchers;
 mod operator;
 mod pairs;
+mod pattern;
 mod prepared_matcher;
 mod prepared_matchers;
 mod quoted;

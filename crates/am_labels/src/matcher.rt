@@ -13,7 +13,7 @@ use std::alloc::{AllocError, Global};
 use std::marker::Model;
 
 /// A condition on the value of one label, as `name="value"`. Contracts see it as its name, its
-/// operator and its value. Its compiled pattern is always the one of its value.
+/// operator and its value. Its pattern is always the one of its value.
 #[derive(Debug, Drop)]
 pub struct Matcher {
     name: Text,
@@ -43,7 +43,7 @@ impl Matcher {
     ghost use Rattle.am_labels.specs.Matchers.{admitted, is_of_pattern, IsReadable, IsReadingOf};
 
     /// The matcher of a text. The value of `=~` and `!~` is a pattern of `regex`, which is compiled
-    /// here.
+    /// here unless it chooses among few plain texts.
     pub fn read(alloc: Global, text: &str) -> Result<Matcher, MatchFault>
         ensures { IsReadingOf text.now result }
     {

@@ -6,13 +6,14 @@ ghost use Rattle.am_labels.specs.Matchers.{accepts};
 ghost use Rattle.am_labels.specs.inside.Searches.{searched_operator, IsSearchWith};
 
 use crate::operator::Operator;
+use crate::pattern::PatternSearch;
 
 #[derive(Drop)]
 pub(crate) enum Search<'r> {
     Equal,
     NotEqual,
-    MatchRegexp(regex::Matcher<'r>),
-    MatchNotRegexp(regex::Matcher<'r>),
+    MatchRegexp(PatternSearch<'r>),
+    MatchNotRegexp(PatternSearch<'r>),
 }
 
 impl<'r> Search<'r> {
@@ -37,8 +38,8 @@ impl<'r> Search<'r> {
         match self {
             Search::Equal => found == value,
             Search::NotEqual => found != value,
-            Search::MatchRegexp(pattern) => pattern.is_match(found),
-            Search::MatchNotRegexp(pattern) => !pattern.is_match(found),
+            Search::MatchRegexp(pattern) => pattern.finds(found),
+            Search::MatchNotRegexp(pattern) => !pattern.finds(found),
         }
     }
 }

@@ -221,6 +221,82 @@ fn patterns_admitted(rt: HostRuntime) -> Result<(), Fail> {
     are_answers(rt.alloc(), &cases)
 }
 
+// Of patterns that choose among a few texts, which are compared, and of some that nearly do.
+#[test]
+fn choices_admitted(rt: HostRuntime) -> Result<(), Fail> {
+    let cases = [
+        ("foo=~\"web|api\"", "web", true),
+        ("foo=~\"web|api\"", "api", true),
+        ("foo=~\"web|api\"", "we", false),
+        ("foo=~\"web|api\"", "webapi", false),
+        ("foo=~\"web|api\"", "", false),
+        ("foo!~\"web|api\"", "web", false),
+        ("foo!~\"web|api\"", "db", true),
+        ("foo!~\"web|api\"", "", true),
+        ("foo=~\"s2-(web|api)\"", "s2-api", true),
+        ("foo=~\"s2-(web|api)\"", "s2-", false),
+        ("foo=~\"s2-(web|api)\"", "api", false),
+        ("foo=~\"(?:web|api)-(?P<to>eu|us|)\"", "api-us", true),
+        ("foo=~\"(?:web|api)-(?P<to>eu|us|)\"", "web-", true),
+        ("foo=~\"(?:web|api)-(?P<to>eu|us|)\"", "us-web", false),
+        ("foo=~\"web|webs\"", "webs", true),
+        ("foo=~web", "web", true),
+        ("foo=~web", "webs", false),
+        ("foo=~\"\"", "", true),
+        ("foo=~\"\"", "web", false),
+        ("foo=~\"größe|höhe\"", "höhe", true),
+        ("foo=~\"größe|höhe\"", "hohe", false),
+        ("foo=~\"(?i)web|api\"", "WEB", true),
+        ("foo=~\"w.b|api\"", "wib", true),
+        ("foo=~\"web$|api\"", "web", true),
+        ("foo=~\"web^|api\"", "web", false),
+        ("foo=~\"(web){2}|api\"", "webweb", true),
+        ("foo=~\"(ab|cd)(ab|cd)(ab|cd)(ab|cd)\"", "abcdcdab", true),
+        ("foo=~\"(ab|cd)(ab|cd)(ab|cd)(ab|cd)\"", "abcdcdac", false),
+        (
+            "foo=~\"(ab|cd)(ab|cd)(ab|cd)(ab|cd)(ab|cd)\"",
+            "abcdcdabcd",
+            true,
+        ),
+        (
+            "foo=~\"(ab|cd)(ab|cd)(ab|cd)(ab|cd)(ab|cd)\"",
+            "abcdcdabce",
+            false,
+        ),
+    ];
+    are_answers(rt.alloc(), &cases)
+}
+
+// The letter a so many times, and with a b at the end.
+fn long_values(alloc: Global, length: u64) -> Result<(String, String), AllocError> {
+    let mut value = String::new(alloc);
+    for _ in 0..length {
+        value.push('a')?;
+    }
+    let mut other = String::from_str(alloc, value.as_str())?;
+    other.push('b')?;
+    Ok((value, other))
+}
+
+// Of a pattern of one text just as long as one that is compared, and of one that is a byte longer.
+#[test]
+fn long_choices_admitted(rt: HostRuntime) -> Result<(), Fail> {
+    let alloc = rt.alloc();
+    for length in [1018, 1019] {
+        let (value, other) = long_values(alloc, length)?;
+        let text = format!(in alloc; "foo=~{value}")?;
+        expect(
+            is_answer(alloc, text.as_str(), value.as_str(), true)?,
+            "the text",
+        )?;
+        expect(
+            is_answer(alloc, text.as_str(), other.as_str(), false)?,
+            "a longer one",
+        )?;
+    }
+    Ok(())
+}
+
 fn list(alloc: Global, texts: &[&str]) -> Result<Matchers, Fail> {
     let mut matchers = Vec::new(alloc);
     for text in texts {

@@ -1,5 +1,5 @@
 -- What a compiled pattern finds is what the grammar's reading of its source finds.
-use Rattle.std.proofs.Common.{◌≡◌, ◌≢◌, ◌⊎◌, ⊎_elim, ℕ, ◌<◌, true, false, List, Option, None, Some, refl, IsSomeAnd, IfSome, is_some, get_or, inl, inr}
+use Rattle.std.proofs.Common.{◌≡◌, ◌≢◌, ◌⊎◌, ⊎_elim, ℕ, ◌<◌, true, false, List, Option, None, Some, refl, IsSomeAnd, IfSome, is_some, get_or, inl, inr, sym, ◌∙◌}
 use Rattle.std.specs.Prelude.{chars}
 use Rattle.std.specs.Option.{option_map_or}
 use Rattle.regex.specs.Failures.{IsPattern, IsRightKind}
@@ -16,38 +16,58 @@ use Rattle.regex_syntax.specs.Brackets.{Nested}
 use Rattle.am_labels.specs.Matchers.{anchored, finds, HasNoReading, IsReadable, MayBeRefused}
 use Rattle.am_labels.specs.declared.comparison.Comparison.{Comparison}
 use Rattle.am_labels.specs.declared.comparison.Comparison.TheVariants.{Equal, NotEqual, MatchRegexp, MatchNotRegexp}
-use Rattle.am_labels.specs.inside.Comparisons.{operator_of, IsComparisonWith, IsPatternOf}
+use Rattle.am_labels.specs.declared.pattern.Pattern.{Pattern}
+use Rattle.am_labels.specs.declared.pattern.Pattern.TheVariants.{Choice, Compiled}
+use Rattle.regex_hir.specs.Meaning.{meaning}
+use Rattle.regex_hir.specs.declared.hir.Hir.{Hir}
+use Rattle.am_labels.specs.inside.Choices.{FindsOneOf, IsChoiceIn}
+use Rattle.am_labels.specs.inside.Comparisons.{operator_of, IsComparisonWith, IsPatternOf, IsRegexOf}
 
 -- the answer of a search, by what was read and what was compiled of it
-by_reading : (r : Regex) (text : List ℕ) (found : Option (Nested Re × Names)) (hir : Re)
+by_reading : (text : List ℕ) (found : Option (Nested Re × Names)) (hir : Re)
     → ((k : ℕ) → get_or text k 0 < 256)
     → IsSomeAnd found (λ p. SameCaptures hir p.0.value)
     → is_some (find_str hir text 0) ≡ option_map_or (λ p. is_some (find_str p.0.value text 0)) found false
-by_reading r text None hir bytes h = absurd h
-by_reading r text (Some p) hir bytes h = is_match_alike h text bytes true 0
+by_reading text None hir bytes h = absurd h
+by_reading text (Some p) hir bytes h = is_match_alike h text bytes true 0
 
 weaker : {A : Type 0} (o : Option A) (P Q : A → Type 0) → ((x : A) → P x → Q x) → IsSomeAnd o P → IsSomeAnd o Q
 weaker None P Q f h = absurd h
 weaker (Some x) P Q f h = f x h
 
+-- what is read of a source finds what the source's pattern finds
+finds_so : (source text : List ℕ) (hir : Hir) (names : Names) → Reads default_config source hir names → ((k : ℕ) → get_or text k 0 < 256)
+    → is_some (find_str (meaning hir) text 0) ≡ finds source text
+unfolding Reads
+finds_so source text hir names reads bytes =
+    by_reading text (read default_config (chars source)) (meaning hir) bytes
+    (weaker (read default_config (chars source)) _ _ (λ p h. h.1) reads)
+
 -- what a compiled pattern finds is what its source's reading finds
-pub finds_as : (r : Regex) (value text : List ℕ) → IsPatternOf value r → ((k : ℕ) → get_or text k 0 < 256)
+pub finds_as : (r : Regex) (value text : List ℕ) → IsRegexOf value r → ((k : ℕ) → get_or text k 0 < 256)
     → is_some (find_str (regex_pattern r) text 0) ≡ finds (anchored value) text
 unfolding Reads
 finds_as r value text of bytes =
-    by_reading r text (read default_config (chars (anchored value))) (regex_pattern r) bytes
+    by_reading text (read default_config (chars (anchored value))) (regex_pattern r) bytes
     (weaker (read default_config (chars (anchored value))) _ _ (λ p h. h.1) (rw (of.0, of.1) at of.2))
 
--- a compiled pattern has a reading
-pub is_pattern : (r : Regex) (value : List ℕ) → IsPatternOf value r → IsPattern default_config (anchored value)
-is_pattern r value of = let reads = rw (of.0, of.1) at of.2 in (_, _, reads)
+-- the texts that are found by what is read of a source are found by the source's pattern
+pub choice_of_reading : (source : List ℕ) (hir : Hir) (names : Names) (texts : List (List ℕ)) → Reads default_config source hir names
+    → FindsOneOf texts (meaning hir) → IsChoiceIn source texts
+choice_of_reading source hir names texts reads found =
+    ((hir, names, reads), λ text utf8 bytes. sym (finds_so source text hir names reads bytes) ∙ found text utf8 bytes)
+
+-- a pattern that is kept has a reading
+pub is_pattern : (pattern : Pattern) (value : List ℕ) → IsPatternOf value pattern → IsPattern default_config (anchored value)
+is_pattern (Choice texts) value of = of.0
+is_pattern (Compiled regex) value of = let reads = rw (of.0, of.1) at of.2 in (_, _, reads)
 
 -- the value of a comparison is readable
 pub readable : (value : List ℕ) (comparison : Comparison) → IsComparisonWith value comparison → IsReadable (operator_of comparison) value
 readable value Equal h e = cc
 readable value NotEqual h e = cc
-readable value (MatchRegexp regex) h e = is_pattern regex value h
-readable value (MatchNotRegexp regex) h e = is_pattern regex value h
+readable value (MatchRegexp pattern) h e = is_pattern pattern value h
+readable value (MatchNotRegexp pattern) h e = is_pattern pattern value h
 
 -- what `regex` says of a pattern that it refuses
 pub may_be_refused : (value : List ℕ) (error : Error) → error ≢ OutOfMemory → error ≢ Internal

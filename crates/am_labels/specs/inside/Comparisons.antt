@@ -12,28 +12,36 @@ use Rattle.am_labels.specs.declared.match_fault.MatchFault.TheVariants.{NoMemory
 use Rattle.am_labels.specs.declared.match_fault.MatchFault.TheVariants.{BadQuote, BadPattern}
 use Rattle.am_labels.specs.declared.operator.Operator.{Operator}
 use Rattle.am_labels.specs.declared.operator.Operator.TheVariants as operator
+use Rattle.am_labels.specs.declared.pattern.Pattern.{Pattern}
+use Rattle.am_labels.specs.declared.pattern.Pattern.TheVariants.{Choice, Compiled}
+use Rattle.am_labels.specs.inside.Choices.{bytes_of, IsChoiceIn}
 use Rattle.am_labels.specs.Matchers.{anchored, is_of_pattern, MayBeRefused}
 
 -- the operator of a comparison
 abbrev pub operator_of : Comparison → Operator
 operator_of Equal = operator.Equal
 operator_of NotEqual = operator.NotEqual
-operator_of (MatchRegexp regex) = operator.MatchRegexp
-operator_of (MatchNotRegexp regex) = operator.MatchNotRegexp
+operator_of (MatchRegexp pattern) = operator.MatchRegexp
+operator_of (MatchNotRegexp pattern) = operator.MatchNotRegexp
 
 -- the regex is what the grammar of `regex` reads in the value's pattern, under the default options
-abbrev pub IsPatternOf : List ℕ → Regex → Type 0
-IsPatternOf value regex =
+abbrev pub IsRegexOf : List ℕ → Regex → Type 0
+IsRegexOf value regex =
     (regex_source regex ≡ anchored value)
     × (regex_config regex ≡ default_config)
     × IsReadFromSource regex
+
+-- what is kept is the value's pattern: the texts that it chooses among, or its regex
+abbrev pub IsPatternOf : List ℕ → Pattern → Type 0
+IsPatternOf value (Choice texts) = IsChoiceIn (anchored value) (bytes_of texts.items)
+IsPatternOf value (Compiled regex) = IsRegexOf value regex
 
 -- a comparison by pattern has the pattern of its value
 abbrev pub IsComparisonWith : List ℕ → Comparison → Type 0
 IsComparisonWith value Equal = Unit {0}
 IsComparisonWith value NotEqual = Unit {0}
-IsComparisonWith value (MatchRegexp regex) = IsPatternOf value regex
-IsComparisonWith value (MatchNotRegexp regex) = IsPatternOf value regex
+IsComparisonWith value (MatchRegexp pattern) = IsPatternOf value pattern
+IsComparisonWith value (MatchNotRegexp pattern) = IsPatternOf value pattern
 
 -- what making a comparison answers
 abbrev pub IsComparisonOf : Operator → List ℕ → Result Comparison MatchFault → Type 0
@@ -45,11 +53,11 @@ IsComparisonOf op value (Err NoOperator) = ⊥
 IsComparisonOf op value (Err BadQuote) = ⊥
 IsComparisonOf op value (Err BadPattern) = (is_of_pattern op ≡ true) × MayBeRefused value
 
--- what compiling the pattern of a value answers
-abbrev pub IsCompiledOf : List ℕ → Result Regex MatchFault → Type 0
-IsCompiledOf value (Ok regex) = IsPatternOf value regex
-IsCompiledOf value (Err NoMemory) = Unit {0}
-IsCompiledOf value (Err BadName) = ⊥
-IsCompiledOf value (Err NoOperator) = ⊥
-IsCompiledOf value (Err BadQuote) = ⊥
-IsCompiledOf value (Err BadPattern) = MayBeRefused value
+-- what reading the pattern of a value answers
+abbrev pub IsReadOf : List ℕ → Result Pattern MatchFault → Type 0
+IsReadOf value (Ok pattern) = IsPatternOf value pattern
+IsReadOf value (Err NoMemory) = Unit {0}
+IsReadOf value (Err BadName) = ⊥
+IsReadOf value (Err NoOperator) = ⊥
+IsReadOf value (Err BadQuote) = ⊥
+IsReadOf value (Err BadPattern) = MayBeRefused value

@@ -1,14 +1,17 @@
 -- What the search of a prepared matcher has of the matcher's operator and value. Only code of this crate
 -- cites it.
-use Rattle.std.specs.Prelude.{◌≡◌, ◌<◌, ℕ, is_some, List, get_or}
-use Rattle.regex.specs.declared.string.matcher.Matcher.{Matcher}
+use Rattle.std.specs.Prelude.{◌≡◌, ◌<◌, ℕ, Bool, is_some, List, get_or}
+use Rattle.std.specs.Str.{IsUtf8}
 use Rattle.regex.specs.Patterns.{find_str}
 use Rattle.regex.specs.Strings.{matcher_pattern}
 use Rattle.am_labels.specs.declared.operator.Operator.{Operator}
 use Rattle.am_labels.specs.declared.operator.Operator.TheVariants as operator
+use Rattle.am_labels.specs.declared.pattern.PatternSearch.{PatternSearch}
+use Rattle.am_labels.specs.declared.pattern.PatternSearch.TheVariants.{Choice, Compiled}
 use Rattle.am_labels.specs.declared.search.Search.{Search}
 use Rattle.am_labels.specs.declared.search.Search.TheVariants.{Equal, NotEqual, MatchRegexp, MatchNotRegexp}
 use Rattle.am_labels.specs.Matchers.{anchored, finds}
+use Rattle.am_labels.specs.inside.Choices.{bytes_of, is_one_of}
 
 -- the operator of a search
 abbrev pub searched_operator : Search → Operator
@@ -17,11 +20,16 @@ searched_operator NotEqual = operator.NotEqual
 searched_operator (MatchRegexp pattern) = operator.MatchRegexp
 searched_operator (MatchNotRegexp pattern) = operator.MatchNotRegexp
 
+-- whether a search finds its pattern in a text
+abbrev pub found_by : PatternSearch → List ℕ → Bool
+found_by (Choice texts) text = is_one_of text (bytes_of texts.now)
+found_by (Compiled regex) text = is_some (find_str (matcher_pattern regex.value) text 0)
+
 -- the search finds what the value's pattern finds, whatever the text
-abbrev pub SearchesFor : List ℕ → Matcher → Type 0
-SearchesFor value pattern =
-    (text : List ℕ) → ((at : ℕ) → get_or text at 0 < 256)
-    → is_some (find_str (matcher_pattern pattern) text 0) ≡ finds (anchored value) text
+abbrev pub SearchesFor : List ℕ → PatternSearch → Type 0
+SearchesFor value search =
+    (text : List ℕ) → IsUtf8 text → ((at : ℕ) → get_or text at 0 < 256)
+    → found_by search text ≡ finds (anchored value) text
 
 -- a search by pattern searches for its value
 abbrev pub IsSearchWith : List ℕ → Search → Type 0

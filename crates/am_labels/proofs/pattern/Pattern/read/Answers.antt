@@ -1,6 +1,6 @@
 use Rattle.std.proofs.Common.{rules}
 use Rattle.am_labels.proofs.MatcherMeaning.Patterns.{may_be_refused}
-use Rattle.am_labels.proofs.comparison.compile.Goals as goal
+use Rattle.am_labels.proofs.pattern.Pattern.read.Goals as goal
 
 pub returns : goal.returns
 returns c =
