@@ -218,15 +218,17 @@ fn find_among_few<'a>(pairs: Pairs<'a>, name: &str) -> Option<&'a str>
     requires { T (is_sorted text_cmp pairs) }
     ensures { option_map (λ value. value.now) result ≡ find text_cmp name.now pairs.entry }
 {
-    for (other, value) in pairs {
-        if other == name {
+    for at in 0..pairs.len() {
+        if pairs.has_name(at, name) {
+            let (_, value) = pairs.at(at);
             return Some(value);
         }
     }
     None
 }
 
-// By a binary search.
+// By a binary search. It isn't put into its callers, which are short without it.
+#[inline(never)]
 fn find_among_many<'a>(pairs: Pairs<'a>, name: &str) -> Option<&'a str>
     requires { T (is_sorted text_cmp pairs) }
     ensures { option_map (λ value. value.now) result ≡ find text_cmp name.now pairs.entry }

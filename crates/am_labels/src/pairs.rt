@@ -1,6 +1,7 @@
 //! Names with values that lie one after another in one text.
 
 ghost use Rattle.std.specs.Prelude.{◌≡◌, ◌<◌, [], ◌∷◌, ◌++◌, get_or, IfErr, IfOk, IsTrue, length};
+ghost use Rattle.am_labels.specs.Texts.{same_text};
 ghost use Rattle.am_labels.specs.inside.Spans.{pairs_in, AreSpansOf};
 
 use std::alloc::{AllocError, Global};
@@ -76,6 +77,17 @@ impl<'a> Pairs<'a> {
         self.text == others.text && self.spans == others.spans
     }
 
+    /// Whether one of those that are left has a name. A name of another length isn't read.
+    pub(crate) fn has_name(&self, at: usize, name: &str) -> bool
+        requires { at < length self.now }
+        ensures { result ≡ same_text (get_or self.now at ([], [])).0 name.now }
+    {
+        let spans = self.spans;
+        let span = spans[at];
+        span.middle - span.start == name.len()
+            && are_same(&self.text[span.start..span.middle], name)
+    }
+
     /// One of those that are left.
     pub(crate) fn at(&self, at: usize) -> (&'a str, &'a str)
         requires { at < length self.now }
@@ -88,6 +100,14 @@ impl<'a> Pairs<'a> {
             &self.text[span.middle..span.end],
         )
     }
+}
+
+// It isn't put into its callers: most names differ in their lengths, and then it isn't called.
+#[inline(never)]
+fn are_same(text: &str, other: &str) -> bool
+    ensures { result ≡ same_text text.now other.now }
+{
+    text == other
 }
 
 /// Names with values that are put after each other, seen by contracts as their list. They lie in two

@@ -85,14 +85,6 @@ find_between pairs name index front back =
     (λ (past : index ≤ at). let no : Greater ≡ Equal = sym (back at d past short) ∙ e in (cc))
     (cases_lt at index))
 
--- the first of some pairs is found if its name is sought, and else is passed over
-pub found_first : (name value : List ℕ) (pairs : List (List ℕ × List ℕ)) → find text_cmp name ((name, value) ∷ pairs) ≡ Some value
-found_first name value pairs = ap (λ o. cond (is_eq o) (Some value) (find text_cmp name pairs)) (tied_itself nat_list_cmp_total name)
-
-pub passed_over : (name other value : List ℕ) (pairs : List (List ℕ × List ℕ)) → (other ≡ name → ⊥) → find text_cmp name ((other, value) ∷ pairs) ≡ find text_cmp name pairs
-passed_over name other value pairs apart =
-    ap (λ b. cond b (Some value) (find text_cmp name pairs)) (untied (text_cmp name other) (λ ties. apart (sym (tied name other ties))))
-
 -- an earlier name is lower
 rises : (pairs : List (List ℕ × List ℕ)) (i j : ℕ) (d : List ℕ × List ℕ) → T (is_sorted text_cmp pairs) → i < j → j < length pairs
     → text_cmp (get_or pairs i d).0 (get_or pairs j d).0 ≡ Less

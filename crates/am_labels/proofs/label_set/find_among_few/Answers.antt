@@ -1,27 +1,21 @@
-use Rattle.std.proofs.Common.{◌≡◌, ◌∙◌, ◌∷◌, ℕ, List, bytes_eq, true, true≢false, sym, ap, rules}
-use Rattle.std.proofs.lemmas.Slice.Eq.{bytes_eq-Decides}
-use Rattle.std.specs.FinMap.Entries.{find}
-use Rattle.am_labels.specs.Texts.{text_cmp}
-use Rattle.am_labels.proofs.LabelSets.Searches.{found_first, passed_over}
+use Rattle.std.proofs.Common.{◌∙◌, ℕ, List, [], Some, true≢false, refl, sym, ap, arith}
+use Rattle.std.proofs.lemmas.Bool.Decides.{Decides-eqb}
+use Rattle.std.proofs.lemmas.Slice.Eq.{slice_eq-Decides}
+use Rattle.std.specs.Prelude.{slice_index_or}
+use Rattle.am_labels.specs.Texts.{same_text}
+use Rattle.am_labels.proofs.LabelSets.Searches.{find_there, find_nowhere, tied}
 use Rattle.am_labels.proofs.label_set.find_among_few.Goals as goal
 
-pub returns-then-eq : goal.returns-then-eq
-returns-then-eq c =
-    let name = c.args.name.now in
-    let value = c.in-Some.value.now in
-    let rest = c.next.new.self in
-    let same : c.in-Some.other.now ≡ name = (bytes_eq-Decides _ _).0 (search rules) in
-    let split : c.loop-other.other-iterator ≡ (c.in-Some.other.now, value) ∷ rest = search rules in
-    sym (c.loop-other.invariant.2 ∙ ap (find text_cmp name) split ∙ ap (λ (other : List ℕ). find text_cmp name ((other, value) ∷ rest)) same ∙ found_first name value rest)
+pub returns-then-has_name : goal.returns-then-has_name
+returns-then-has_name c =
+    let named = (slice_eq-Decides Decides-eqb _ c.args.name.now _ refl).0 (sym c.has_name.ensures ∙ c.if-has_name.true) in
+    ap (λ (pair : List ℕ × List ℕ). Some pair.1) c.at.ensures
+    ∙ sym (find_there c.args.pairs c.args.name.now c.loop-at.at ([], []) c.requires (omega arith) named)
 
-pub loop-other-preserved : goal.loop-other-preserved
-loop-other-preserved c =
+pub returns : goal.returns
+returns c =
     let name = c.args.name.now in
-    let other = c.in-Some.other.now in
-    let value = c.in-Some.value.now in
-    let rest = c.next.new.self in
-    let split : c.loop-other.other-iterator ≡ (other, value) ∷ rest = search rules in
-    let apart = λ (same : other ≡ name).
-    let found : bytes_eq other name ≡ true = (bytes_eq-Decides other name).1 same in
-    true≢false (search rules) in
-    (tt, tt, c.loop-other.invariant.2 ∙ ap (find text_cmp name) split ∙ passed_over name other value rest apart)
+    sym (find_nowhere c.args.pairs name (λ at d short tie.
+    let other = (slice_index_or c.args.pairs at d).0 in
+    let same = (slice_eq-Decides Decides-eqb other name (same_text other name) refl).1 (tied other name tie) in
+    true≢false (sym same ∙ c.loop-at.invariant at d (omega arith) (omega arith))))
