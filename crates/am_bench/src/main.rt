@@ -3,7 +3,7 @@
 //!
 //!     am_bench log READERS BATCHES ITEMS PLACES
 //!     am_bench provider bytes|full|ready POSTERS READERS POSTS ALERTS LABELS TRIM
-//!     am_bench routes matches|takes ALERTS ROUNDS [WIDTH]
+//!     am_bench routes matches|matches-into|takes ALERTS ROUNDS [WIDTH]
 //!     am_bench inhibitor VALUES ROUNDS FIRST RESOLVED FIRING SWEEPS
 //!     am_bench each
 //!

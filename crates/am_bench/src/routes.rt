@@ -16,6 +16,8 @@ use std::alloc::{AllocError, Global};
 enum RouteWork {
     /// It asks the tree about the labels of each alert.
     Matches,
+    /// The same, into one list.
+    MatchesInto,
     /// It has a dispatcher take each alert, into a group of one alert.
     Takes,
 }
@@ -34,6 +36,7 @@ impl Load {
     pub(crate) fn read(words: &[String]) -> Option<Load> {
         let work = match words.first()?.as_str() {
             "matches" => RouteWork::Matches,
+            "matches-into" => RouteWork::MatchesInto,
             "takes" => RouteWork::Takes,
             _ => return None,
         };
@@ -184,6 +187,25 @@ fn matches(
     Ok(found)
 }
 
+// The same, into one list.
+fn matches_into(
+    alloc: Global,
+    tree: &RouteTree,
+    alerts: &[Alert],
+    rounds: u32,
+) -> Result<u64, AllocError> {
+    let mut tree = PreparedTree::new(alloc, tree)?;
+    let mut ids = Vec::new(alloc);
+    let mut found = 0u64;
+    for _round in 0..rounds {
+        for alert in alerts {
+            tree.matches_into(&alert.labels, &mut ids)?;
+            found = found.wrapping_add(ids.len() as u64);
+        }
+    }
+    Ok(found)
+}
+
 // How many groups there are after the rounds.
 fn takes(
     alloc: Global,
@@ -207,6 +229,7 @@ fn run(alloc: Global, load: Load) -> Result<u64, Failure> {
     let alerts = alerts(alloc, load.alerts, load.width)?;
     Ok(match load.work {
         RouteWork::Matches => matches(alloc, &config.tree, &alerts, load.rounds)?,
+        RouteWork::MatchesInto => matches_into(alloc, &config.tree, &alerts, load.rounds)?,
         RouteWork::Takes => takes(alloc, &config.tree, &alerts, load.rounds)?,
     })
 }

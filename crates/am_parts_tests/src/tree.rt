@@ -57,9 +57,27 @@ fn answers_twice(tree: &mut PreparedTree<'_>, labels: &LabelSet) -> Result<bool,
     Ok(are_numbered(&first, &[2, 4, 6]) && are_numbered(&again, &[2, 4, 6]))
 }
 
+// Answers in one list: a long one, a shorter one, and the first once more.
+fn answers_into(
+    tree: &mut PreparedTree<'_>,
+    alloc: Global,
+    long: &LabelSet,
+    short: &LabelSet,
+) -> Result<bool, AllocError> {
+    let mut ids = Vec::new(alloc);
+    tree.matches_into(long, &mut ids)?;
+    let first = are_numbered(&ids, &[2, 4, 6]);
+    tree.matches_into(short, &mut ids)?;
+    let second = are_numbered(&ids, &[7]);
+    tree.matches_into(long, &mut ids)?;
+    Ok(first && second && are_numbered(&ids, &[2, 4, 6]))
+}
+
 fn prepared_answers_twice(alloc: Global, tree: &RouteTree) -> Result<bool, AllocError> {
-    let labels = labels(alloc, "a=1 b=1 c=2")?;
-    answers_twice(&mut PreparedTree::new(alloc, tree)?, &labels)
+    let long = labels(alloc, "a=1 b=1 c=2")?;
+    let short = labels(alloc, "b=1")?;
+    let mut tree = PreparedTree::new(alloc, tree)?;
+    Ok(answers_twice(&mut tree, &long)? && answers_into(&mut tree, alloc, &long, &short)?)
 }
 
 // A prepared tree answers the same when it is asked again.

@@ -1,6 +1,6 @@
 //! Asking a routing tree which of its routes a label set matches.
 
-ghost use Rattle.std.specs.Prelude.{◌≡◌, ◌+◌, ◌<◌, [], ◌∷◌, ◌++◌, get_or, length, min, true, IfOk, OnOk};
+ghost use Rattle.std.specs.Prelude.{◌≡◌, ◌+◌, ◌<◌, [], ◌∷◌, ◌++◌, get_or, length, min, true, IfOk, OnErr, OnOk};
 ghost use Rattle.am_labels.specs.Matchers.{all_admitted};
 ghost use Rattle.am_config.specs.RouteLists.{forest_of, root_of, route_view};
 ghost use Rattle.am_routes.specs.Looking.{routes_looked_at};
@@ -15,6 +15,7 @@ use am_config::{Route, RouteTree};
 use am_labels::{LabelSet, Matchers, Operator, PreparedMatchers};
 use std::alloc::{AllocError, Global};
 use std::marker::Model;
+use std::mem;
 
 /// A routing tree made ready to be asked many times: its matchers' searches are kept, so that
 /// asking compiles no pattern. Contracts see it as the tree's routes.
@@ -22,8 +23,9 @@ use std::marker::Model;
 pub struct PreparedTree<'t> {
     tree: &'t RouteTree,
     searches: Searches<'t>,
-    // What `matches` found last. Its memory is used again.
+    // What was found last, and the numbers of it. Their memory is used again.
     found: Found<'t>,
+    ids: Vec<RouteId>,
 }
 
 impl<'t> Model for PreparedTree<'t> {
@@ -61,6 +63,7 @@ impl<'t> PreparedTree<'t> {
             tree,
             searches,
             found: Found::nothing(alloc),
+            ids: Vec::new(alloc),
         })
     }
 
@@ -71,10 +74,28 @@ impl<'t> PreparedTree<'t> {
         ensures answer { IfOk result (λ ids. IsAnswerOf labels.now self.old ids.items) }
         ensures same { self.new ≡ self.old }
     {
-        self.found.clear();
-        let root = &self.tree.root;
-        search(&mut self.searches, root, labels, &mut self.found)?;
-        self.found.ids()
+        search_anew(&mut self.searches, &self.tree.root, labels, &mut self.found)?;
+        let mut ids = Vec::with_capacity(*self.ids.allocator(), self.found.routes.len())?;
+        self.found.add_ids(&mut ids)?;
+        Ok(ids)
+    }
+
+    /// As `matches`, into a list that the caller has, in place of what it held. It and a list of the
+    /// tree's change places, so that no answer takes memory once both are long enough.
+    pub fn matches_into(
+        &mut self,
+        labels: &LabelSet,
+        ids: &mut Vec<RouteId>,
+    ) -> Result<(), AllocError>
+        ensures answer { OnOk result (IsAnswerOf labels.now self.old ids.new.items) }
+        ensures refused { OnErr result (ids.new.items ≡ ids.old.items) }
+        ensures same { self.new ≡ self.old }
+    {
+        search_anew(&mut self.searches, &self.tree.root, labels, &mut self.found)?;
+        self.ids.clear();
+        self.found.add_ids(&mut self.ids)?;
+        mem::swap(ids, &mut self.ids);
+        Ok(())
     }
 
     /// How many of the routes below the root `matches` looks at for a label set. A route that asks for
@@ -167,14 +188,14 @@ impl<'t> Found<'t> {
         self.looked
     }
 
-    fn ids(&self) -> Result<Vec<RouteId>, AllocError>
-        ensures { IfOk result (λ ids. ids.items ≡ ids_of (nodes_in self.now.routes.items)) }
+    fn add_ids(&self, ids: &mut Vec<RouteId>) -> Result<(), AllocError>
+        ensures { OnOk result (ids.new.items
+            ≡ ids.old.items ++ ids_of (nodes_in self.now.routes.items)) }
     {
-        let mut ids = Vec::with_capacity(*self.routes.allocator(), self.routes.len())?;
         for one in &self.routes {
             ids.push(one.id)?;
         }
-        Ok(ids)
+        Ok(())
     }
 }
 
@@ -261,8 +282,26 @@ fn search<'t>(
     )
 }
 
+// Asks a tree for the routes that a label set matches, which are then all that was found.
+fn search_anew<'t>(
+    searches: &mut Searches<'t>,
+    root: &'t Route,
+    labels: &LabelSet,
+    found: &mut Found<'t>,
+) -> Result<(), AllocError>
+    requires { AreSearchesOf root.now searches.old }
+    ensures found { OnOk result (nodes_in found.new.routes.items
+        ≡ answer_of labels.now 0 (forest_of (root.now ∷ []))) }
+    ensures kept { AreSearchesOf root.now searches.new }
+{
+    found.clear();
+    search(searches, root, labels, found)
+}
+
 // Adds those routes that a label set matches of a route that it matches, which has the number, and of
 // those below it.
+#[inline(always)]
+#[cycle(ask)]
 fn ask<'t>(
     levels: &[ChildIndex<'t>],
     others: &mut [PreparedMatchers<'t>],
@@ -284,8 +323,32 @@ fn ask<'t>(
     ensures same { others.new ≡ others.old }
 {
     if is_leaf {
-        return found.add(number, route);
+        found.add(number, route)
+    } else {
+        ask_below(levels, others, route, number, labels, found)
     }
+}
+
+// The same of a route with others below it.
+#[cycle(ask)]
+fn ask_below<'t>(
+    levels: &[ChildIndex<'t>],
+    others: &mut [PreparedMatchers<'t>],
+    route: &'t Route,
+    number: usize,
+    labels: &LabelSet,
+    found: &mut Found<'t>,
+) -> Result<(), AllocError>
+    requires levels { BeginAt number (levels_of (forest_of (route.now ∷ []))) levels.now }
+    requires others { BeginAt number (others_of (forest_of (route.now ∷ []))) others.old }
+    requires matches { all_admitted route.now.matchers labels.now ≡ true }
+    ensures found { OnOk result (nodes_in found.new.routes.items
+        ≡ nodes_in found.old.routes.items
+        ++ answer_of labels.now number (forest_of (route.now ∷ []))) }
+    ensures looked { OnOk result (min found.new.looked u64.MAX
+        ≡ min (found.old.looked + routes_looked_at labels.now (forest_of (route.now ∷ []))) u64.MAX) }
+    ensures same { others.new ≡ others.old }
+{
     let had = found.routes.len();
     let mut candidates = levels[number].candidates(labels);
     let mut next = candidates.next();

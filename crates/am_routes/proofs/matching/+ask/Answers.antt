@@ -1,4 +1,4 @@
-use Rattle.std.proofs.Common.{rules, ◌≡◌, ◌++◌, ◌∷◌, [], ℕ, ◌+◌, ◌<◌, ◌≤◌, Bool, true, false, not, ◌&&◌, None, Some, Ok, Err, Result, List, Option, length, get_or, min, refl, sym, ap, subst, ◌∙◌, arith}
+use Rattle.std.proofs.Common.{rules, ◌≡◌, ◌++◌, ◌∷◌, [], ℕ, ◌+◌, ◌*◌, ◌<◌, ◌≤◌, Bool, true, false, not, ◌&&◌, None, Some, Ok, Err, Result, List, Option, length, get_or, min, refl, sym, ap, subst, ◌∙◌, arith}
 use Rattle.std.proofs.lemmas.List.{append_assoc, append-nil, length-map}
 use Rattle.std.specs.Option.{IfSome}
 use Rattle.std.specs.Result.{OnOk}
@@ -50,8 +50,8 @@ left_after : (labels : Labels) (f : Forest) (at : ℕ) (candidates new : Candida
 left_after labels f at candidates new None is given = tt
 left_after labels f at candidates new (Some child) is given = given ∙ ap (λ (v : CandidatesView). record v { from = child.at + 1 }) is
 
-pub loop-next-init : goal.loop-next-init
-loop-next-init t c =
+pub ask_below-loop-next-init : goal.ask_below-loop-next-init
+ask_below-loop-next-init t c =
     let labels = c.args.labels.now in
     let f = c.args.route.now.children in
     let number = c.args.number in
@@ -67,8 +67,8 @@ loop-next-init t c =
       same = refl;
     }
 
-pub overflow_add-at : goal.overflow_add-at
-overflow_add-at t c =
+pub ask_below-overflow_add-at : goal.ask_below-overflow_add-at
+ask_below-overflow_add-at t c =
     let child = c.in-Some.child in
     let r = child.route.now in
     let pending = subst (IsPending c.args.labels.now c.args.route.now.children) c.in-Some.is c.loop-next.invariant.pending in
@@ -77,8 +77,8 @@ overflow_add-at t c =
     let early : c.args.number + child.entry.offset < length c.loop-next.others = omega arith in
     search rules
 
-pub others_admit-requires : goal.others_admit-requires
-others_admit-requires t c =
+pub ask_below-others_admit-requires : goal.ask_below-others_admit-requires
+ask_below-others_admit-requires t c =
     let child = c.in-Some.child in
     let r = child.route.now in
     let pending = subst (IsPending c.args.labels.now c.args.route.now.children) c.in-Some.is c.loop-next.invariant.pending in
@@ -90,8 +90,8 @@ others_admit-requires t c =
           ∙ ap has_none (sym (search-first other (c.args.number + child.entry.offset) (route_view r) r.children no_routes c.loop-next.others begins []));
     }
 
-pub ask-requires : goal.ask-requires
-ask-requires t c =
+pub ask_below-ask-requires : goal.ask_below-ask-requires
+ask_below-ask-requires t c =
     let labels = c.args.labels.now in
     let number = c.args.number in
     let child = c.in-Some.child in
@@ -100,8 +100,8 @@ ask-requires t c =
     let d : List MatcherView = [] in
     let pending = subst (IsPending labels f) c.in-Some.is c.loop-next.invariant.pending in
     let fewer : count_of r.children < count_of f = child-fewer 1 f child.at (view_of child) pending.0.0 in
-    let depth : count_of f ≡ t = c.decreases in
-    let falls : count_of r.children < t = omega arith in
+    let depth : 2 * count_of f ≡ t = c.decreases in
+    let falls : 2 * count_of r.children + 1 < t = omega (arith, fewer) in
     let others : c.others_admit.new.others ≡ c.loop-next.others = c.others_admit.ensures.same in
     let matches : all_admitted r.matchers labels ≡ true =
     child_matches number c.args.route.now child labels c.args.others.now c.loop-next.others d c.requires.others c.loop-next.invariant.same pending
@@ -116,8 +116,8 @@ ask-requires t c =
       ),
     )
 
-pub loop-next-smaller-then-not-others_admit : goal.loop-next-smaller-then-not-others_admit
-loop-next-smaller-then-not-others_admit t c =
+pub ask_below-loop-next-smaller-then-not-others_admit : goal.ask_below-loop-next-smaller-then-not-others_admit
+ask_below-loop-next-smaller-then-not-others_admit t c =
     let labels = c.args.labels.now in
     let child = c.in-Some.child in
     let f = c.args.route.now.children in
@@ -127,8 +127,8 @@ loop-next-smaller-then-not-others_admit t c =
     let next = after_one labels f child.at c.loop-next.candidates after left c.next-next-then-not-others_admit.ensures.next in
     subst (λ one. pending_count f after < pending_count f one) (sym c.in-Some.is) (next-fewer labels f child after pending.0 next)
 
-pub loop-next-smaller-then-child : goal.loop-next-smaller-then-child
-loop-next-smaller-then-child t c =
+pub ask_below-loop-next-smaller-then-child : goal.ask_below-loop-next-smaller-then-child
+ask_below-loop-next-smaller-then-child t c =
     let labels = c.args.labels.now in
     let child = c.in-Some.child in
     let f = c.args.route.now.children in
@@ -138,15 +138,15 @@ loop-next-smaller-then-child t c =
     let next = after_one labels f child.at c.loop-next.candidates after left c.next.ensures.next in
     subst (λ one. pending_count f after < pending_count f one) (sym c.in-Some.is) (next-fewer labels f child after pending.0 next)
 
-pub loop-next-smaller : goal.loop-next-smaller
-loop-next-smaller t c =
+pub ask_below-loop-next-smaller : goal.ask_below-loop-next-smaller
+ask_below-loop-next-smaller t c =
     let child = c.in-Some.child in
     let f = c.args.route.now.children in
     let pending = subst (IsPending c.args.labels.now f) c.in-Some.is c.loop-next.invariant.pending in
     subst (λ next. 0 < pending_count f next) (sym c.in-Some.is) (some-left f child pending.0)
 
-pub loop-next-preserved-then-not-others_admit : goal.loop-next-preserved-then-not-others_admit
-loop-next-preserved-then-not-others_admit t c =
+pub ask_below-loop-next-preserved-then-not-others_admit : goal.ask_below-loop-next-preserved-then-not-others_admit
+ask_below-loop-next-preserved-then-not-others_admit t c =
     let labels = c.args.labels.now in
     let number = c.args.number in
     let child = c.in-Some.child in
@@ -175,8 +175,8 @@ loop-next-preserved-then-not-others_admit t c =
       same = others ∙ c.loop-next.invariant.same;
     }
 
-pub loop-next-preserved-then-child : goal.loop-next-preserved-then-child
-loop-next-preserved-then-child t c =
+pub ask_below-loop-next-preserved-then-child : goal.ask_below-loop-next-preserved-then-child
+ask_below-loop-next-preserved-then-child t c =
     let labels = c.args.labels.now in
     let number = c.args.number in
     let child = c.in-Some.child in
@@ -213,8 +213,8 @@ loop-next-preserved-then-child t c =
     goes_on true false e = absurd (cc)
     goes_on false b e = refl
 
-pub loop-next-preserved : goal.loop-next-preserved
-loop-next-preserved t c =
+pub ask_below-loop-next-preserved : goal.ask_below-loop-next-preserved
+ask_below-loop-next-preserved t c =
     let labels = c.args.labels.now in
     let number = c.args.number in
     let child = c.in-Some.child in
@@ -246,8 +246,8 @@ loop-next-preserved t c =
       same = c.in_ok-ask.ensures.same ∙ (others ∙ c.loop-next.invariant.same);
     }
 
-pub returns-else-len-had-clause-found : goal.returns-else-len-had-clause-found
-returns-else-len-had-clause-found t c =
+pub ask_below-returns-else-len-had-clause-found : goal.ask_below-returns-else-len-had-clause-found
+ask_below-returns-else-len-had-clause-found t c =
     let labels = c.args.labels.now in
     let number = c.args.number in
     let r = c.args.route.now in
@@ -260,15 +260,15 @@ returns-else-len-had-clause-found t c =
     let long_old : length (nodes_in old.items) ≡ c.len-had.result = length-map old.items node_of ∙ (sym old.ok.0 ∙ sym c.len-had.ensures) in
     own-kept labels number r (nodes_in old.items) (nodes_in new.items) found c.requires.matches (λ e. c.if-len-had.false (sym long_new ∙ (e ∙ long_old)))
 
-pub returns-then-is_leaf-clause-found : goal.returns-then-is_leaf-clause-found
-returns-then-is_leaf-clause-found t c =
+pub ask-returns-then-is_leaf-clause-found : goal.ask-returns-then-is_leaf-clause-found
+ask-returns-then-is_leaf-clause-found t c =
     let labels = c.args.labels.now in
     let r = c.args.route.now in
     let leaf = sym c.requires.leaf ∙ c.if-is_leaf.true in
     on_ok c.add.result (λ added. added ∙ ap (λ l. nodes_in c.args.found.now.routes.items ++ l) (sym (leaf-itself labels c.args.number r leaf c.requires.matches))) c.add.ensures.added
 
-pub returns-then-is_leaf-clause-looked : goal.returns-then-is_leaf-clause-looked
-returns-then-is_leaf-clause-looked t c =
+pub ask-returns-then-is_leaf-clause-looked : goal.ask-returns-then-is_leaf-clause-looked
+ask-returns-then-is_leaf-clause-looked t c =
     let labels = c.args.labels.now in
     let r = c.args.route.now in
     let leaf = sym c.requires.leaf ∙ c.if-is_leaf.true in

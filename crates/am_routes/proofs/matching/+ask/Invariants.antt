@@ -1,4 +1,4 @@
-use Rattle.std.proofs.Common.{◌≡◌, ◌++◌, ◌+◌, min}
+use Rattle.std.proofs.Common.{◌≡◌, ◌++◌, ◌+◌, ◌*◌, min}
 use Rattle.std.specs.Option.{IfSome}
 use Rattle.am_config.specs.Routes.{count_of}
 use Rattle.am_routes.specs.RouteAnswers.{answer_of}
@@ -8,11 +8,14 @@ use Rattle.am_routes.proofs.Searching.{pending_answer, pending_looked, pending_c
 use Rattle.am_routes.proofs.matching.+ask.Given as goal
 
 abbrev pub decreases-ask : goal.decreases-ask
-decreases-ask l = count_of l.route.now.children
+decreases-ask l = 2 * count_of l.route.now.children + 1
+
+abbrev pub decreases-ask_below : goal.decreases-ask_below
+decreases-ask_below l = 2 * count_of l.route.now.children
 
 -- what was found, with what the routes that are left answer, is the whole answer, and so is what was looked at
-abbrev pub invariant-loop-next : goal.invariant-loop-next
-invariant-loop-next l = record {
+abbrev pub invariant-ask_below-loop-next : goal.invariant-ask_below-loop-next
+invariant-ask_below-loop-next l = record {
   pending : IsPending l.labels l.route.children l.next;
   left : IfSome l.next (λ child. l.candidates ≡ record { labels = l.labels; from = child.at + 1; routes = l.route.children });
   found : nodes_in l.found.routes.items ++ pending_answer l.labels l.number l.route.children l.next
@@ -22,5 +25,5 @@ invariant-loop-next l = record {
   same : l.others ≡ l.fn.others;
 }
 
-abbrev pub decreases-loop-next : goal.decreases-loop-next
-decreases-loop-next l = pending_count l.route.children l.next
+abbrev pub decreases-ask_below-loop-next : goal.decreases-ask_below-loop-next
+decreases-ask_below-loop-next l = pending_count l.route.children l.next
