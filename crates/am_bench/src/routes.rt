@@ -170,36 +170,24 @@ fn alerts(alloc: Global, count: u32, width: u32) -> Result<Vec<Alert>, AllocErro
     Ok(alerts)
 }
 
-// How many routes the rounds find.
+// How many routes the rounds find. Each answer is a list of its own, or all come in one list.
 fn matches(
     alloc: Global,
     tree: &RouteTree,
     alerts: &[Alert],
     rounds: u32,
-) -> Result<u64, AllocError> {
-    let mut tree = PreparedTree::new(alloc, tree)?;
-    let mut found = 0u64;
-    for _round in 0..rounds {
-        for alert in alerts {
-            found = found.wrapping_add(tree.matches(&alert.labels)?.len() as u64);
-        }
-    }
-    Ok(found)
-}
-
-// The same, into one list.
-fn matches_into(
-    alloc: Global,
-    tree: &RouteTree,
-    alerts: &[Alert],
-    rounds: u32,
+    is_one_list: bool,
 ) -> Result<u64, AllocError> {
     let mut tree = PreparedTree::new(alloc, tree)?;
     let mut ids = Vec::new(alloc);
     let mut found = 0u64;
     for _round in 0..rounds {
         for alert in alerts {
-            tree.matches_into(&alert.labels, &mut ids)?;
+            if is_one_list {
+                tree.matches_into(&alert.labels, &mut ids)?;
+            } else {
+                ids = tree.matches(&alert.labels)?;
+            }
             found = found.wrapping_add(ids.len() as u64);
         }
     }
@@ -228,8 +216,8 @@ fn run(alloc: Global, load: Load) -> Result<u64, Failure> {
     let config = Config::read(alloc, text.as_bytes())?;
     let alerts = alerts(alloc, load.alerts, load.width)?;
     Ok(match load.work {
-        RouteWork::Matches => matches(alloc, &config.tree, &alerts, load.rounds)?,
-        RouteWork::MatchesInto => matches_into(alloc, &config.tree, &alerts, load.rounds)?,
+        RouteWork::Matches => matches(alloc, &config.tree, &alerts, load.rounds, false)?,
+        RouteWork::MatchesInto => matches(alloc, &config.tree, &alerts, load.rounds, true)?,
         RouteWork::Takes => takes(alloc, &config.tree, &alerts, load.rounds)?,
     })
 }

@@ -2,7 +2,7 @@
 
 ghost use Rattle.std.specs.Prelude.{◌≡◌, ◌++◌, ◌∷◌, [], map, true, IfOk, IfSome, OnOk};
 ghost use Rattle.regex_hir.specs.Meaning.{meaning, cat_all, alt_all};
-ghost use Rattle.am_labels.specs.inside.Choices.{bytes_of, crossed, is_one_of, ChoosesAmong, FindsOneOf, IsChoiceIn};
+ghost use Rattle.am_labels.specs.inside.Choices.{kept_texts, crossed, is_one_of, ChoosesAmong, FindsOneOf, IsChoiceIn};
 
 use regex_hir::{Hir, Look};
 use regex_syntax::Config;
@@ -19,7 +19,7 @@ const LONGEST_SOURCE: usize = 1024;
 /// among few.
 pub(crate) fn choice_in(alloc: Global, source: &str) -> Result<Option<Vec<Vec<u8>>>, AllocError>
     ensures { IfOk result (λ found. IfSome found (λ texts.
-        IsChoiceIn source.now (bytes_of texts.items))) }
+        IsChoiceIn source.now (kept_texts texts.items))) }
 {
     if source.len() > LONGEST_SOURCE {
         return Ok(None);
@@ -32,7 +32,7 @@ pub(crate) fn choice_in(alloc: Global, source: &str) -> Result<Option<Vec<Vec<u8
 
 /// Whether a text is one of some.
 pub(crate) fn is_one_of(text: &str, texts: &[Vec<u8>]) -> bool
-    ensures { result ≡ is_one_of text.now (bytes_of texts.now) }
+    ensures { result ≡ is_one_of text.now (kept_texts texts.now) }
 {
     for one in texts {
         if one.as_slice() == text.as_bytes() {
@@ -45,7 +45,7 @@ pub(crate) fn is_one_of(text: &str, texts: &[Vec<u8>]) -> bool
 // The texts that an anchored pattern chooses among, if it does.
 fn anchored_choice(alloc: Global, pattern: &Hir) -> Result<Option<Vec<Vec<u8>>>, AllocError>
     ensures { IfOk result (λ found. IfSome found (λ texts.
-        FindsOneOf (bytes_of texts.items) (meaning pattern.now))) }
+        FindsOneOf (kept_texts texts.items) (meaning pattern.now))) }
 {
     let Hir::Concat(parts) = pattern else {
         return Ok(None);
@@ -76,7 +76,7 @@ fn is_look(pattern: &Hir, look: Look) -> bool
 #[cycle(choice)]
 fn choice(alloc: Global, pattern: &Hir) -> Result<Option<Vec<Vec<u8>>>, AllocError>
     ensures { IfOk result (λ found. IfSome found (λ texts.
-        ChoosesAmong (bytes_of texts.items) (meaning pattern.now))) }
+        ChoosesAmong (kept_texts texts.items) (meaning pattern.now))) }
 {
     match pattern {
         Hir::Empty => Ok(Some(one_text(alloc, &[])?)),
@@ -92,7 +92,7 @@ fn choice(alloc: Global, pattern: &Hir) -> Result<Option<Vec<Vec<u8>>>, AllocErr
 #[cycle(choice)]
 fn choice_of_parts(alloc: Global, parts: &[Hir]) -> Result<Option<Vec<Vec<u8>>>, AllocError>
     ensures { IfOk result (λ found. IfSome found (λ texts.
-        ChoosesAmong (bytes_of texts.items) (cat_all (map meaning parts.now)))) }
+        ChoosesAmong (kept_texts texts.items) (cat_all (map meaning parts.now)))) }
 {
     let mut texts = one_text(alloc, &[])?;
     for part in parts {
@@ -111,7 +111,7 @@ fn choice_of_parts(alloc: Global, parts: &[Hir]) -> Result<Option<Vec<Vec<u8>>>,
 #[cycle(choice)]
 fn choice_of_branches(alloc: Global, branches: &[Hir]) -> Result<Option<Vec<Vec<u8>>>, AllocError>
     ensures { IfOk result (λ found. IfSome found (λ texts.
-        ChoosesAmong (bytes_of texts.items) (alt_all (map meaning branches.now)))) }
+        ChoosesAmong (kept_texts texts.items) (alt_all (map meaning branches.now)))) }
 {
     let mut texts = Vec::new(alloc);
     for branch in branches {
@@ -127,7 +127,7 @@ fn choice_of_branches(alloc: Global, branches: &[Hir]) -> Result<Option<Vec<Vec<
 }
 
 fn one_text(alloc: Global, bytes: &[u8]) -> Result<Vec<Vec<u8>>, AllocError>
-    ensures { IfOk result (λ texts. bytes_of texts.items ≡ bytes.now ∷ []) }
+    ensures { IfOk result (λ texts. kept_texts texts.items ≡ bytes.now ∷ []) }
 {
     let mut texts = Vec::new(alloc);
     texts.push(Vec::from_slice(alloc, bytes)?)?;
@@ -141,7 +141,7 @@ fn each_with_each(
     seconds: &[Vec<u8>],
 ) -> Result<Vec<Vec<u8>>, AllocError>
     ensures { IfOk result (λ texts.
-        bytes_of texts.items ≡ crossed (bytes_of firsts.now) (bytes_of seconds.now)) }
+        kept_texts texts.items ≡ crossed (kept_texts firsts.now) (kept_texts seconds.now)) }
 {
     let mut texts = Vec::new(alloc);
     for first in firsts {
@@ -156,8 +156,8 @@ fn add_with_each(
     first: &[u8],
     seconds: &[Vec<u8>],
 ) -> Result<(), AllocError>
-    ensures { OnOk result (bytes_of texts.new.items ≡ bytes_of texts.old.items
-        ++ map (λ second. first.now ++ second) (bytes_of seconds.now)) }
+    ensures { OnOk result (kept_texts texts.new.items ≡ kept_texts texts.old.items
+        ++ map (λ second. first.now ++ second) (kept_texts seconds.now)) }
 {
     for second in seconds {
         let mut text = Vec::from_slice(*texts.allocator(), first)?;

@@ -4,7 +4,9 @@ use Rattle.std.proofs.lemmas.List.{append-nil}
 use Rattle.am_labels.specs.LabelSets.{Labels}
 use Rattle.am_labels.specs.Matchers.{all_admitted}
 use Rattle.am_config.specs.Routes.{RouteView, Forest, no_routes, route, count_of}
-use Rattle.am_routes.specs.RouteAnswers.{Node, RouteAnswer, RoutesAnswer, fails, from_below, itself, none_left, stops, gives_nothing, goes_on, own_answer, joined_with, answer_of}
+use Rattle.am_routes.specs.declared.route_id.RouteId.{RouteId}
+use Rattle.am_routes.specs.inside.Searches.{ids_of}
+use Rattle.am_routes.specs.RouteAnswers.{Node, RouteAnswer, RoutesAnswer, IsAnswerOf, fails, from_below, itself, none_left, stops, gives_nothing, goes_on, own_answer, joined_with, answer_of}
 use Rattle.am_routes.proofs.Cases.{by_bool}
 
 module _ (labels : Labels) where
@@ -64,3 +66,8 @@ module _ (labels : Labels) where
         on : (own : List Node) → own ++ answer_of labels (number + 1 + count_of below) others ≡ joined_with own first.continues (answer_of labels (number + 1 + count_of below) others)
         on [] = refl
         on (node ∷ nodes) = sym (ap (λ b. node ∷ nodes ++ cond b (answer_of labels (number + 1 + count_of below) others) []) continues)
+
+-- the numbers of the one answer answer a label set
+pub are-answer : (labels : Labels) (tree : Forest) (nodes : List Node) (ids : List RouteId) → nodes ≡ answer_of labels 0 tree → ids ≡ ids_of nodes → IsAnswerOf labels tree ids
+are-answer labels tree nodes ids answer are =
+    (nodes, subst (RoutesAnswer labels 0 tree) (sym answer) (answer-meets labels 0 tree), are)

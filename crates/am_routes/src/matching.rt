@@ -7,7 +7,7 @@ ghost use Rattle.am_routes.specs.Looking.{routes_looked_at};
 ghost use Rattle.am_routes.specs.RouteAnswers.{answer_of, IsAnswerOf};
 ghost use Rattle.am_routes.specs.inside.ChildIndexes.{has_no_routes, has_none, other_matchers};
 ghost use Rattle.am_routes.specs.inside.Searches.{levels_of, nodes_in, others_of};
-ghost use Rattle.am_routes.specs.inside.Searches.{AreSearchesOf, BeginAt};
+ghost use Rattle.am_routes.specs.inside.Searches.{AddsAnswers, AddsLooked, AreSearchesOf, BeginAt};
 
 use crate::child_index::ChildIndex;
 use crate::route_id::RouteId;
@@ -262,10 +262,8 @@ fn search<'t>(
     found: &mut Found<'t>,
 ) -> Result<(), AllocError>
     requires { AreSearchesOf root.now searches.old }
-    ensures found { OnOk result (nodes_in found.new.routes.items
-        ≡ nodes_in found.old.routes.items ++ answer_of labels.now 0 (forest_of (root.now ∷ []))) }
-    ensures looked { OnOk result (min found.new.looked u64.MAX
-        ≡ min (found.old.looked + routes_looked_at labels.now (forest_of (root.now ∷ []))) u64.MAX) }
+    ensures found { OnOk result (AddsAnswers labels.now 0 root.now found.old found.new) }
+    ensures looked { OnOk result (AddsLooked labels.now root.now found.old found.new) }
     ensures kept { AreSearchesOf root.now searches.new }
 {
     if !searches.root.admits(labels) {
@@ -315,11 +313,8 @@ fn ask<'t>(
     requires levels { BeginAt number (levels_of (forest_of (route.now ∷ []))) levels.now }
     requires others { BeginAt number (others_of (forest_of (route.now ∷ []))) others.old }
     requires matches { all_admitted route.now.matchers labels.now ≡ true }
-    ensures found { OnOk result (nodes_in found.new.routes.items
-        ≡ nodes_in found.old.routes.items
-        ++ answer_of labels.now number (forest_of (route.now ∷ []))) }
-    ensures looked { OnOk result (min found.new.looked u64.MAX
-        ≡ min (found.old.looked + routes_looked_at labels.now (forest_of (route.now ∷ []))) u64.MAX) }
+    ensures found { OnOk result (AddsAnswers labels.now number route.now found.old found.new) }
+    ensures looked { OnOk result (AddsLooked labels.now route.now found.old found.new) }
     ensures same { others.new ≡ others.old }
 {
     if is_leaf {
@@ -342,11 +337,8 @@ fn ask_below<'t>(
     requires levels { BeginAt number (levels_of (forest_of (route.now ∷ []))) levels.now }
     requires others { BeginAt number (others_of (forest_of (route.now ∷ []))) others.old }
     requires matches { all_admitted route.now.matchers labels.now ≡ true }
-    ensures found { OnOk result (nodes_in found.new.routes.items
-        ≡ nodes_in found.old.routes.items
-        ++ answer_of labels.now number (forest_of (route.now ∷ []))) }
-    ensures looked { OnOk result (min found.new.looked u64.MAX
-        ≡ min (found.old.looked + routes_looked_at labels.now (forest_of (route.now ∷ []))) u64.MAX) }
+    ensures found { OnOk result (AddsAnswers labels.now number route.now found.old found.new) }
+    ensures looked { OnOk result (AddsLooked labels.now route.now found.old found.new) }
     ensures same { others.new ≡ others.old }
 {
     let had = found.routes.len();

@@ -7,7 +7,7 @@ use Rattle.regex.specs.declared.string.regex.Regex.{Regex}
 use Rattle.regex.specs.declared.string.matcher.Matcher.{Matcher}
 use Rattle.am_labels.specs.declared.pattern.PatternSearch.TheVariants.{Choice, Compiled}
 use Rattle.am_labels.specs.declared.pattern.Pattern.TheVariants as pattern
-use Rattle.am_labels.specs.inside.Choices.{bytes_of, is_one_of}
+use Rattle.am_labels.specs.inside.Choices.{kept_texts, is_one_of}
 use Rattle.am_labels.specs.inside.Comparisons.{IsPatternOf, IsRegexOf}
 use Rattle.am_labels.specs.inside.Searches.{SearchesFor}
 use Rattle.am_labels.proofs.MatcherMeaning.Patterns.{finds_as}
@@ -20,4 +20,4 @@ searches regex search value same of text utf8 bytes =
 -- if the search has the texts that the value's pattern chooses among
 pub compares : (texts : Vec (Vec ℕ Global) Global) (kept : Bor (List (Vec ℕ Global))) (value : List ℕ) → kept.now ≡ texts.items → IsPatternOf value (pattern.Choice texts) → SearchesFor value (Choice kept)
 compares texts kept value same of text utf8 bytes =
-    ap (λ (l : List (Vec ℕ Global)). is_one_of text (bytes_of l)) same ∙ sym (of.1 text utf8 bytes)
+    ap (λ (l : List (Vec ℕ Global)). is_one_of text (kept_texts l)) same ∙ sym (of.1 text utf8 bytes)

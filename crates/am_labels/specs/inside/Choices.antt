@@ -9,8 +9,8 @@ use Rattle.am_labels.specs.Texts.{same_text}
 use Rattle.am_labels.specs.Matchers.{finds}
 
 -- the bytes of each text
-abbrev pub bytes_of : List (Vec ℕ Global) → List (List ℕ)
-bytes_of texts = map (λ text. text.items) texts
+abbrev pub kept_texts : List (Vec ℕ Global) → List (List ℕ)
+kept_texts texts = map (λ text. text.items) texts
 
 -- whether a text is one of some
 abbrev pub is_one_of : List ℕ → List (List ℕ) → Bool

@@ -14,7 +14,7 @@ use Rattle.am_labels.specs.declared.operator.Operator.{Operator}
 use Rattle.am_labels.specs.declared.operator.Operator.TheVariants as operator
 use Rattle.am_labels.specs.declared.pattern.Pattern.{Pattern}
 use Rattle.am_labels.specs.declared.pattern.Pattern.TheVariants.{Choice, Compiled}
-use Rattle.am_labels.specs.inside.Choices.{bytes_of, IsChoiceIn}
+use Rattle.am_labels.specs.inside.Choices.{kept_texts, IsChoiceIn}
 use Rattle.am_labels.specs.Matchers.{anchored, is_of_pattern, MayBeRefused}
 
 -- the operator of a comparison
@@ -33,7 +33,7 @@ IsRegexOf value regex =
 
 -- what is kept is the value's pattern: the texts that it chooses among, or its regex
 abbrev pub IsPatternOf : List ℕ → Pattern → Type 0
-IsPatternOf value (Choice texts) = IsChoiceIn (anchored value) (bytes_of texts.items)
+IsPatternOf value (Choice texts) = IsChoiceIn (anchored value) (kept_texts texts.items)
 IsPatternOf value (Compiled regex) = IsRegexOf value regex
 
 -- a comparison by pattern has the pattern of its value

@@ -11,7 +11,7 @@ use Rattle.am_labels.specs.declared.pattern.PatternSearch.TheVariants.{Choice, C
 use Rattle.am_labels.specs.declared.search.Search.{Search}
 use Rattle.am_labels.specs.declared.search.Search.TheVariants.{Equal, NotEqual, MatchRegexp, MatchNotRegexp}
 use Rattle.am_labels.specs.Matchers.{anchored, finds}
-use Rattle.am_labels.specs.inside.Choices.{bytes_of, is_one_of}
+use Rattle.am_labels.specs.inside.Choices.{kept_texts, is_one_of}
 
 -- the operator of a search
 abbrev pub searched_operator : Search → Operator
@@ -22,7 +22,7 @@ searched_operator (MatchNotRegexp pattern) = operator.MatchNotRegexp
 
 -- whether a search finds its pattern in a text
 abbrev pub found_by : PatternSearch → List ℕ → Bool
-found_by (Choice texts) text = is_one_of text (bytes_of texts.now)
+found_by (Choice texts) text = is_one_of text (kept_texts texts.now)
 found_by (Compiled regex) text = is_some (find_str (matcher_pattern regex.value) text 0)
 
 -- the search finds what the value's pattern finds, whatever the text
