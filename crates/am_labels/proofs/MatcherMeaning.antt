@@ -4,3 +4,4 @@ pub mod OneMatcher
 pub mod Patterns
 pub mod Searching
 pub mod Choices
+pub mod PlainPatterns

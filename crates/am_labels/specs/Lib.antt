@@ -5,5 +5,6 @@ pub mod Printing
 pub mod FaultTexts
 pub mod MatcherTexts
 pub mod Matchers
+pub mod PlainPatterns
 pub mod MatcherLaws
 pub mod inside

@@ -4,6 +4,7 @@ ghost use Rattle.am_labels.specs.LabelLaws.{OrderedPairsAreEntries};
 ghost use Rattle.am_labels.specs.MatcherLaws.{EachTextIsSplit, HasOneSplit, HasOneValue};
 ghost use Rattle.am_labels.specs.MatcherLaws.{LettersSpellTheText, NoNameStandsAlone};
 ghost use Rattle.am_labels.specs.MatcherLaws.{NoOperatorStandsAlone, ReadsQuoted, TextIsOfOneMatcher};
+ghost use Rattle.am_labels.specs.PlainPatterns.{PlainTextsAreChosen};
 
 /// Pairs in byte order of names, each name once, are those that the label set made of them shows.
 pub fn label_set_laws()
@@ -22,4 +23,10 @@ pub fn matcher_grammar_laws()
     ensures no_operator { NoOperatorStandsAlone }
     ensures one_matcher { TextIsOfOneMatcher }
     ensures quoted { ReadsQuoted }
+{}
+
+/// A pattern of plain texts with `|` between them, as `web|api`, admits these texts and no others,
+/// whatever else the grammar of patterns says.
+pub fn plain_pattern_laws()
+    ensures { PlainTextsAreChosen }
 {}

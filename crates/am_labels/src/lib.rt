@@ -39,7 +39,7 @@ mod text;
 
 pub use label_name::LabelName;
 pub use label_set::LabelSet;
-pub use laws::{label_set_laws, matcher_grammar_laws};
+pub use laws::{label_set_laws, matcher_grammar_laws, plain_pattern_laws};
 pub use match_fault::MatchFault;
 pub use matcher::Matcher;
 pub use matchers::Matchers;

@@ -1,5 +1,5 @@
 -- Which texts a pattern chooses among.
-use Rattle.std.proofs.Common.{◌≡◌, ◌⊎◌, ⊎_elim, inl, inr, ℕ, ◌+◌, ◌<◌, ◌||◌, Bool, true, false, true≢false, List, [], ◌∷◌, ◌++◌, map, take, length, drop, get_or, is_some, IfOk, IfSome, Result, Ok, Err, Option, None, Some, refl, sym, ap, ◌∙◌, subst, arith, append_assoc, append-nil, length-append, drop-drop, drop_of_length-le}
+use Rattle.std.proofs.Common.{◌≡◌, ◌⊎◌, ⊎_elim, inl, inr, ℕ, ◌+◌, ◌<◌, ◌||◌, Bool, true, false, true≢false, List, [], ◌∷◌, ◌++◌, map, take, length, drop, get_or, is_some, IfOk, IfSome, Result, Ok, Err, Option, None, Some, refl, sym, ap, IsUtf8, ◌∙◌, subst, arith, append_assoc, append-nil, length-append, drop-drop, drop_of_length-le}
 use Rattle.std.proofs.lemmas.Bool.Decides.{Decides-eqb}
 use Rattle.std.proofs.lemmas.Grind.{flat_map-append}
 use Rattle.std.proofs.lemmas.List.{map_more}
@@ -183,16 +183,20 @@ same_truth false true f g = g refl
 same_truth false false f g = refl
 
 -- an anchored pattern is found in the texts that what it anchors chooses among
+pub finds_whole : (texts : List (List ℕ)) (re : Re) → ChoosesAmong texts re → (text : List ℕ) → IsUtf8 text
+    → is_some (find_str (cat (look Start) (cat re (look End))) text 0) ≡ is_one_of text texts
+finds_whole texts re chooses text utf8 =
+    let lists = one_is_whole text texts in
+    same_truth (is_some (find_str (cat (look Start) (cat re (look End))) text 0)) (is_one_of text texts)
+    (λ h. lists.0 ((chooses text 0 (length text)).0 (whole_of_is_match re text h)))
+    (λ h. is_match_of_whole re text utf8 ((chooses text 0 (length text)).1 (lists.1 h)))
+
 pub finds_one : (texts : List (List ℕ)) (inner : List Re) (pattern : Re) → pattern ≡ cat_all (look Start ∷ inner ++ look End ∷ [])
     → ChoosesAmong texts (cat_all inner) → FindsOneOf texts pattern
 finds_one texts inner pattern is chooses text utf8 bytes =
-    let anchored = cat (look Start) (cat (cat_all inner) (look End)) in
-    let alike = is_match_alike (alike_of_same (cat_cong (same_refl (look Start)) (cat_all-push inner (look End)))) text bytes true 0 in
-    let lists = one_is_whole text texts in
-    let found = same_truth (is_some (find_str anchored text 0)) (is_one_of text texts)
-    (λ h. lists.0 ((chooses text 0 (length text)).0 (whole_of_is_match (cat_all inner) text h)))
-    (λ h. is_match_of_whole (cat_all inner) text utf8 ((chooses text 0 (length text)).1 (lists.1 h))) in
-    ap (λ (p : Re). is_some (find_str p text 0)) is ∙ alike ∙ found
+    ap (λ (p : Re). is_some (find_str p text 0)) is
+    ∙ (is_match_alike (alike_of_same (cat_cong (same_refl (look Start)) (cat_all-push inner (look End)))) text bytes true 0
+    ∙ finds_whole texts (cat_all inner) chooses text utf8)
 
 -- what holds of each answer's texts, if there are any
 pub if_found : {A E : Type 0} (P Q : A → Type 0) (r : Result (Option A) E) → ((x : A) → P x → Q x) → IfOk r (λ o. IfSome o P) → IfOk r (λ o. IfSome o Q)

@@ -1,0 +1,27 @@
+-- Patterns that are written as plain texts with `|` between them, as `web|api`, and what they admit: these texts.
+use Rattle.std.specs.Prelude.{◌≡◌, ◌<◌, ℕ, Bool, true, not, ◌&&◌, nat_lt, get_or, All, List, [], ◌∷◌, ◌++◌}
+use Rattle.std.specs.List.{list_all, list_any}
+use Rattle.std.specs.Str.{IsUtf8}
+use Rattle.regex_syntax.specs.Reading.{◌∈◌}
+use Rattle.am_labels.specs.Matchers.{anchored, finds}
+use Rattle.am_labels.specs.Texts.{same_text}
+
+-- a character with a meaning of its own in a pattern
+abbrev pub is_special : ℕ → Bool
+is_special c = c ∈ "\\.+*?()|[]{}^$"
+
+-- a text of ASCII that has none of them
+abbrev pub is_plain : List ℕ → Bool
+is_plain text = list_all (λ c. nat_lt c 128 && not (is_special c)) text
+
+-- a text, and others with `|` before each
+abbrev pub with_bars : List ℕ → List (List ℕ) → List ℕ
+with_bars text [] = text
+with_bars text (other ∷ others) = text ++ 0x7C ∷ with_bars other others
+
+-- a pattern of plain texts with `|` between them is found in these texts and in no others
+abbrev pub PlainTextsAreChosen : Type 0
+PlainTextsAreChosen =
+    (text : List ℕ) (others : List (List ℕ)) → All (λ one. is_plain one ≡ true) (text ∷ others)
+    → (found : List ℕ) → IsUtf8 found → ((at : ℕ) → get_or found at 0 < 256)
+    → finds (anchored (with_bars text others)) found ≡ list_any (λ one. same_text one found) (text ∷ others)
