@@ -4,7 +4,7 @@ ghost use Rattle.am_labels.specs.LabelLaws.{OrderedPairsAreEntries};
 ghost use Rattle.am_labels.specs.MatcherLaws.{EachTextIsSplit, HasOneSplit, HasOneValue};
 ghost use Rattle.am_labels.specs.MatcherLaws.{LettersSpellTheText, NoNameStandsAlone};
 ghost use Rattle.am_labels.specs.MatcherLaws.{NoOperatorStandsAlone, ReadsQuoted, TextIsOfOneMatcher};
-ghost use Rattle.am_labels.specs.PlainPatterns.{PlainTextsAreChosen};
+ghost use Rattle.am_labels.specs.PlainPatterns.{PlainGroupsAreChosen, PlainTextsAreChosen};
 
 /// Pairs in byte order of names, each name once, are those that the label set made of them shows.
 pub fn label_set_laws()
@@ -26,7 +26,9 @@ pub fn matcher_grammar_laws()
 {}
 
 /// A pattern of plain texts with `|` between them, as `web|api`, admits these texts and no others,
-/// whatever else the grammar of patterns says.
+/// whatever else the grammar of patterns says. In a group, as `s2-(web|api)`, it admits each of them
+/// with what is before the group and behind it.
 pub fn plain_pattern_laws()
-    ensures { PlainTextsAreChosen }
+    ensures texts { PlainTextsAreChosen }
+    ensures groups { PlainGroupsAreChosen }
 {}

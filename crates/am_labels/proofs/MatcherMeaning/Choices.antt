@@ -12,7 +12,7 @@ use Rattle.regex.proofs.ForCallers.{is_match_alike, whole_of_is_match, is_match_
 use Rattle.am_labels.specs.Texts.{same_text}
 use Rattle.am_labels.specs.inside.Choices.{is_one_of, OneStands, ChoosesAmong, FindsOneOf, crossed}
 
-abbrev AreAlike : Type 0 → Type 0 → Type 0
+abbrev pub AreAlike : Type 0 → Type 0 → Type 0
 AreAlike A B = (A → B) × (B → A)
 
 -- the empty pattern stands for the empty text
@@ -36,7 +36,7 @@ stands_in_either whole from to (x ∷ xs) ys =
     )
 
 -- no byte is one of no class
-reads_no_byte : (whole : List ℕ) (from to : ℕ) → Matches whole (byte_in []) from to → ⊥
+pub reads_no_byte : (whole : List ℕ) (from to : ℕ) → Matches whole (byte_in []) from to → ⊥
 unfolding in_ranges
 reads_no_byte whole from to h = absurd (true≢false (sym h.2))
 
@@ -77,7 +77,7 @@ matches_in_turn whole from to (x ∷ xs) y = (
 )
 
 -- two texts stand one after the other where their joined text stands
-stands_joined : (whole : List ℕ) (from to : ℕ) (first second : List ℕ)
+pub stands_joined : (whole : List ℕ) (from to : ℕ) (first second : List ℕ)
     → AreAlike ((at : ℕ) × Matches whole (literal first) from at × Matches whole (literal second) at to) (Matches whole (literal (first ++ second)) from to)
 stands_joined whole from to first second = (join, part)
   where
@@ -105,7 +105,7 @@ stands_joined whole from to first second = (join, part)
         drop_front (x ∷ xs) ys = drop_front xs ys
 
 -- a text and then one of others stand where one of those joined to it stands
-stands_with_each : (whole : List ℕ) (from to : ℕ) (first : List ℕ) (seconds : List (List ℕ))
+pub stands_with_each : (whole : List ℕ) (from to : ℕ) (first : List ℕ) (seconds : List (List ℕ))
     → AreAlike ((at : ℕ) × Matches whole (literal first) from at × OneStands whole seconds at to) (OneStands whole (map (λ second. first ++ second) seconds) from to)
 stands_with_each whole from to first [] = (λ h. absurd h.2, λ h. absurd h)
 stands_with_each whole from to first (second ∷ seconds) =
@@ -113,6 +113,17 @@ stands_with_each whole from to first (second ∷ seconds) =
     let others = stands_with_each whole from to first seconds in (
       λ h. ⊎_elim (λ a. inl (one.0 (h.0, h.1, a))) (λ b. inr (others.0 (h.0, h.1, b))) h.2,
       λ h. ⊎_elim (λ a. let s = one.1 a in (s.0, s.1, inl s.2)) (λ b. let s = others.1 b in (s.0, s.1, inr s.2)) h,
+    )
+
+-- one of some texts and then a text stand where one of those with it behind stands
+pub stands_before_each : (whole : List ℕ) (from to : ℕ) (firsts : List (List ℕ)) (second : List ℕ)
+    → AreAlike ((at : ℕ) × OneStands whole firsts from at × Matches whole (literal second) at to) (OneStands whole (map (λ first. first ++ second) firsts) from to)
+stands_before_each whole from to [] second = (λ h. absurd h.1, λ h. absurd h)
+stands_before_each whole from to (first ∷ firsts) second =
+    let one = stands_joined whole from to first second in
+    let others = stands_before_each whole from to firsts second in (
+      λ h. ⊎_elim (λ a. inl (one.0 (h.0, a, h.2))) (λ b. inr (others.0 (h.0, b, h.2))) h.1,
+      λ h. ⊎_elim (λ a. let s = one.1 a in (s.0, inl s.1, s.2)) (λ b. let s = others.1 b in (s.0, inr s.1, s.2)) h,
     )
 
 stands_crossed : (whole : List ℕ) (from to : ℕ) (firsts seconds : List (List ℕ))
@@ -163,11 +174,11 @@ or_true : (a b : Bool) → (a ≡ true) ⊎ (b ≡ true) → (a || b) ≡ true
 or_true true b h = refl
 or_true false b h = ⊎_elim (λ no. absurd (true≢false (sym no))) (λ yes. yes) h
 
-true_or : (a b : Bool) → (a || b) ≡ true → (a ≡ true) ⊎ (b ≡ true)
+pub true_or : (a b : Bool) → (a || b) ≡ true → (a ≡ true) ⊎ (b ≡ true)
 true_or true b h = inl refl
 true_or false b h = inr h
 
-one_is_whole : (whole : List ℕ) (texts : List (List ℕ))
+pub one_is_whole : (whole : List ℕ) (texts : List (List ℕ))
     → AreAlike (OneStands whole texts 0 (length whole)) (is_one_of whole texts ≡ true)
 one_is_whole whole [] = (λ h. absurd h, λ h. absurd (true≢false (sym h)))
 one_is_whole whole (text ∷ texts) =
@@ -177,7 +188,7 @@ one_is_whole whole (text ∷ texts) =
       λ h. ⊎_elim (λ a. let is = same.0 a in inl (has_bytes_at_from whole 0 text [] (sym is ∙ sym (append-nil text)), omega (arith, ap length is))) (λ b. inr (others.1 b)) (true_or _ _ h),
     )
 
-same_truth : (a b : Bool) → (a ≡ true → b ≡ true) → (b ≡ true → a ≡ true) → a ≡ b
+pub same_truth : (a b : Bool) → (a ≡ true → b ≡ true) → (b ≡ true → a ≡ true) → a ≡ b
 same_truth true b f g = sym (f refl)
 same_truth false true f g = g refl
 same_truth false false f g = refl
