@@ -267,24 +267,30 @@ fn choices_admitted(rt: HostRuntime) -> Result<(), Fail> {
     are_answers(rt.alloc(), &cases)
 }
 
-// The letter a so many times, and with a b at the end.
-fn long_values(alloc: Global, length: u64) -> Result<(String, String), AllocError> {
-    let mut value = String::new(alloc);
-    for _ in 0..length {
-        value.push('a')?;
+// A text, and after it the letter a so many times.
+fn with_letters(alloc: Global, text: &str, letters: u64) -> Result<String, AllocError> {
+    let mut longer = String::from_str(alloc, text)?;
+    for _ in 0..letters {
+        longer.push('a')?;
     }
-    let mut other = String::from_str(alloc, value.as_str())?;
-    other.push('b')?;
-    Ok((value, other))
+    Ok(longer)
+}
+
+fn letters_after(alloc: Global, text: &str, letters: u64) -> Result<String, AllocError> {
+    match with_letters(alloc, text, letters) {
+        Err(AllocError) => with_letters(alloc, text, letters),
+        other => other,
+    }
 }
 
 // Of a pattern of one text just as long as one that is compared, and of one that is a byte longer.
 #[test]
 fn long_choices_admitted(rt: HostRuntime) -> Result<(), Fail> {
     let alloc = rt.alloc();
-    for length in [1018, 1019] {
-        let (value, other) = long_values(alloc, length)?;
-        let text = format!(in alloc; "foo=~{value}")?;
+    for letters in [1018, 1019] {
+        let text = letters_after(alloc, "foo=~", letters)?;
+        let value = letters_after(alloc, "", letters)?;
+        let other = letters_after(alloc, "b", letters)?;
         expect(
             is_answer(alloc, text.as_str(), value.as_str(), true)?,
             "the text",
