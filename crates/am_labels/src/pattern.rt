@@ -1,7 +1,7 @@
 //! The pattern of a value, anchored at both ends. Only `comparison.rt` and `search.rt` use it.
 
 ghost use Rattle.std.specs.Prelude.{◌≡◌, IfOk, List, ℕ};
-ghost use Rattle.am_labels.specs.inside.Comparisons.{IsPatternOf, IsReadOf};
+ghost use Rattle.am_labels.specs.inside.Comparisons.{IsPatternOf, IsPatternReadOf};
 ghost use Rattle.am_labels.specs.inside.Searches.{found_by, SearchesFor};
 
 use crate::choice::{choice_in, is_one_of};
@@ -29,7 +29,7 @@ pub(crate) enum PatternSearch<'p> {
 impl Pattern {
     /// The pattern of a value.
     pub(crate) fn read(alloc: Global, value: &str) -> Result<Pattern, MatchFault>
-        ensures { IsReadOf value.now result }
+        ensures { IsPatternReadOf value.now result }
     {
         let source = format!(in alloc; "^(?:{value})$")?;
         if let Some(texts) = choice_in(alloc, source.as_str())? {

@@ -54,10 +54,10 @@ IsComparisonOf op value (Err BadQuote) = ⊥
 IsComparisonOf op value (Err BadPattern) = (is_of_pattern op ≡ true) × MayBeRefused value
 
 -- what reading the pattern of a value answers
-abbrev pub IsReadOf : List ℕ → Result Pattern MatchFault → Type 0
-IsReadOf value (Ok pattern) = IsPatternOf value pattern
-IsReadOf value (Err NoMemory) = Unit {0}
-IsReadOf value (Err BadName) = ⊥
-IsReadOf value (Err NoOperator) = ⊥
-IsReadOf value (Err BadQuote) = ⊥
-IsReadOf value (Err BadPattern) = MayBeRefused value
+abbrev pub IsPatternReadOf : List ℕ → Result Pattern MatchFault → Type 0
+IsPatternReadOf value (Ok pattern) = IsPatternOf value pattern
+IsPatternReadOf value (Err NoMemory) = Unit {0}
+IsPatternReadOf value (Err BadName) = ⊥
+IsPatternReadOf value (Err NoOperator) = ⊥
+IsPatternReadOf value (Err BadQuote) = ⊥
+IsPatternReadOf value (Err BadPattern) = MayBeRefused value
