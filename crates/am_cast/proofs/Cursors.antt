@@ -1,5 +1,5 @@
 -- What a cursor has taken.
-use Rattle.std.proofs.Common.{◌≡◌, ℕ, zero, suc, ◌+◌, ◌-◌, ◌<◌, ◌≤◌, List, [], ◌∷◌, ◌++◌, length, take, drop, sym, refl, ap, ◌∙◌, subst, arith, Bool, true, false, add-one, append_assoc, Option, Some, None, slice_get}
+use Rattle.std.proofs.Common.{◌≡◌, ℕ, zero, suc, ◌+◌, ◌-◌, ◌<◌, ◌≤◌, List, [], ◌∷◌, ◌++◌, length, take, drop, sym, refl, ap, ◌∙◌, subst, arith, Bool, true, false, add-one, append_assoc, Option, Some, None, is_some, slice_get}
 use Rattle.std.proofs.lemmas.Bool.{false≢true}
 use mathlib.Core.Option.{some, some-ne-none, some-injective}
 use mathlib.Core.List.{IsPrefix}
@@ -13,8 +13,8 @@ use Rattle.am_cast.specs.declared.views.LaneView.{LaneView}
 use Rattle.am_cast.specs.declared.views.Account.{Account}
 use Rattle.am_cast.specs.declared.views.Tail.{Tail}
 use Rattle.am_cast.specs.Rule.{Sound}
-use Rattle.am_cast.specs.Changes.{seeing, holding, cut_off, left}
-use Rattle.am_cast.specs.Seats.{IsKeyAt, Took, lane_of}
+use Rattle.am_cast.specs.Changes.{seeing, holding, left}
+use Rattle.am_cast.specs.Seats.{HoldsKey, Took, lane_of}
 use Rattle.am_cast.specs.Keys.{batch_items, all_items, key_of}
 use Rattle.am_cast.specs.Steps.{SeatState}
 use Rattle.atomic_table.specs.Seated.{TableId}
@@ -23,7 +23,9 @@ use Rattle.am_cast.specs.Cursors.{CursorView, items_at, shown_items, HasEnded}
 use Rattle.am_cast.specs.inside.Cursors.{CursorOk, HasHand}
 use Rattle.am_cast.specs.Lent.{IsItem, IsInHand, Moves}
 use Rattle.am_cast.specs.inside.Moving.{NeedsLook, AfterLook}
-use Rattle.am_cast.proofs.Slots.{at_length}
+use Rattle.atomic_table.specs.Table.{rest}
+use Rattle.am_cast.specs.Rule.{slot}
+use Rattle.am_cast.proofs.Slots.{at_length, head_key}
 
 module _ {X : Type 0} where
   pub take_more : (xs : List X) (n : ℕ) (x : X) → get_elem? xs n ≡ some x → take (suc n) xs ≡ take n xs ++ x ∷ []
@@ -77,11 +79,8 @@ module _ {T P : Type 0} where
   items_here (y ∷ ys) zero x e = append_none (batch_items y) ∙ ap (λ (y : BatchView T P). batch_items y) (some-injective y x e)
   items_here (y ∷ ys) (suc i) x e = items_here ys i x e
 
-  pub key_items : (front : List (BatchView T P)) (i l : ℕ) (k : KeyView T) → IsKeyAt key_of front i l k → items_at front i ≡ k.items
-  key_items front i l k h = items_here front i h.0 h.1 ∙ ap (λ (k : KeyView T). k.items) (sym h.2)
-
-  pub some_items : (front : List (BatchView T P)) (i l : ℕ) (k : KeyView T) → IsKeyAt key_of front i l k → 1 ≤ length k.items
-  some_items front i l k h = let long : length k.items ≡ suc (length (h.0).others) = ap (λ (k : KeyView T). length k.items) h.2 in omega arith
+  some_there : (front : List (BatchView T P)) (i : ℕ) (x : BatchView T P) → get_elem? front i ≡ some x → 1 ≤ length (items_at front i)
+  some_there front i x e = let long : length (items_at front i) ≡ suc (length x.others) = ap (λ (l : List T). length l) (items_here front i x e) in omega arith
 
   items_before : (front : List (BatchView T P)) (s i : ℕ) (x : BatchView T P) → get_elem? front i ≡ some x → s ≤ i → all_items (drop s (take (suc i) front)) ≡ all_items (drop s (take i front)) ++ batch_items x
   items_before front s i x e low = let inside = at_length front i x e in let long = take_length front i (omega arith) in
@@ -89,13 +88,13 @@ module _ {T P : Type 0} where
 
 module _ {T P A : Type 0} where
   -- a place is passed, all of whose items were shown
-  pub taken_pass : (c d : CursorView T P A) (k : KeyView T) (l : ℕ) → IsKeyAt key_of c.lane.front c.lane.passed l k → c.lane.start ≤ c.lane.passed → c.shown ≡ length (items_at c.lane.front c.lane.passed)
+  pub taken_pass : (c d : CursorView T P A) (x : BatchView T P) → get_elem? c.lane.front c.lane.passed ≡ some x → c.lane.start ≤ c.lane.passed → c.shown ≡ length (items_at c.lane.front c.lane.passed)
       → d.lane.front ≡ c.lane.front → d.lane.start ≡ c.lane.start → d.lane.passed ≡ c.lane.passed + 1 → d.shown ≡ 0 → shown_items d ≡ shown_items c
-  taken_pass c d k l key low all front start passed shown = let x : BatchView T P = key.0 in
+  taken_pass c d x there low all front start passed shown =
       (λ i. all_items (drop (start i) (take (passed i) (front i))) ++ take (shown i) (items_at (front i) (passed i)))
       ∙ append_none (all_items (drop c.lane.start (take (c.lane.passed + 1) c.lane.front))) ∙ ap (λ (n : ℕ). all_items (drop c.lane.start (take n c.lane.front))) (add-one c.lane.passed)
-      ∙ items_before c.lane.front c.lane.start c.lane.passed x key.1 low
-      ∙ ap (λ (l : List T). all_items (drop c.lane.start (take c.lane.passed c.lane.front)) ++ l) (sym (take_all (items_at c.lane.front c.lane.passed) c.shown all ∙ items_here c.lane.front c.lane.passed x key.1))
+      ∙ items_before c.lane.front c.lane.start c.lane.passed x there low
+      ∙ ap (λ (l : List T). all_items (drop c.lane.start (take c.lane.passed c.lane.front)) ++ l) (sym (take_all (items_at c.lane.front c.lane.passed) c.shown all ∙ items_here c.lane.front c.lane.passed x there))
 
   -- the log is longer than it was seen
   pub taken_look : (c m : CursorView T P A) → m.lane ≡ seeing m.lane.front m.lane.told c.lane → m.shown ≡ 0 → c.shown ≡ 0 → IsPrefix c.lane.front m.lane.front → c.lane.passed ≤ length c.lane.front → shown_items m ≡ shown_items c
@@ -147,15 +146,35 @@ module _ {T P A : Type 0} where
       go Closed t = record { taken = ap (λ (c : CursorView T P A). shown_items c) t.0 ∙ same; ended = subst (λ (c : CursorView T P A). HasEnded c) (sym t.0) t.1; was_uncut = needs.was_uncut }
       go Cut t = record { taken = t.taken ∙ same; cut = t.cut; was_open = needs.was_open }
 
-  -- the key in hand
-  pub hand_of : (m : SeatState (BatchView T P) (KeyView T) A) (v : LaneView (BatchView T P) A) (shown : ℕ) (o : Option (KeyView T)) (k : KeyView T) → o ≡ Some k → HasHand m v shown o → HasHand m v shown (Some k)
-  hand_of m v shown o k e h = subst (λ (o : Option (KeyView T)). HasHand m v shown o) e h
+  -- a place in hand has its key there
+  pub has_key : (m : SeatState (BatchView T P) (KeyView T) A) (v : LaneView (BatchView T P) A) (shown : ℕ) (hand : Option ℕ) → v.held ≡ true → HasHand m v shown hand → HoldsKey key_of m v
+  has_key m v shown (Some count) held has = has.1
+  has_key m v shown None held has = absurd (false≢true (sym has.0 ∙ held))
+
+  -- a hand that isn't empty holds a place
+  pub is_held : (m : SeatState (BatchView T P) (KeyView T) A) (v : LaneView (BatchView T P) A) (shown : ℕ) (hand : Option ℕ) → is_some hand ≡ true → HasHand m v shown hand → v.held ≡ true
+  is_held m v shown (Some count) there has = has.0
+  is_held m v shown None there has = absurd (false≢true there)
+
+  -- the slot in hand is full
+  pub full_at : (m : SeatState (BatchView T P) (KeyView T) A) (v : LaneView (BatchView T P) A) (at : ℕ) → HoldsKey key_of m v → at ≡ slot v.places v.number v.passed → (k : KeyView T) × (m.1 ≡ (at, Some k) ∷ rest m.1)
+  full_at m v at has is = let k : KeyView T = key_of has.0 v.number in
+      (k, has.2 ∙ (λ i. (sym is i, Some k) ∷ rest (sym has.2 i)))
+
+  -- the items that the key in the slot in hand shows
+  pub items_held : (m : SeatState (BatchView T P) (KeyView T) A) (v : LaneView (BatchView T P) A) (at : ℕ) (k : KeyView T) → HoldsKey key_of m v → m.1 ≡ (at, Some k) ∷ rest m.1 → items_at v.front v.passed ≡ k.items
+  items_held m v at k has there = items_here v.front v.passed has.0 has.1
+      ∙ ap (λ (c : List (ℕ × Option (KeyView T))). items_of (head_key c)) (sym has.2 ∙ there)
+    where
+      items_of : Option (KeyView T) → List T
+      items_of (Some k) = k.items
+      items_of None = []
 
   -- a key came into the hand, and its first item is shown
-  pub cursor_took : (table t t' : TableId) (m m' : SeatState (BatchView T P) (KeyView T) A) (number places passed seen shown : ℕ) (closed cut : Bool) (hand hand' : Option (KeyView T)) (k : KeyView T)
+  pub cursor_took : (table t t' : TableId) (m m' : SeatState (BatchView T P) (KeyView T) A) (number places passed seen shown : ℕ) (closed cut : Bool) (hand : Option ℕ) (count : ℕ)
       → CursorOk table t m number places passed seen shown closed cut hand → t' ≡ t → (lane_of m.0).cut ≡ false → (lane_of m.0).passed < length (lane_of m.0).front
-      → Took key_of m (lane_of m.0) (holding (lane_of m.0)) (cut_off (lane_of m.0)) m' (Some k) → hand' ≡ Some k → CursorOk table t' m' number places passed seen 1 closed cut hand'
-  cursor_took table t t' m m' number places passed seen shown closed cut hand hand' k ok same uncut some_more took hand_is = let v : LaneView (BatchView T P) A = lane_of m.0 in
+      → Took key_of m (lane_of m.0) m' true → count ≡ length (items_at (lane_of m.0).front (lane_of m.0).passed) → CursorOk table t' m' number places passed seen 1 closed cut (Some count)
+  cursor_took table t t' m m' number places passed seen shown closed cut hand count ok same uncut some_more took count_is = let v : LaneView (BatchView T P) A = lane_of m.0 in
       let is : lane_of m'.0 ≡ holding v = ap (λ (w : View (BatchView T P) (KeyView T) A). lane_of w) took.0 in let f = ok.seen_is in let p = ok.passed_is in record {
         same = same ∙ ok.same;
         lane = ap (λ (w : View (BatchView T P) (KeyView T) A). w.lane) took.0 ∙ ap (λ (v : LaneView (BatchView T P) A). let o : Option (LaneView (BatchView T P) A) = Some v in o) (sym is);
@@ -173,7 +192,7 @@ module _ {T P A : Type 0} where
         bound = ok.bound;
         told_is = ap (λ (v : LaneView (BatchView T P) A). v.told) is ∙ ok.told_is;
         cut_is = ap (λ (v : LaneView (BatchView T P) A). v.cut) is ∙ ok.cut_is;
-        hand_is = subst (λ (o : Option (KeyView T)). HasHand m' (lane_of m'.0) 1 o) (sym hand_is) (subst (λ (v : LaneView (BatchView T P) A). HasHand m' v 1 (Some k)) (sym is) (refl, took.1, took.2, omega arith, some_items v.front v.passed v.number k took.2));
+        hand_is = subst (λ (v : LaneView (BatchView T P) A). HasHand m' v 1 (Some count)) (sym is) (refl, took.1, count_is, omega arith, subst (λ (n : ℕ). 1 ≤ n) (sym count_is) (some_there v.front v.passed took.1.0 took.1.1));
         below = λ _. omega arith;
         uncut = λ _. ap (λ (v : LaneView (BatchView T P) A). v.cut) is ∙ uncut;
       }

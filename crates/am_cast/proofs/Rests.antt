@@ -1,16 +1,11 @@
 -- What a cursor has taken once the rest of a place is shown at once.
-use Rattle.std.proofs.Common.{◌≡◌, ℕ, zero, suc, ◌+◌, ◌-◌, ◌<◌, ◌≤◌, List, [], ◌∷◌, ◌++◌, length, take, drop, sym, refl, ap, ◌∙◌, subst, arith, add-one, append_assoc, Option, Some, slice_get}
+use Rattle.std.proofs.Common.{◌≡◌, ℕ, zero, suc, ◌+◌, ◌-◌, ◌<◌, List, [], ◌∷◌, ◌++◌, length, take, drop, sym, refl, ap, ◌∙◌, subst, arith, add-one, append_assoc, Some, slice_get}
 use Rattle.std.proofs.lemmas.List.{append_cancel_right, length-drop, take-append-drop}
-use Rattle.am_segment.specs.Segments.{KeyView}
-use Rattle.am_cast.specs.declared.batch_view.BatchView.{BatchView}
-use Rattle.am_cast.specs.declared.views.LaneView.{LaneView}
-use Rattle.am_cast.specs.Steps.{SeatState}
 use Rattle.am_cast.specs.Cursors.{CursorView, items_at, shown_items}
 use Rattle.am_cast.specs.Keys.{all_items}
 use Rattle.am_cast.specs.declared.lends.Moved.TheVariants.{One}
 use Rattle.am_cast.specs.Lent.{IsItem, IsRest, MovesSlice}
-use Rattle.am_cast.specs.inside.Cursors.{HasHand}
-use Rattle.am_cast.proofs.Cursors.{take_get, take_all, hand_of, key_items}
+use Rattle.am_cast.proofs.Cursors.{take_get, take_all}
 
 module _ {X : Type 0} where
   get_there : (xs : List X) (n : ℕ) → n < length xs → (x : X) × (slice_get xs n ≡ Some x)
@@ -19,15 +14,6 @@ module _ {X : Type 0} where
   get_there (x ∷ xs) (suc n) low = get_there xs n (omega arith)
 
 module _ {T P A : Type 0} where
-  -- the items of the key in hand, and how many of them were shown
-  pub in_hand_are : (m : SeatState (BatchView T P) (KeyView T) A) (v : LaneView (BatchView T P) A) (shown : ℕ) (hand : Option (KeyView T)) (k : KeyView T) → hand ≡ Some k → HasHand m v shown hand
-      → (items_at v.front v.passed ≡ k.items) × (1 ≤ shown) × (shown ≤ length (items_at v.front v.passed))
-  in_hand_are m v shown hand k is has =
-      let h = hand_of m v shown hand k is has in
-      let items = key_items v.front v.passed v.number k h.2 in
-      let long : length (items_at v.front v.passed) ≡ length k.items = ap (λ (l : List T). length l) items in
-      (items, h.3, omega (arith, h.4))
-
   rest_of : (c m : CursorView T P A) (last : ℕ) → IsItem c m → last + 1 ≡ m.shown → last < length (items_at m.lane.front m.lane.passed)
       → IsRest c (record m { shown = length (items_at m.lane.front m.lane.passed) }) (drop last (items_at m.lane.front m.lane.passed))
   rest_of c m last one shown low =

@@ -7,7 +7,7 @@ use Rattle.am_cast.specs.declared.limits.TheConstants.{LONGEST_LOG}
 use Rattle.am_cast.specs.declared.views.Tail.{Tail}
 use Rattle.am_cast.specs.declared.views.Account.{Account}
 use Rattle.am_cast.specs.declared.views.WriterView.{WriterView}
-use Rattle.am_cast.specs.Rule.{first_account, first_writer, live, bit}
+use Rattle.am_cast.specs.Rule.{first_account, first_writer, idle, live, bit}
 use Rattle.am_cast.specs.declared.views.View.{View}
 use Rattle.am_cast.specs.Changes.{with_account, without_own, longer, grown, grown_as, laying, retired, back_if, given_out}
 use Rattle.am_cast.proofs.steps.Retire.{either_bool}
@@ -21,6 +21,10 @@ use Rattle.am_cast.specs.declared.writer.lane_account.Stand.TheVariants.{Idle, L
 use Rattle.am_cast.specs.inside.LaneAccounts.{IsKeptAs, no_lane}
 use Rattle.am_cast.specs.inside.RingPlaces.{RingPlaceView}
 use Rattle.am_cast.specs.inside.WriterStates.{WriterStateOk}
+
+-- an idle lane isn't live
+pub idle_not_live : {K A : Type 0} (b : Account K A) → b.stand ≡ idle → b.stand ≢ live
+idle_not_live b nobodys alive = absurd (omega arith)
 
 module _ {B K A : Type 0} where
   pub account_same : (q : WriterView B K A) (l : ℕ) (b : Account K A) → l < length q.accounts → account_of (with_account l b q) l ≡ b

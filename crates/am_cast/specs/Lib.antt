@@ -6,6 +6,7 @@ pub mod Keys
 pub mod Cursors
 pub mod Lending
 pub mod Lent
+pub mod Loans
 pub mod Writers
 pub mod Posters
 pub mod Refusals

@@ -1,5 +1,6 @@
 -- What the raw steps ask of a seat.
 use Rattle.std.specs.Prelude.{◌≡◌, ◌≢◌, ℕ, ◌<◌, List, [], ◌∷◌, Option, Some, None, slice_index_or}
+use Rattle.std.specs.Prelude.{Bool, true, false}
 use mathlib.Core.Option.{some}
 use lib.ListN.{get_elem?}
 use Rattle.atomic_table.specs.Seated.{TableId}
@@ -9,6 +10,7 @@ use Rattle.am_cast.specs.declared.views.WriterView.{WriterView}
 use Rattle.am_cast.specs.declared.views.LaneView.{LaneView}
 use Rattle.am_cast.specs.declared.views.View.{View}
 use Rattle.am_cast.specs.Rule.{live, slot, first_lane, first_writer, first_account}
+use Rattle.am_cast.specs.Changes.{with_lane, holding, cut_off}
 use Rattle.am_cast.specs.Steps.{SeatState}
 
 -- the value of an option, or else x
@@ -36,17 +38,21 @@ IsLane m v = m.0.lane ≡ Some v
 abbrev pub IsKeyAt : {B K : Type 0} → (B → ℕ → K) → List B → ℕ → ℕ → K → Type 0
 IsKeyAt {B = B} key front i l k = (x : B) × (get_elem? front i ≡ some x) × (k ≡ key x l)
 
--- the slot of the place v.passed is in hand, and empty
-abbrev pub HasOut : {B K A : Type 0} → SeatState B K A → LaneView B A → Type 0
-HasOut m v = m.1 ≡ (slot v.places v.number v.passed, None) ∷ []
+module _ {B K A : Type 0} (key : B → ℕ → K) where
+  -- the slot of the place v.passed is in hand, with the lane's key of the batch there
+  abbrev pub HoldsKey : SeatState B K A → LaneView B A → Type 0
+  HoldsKey m v = (x : B) × (get_elem? v.front v.passed ≡ some x)
+      × (m.1 ≡ (slot v.places v.number v.passed, Some (key x v.number)) ∷ [])
 
--- an answer of Take
-abbrev pub Took : {B K A : Type 0} → (B → ℕ → K) → SeatState B K A → LaneView B A → LaneView B A
-    → LaneView B A
-    → SeatState B K A → Option K → Type 0
-Took key m v held cut m' (Some k) = (m'.0 ≡ record m.0 { lane = Some held }) × HasOut m' v
-    × IsKeyAt key v.front v.passed v.number k
-Took key m v held cut m' None = (m'.0 ≡ record m.0 { lane = Some cut }) × (m'.1 ≡ m.1)
+  -- that slot is in hand, or none is
+  abbrev pub HoldsIf : Bool → SeatState B K A → LaneView B A → Type 0
+  HoldsIf true m v = HoldsKey m v
+  HoldsIf false m v = m.1 ≡ []
+
+  -- an answer of Take: whether the key came into the hand, or the lane was cut
+  abbrev pub Took : SeatState B K A → LaneView B A → SeatState B K A → Bool → Type 0
+  Took m v m' true = (m'.0 ≡ with_lane (holding v) m.0) × HoldsKey m' v
+  Took m v m' false = (m'.0 ≡ with_lane (cut_off v) m.0) × (m'.1 ≡ m.1)
 
 -- what the writer knows of the lane l
 abbrev pub account_of : {B K A : Type 0} → WriterView B K A → ℕ → Account K A

@@ -33,8 +33,8 @@
 //!
 //! Slot l * places + i % places holds lane l's key of place i, from the fill before place i is
 //! published to the clear after the lane has passed it. A slot is in the hand of one seat or at
-//! home. A cursor has at most one in its hand, that of the place it reads; the writer at most one,
-//! the one that it fills or clears.
+//! home. A cursor has at most one in its hand, that of the place it reads, and reads the key where it
+//! lies; the writer has at most one, the one that it fills or clears.
 
 mod admit;
 mod clear;
@@ -64,7 +64,7 @@ pub(crate) use cut::cut_lane;
 pub(crate) use fill::fill_slot;
 pub(crate) use hand::hand_own;
 pub(crate) use harvest::find_word;
-pub(crate) use leave::{leave_bare, leave_with_key};
+pub(crate) use leave::leave_lane;
 pub(crate) use look::{has_grown, look_at_log};
 pub(crate) use note::note_log;
 pub(crate) use open::open_lane;
@@ -72,6 +72,7 @@ pub(crate) use pass::pass_place;
 pub(crate) use publish::publish_batch;
 pub(crate) use recover::recover_key;
 pub(crate) use retire::retire_lane;
+pub(crate) use slot::key_in;
 pub(crate) use take::take_key;
 pub(crate) use take_in::take_in;
 pub(crate) use tell::{new_seat, tell_seat};

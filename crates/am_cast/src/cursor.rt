@@ -11,7 +11,6 @@ use crate::board;
 use crate::feed::Feed;
 use crate::pass::Pass;
 use crate::ring_place::RingPlace;
-use am_segment::SegKey;
 use std::marker::{Model, PhantomData};
 
 /// The table of one log.
@@ -33,7 +32,8 @@ pub struct Cursor<'a, T, P, A, N: Feed> {
     pub(crate) shown: usize,
     pub(crate) closed: bool,
     pub(crate) cut: bool,
-    pub(crate) hand: Option<SegKey<T>>,
+    // How many items the place in hand has, if there is one.
+    pub(crate) hand: Option<usize>,
 }
 
 impl<'a, T, P, A, N: Feed> Model for Cursor<'a, T, P, A, N> {
@@ -67,13 +67,15 @@ impl<'a, T, P, A, N: Feed> Cursor<'a, T, P, A, N> {
 
     // Whether the place in hand has an item that wasn't shown.
     fn has_item(&self) -> bool
-        ensures { result ≡ false → self.now.lane.held ≡ true
+        ensures yes { result ≡ true → (self.now.lane.held ≡ true)
+            × (self.now.shown < length (items_at self.now.lane.front self.now.lane.passed)) }
+        ensures no { result ≡ false → self.now.lane.held ≡ true
             → self.now.shown ≡ length (items_at self.now.lane.front self.now.lane.passed) }
     {
-        let Some(key) = &self.hand else {
-            return false;
-        };
-        self.shown < key.len()
+        match self.hand {
+            Some(count) => self.shown < count,
+            None => false,
+        }
     }
 
     // Whether a place is there after the one in hand, or the log is closed.
@@ -81,7 +83,7 @@ impl<'a, T, P, A, N: Feed> Cursor<'a, T, P, A, N> {
         ensures { result ≡ false
             → self.now.lane.passed + bit self.now.lane.held ≡ length self.now.lane.front }
     {
-        let next = match &self.hand {
+        let next = match self.hand {
             Some(_) => self.next.number() + 1,
             None => self.next.number(),
         };
@@ -96,14 +98,11 @@ impl<'a, T, P, A, N: Feed> Cursor<'a, T, P, A, N> {
         ensures no { result ≡ false → (self.new ≡ self.old) × (self.old.lane.held ≡ true
             → self.old.shown ≡ length (items_at self.old.lane.front self.old.lane.passed)) }
     {
-        let Some(key) = &self.hand else {
-            return false;
-        };
-        if self.shown >= key.len() {
-            return false;
+        let more = self.has_item();
+        if more {
+            self.shown += 1;
         }
-        self.shown += 1;
-        true
+        more
     }
 
     // All items of the place in hand are shown. Answers the index of the one that was shown last.
@@ -115,15 +114,15 @@ impl<'a, T, P, A, N: Feed> Cursor<'a, T, P, A, N> {
           shown = length (items_at self.old.lane.front self.old.lane.passed);
         } }
     {
-        let Some(key) = &self.hand else {
+        let Some(count) = self.hand else {
             unreachable!()
         };
         let last = self.shown - 1;
-        self.shown = key.len();
+        self.shown = count;
         last
     }
 
-    // The key in hand goes home, and its place is passed.
+    // The slot in hand goes home, and its place is passed.
     pub(crate) fn put_back(&mut self)
         requires { self.old.lane.held ≡ true
             → self.old.shown ≡ length (items_at self.old.lane.front self.old.lane.passed) }
@@ -136,11 +135,10 @@ impl<'a, T, P, A, N: Feed> Cursor<'a, T, P, A, N> {
             × (self.new.lane.passed ≤ length self.new.lane.front) }
         ensures taken { shown_items self.new ≡ shown_items self.old }
     {
-        if let Some(key) = self.hand.take() {
-            let at = self.next.slot(self.number);
-            let top = &self.cast.board.shared;
-            self.cut = board::pass_place(top, &mut self.seat, at, key, self.number);
+        if self.hand.is_some() {
+            self.cut = board::pass_place(&self.cast.board.shared, &mut self.seat, self.number);
             self.next.go_on();
+            self.hand = None;
             self.shown = 0;
         }
     }
@@ -154,7 +152,7 @@ impl<'a, T, P, A, N: Feed> Cursor<'a, T, P, A, N> {
         (self.seen, self.closed) = board::look_at_log(&self.cast.board.shared, &mut self.seat);
     }
 
-    // The next key comes into the hand, and its first item is shown, or the lane was cut.
+    // The slot of the next place comes into the hand, and its first item is shown, or the lane was cut.
     pub(crate) fn take(&mut self) -> bool
         requires { (self.old.lane.held ≡ false) × (self.old.lane.cut ≡ false)
             × (self.old.lane.passed < length self.old.lane.front) }
@@ -163,21 +161,15 @@ impl<'a, T, P, A, N: Feed> Cursor<'a, T, P, A, N> {
         ensures cut { result ≡ false
             → self.new ≡ record { lane = cut_off self.old.lane; shown = 0 } }
     {
-        let at = self.next.slot(self.number);
         let top = &self.cast.board.shared;
-        match board::take_key(top, &mut self.seat, at, self.number, self.next.number()) {
-            Some(key) => {
-                match self.hand.replace(key) {
-                    None => {}
-                    Some(_) => unreachable!(),
-                }
-                self.shown = 1;
-                true
-            }
-            None => {
-                self.cut = true;
-                false
-            }
+        if board::take_key(top, &mut self.seat, self.number, self.next.number()) {
+            let at = self.next.slot(self.number);
+            self.hand = Some(board::key_in(&mut self.seat, top, at).len());
+            self.shown = 1;
+            true
+        } else {
+            self.cut = true;
+            false
         }
     }
 
@@ -201,7 +193,7 @@ impl<'a, T, P, A, N: Feed> Cursor<'a, T, P, A, N> {
         self.cut
     }
 
-    /// The lane is left. The key in hand goes home.
+    /// The lane is left. The slot in hand goes home.
     pub(crate) fn depart(self) -> (usize, LogSeat<T, P, A>)
         ensures same { (result.1.table_id ≡ N.table) × (result.1.me.1 ≡ [])
             × (self.entry.lane.number ≡ result.0) × (result.0 < LANES) }
@@ -212,25 +204,15 @@ impl<'a, T, P, A, N: Feed> Cursor<'a, T, P, A, N> {
             cast,
             mut seat,
             number,
-            next,
+            next: _,
             seen: _,
             shown: _,
             closed: _,
             cut: _,
-            hand,
+            hand: _,
         } = self;
-        let top = &cast.board.shared;
-        match hand {
-            Some(key) => {
-                let at = next.slot(number);
-                board::leave_with_key(top, &mut seat, at, key, number);
-                (number, seat)
-            }
-            None => {
-                board::leave_bare(top, &mut seat, number);
-                (number, seat)
-            }
-        }
+        board::leave_lane(&cast.board.shared, &mut seat, number);
+        (number, seat)
     }
 
     // A look, after which all that the pass knows is seen.

@@ -7,6 +7,7 @@ ghost use Rattle.am_cast.specs.Cursors.{GoesOn, items_at};
 ghost use Rattle.am_cast.specs.Lent.{Moves, MovesPast, MovesSlice, Lends, LendsPast, LendsSlice, IsInHand};
 ghost use Rattle.am_cast.specs.inside.Moving.{TriesTake, AfterLook, NeedsLook, AreAllSeen, LendsInHand, without_item};
 
+use crate::board;
 use crate::cursor::Cursor;
 use crate::feed::Feed;
 use crate::pass::Pass;
@@ -48,30 +49,39 @@ pub enum Moved {
 }
 
 impl<'a, T, P, A, N: Feed> Cursor<'a, T, P, A, N> {
-    /// The item that was shown last, while the place that it is of is in hand.
-    pub fn in_hand(&self) -> &T
-        requires { self.now.lane.held ≡ true }
-        ensures { IsInHand self.now result.now }
+    // The items of the place in hand, read where their key lies.
+    fn items_in_hand(&mut self) -> &[T]
+        requires { self.old.lane.held ≡ true }
+        ensures* lender { sem 𝓛 (AfterTheLoan T.row P.row A.row N.row N.Feed self.entry
+            (λ cursor. cursor ≡ self.old)) }
+        ensures items { result.now ≡ items_at self.old.lane.front self.old.lane.passed }
     {
-        let Some(key) = &self.hand else {
-            unreachable!()
-        };
-        let Some(item) = key.get(self.shown - 1) else {
-            unreachable!()
-        };
-        item
+        let at = self.next.slot(self.number);
+        let top = &self.cast.board.shared;
+        let seat = &mut self.seat;
+        board::key_in(seat, top, at).as_slice()
+    }
+
+    /// The item that was shown last, while the place that it is of is in hand.
+    pub fn in_hand(&mut self) -> &T
+        requires { self.old.lane.held ≡ true }
+        ensures* lender { sem 𝓛 (AfterTheLoan T.row P.row A.row N.row N.Feed self.entry
+            (λ cursor. cursor ≡ self.old)) }
+        ensures item { IsInHand self.old result.now }
+    {
+        let last = self.shown - 1;
+        &self.items_in_hand()[last]
     }
 
     /// The items of the place in hand, from an index on.
-    pub fn in_hand_from(&self, index: usize) -> &[T]
-        requires { (self.now.lane.held ≡ true)
-            × (index ≤ length (items_at self.now.lane.front self.now.lane.passed)) }
-        ensures { result.now ≡ drop index (items_at self.now.lane.front self.now.lane.passed) }
+    pub fn in_hand_from(&mut self, index: usize) -> &[T]
+        requires { (self.old.lane.held ≡ true)
+            × (index ≤ length (items_at self.old.lane.front self.old.lane.passed)) }
+        ensures* lender { sem 𝓛 (AfterTheLoan T.row P.row A.row N.row N.Feed self.entry
+            (λ cursor. cursor ≡ self.old)) }
+        ensures items { result.now ≡ drop index (items_at self.old.lane.front self.old.lane.passed) }
     {
-        let Some(key) = &self.hand else {
-            unreachable!()
-        };
-        &key.as_slice()[index..]
+        &self.items_in_hand()[index..]
     }
 
     // The key of the next place, or that the lane was cut.
@@ -152,10 +162,12 @@ impl<'a, T, P, A, N: Feed> Cursor<'a, T, P, A, N> {
     }
 
     // The answer of `next` after a move: it lends the item in hand, or says why there is none.
-    fn lend(&self, moved: Moved) -> Step<'_, T>
-        requires { moved ≡ Moved.One → self.now.lane.held ≡ true }
+    fn lend(&mut self, moved: Moved) -> Step<'_, T>
+        requires { moved ≡ Moved.One → self.old.lane.held ≡ true }
+        ensures* lender { sem 𝓛 (AfterTheLoan T.row P.row A.row N.row N.Feed self.entry
+            (λ cursor. cursor ≡ self.old)) }
         ensures answer { without_item result ≡ moved }
-        ensures item { LendsInHand self.now result }
+        ensures item { LendsInHand self.old result }
     {
         match moved {
             Moved::One => Step::Item(self.in_hand()),

@@ -1,5 +1,5 @@
 -- A subscription as it shows many alerts at once.
-use Rattle.std.proofs.Common.{◌≡◌, ℕ, ◌+◌, ◌-◌, ◌%◌, ◌^◌, ◌≤◌, ◌<◌, false, true, List, [], ◌++◌, length, take, drop, Some, refl, sym, ap, subst, ◌∙◌, arith, length-append, Bor}
+use Rattle.std.proofs.Common.{◌≡◌, ℕ, ◌+◌, ◌-◌, ◌%◌, ◌^◌, ◌≤◌, false, true, List, [], ◌++◌, length, take, drop, Some, refl, sym, ap, subst, ◌∙◌, arith, length-append, Bor}
 use Rattle.std.proofs.lemmas.List.{append-nil, drop-map, length-drop, take-append-drop, take_all}
 use Rattle.std.specs.Arc.{arc_value}
 use Rattle.std.specs.declared.alloc.Global.{Global}
@@ -7,7 +7,6 @@ use Rattle.std.specs.declared.sync.Arc.{Arc}
 use Rattle.am_alert.specs.declared.alert.Alert.{Alert}
 use Rattle.am_store.specs.Shared.{alerts_in}
 use Rattle.am_cast.specs.Cursors.{GoesOn, items_at}
-use Rattle.am_cast.specs.Cursors as cast
 use Rattle.am_cast.specs.Lent.{IsRest, MovesSlice}
 use Rattle.am_cast.specs.declared.lends.Moved.TheVariants as moved
 use Rattle.am_provider.specs.Subscriptions.{SubscriptionView, taken}
@@ -15,7 +14,7 @@ use Rattle.am_provider.specs.declared.answers.Slice.{Slice}
 use Rattle.am_provider.specs.declared.answers.Slice.TheVariants as slice
 use Rattle.am_provider.specs.declared.subscription.Advance.{Advance}
 use Rattle.am_provider.specs.declared.subscription.Advance.TheVariants as advance
-use Rattle.am_provider.specs.Showings.{ShowsAlerts, ShowsNone, ShowsSlice}
+use Rattle.am_provider.specs.Showings.{ShowsNone, ShowsSlice}
 use Rattle.am_provider.specs.inside.Slices.{AdvancesSlice, IsSliceShown, ShowsOpening}
 use Rattle.am_provider.specs.inside.Subscribed.{IsSubscription}
 use Rattle.am_provider.proofs.Subscribing.{logged_more, some_more, still_untold, took_more}

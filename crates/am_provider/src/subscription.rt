@@ -2,8 +2,8 @@
 
 ghost use Rattle.std.specs.Prelude.{◌≡◌, ◌+◌, ◌<◌, ◌^◌, IfNone, IfSome, Some, false, true, length};
 ghost use Rattle.am_provider.specs.Subscriptions.{taken, HasNoNews};
-ghost use Rattle.am_provider.specs.inside.Advances.{Advances, AdvancesPast, CanShow, IsShown, Notes};
-ghost use Rattle.am_provider.specs.inside.Slices.{AdvancesSlice, CanShowFrom, IsSliceShown, ShowsOpening};
+ghost use Rattle.am_provider.specs.inside.Advances.{Advances, AdvancesPast, Notes};
+ghost use Rattle.am_provider.specs.inside.Slices.{AdvancesSlice, ShowsOpening};
 ghost use Rattle.am_provider.specs.Posts.{HasMet};
 ghost use Rattle.am_provider.specs.inside.Subscribed.{IsFresh, IsSubscription};
 
@@ -160,7 +160,12 @@ impl<'a, N: Origin> Subscription<'a, N> {
             return Advance::Opened;
         }
         let moved = self.cursor.advance();
-        note(moved, &self.cursor, &mut self.count, &mut self.closed_told)
+        note(
+            moved,
+            &mut self.cursor,
+            &mut self.count,
+            &mut self.closed_told,
+        )
     }
 
     // As `advance`, but nothing is left only if each place that the pass knows was passed.
@@ -173,7 +178,12 @@ impl<'a, N: Origin> Subscription<'a, N> {
             return Advance::Opened;
         }
         let moved = self.cursor.advance_past(&mut pass.pass);
-        note(moved, &self.cursor, &mut self.count, &mut self.closed_told)
+        note(
+            moved,
+            &mut self.cursor,
+            &mut self.count,
+            &mut self.closed_told,
+        )
     }
 
     // The rest of the opening is shown, if there is any. Answers at which index it begins.
@@ -207,23 +217,14 @@ impl<'a, N: Origin> Subscription<'a, N> {
                 (Advance::Logged, from)
             }
             (other, from) => {
-                let advance = note(other, &self.cursor, &mut self.count, &mut self.closed_told);
+                let advance = note(
+                    other,
+                    &mut self.cursor,
+                    &mut self.count,
+                    &mut self.closed_told,
+                );
                 (advance, from)
             }
-        }
-    }
-
-    // What such an advance shows.
-    fn shown_from(&self, advance: Advance, from: usize) -> Slice<'_>
-        requires { CanShowFrom advance from self.now }
-        ensures { IsSliceShown self.now advance from result }
-    {
-        match advance {
-            Advance::Opened => Slice::Stored(&self.opening.as_slice()[from..]),
-            Advance::Logged => Slice::Posted(self.cursor.in_hand_from(from)),
-            Advance::Pending => Slice::Pending,
-            Advance::Closed => Slice::Closed,
-            Advance::Cut => Slice::Cut,
         }
     }
 
@@ -235,11 +236,21 @@ impl<'a, N: Origin> Subscription<'a, N> {
     {
         pass.pass.meet(cast, &mut self.cursor);
     }
+}
+
+impl<'a, N: Origin> Subscription<'a, N> {
+    ghost use Rattle.std.specs.Prelude.{◌≡◌};
+    ghost use Rattle.std.specs.Borrow.{sem};
+    ghost use Rattle.am_provider.specs.Lending.{AfterTheLoan};
+    ghost use Rattle.am_provider.specs.Showings.{Shows, ShowsPast};
+    ghost use Rattle.am_provider.specs.inside.Advances.{CanShow, IsShown};
 
     // What an advance shows.
-    fn shown(&self, advance: Advance) -> Step<'_>
-        requires { CanShow advance self.now }
-        ensures { IsShown self.now advance result }
+    fn shown(&mut self, advance: Advance) -> Step<'_>
+        requires { CanShow advance self.old }
+        ensures* lender { sem 𝓛 (AfterTheLoan N.row N.Feed N.Ledger self.entry
+            (λ subscription. subscription ≡ self.old)) }
+        ensures shown { IsShown self.old advance result }
     {
         match advance {
             Advance::Opened => Step::Item(&self.opening.as_slice()[self.shown - 1]),
@@ -249,13 +260,6 @@ impl<'a, N: Origin> Subscription<'a, N> {
             Advance::Cut => Step::Cut,
         }
     }
-}
-
-impl<'a, N: Origin> Subscription<'a, N> {
-    ghost use Rattle.std.specs.Prelude.{◌≡◌};
-    ghost use Rattle.std.specs.Borrow.{sem};
-    ghost use Rattle.am_provider.specs.Lending.{AfterTheLoan};
-    ghost use Rattle.am_provider.specs.Showings.{Shows, ShowsPast};
 
     /// The next alert: first those that were stored at the subscription, then those of the log since.
     /// It is lent until the next call.
@@ -281,9 +285,27 @@ impl<'a, N: Origin> Subscription<'a, N> {
 }
 
 impl<'a, N: Origin> Subscription<'a, N> {
+    ghost use Rattle.std.specs.Prelude.{◌≡◌};
     ghost use Rattle.std.specs.Borrow.{sem};
     ghost use Rattle.am_provider.specs.Lending.{AfterTheLoan};
     ghost use Rattle.am_provider.specs.Showings.{ShowsSlice};
+    ghost use Rattle.am_provider.specs.inside.Slices.{CanShowFrom, IsSliceShown};
+
+    // What an advance of `advance_slice` shows.
+    fn shown_from(&mut self, advance: Advance, from: usize) -> Slice<'_>
+        requires { CanShowFrom advance from self.old }
+        ensures* lender { sem 𝓛 (AfterTheLoan N.row N.Feed N.Ledger self.entry
+            (λ subscription. subscription ≡ self.old)) }
+        ensures shown { IsSliceShown self.old advance from result }
+    {
+        match advance {
+            Advance::Opened => Slice::Stored(&self.opening.as_slice()[from..]),
+            Advance::Logged => Slice::Posted(self.cursor.in_hand_from(from)),
+            Advance::Pending => Slice::Pending,
+            Advance::Closed => Slice::Closed,
+            Advance::Cut => Slice::Cut,
+        }
+    }
 
     /// The next alerts, as many as lie together: what is left of those that were stored at the
     /// subscription, or of a post's batch. They are taken by this call, and lent until the next one.
@@ -299,12 +321,13 @@ impl<'a, N: Origin> Subscription<'a, N> {
 // What a move of the cursor is to a subscription: one alert more is counted, or the end is noted.
 fn note<N: Origin>(
     moved: Moved,
-    cursor: &Cursor<'_, N>,
+    cursor: &mut Cursor<'_, N>,
     count: &mut u64,
     closed_told: &mut bool,
 ) -> Advance
-    requires { moved ≡ Moved.One → cursor.now.lane.held ≡ true }
-    ensures { Notes moved cursor.now count.old closed_told.old result count.new closed_told.new }
+    requires { moved ≡ Moved.One → cursor.old.lane.held ≡ true }
+    ensures notes { Notes moved cursor.old count.old closed_told.old result count.new closed_told.new }
+    ensures cursor { cursor.new ≡ cursor.old }
 {
     match moved {
         Moved::One => {

@@ -1,8 +1,8 @@
 -- A lane is left, with a key in hand or with none.
-use Rattle.std.proofs.Common.{[], ◌≡◌, ℕ, List, ◌∷◌, set, sym, refl, ap, ◌∙◌, subst, arith, Option, Some, true, false, true≢false, length-set, get_or-set_other, get_or-set_same}
+use Rattle.std.proofs.Common.{[], ◌≡◌, ℕ, List, ◌∷◌, set, sym, refl, ap, ◌∙◌, subst, arith, Option, Some, Bool, true, false, true≢false, length-set, get_or-set_other, get_or-set_same}
 use mathlib.Core.Option.{none, some}
 use lib.ListN.{get_elem?}
-use Rattle.atomic_table.specs.Table.{step, Act, keeps, gives, stepped, carried_after, Valid, Allows}
+use Rattle.atomic_table.specs.Table.{step, Act, keeps, gives, rest, stepped, carried_after, Valid, Allows}
 use Rattle.atomic_table.proofs.Lists.{set_else}
 use Rattle.am_cast.specs.declared.views.Tail.{Tail}
 use Rattle.am_cast.specs.declared.views.Account.{Account}
@@ -14,6 +14,7 @@ use Rattle.am_cast.specs.Changes.{with_lane, left, laid_down}
 use Rattle.am_steps.specs.declared.event.Event.TheVariants as does
 use Rattle.am_cast.proofs.Events.{behind, Event, leave, AllowsEvent}
 use Rattle.am_cast.specs.Steps.{SeatState, Leaves}
+use Rattle.am_cast.specs.Seats.{HoldsIf}
 use Rattle.am_cast.proofs.Slots.{other_lane}
 use Rattle.am_cast.proofs.Kept.{same_some, lane_ok, lane_stepped}
 use Rattle.am_cast.proofs.Lanes.{at_home, comes_home, to_lane}
@@ -97,3 +98,17 @@ module _ {B K A : Type 0} (key : B → ℕ → K) where
   pub leaves_full : (slots id : ℕ) (me : SeatState B K A) (v : LaneView B A) (x : B) (cs : List (ℕ × Option K)) (new : ℕ) → me.0.lane ≡ Some v → v.begun ≡ true → v.held ≡ true → get_elem? v.front v.passed ≡ some x → me.1 ≡ (slot v.places v.number v.passed, Some (key x v.number)) ∷ cs → new ≡ gone
       → Allows (Ruled key) slots id me (lane_word v.number) (λ _. new) (λ _. Leaves (step slots (lane_word v.number) new 0 none) me new)
   leaves_full slots id me v x cs new is begun held next carried new_is s r deep at fits = let x = leaves_full_as slots id me v x cs new is begun held next carried new_is s r deep at fits in (x.0, x.1, x.2, x.3.0, x.4)
+
+  -- a lane leaves, with a key in hand or with none
+  pub leaves : (slots id : ℕ) (me : SeatState B K A) (v : LaneView B A) (new : ℕ) → me.0.lane ≡ Some v → v.begun ≡ true → HoldsIf key v.held me v → new ≡ gone
+      → Allows (Ruled key) slots id me (lane_word v.number) (λ _. new) (λ _. Leaves (step slots (lane_word v.number) new 0 none) me new)
+  leaves slots id me v new is begun hand new_is = go v.held refl hand
+    where
+      go : (held : Bool) → v.held ≡ held → HoldsIf key held me v → Allows (Ruled key) slots id me (lane_word v.number) (λ _. new) (λ _. Leaves (step slots (lane_word v.number) new 0 none) me new)
+      go true held has = leaves_full slots id me v has.0 [] new is begun held has.1 has.2 new_is
+      go false held none_there = leaves_bare slots id me v new is begun held new_is
+
+  -- no slot is in hand then
+  pub none_left : (me : SeatState B K A) (v : LaneView B A) (held : Bool) → HoldsIf key held me v → laid_down held me.1 ≡ []
+  none_left me v true has = ap (λ (c : List (ℕ × Option K)). rest c) has.2
+  none_left me v false none_there = none_there

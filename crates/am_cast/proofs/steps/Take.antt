@@ -1,5 +1,6 @@
 -- A lane takes its next key, or was cut.
 use Rattle.std.proofs.Common.{[], ◌≡◌, ◌≢◌, ℕ, ◌+◌, ◌*◌, ◌/◌, ◌<◌, ◌≤◌, List, ◌∷◌, length, get_or, set, sym, refl, ap, ◌∙◌, subst, arith, Option, Some, Bool, true, false, true≢false, eqb, length-set, get_or-set_other, get_or-set_same}
+use Rattle.std.proofs.lemmas.Bool.{eqb-true, eqb-false}
 use mathlib.Core.Option.{none, some, some-injective}
 use prog.Atomic.{either}
 use lib.ListN.{get_elem?}
@@ -16,6 +17,7 @@ use Rattle.am_cast.specs.Changes.{with_lane, holding, cut_off}
 use Rattle.am_steps.specs.declared.event.Event.TheVariants as does
 use Rattle.am_cast.proofs.Events.{behind, Event, take, take_cut, AllowsEvent}
 use Rattle.am_cast.specs.Steps.{SeatState, Takes}
+use Rattle.am_cast.specs.Seats.{Took}
 use Rattle.am_cast.proofs.Slots.{put_here, put_else, put_same, apart, other_lane, at_length, at_below, prefix_at}
 use Rattle.am_cast.proofs.Kept.{same_some, lane_ok, lane_step, one_lane}
 use Rattle.am_cast.proofs.Lanes.{live_of, cut_of}
@@ -123,3 +125,13 @@ module _ {B K A : Type 0} (key : B → ℕ → K) where
   pub takes_key : (slots id : ℕ) (me : SeatState B K A) (v : LaneView B A) (old new : ℕ) → me.0.lane ≡ Some v → v.begun ≡ true → v.held ≡ false → v.passed < length v.front → old ≡ 4 * v.passed → new ≡ 4 * v.passed + 2
       → Allows (Ruled key) slots id me (lane_word v.number) (λ n. either (eqb n old) new n) (Takes key (step slots (lane_word v.number) old new none) me)
   takes_key slots id me v old new is begun held below old_is new_is s r deep at fits = let x = takes_as slots id me v old new is begun held below old_is new_is s r deep at fits in (x.0, x.1, x.2, x.3.0, x.4)
+
+  -- an answer of the exchange, by whether it found the word that it looked for
+  pub took_as : (me me' : SeatState B K A) (v : LaneView B A) (x : B) (n old : ℕ) → get_elem? v.front v.passed ≡ some x → me.1 ≡ []
+      → (n ≡ old → (me'.0 ≡ with_lane (holding v) me.0) × (me'.1 ≡ (slot v.places v.number v.passed, Some (key x v.number)) ∷ me.1))
+      × (n ≢ old → (me'.0 ≡ with_lane (cut_off v) me.0) × (me'.1 ≡ me.1)) → Took key me v me' (eqb n old)
+  took_as me me' v x n old next bare answers = go (eqb n old) refl
+    where
+      go : (hit : Bool) → eqb n old ≡ hit → Took key me v me' hit
+      go true is = let yes = answers.0 (eqb-true n old is) in (yes.0, (x, next, yes.1 ∙ (λ i. (slot v.places v.number v.passed, Some (key x v.number)) ∷ bare i)))
+      go false is = answers.1 (eqb-false n old is)

@@ -7,19 +7,20 @@ use Rattle.am_cast.specs.declared.batch_view.BatchView.{BatchView}
 use Rattle.am_cast.specs.declared.views.LaneView.{LaneView}
 use Rattle.am_cast.specs.Steps.{SeatState}
 use Rattle.am_cast.specs.Keys.{key_of}
-use Rattle.am_cast.specs.Seats.{lane_of, IsLane, IsKeyAt, HasOut}
+use Rattle.am_cast.specs.Seats.{lane_of, IsLane, HoldsKey}
+use Rattle.am_cast.specs.Cursors.{items_at}
 
 module _ {T P A : Type 0} where
-  -- a place in hand, and how many of its items were shown; or none
+  -- a place in hand, how many items it has, and how many of them were shown; or none
   abbrev pub HasHand : SeatState (BatchView T P) (KeyView T) A → LaneView (BatchView T P) A → ℕ
-      → Option (KeyView T) → Type 0
-  HasHand m v shown (Some k) = (v.held ≡ true) × HasOut m v × IsKeyAt key_of v.front v.passed v.number k
-      × (1 ≤ shown) × (shown ≤ length k.items)
+      → Option ℕ → Type 0
+  HasHand m v shown (Some count) = (v.held ≡ true) × HoldsKey key_of m v
+      × (count ≡ length (items_at v.front v.passed)) × (1 ≤ shown) × (shown ≤ count)
   HasHand m v shown None = (v.held ≡ false) × (m.1 ≡ []) × (shown ≡ 0)
 
   -- a cursor's fields agree with its seat
   pub record CursorOk (table seat_table : TableId) (m : SeatState (BatchView T P) (KeyView T) A)
-      (number places passed seen shown : ℕ) (closed cut : Bool) (hand : Option (KeyView T)) : Type 0 where
+      (number places passed seen shown : ℕ) (closed cut : Bool) (hand : Option ℕ) : Type 0 where
     pub same : seat_table ≡ table
     pub lane : IsLane m (lane_of m.0)
     pub alone : (m.0.writer ≡ None) × (m.0.own ≡ [])

@@ -1,6 +1,8 @@
-//! How a slot in hand is filled.
+//! How a slot in hand is filled, and how its key is read.
 ghost use Rattle.std.specs.Prelude.{None, Some, ◌∷◌, ◌≡◌};
+ghost use Rattle.std.specs.Borrow.{sem};
 ghost use Rattle.atomic_table.specs.Table.{rest};
+ghost use Rattle.am_cast.specs.Loans.{IsLentToRead};
 
 use crate::rule::{AnySeat, AnyTop, Keyed};
 
@@ -20,5 +22,24 @@ pub(crate) fn lay_in<B, K, A, R: Keyed<B, K>>(
     match top.exchange(seat, at, Some(key)) {
         None => {}
         Some(_) => unreachable!(),
+    }
+}
+
+/// The key in the slot in hand, read where it lies. Nothing is written, so the slot's cache line stays the
+/// writer's too.
+pub(crate) fn key_in<'s, B, K, A, R: Keyed<B, K>>(
+    seat: &'s mut AnySeat<B, K, A>,
+    top: &'s AnyTop<B, K, A, R>,
+    at: usize,
+) -> &'s K
+    requires table { seat.old.table_id ≡ top.now.table_id }
+    requires full { (key : K) × (seat.old.me.1 ≡ (at, Some key) ∷ rest seat.old.me.1) }
+    ensures* lender { sem 𝓛 (IsLentToRead B.row K.row A.row seat.entry) }
+    ensures key { seat.old.me.1 ≡ (at, Some result.now) ∷ rest seat.old.me.1 }
+{
+    let slot: &Option<K> = seat.slot_mut(top, at);
+    match slot {
+        Some(key) => key,
+        None => unreachable!(),
     }
 }

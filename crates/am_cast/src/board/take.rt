@@ -1,8 +1,6 @@
 //! A lane takes the key of its next place.
 ghost use Rattle.std.specs.Prelude.{[], false, length, true, ◌<◌, ◌≡◌, ◌≤◌};
 ghost use Rattle.am_cast.specs.declared.limits.TheConstants.{LANES, LONGEST_LOG};
-ghost use Rattle.am_cast.specs.Rule.{slot};
-ghost use Rattle.am_cast.specs.Changes.{cut_off, holding};
 ghost use Rattle.am_cast.specs.Steps.{Takes};
 ghost use Rattle.am_cast.specs.Seats.{IsLane, IsSized, Took, lane_of};
 
@@ -19,28 +17,22 @@ impl<B, K, A, R: Keyed<B, K>> Play<Option<K>, View<B, K, A>> for Take<R> {
     ghost then = { Takes R.key };
 }
 
-/// The key of the next place comes into the hand. `None` says that the lane was cut.
+/// The slot of the next place comes into the hand, with its key. `false` says that the lane was cut.
 pub(crate) fn take_key<B, K, A, R: Keyed<B, K>>(
     top: &AnyTop<B, K, A, R>,
     seat: &mut AnySeat<B, K, A>,
-    at: usize,
     lane: usize,
     passed: u64,
-) -> Option<K>
+) -> bool
     requires table { (seat.old.table_id ≡ top.now.table_id) × IsSized top.now.table_id
         × (lane < LANES) × (passed ≤ LONGEST_LOG) }
     requires lane { let v = lane_of seat.old.me.0 in
-        IsLane seat.old.me v × (lane ≡ v.number) × (passed ≡ v.passed)
-        × (at ≡ slot v.places v.number v.passed) }
+        IsLane seat.old.me v × (lane ≡ v.number) × (passed ≡ v.passed) }
     requires ready { let v = lane_of seat.old.me.0 in
         (v.begun ≡ true) × (v.held ≡ false) × (v.passed < length v.front) × (seat.old.me.1 ≡ []) }
     ensures same { seat.new.table_id ≡ seat.old.table_id }
-    ensures took { let v = lane_of seat.old.me.0 in
-        Took R.key seat.old.me v (holding v) (cut_off v) seat.new.me result }
+    ensures took { Took R.key seat.old.me (lane_of seat.old.me.0) seat.new.me result }
 {
     let old = 4 * passed;
-    if top.compare_exchange::<Take<R>>(seat, 16 * lane + 16, old, old + 2) != old {
-        return None;
-    }
-    top.exchange(seat, at, None)
+    top.compare_exchange::<Take<R>>(seat, 16 * lane + 16, old, old + 2) == old
 }

@@ -40,7 +40,7 @@ impl<T: Drop, P, A, N: Feed> WriterState<T, P, A, N> {
         ensures calm { Calm self.new.known }
         ensures same { Harvested self.old.known self.new.known LANES }
     {
-        for lane in 0..LANES {
+        for lane in 0..self.used_end() {
             self.harvest_lane(cast, lane);
         }
     }
@@ -154,7 +154,7 @@ impl<T: Drop, P, A, N: Feed> WriterState<T, P, A, N> {
         ensures some { IfSome result (λ l. (l < LANES) × IsBehind self.now.known l
             × HasRoom self.now.known l) }
     {
-        for lane in 0..LANES {
+        for lane in 0..self.used_end() {
             if self.is_live(lane) && self.is_behind(lane) {
                 return Some(lane);
             }

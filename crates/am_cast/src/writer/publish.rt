@@ -160,20 +160,8 @@ impl<T: Drop, P, A, N: Feed> WriterState<T, P, A, N> {
         self.store(cast, &tag, row, to);
     }
 
-    // One more than the number of the last live lane, or 1 where no lane is live.
-    fn live_end(&self) -> usize
-        ensures bounds { (1 ≤ result) × (result ≤ LANES) }
-        ensures rest { (l : ℕ) → result ≤ l → l < LANES → (account_of self.now.known l).stand ≢ live }
-    {
-        let mut end = LANES;
-        while end > 1 && !self.is_live(end - 1) {
-            end -= 1;
-        }
-        end
-    }
-
-    // Each live lane gets its key of the next place. The other keys go into the place's row, those
-    // past the last live lane's all at once.
+    // Each live lane gets its key of the next place. The other keys go into the place's row, those of the
+    // idle lanes at the end all at once.
     fn fill(
         &mut self,
         cast: &Cast<T, P, A, N>,
@@ -189,7 +177,7 @@ impl<T: Drop, P, A, N: Feed> WriterState<T, P, A, N> {
         ensures row { (result.place ≡ length self.old.known.tail.log) × Gathered (batch_of_tag tag.now) (λ l.
             is_live (account_of self.old.known l)) LANES result.keys }
     {
-        let end = self.live_end();
+        let end = self.used_end();
         let mut row = Row::new(self.next.number());
         self.put_key(cast, 0, first, &mut row);
         let mut rest = Some(rest);

@@ -1,9 +1,9 @@
 //! What a writer keeps: its seat at the table, the keys that came home, and one account for each lane.
 //! Here is what several calls need; each of the other files has one call.
 ghost use mathlib.Core.List.{IsPrefix};
-ghost use Rattle.std.specs.Prelude.{◌≡◌, ◌≢◌, ◌+◌, ◌<◌, ◌≤◌, true, false, length, None};
+ghost use Rattle.std.specs.Prelude.{◌≡◌, ◌≢◌, ℕ, ◌+◌, ◌<◌, ◌≤◌, true, false, length, None};
 ghost use Rattle.am_cast.specs.declared.limits.TheConstants.{LONGEST_LOG};
-ghost use Rattle.am_cast.specs.Rule.{live};
+ghost use Rattle.am_cast.specs.Rule.{idle, live};
 ghost use Rattle.am_cast.specs.Changes.{clearing, shut};
 ghost use Rattle.am_cast.specs.Seats.{account_of, IsPast};
 ghost use Rattle.am_cast.specs.Writers.{Calm, IsBehind};
@@ -62,6 +62,19 @@ impl<T: Drop, P, A, N: Feed> WriterState<T, P, A, N> {
         ensures no { result ≡ false → (account_of self.now.known lane).stand ≢ live }
     {
         self.lanes[lane].is_live()
+    }
+
+    /// One more than the number of the last lane that isn't idle, or 1 where all are. Mostly few lanes are
+    /// given out, and the calls of each post look at no others.
+    pub(crate) fn used_end(&self) -> usize
+        ensures bounds { (1 ≤ result) × (result ≤ LANES) }
+        ensures rest { (l : ℕ) → result ≤ l → l < LANES → (account_of self.now.known l).stand ≡ idle }
+    {
+        let mut end = LANES;
+        while end > 1 && matches!(self.stand(end - 1), Stand::Idle) {
+            end -= 1;
+        }
+        end
     }
 
     pub(crate) fn is_away(&self, lane: usize) -> bool

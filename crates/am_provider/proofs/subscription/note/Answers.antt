@@ -4,7 +4,7 @@ use Rattle.am_provider.specs.declared.subscription.Advance.TheVariants.{Logged}
 use Rattle.am_provider.specs.inside.Advances.{Notes}
 use Rattle.am_provider.proofs.subscription.note.Goals as goal
 
-pub returns-in-One : goal.returns-in-One
-returns-in-One g c =
+pub returns-in-One-clause-notes : goal.returns-in-One-clause-notes
+returns-in-One-clause-notes g c =
     subst (λ (moved : Moved). Notes moved c.args.cursor.now c.args.count.now c.args.closed_told.now Logged ((c.args.count.now + 1) % 2 ^ 64) c.args.closed_told.now) (sym c.in-One.is)
-    ((c.in_hand-one.result.now, c.in_hand-one.ensures), refl, refl, refl)
+    ((c.in_hand-one.result.now, c.in_hand-one.ensures.item), refl, refl, refl)

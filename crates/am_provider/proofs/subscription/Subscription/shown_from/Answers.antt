@@ -4,6 +4,11 @@ use Rattle.am_provider.proofs.Slicing.{lends_opening}
 use Rattle.am_provider.proofs.subscription.Subscription.shown_from.Goals as goal
 
 pub returns-in-Opened : goal.returns-in-Opened
-returns-in-Opened g c =
-    lends_opening c.args.self.now c.args.advance c.args.from _ c.as_slice.result.now c.in-Opened.is refl
-    (c.as_slice.ensures.alerts ∙ ap (λ (s : SubscriptionView). s.opening) c.self.view_is)
+returns-in-Opened g c = (
+  (refl, (λ _. tt), c.self.view_is),
+  record {
+    lender = tt;
+    shown = lends_opening c.args.self.now c.args.advance c.args.from _ c.as_slice.result.now c.in-Opened.is refl
+        (c.as_slice.ensures.alerts ∙ ap (λ (s : SubscriptionView). s.opening) c.self.view_is);
+  },
+)

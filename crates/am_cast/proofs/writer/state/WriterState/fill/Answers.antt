@@ -11,6 +11,7 @@ use Rattle.am_cast.specs.inside.KeyRows.{RowView}
 use Rattle.am_cast.specs.inside.Waiting.{Gathered, is_live}
 use Rattle.am_cast.proofs.Waiting.{gathered_joins, gathered_joins_rest, gathered_rest, not_true}
 use Rattle.am_cast.proofs.Filling.{fill_step, next_run, this_run}
+use Rattle.am_cast.proofs.Writers.{idle_not_live}
 use Rattle.am_cast.proofs.writer.state.WriterState.fill.Goals as goal
 
 pub put_key-requires-in-loop-lane-clause-row : goal.put_key-requires-in-loop-lane-clause-row
@@ -45,7 +46,7 @@ returns-in-Some-rest-clause-row g c = let i = c.loop-lane.invariant in let x = b
     let all : lane + (8 - lane) ≡ 8 = omega arith in (
       ap (λ (r : RowView g.row.T.Denot). r.place) c.add_rest.ensures ∙ i.place,
       subst (λ (z : ℕ × List (KeyView g.row.T.Denot)). Gathered x out z.0 z.1) (λ j. (all j, sym keys j))
-          (gathered_rest x out lane (8 - lane) c.loop-lane.row.keys i.gathered (λ l low high. not_true (out l) (λ e. c.live_end-end.ensures.rest l (omega arith) (omega arith) (eqb-true (account_of c.args.self.now.known l).stand live e)))),
+          (gathered_rest x out lane (8 - lane) c.loop-lane.row.keys i.gathered (λ l low high. not_true (out l) (λ e. idle_not_live (account_of c.args.self.now.known l) (c.used_end-end.ensures.rest l (omega arith) (omega arith)) (eqb-true (account_of c.args.self.now.known l).stand live e)))),
     )
 
 none_left : {X : Type 0} (o : Option X) (P : Type 0) (Q : X → Type 0) → o ≡ None → MatchOption o P Q → P
