@@ -25,7 +25,7 @@ use Rattle.am_cast.specs.Lent.{IsItem, IsInHand, Moves}
 use Rattle.am_cast.specs.inside.Moving.{NeedsLook, AfterLook}
 use Rattle.atomic_table.specs.Table.{rest}
 use Rattle.am_cast.specs.Rule.{slot}
-use Rattle.am_cast.proofs.Slots.{at_length, head_key}
+use Rattle.am_cast.proofs.Slots.{at_below, at_length, head_key}
 
 module _ {X : Type 0} where
   pub take_more : (xs : List X) (n : ℕ) (x : X) → get_elem? xs n ≡ some x → take (suc n) xs ≡ take n xs ++ x ∷ []
@@ -61,6 +61,12 @@ module _ {X : Type 0} where
   take_get [] n x e = absurd (none_is x e)
   take_get (y ∷ ys) zero x e = ap (λ (z : X). z ∷ []) (one_is y x e)
   take_get (y ∷ ys) (suc n) x e = ap (λ (l : List X). y ∷ l) (take_get ys n x e)
+
+  -- an item of an index within
+  pub get_there : (xs : List X) (n : ℕ) → n < length xs → (x : X) × (slice_get xs n ≡ Some x)
+  get_there [] n low = absurd (omega arith)
+  get_there (x ∷ xs) zero low = (x, refl)
+  get_there (x ∷ xs) (suc n) low = get_there xs n (omega arith)
 
   pub take_all : (xs : List X) (n : ℕ) → n ≡ length xs → take n xs ≡ xs
   take_all xs n e = ap (λ (n : ℕ). take n xs) e ∙ go xs
@@ -109,6 +115,16 @@ module _ {T P A : Type 0} where
       let first : slice_get items 0 ≡ Some x = subst (λ (d : CursorView T P A). IsInHand d x) e at in
       ap (λ (d : CursorView T P A). shown_items d) e ∙ ap (λ (l : List T). before ++ l) (take_get items 0 x first) ∙ ap (λ (l : List T). l ++ x ∷ []) (sym (append_none before)) ∙ ap (λ (n : ℕ). (before ++ take n items) ++ x ∷ []) (sym none_shown)
 
+  -- a place is taken, of which the first item is shown
+  pub takes_first : (c d : CursorView T P A) → d ≡ record { lane = holding c.lane; shown = 1 } → c.shown ≡ 0 → c.lane.cut ≡ false → c.lane.passed < length c.lane.front → IsItem c d
+  takes_first c d e none_shown uncut below = let at = at_below c.lane.front c.lane.passed below in record {
+    held = ap (λ (d : CursorView T P A). d.lane.held) e;
+    there = subst (λ (d : CursorView T P A). (x : T) × IsInHand d x) (sym e) (get_there (items_at c.lane.front c.lane.passed) 0 (some_there c.lane.front c.lane.passed at.0 at.1));
+    taken = λ x is. taken_first c d x e none_shown is;
+    was_open = λ h. (let all = h.1 in absurd (omega arith));
+    was_uncut = λ h. false≢true (sym uncut ∙ h.0);
+  }
+
   -- the next item of a place
   pub taken_next : (c d : CursorView T P A) (x : T) → d ≡ record c { shown = c.shown + 1 } → IsInHand d x → shown_items d ≡ shown_items c ++ x ∷ []
   taken_next c d x e at = let items : List T = items_at c.lane.front c.lane.passed in let before : List T = all_items (drop c.lane.start (take c.lane.passed c.lane.front)) in
@@ -116,9 +132,10 @@ module _ {T P A : Type 0} where
       let next : slice_get items c.shown ≡ Some x = ap (λ (n : ℕ). slice_get items n) (sym back) ∙ subst (λ (d : CursorView T P A). IsInHand d x) e at in
       ap (λ (d : CursorView T P A). shown_items d) e ∙ ap (λ (n : ℕ). before ++ take n items) (add-one c.shown) ∙ ap (λ (l : List T). before ++ l) (take_get items c.shown x next) ∙ sym (append_assoc before (take c.shown items) (x ∷ []))
 
-  pub shows_next : (c d : CursorView T P A) → c.lane.held ≡ true → d ≡ record c { shown = c.shown + 1 } → IsItem c d
-  shows_next c d held e = record {
+  pub shows_next : (c d : CursorView T P A) → c.lane.held ≡ true → c.shown < length (items_at c.lane.front c.lane.passed) → d ≡ record c { shown = c.shown + 1 } → IsItem c d
+  shows_next c d held low e = record {
     held = ap (λ (d : CursorView T P A). d.lane.held) e ∙ held;
+    there = subst (λ (d : CursorView T P A). (x : T) × IsInHand d x) (sym e) (get_there (items_at c.lane.front c.lane.passed) (c.shown + 1 - 1) (omega arith));
     taken = λ x at. taken_next c d x e at;
     was_open = λ h. false≢true (sym h.2 ∙ held);
     was_uncut = λ h. false≢true (sym h.1 ∙ held);
@@ -132,7 +149,7 @@ module _ {T P A : Type 0} where
       same = let at = needs.all in taken_look s m lane (shown ∙ needs.shown) needs.shown p (omega arith) ∙ needs.taken
 
       go : (r : Moved) → AfterLook m d r → Moves c d r
-      go One t = record { held = t.held; taken = λ x at. t.taken x at ∙ ap (λ (l : List T). l ++ x ∷ []) same; was_open = needs.was_open; was_uncut = needs.was_uncut }
+      go One t = record { held = t.held; there = t.there; taken = λ x at. t.taken x at ∙ ap (λ (l : List T). l ++ x ∷ []) same; was_open = needs.was_open; was_uncut = needs.was_uncut }
       go Pending t = record {
         taken = ap (λ (c : CursorView T P A). shown_items c) t.0 ∙ same;
         looks = ap (λ (c : CursorView T P A). c.lane.looks) t.0 ∙ ap (λ (v : LaneView (BatchView T P) A). v.looks) lane ∙ ap (λ (n : ℕ). n + 1) needs.looks;

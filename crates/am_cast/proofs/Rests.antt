@@ -1,17 +1,11 @@
 -- What a cursor has taken once the rest of a place is shown at once.
-use Rattle.std.proofs.Common.{◌≡◌, ℕ, zero, suc, ◌+◌, ◌-◌, ◌<◌, List, [], ◌∷◌, ◌++◌, length, take, drop, sym, refl, ap, ◌∙◌, subst, arith, add-one, append_assoc, Some, slice_get}
+use Rattle.std.proofs.Common.{◌≡◌, ℕ, ◌+◌, ◌-◌, ◌<◌, List, [], ◌∷◌, ◌++◌, length, take, drop, sym, refl, ap, ◌∙◌, subst, arith, add-one, append_assoc, Some, slice_get}
 use Rattle.std.proofs.lemmas.List.{append_cancel_right, length-drop, take-append-drop}
 use Rattle.am_cast.specs.Cursors.{CursorView, items_at, shown_items}
 use Rattle.am_cast.specs.Keys.{all_items}
 use Rattle.am_cast.specs.declared.lends.Moved.TheVariants.{One}
 use Rattle.am_cast.specs.Lent.{IsItem, IsRest, MovesSlice}
-use Rattle.am_cast.proofs.Cursors.{take_get, take_all}
-
-module _ {X : Type 0} where
-  get_there : (xs : List X) (n : ℕ) → n < length xs → (x : X) × (slice_get xs n ≡ Some x)
-  get_there [] n low = absurd (omega arith)
-  get_there (x ∷ xs) zero low = (x, refl)
-  get_there (x ∷ xs) (suc n) low = get_there xs n (omega arith)
+use Rattle.am_cast.proofs.Cursors.{get_there, take_get, take_all}
 
 module _ {T P A : Type 0} where
   rest_of : (c m : CursorView T P A) (last : ℕ) → IsItem c m → last + 1 ≡ m.shown → last < length (items_at m.lane.front m.lane.passed)

@@ -40,9 +40,10 @@ module _ {T P A : Type 0} where
   abbrev pub IsInHand : CursorView T P A → T → Type 0
   IsInHand c x = slice_get (items_at c.lane.front c.lane.passed) (c.shown - 1) ≡ Some x
 
-  -- one item more was shown
+  -- one item more was shown, and it is in hand
   pub record IsItem (c d : CursorView T P A) : Type 0 where
     pub held : d.lane.held ≡ true
+    pub there : (x : T) × IsInHand d x
     pub taken : (x : T) → IsInHand d x → shown_items d ≡ shown_items c ++ x ∷ []
     pub was_open : HasEnded c → ⊥
     pub was_uncut : HasCut c → ⊥

@@ -118,14 +118,14 @@ module _ (old new : SubscriptionView) (count next : ℕ) where
   -- a move of the cursor that was noted is an advance of the subscription, which is one again
   pub noted : (moved : Moved) (given : Advance) → IsSubscription old count → old.shown ≡ length old.opening
       → new ≡ record old { cursor = new.cursor; closed_told = new.closed_told } → GoesOn old.cursor new.cursor
-      → Moves old.cursor new.cursor moved → Notes moved new.cursor count old.closed_told given next new.closed_told
+      → Moves old.cursor new.cursor moved → Notes moved count old.closed_told given next new.closed_told
       → IsSubscription new next × Advances old given new
   noted moved.One given was shown same on item notes =
       let told = still_untold was item.was_open in
-      let rest : new ≡ record old { cursor = new.cursor } = same ∙ ap (λ (t : Bool). record old { cursor = new.cursor; closed_told = t }) notes.3 in
+      let rest : new ≡ record old { cursor = new.cursor } = same ∙ ap (λ (t : Bool). record old { cursor = new.cursor; closed_told = t }) notes.2 in
       let past : length old.opening ≤ old.shown = omega (arith, shown) in
       let none : ShowsNone old old.closed_told new = record { shown = shown; rest = rest; on = on } in
-      (logged_more old new count next (notes.0.0 ∷ []) was past rest on item.was_open (item.taken notes.0.0 notes.0.1) notes.2, subst (λ (a : Advance). Advances old a new) (sym notes.1) (none, told, item))
+      (logged_more old new count next (item.there.0 ∷ []) was past rest on item.was_open (item.taken item.there.0 item.there.1) notes.1, subst (λ (a : Advance). Advances old a new) (sym notes.0) (none, told, item))
   noted moved.Pending given was shown same on pending notes =
       let told = still_untold was pending.was_open in
       let none : ShowsNone old old.closed_told new = record { shown = shown; rest = same ∙ ap (λ (t : Bool). record old { cursor = new.cursor; closed_told = t }) notes.2; on = on } in

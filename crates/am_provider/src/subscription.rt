@@ -160,12 +160,7 @@ impl<'a, N: Origin> Subscription<'a, N> {
             return Advance::Opened;
         }
         let moved = self.cursor.advance();
-        note(
-            moved,
-            &mut self.cursor,
-            &mut self.count,
-            &mut self.closed_told,
-        )
+        note(moved, &mut self.count, &mut self.closed_told)
     }
 
     // As `advance`, but nothing is left only if each place that the pass knows was passed.
@@ -178,12 +173,7 @@ impl<'a, N: Origin> Subscription<'a, N> {
             return Advance::Opened;
         }
         let moved = self.cursor.advance_past(&mut pass.pass);
-        note(
-            moved,
-            &mut self.cursor,
-            &mut self.count,
-            &mut self.closed_told,
-        )
+        note(moved, &mut self.count, &mut self.closed_told)
     }
 
     // The rest of the opening is shown, if there is any. Answers at which index it begins.
@@ -217,12 +207,7 @@ impl<'a, N: Origin> Subscription<'a, N> {
                 (Advance::Logged, from)
             }
             (other, from) => {
-                let advance = note(
-                    other,
-                    &mut self.cursor,
-                    &mut self.count,
-                    &mut self.closed_told,
-                );
+                let advance = note(other, &mut self.count, &mut self.closed_told);
                 (advance, from)
             }
         }
@@ -319,19 +304,11 @@ impl<'a, N: Origin> Subscription<'a, N> {
 }
 
 // What a move of the cursor is to a subscription: one alert more is counted, or the end is noted.
-fn note<N: Origin>(
-    moved: Moved,
-    cursor: &mut Cursor<'_, N>,
-    count: &mut u64,
-    closed_told: &mut bool,
-) -> Advance
-    requires { moved ≡ Moved.One → cursor.old.lane.held ≡ true }
-    ensures notes { Notes moved cursor.old count.old closed_told.old result count.new closed_told.new }
-    ensures cursor { cursor.new ≡ cursor.old }
+fn note(moved: Moved, count: &mut u64, closed_told: &mut bool) -> Advance
+    ensures { Notes moved count.old closed_told.old result count.new closed_told.new }
 {
     match moved {
         Moved::One => {
-            let _one = cursor.in_hand();
             *count = count.wrapping_add(1);
             Advance::Logged
         }

@@ -2,13 +2,9 @@
 use Rattle.std.specs.Prelude.{◌≡◌, ℕ, ◌<◌, ◌+◌, ◌-◌, ◌^◌, ◌%◌, Bool, true, false, List, length, slice_get}
 use Rattle.std.specs.Prelude.{Some}
 use mathlib.Core.List.{IsPrefix}
-use Rattle.am_alert.specs.declared.alert.Alert.{Alert}
-use Rattle.am_cast.specs.Cursors.{CursorView}
 use Rattle.am_cast.specs.Lent.{IsItem, IsPending, IsClosed, IsCut, IsInHand}
 use Rattle.am_cast.specs.declared.lends.Moved.{Moved}
 use Rattle.am_cast.specs.declared.lends.Moved.TheVariants as moved
-use Rattle.am_store.specs.declared.call.Call.{Call}
-use Rattle.am_store.specs.declared.lanes.OpenLane.{OpenLane}
 use Rattle.am_provider.specs.declared.answers.Step.{Step}
 use Rattle.am_provider.specs.declared.answers.Step.TheVariants as step
 use Rattle.am_provider.specs.declared.subscription.Advance.{Advance}
@@ -50,13 +46,12 @@ IsShown s advance.Cut answer = answer ≡ step.Cut
 IsShown s other answer = ⊥
 
 -- a subscription's count and what it was told, after a move of its cursor
-abbrev pub Notes : Moved → CursorView Alert Call OpenLane → ℕ → Bool → Advance → ℕ → Bool → Type 0
-Notes moved.One cursor count told given more tells =
-    ((alert : Alert) × IsInHand cursor alert) × (given ≡ advance.Logged) × (more ≡ (count + 1) % 2 ^ 64)
-    × (tells ≡ told)
-Notes moved.Pending cursor count told given more tells =
+abbrev pub Notes : Moved → ℕ → Bool → Advance → ℕ → Bool → Type 0
+Notes moved.One count told given more tells =
+    (given ≡ advance.Logged) × (more ≡ (count + 1) % 2 ^ 64) × (tells ≡ told)
+Notes moved.Pending count told given more tells =
     (given ≡ advance.Pending) × (more ≡ count) × (tells ≡ told)
-Notes moved.Closed cursor count told given more tells =
+Notes moved.Closed count told given more tells =
     (given ≡ advance.Closed) × (more ≡ count) × (tells ≡ true)
-Notes moved.Cut cursor count told given more tells =
+Notes moved.Cut count told given more tells =
     (given ≡ advance.Cut) × (more ≡ count) × (tells ≡ told)

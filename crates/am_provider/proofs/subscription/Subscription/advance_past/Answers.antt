@@ -1,10 +1,5 @@
-use Rattle.std.proofs.Common.{◌≡◌, ◌∙◌, length, refl, sym, ap, subst}
-use Rattle.am_alert.specs.declared.alert.Alert.{Alert}
-use Rattle.am_store.specs.declared.call.Call.{Call}
-use Rattle.am_store.specs.declared.lanes.OpenLane.{OpenLane}
-use Rattle.am_cast.specs.Cursors.{CursorView}
+use Rattle.std.proofs.Common.{◌≡◌, ◌∙◌, length, refl, sym, ap}
 use Rattle.am_provider.specs.Subscriptions.{SubscriptionView}
-use Rattle.am_provider.specs.inside.Subscribed.{IsSubscription}
 use Rattle.am_provider.proofs.Subscribing.{noted}
 use Rattle.am_provider.proofs.subscription.Subscription.advance_past.Goals as goal
 
@@ -15,5 +10,4 @@ invariant_of-self g c =
     let new : SubscriptionView = record old { cursor = c.advance_past-moved.new.self; closed_told = c.note.new.closed_told } in
     let same : old ≡ c.args.self.now = c.self.view_is ∙ no.1 in
     let all : old.shown ≡ length old.opening = ap (λ (s : SubscriptionView). s.shown) same ∙ (no.0 ∙ ap (λ (s : SubscriptionView). length s.opening) (sym same)) in
-    subst (λ (cursor : CursorView Alert Call OpenLane). IsSubscription (record new { cursor = cursor }) c.note.new.count) (sym c.note.ensures.cursor)
-    (noted old new c.self.inside.count c.note.new.count c.advance_past-moved.result c.note.result c.self.invariant all refl c.advance_past-moved.ensures.on c.advance_past-moved.ensures.moves c.note.ensures.notes).0
+    (noted old new c.self.inside.count c.note.new.count c.advance_past-moved.result c.note.result c.self.invariant all refl c.advance_past-moved.ensures.on c.advance_past-moved.ensures.moves c.note.ensures).0
