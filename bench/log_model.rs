@@ -13,6 +13,8 @@ use std::sync::atomic::{AtomicU64, Ordering::SeqCst};
 use std::time::{Duration, Instant};
 
 const PLACES: usize = 256;
+// How many lanes there are slots for.
+const LANES: usize = 8;
 const BATCHES: u64 = 1_000_000;
 // How often in a row a reader that finds nothing yields before it sleeps.
 const YIELDS: u32 = 100;
@@ -20,7 +22,7 @@ const YIELDS: u32 = 100;
 #[derive(Clone, Copy)]
 struct Variant {
     name: &'static str,
-    // How many words of 8 bytes a key takes in its slot.
+    // How many words of 8 bytes a slot takes.
     key: usize,
     // A reader leaves its key in the slot, and reads it there.
     in_place: bool,
@@ -28,18 +30,26 @@ struct Variant {
     one_exchange: bool,
     // A freed block serves a later batch.
     spare_blocks: bool,
+    // The slots of one place lie side by side, and not those of one lane.
+    by_place: bool,
 }
 
-const AS_IT_IS: Variant = Variant { name: "as it is", key: 5, in_place: false, one_exchange: false, spare_blocks: false };
+// The log before any of this: a slot of five words, by lane.
+const FIRST: Variant =
+    Variant { name: "at first", key: 5, in_place: false, one_exchange: false, spare_blocks: false, by_place: false };
+// The log as it is: a key of two words and whether it is there.
+const AS_IT_IS: Variant =
+    Variant { name: "as it is", key: 3, in_place: true, one_exchange: false, spare_blocks: true, by_place: true };
 
-const VARIANTS: [Variant; 7] = [
+const VARIANTS: [Variant; 8] = [
+    FIRST,
+    Variant { name: "at first, freed blocks serve again", spare_blocks: true, ..FIRST },
+    Variant { name: "and a key is read in its slot", spare_blocks: true, in_place: true, ..FIRST },
+    Variant { name: "and a slot is three words", by_place: false, ..AS_IT_IS },
     AS_IT_IS,
-    Variant { name: "a key is one word", key: 1, ..AS_IT_IS },
-    Variant { name: "a key is read in its slot", in_place: true, ..AS_IT_IS },
-    Variant { name: "a key is one word and is read in its slot", key: 1, in_place: true, ..AS_IT_IS },
-    Variant { name: "one exchange a batch", one_exchange: true, ..AS_IT_IS },
-    Variant { name: "spare blocks", spare_blocks: true, ..AS_IT_IS },
-    Variant { name: "all of these", key: 1, in_place: true, one_exchange: true, spare_blocks: true },
+    Variant { name: "as it is, but a slot is two words", key: 2, ..AS_IT_IS },
+    Variant { name: "as it is, but a slot is one word", key: 1, ..AS_IT_IS },
+    Variant { name: "as it is, but one exchange a batch", one_exchange: true, ..AS_IT_IS },
 ];
 
 // A word that no other one shares a cache line, or a pair of lines, with.
@@ -57,7 +67,8 @@ unsafe impl Sync for Log {}
 
 impl Log {
     fn slot(&self, lane: usize, index: usize) -> *mut u64 {
-        self.slots[(lane * PLACES + index) * self.variant.key].get()
+        let slot = if self.variant.by_place { index * LANES + lane } else { lane * PLACES + index };
+        self.slots[slot * self.variant.key].get()
     }
 
     unsafe fn fill(&self, lane: usize, index: usize, key: u64) {
@@ -78,7 +89,9 @@ impl Log {
 
     unsafe fn clear(&self, lane: usize, index: usize) -> u64 {
         let key = self.look(lane, index);
-        self.slot(lane, index).write(0);
+        for at in 0..self.variant.key {
+            self.slot(lane, index).add(at).write(0);
+        }
         key
     }
 }
@@ -167,7 +180,7 @@ fn write(log: &Log) {
 // How many millions of batches were received a second.
 fn rate(variant: Variant, readers: usize) -> f64 {
     let words = |count| (0..count).map(|_| Word(AtomicU64::new(0))).collect::<Vec<_>>();
-    let slots = (0..readers * PLACES * variant.key).map(|_| UnsafeCell::new(0)).collect();
+    let slots = (0..LANES * PLACES * variant.key).map(|_| UnsafeCell::new(0)).collect();
     let log = Log { variant, tail: Word(AtomicU64::new(0)), lanes: words(readers), slots };
     let begun = Instant::now();
     std::thread::scope(|threads| {

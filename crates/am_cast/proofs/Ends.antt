@@ -1,6 +1,6 @@
 -- The end of a log: where all lanes are idle each slot is empty.
 use Rattle.std.proofs.Common.{◌≡◌, ℕ, suc, ◌+◌, ◌*◌, ◌/◌, ◌%◌, ◌<◌, ◌≤◌, List, length, sym, ap, ◌∙◌, subst, arith, Option, Some, None}
-use Rattle.std.proofs.Math.Nat.{mod-lt, mul-le-mul_right}
+use Rattle.std.proofs.Math.Nat.{mod-lt}
 use Rattle.std.proofs.lemmas.Nat.{mod-mul-add, div-add-mod'}
 use mathlib.Core.Logic.{dite}
 use mathlib.Core.Option.{some, some-injective}
@@ -19,12 +19,6 @@ use Rattle.am_cast.proofs.Slots.{at_length}
 pub suc_times : (n places : ℕ) → suc n * places ≡ n * places + places
 suc_times n places = grind (arith)
 
--- a slot within eight turns is one of eight lanes
-lane_below : (l places r : ℕ) → 0 < places → l * places + r < 8 * places → l < 8
-lane_below l places r some_places within =
-    dite (dec_lt l 8) (λ less. less)
-    (λ no_less. let turns : 8 * places ≤ l * places = mul-le-mul_right places (omega arith) in let n : ℕ = l * places in absurd (omega arith))
-
 -- a place of a window that has the remainder
 place_with : (stop places r : ℕ) → 0 < places → r < places → (i : ℕ) × (stop ≤ i) × (i < stop + places) × (i % places ≡ r)
 place_with stop places r some_places small = let a : ℕ = stop % places in let n : ℕ = stop / places in
@@ -37,16 +31,15 @@ module _ {B K A : Type 0} (key : B → ℕ → K) where
   empty_slot : (s : State (Option K) (View B K A)) (ruled : Ruled key s) (q : WriterView B K A) (id : ℕ) (w : View B K A) → get_elem? s.views id ≡ some w → w.writer ≡ Some q → Calm q → ((l : ℕ) → l < 8 → (account_of q l).stand ≡ idle)
       → (k : ℕ) → k < length s.homes → get_elem? s.homes k ≡ some (some None)
   empty_slot s ruled q id w at is calm idles k inside =
-      let places : ℕ = ruled.tail.places in let l : ℕ = k / places in let r : ℕ = k % places in
-      let parts : l * places + r ≡ k = div-add-mod' k places in let below : r < places = mod-lt k ruled.some_places in
-      let small : l < 8 = lane_below l places r ruled.some_places (subst (λ (n : ℕ). n < 8 * places) (sym parts) (subst (λ (n : ℕ). k < n) ruled.deep inside)) in
+      let places : ℕ = ruled.tail.places in let l : ℕ = k % 8 in let r : ℕ = k / 8 in let deep = ruled.deep in
+      let parts : 8 * r + l ≡ k = omega arith in let below : r < places = omega arith in let small : l < 8 = omega arith in
       let has = subst (λ (o : Option (WriterView B K A)). Rattle.am_cast.specs.Rule.HasWriter ruled.tail ruled.seat ruled.account ruled.lane ruled.lane_seat id o) is (ruled.each_seat id w at).writer in
       let same : ruled.account l ≡ account_of q l = is_account_of q l (ruled.account l) (has.2 l small) in
       let c = subst (λ (b : Account K A). Rattle.am_cast.specs.Writers.IsCalm (length q.tail.log) q.tail.places b) (sym same) (calm.1 l small) in let stand = ap (λ (b : Account K A). b.stand) same ∙ idles l small in
       let clear = c.rest_is (λ e. omega arith) in let out = c.out in
       let p = place_with (ruled.account l).stop places r ruled.some_places below in
       let here = (ruled.each_lane l small).empty p.0 p.1 (omega arith) (λ e. omega arith) (λ a. let z = (c.away_is a).0 in absurd (omega arith)) (λ _. c.laid) in
-      let right : l * places + p.0 % places ≡ k = ap (λ (n : ℕ). l * places + n) p.3 ∙ parts in
+      let right : 8 * (p.0 % places) + l ≡ k = ap (λ (n : ℕ). 8 * n + l) p.3 ∙ parts in
       subst (λ (n : ℕ). get_elem? s.homes n ≡ some (some None)) right here
 
   pub no_keys_left : (q : WriterView B K A) (id : ℕ) (w : View B K A) (words : List ℕ) (xs : List (Option K)) → w.writer ≡ Some q → Calm q → ((l : ℕ) → l < 8 → (account_of q l).stand ≡ idle) → Final (Seen (Ruled key) id w) words xs

@@ -133,16 +133,6 @@ module _ {T P A : Type 0} (x : BatchView T P) where
       (subst (λ (o : Option (List (KeyView T))). FitsAt (longer x q) n o) (sym (no_row_yet q rows n long fits))
       (λ l h. now_out q n long ready l h ∙ gathered_clear x (λ l. is_live (account_of q l)) keys g (eqb-true (length keys) 8 full) l h)))
 
-module _ {T P : Type 0} (x : BatchView T P) where
-  -- the key of a lane was handed out, and the others are left
-  pub next_run : (lane : ℕ) (run : KeyView T) (o : Option (KeyView T)) → run ≡ key_of x lane → MatchOption o (run.number + 1 ≡ run.keys) (λ rest. (run.number + 1 < run.keys) × (rest ≡ record run { number = run.number + 1 }))
-      → MatchOption o (lane + 1 ≡ 8) (λ r. (lane + 1 < 8) × (r ≡ key_of x (lane + 1)))
-  next_run lane run None e m = ap (λ (k : KeyView T). k.number + 1) (sym e) ∙ m ∙ ap (λ (k : KeyView T). k.keys) e
-  next_run lane run (Some r) e m = (subst (λ (k : KeyView T). k.number + 1 < k.keys) e m.0, m.1 ∙ ap (λ (k : KeyView T). record k { number = k.number + 1 }) e)
-
-  pub this_run : (lane : ℕ) (run : KeyView T) (o : Option (KeyView T)) → o ≡ Some run → MatchOption o (lane ≡ 8) (λ r. (lane < 8) × (r ≡ key_of x lane)) → (lane < 8) × (run ≡ key_of x lane)
-  this_run lane run o e m = subst (λ (o : Option (KeyView T)). MatchOption o (lane ≡ 8) (λ r. (lane < 8) × (r ≡ key_of x lane))) e m
-
 -- the first item, and the others
 pub first_rest : {X : Type 0} → (xs : List X) (y : X) → slice_get xs 0 ≡ Some y → y ∷ drop 1 xs ≡ xs
 first_rest [] y e = absurd (none_is e)

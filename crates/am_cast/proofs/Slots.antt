@@ -1,10 +1,10 @@
 -- Slots of a lane, beginnings of the log, functions changed at one number, and own places.
 use Rattle.std.proofs.Common.{Option, Bool, true, false, nat_eq, None, ◌/◌, ◌≡◌, ◌≢◌, ℕ, zero, suc, ◌+◌, ◌-◌, ◌*◌, ◌%◌, ◌<◌, ◌≤◌, List, [], ◌∷◌, ◌++◌, length, sym, refl, ap, ◌∙◌, subst, ⊎_elim, ◌⊎◌, inl, inr, arith, length-append, append_assoc, mod-lt, div-add-mod', mul_comm}
-use Rattle.std.proofs.Math.Nat.{add-mul-mod_self_left, mul-le-mul_right, suc-mul}
+use Rattle.std.proofs.Math.Nat.{add-mul-mod_self_left}
 use mathlib.Core.Logic.{dite}
 use mathlib.Core.Option.{some, some-ne-none, some-injective}
 use mathlib.Core.List.{IsPrefix}
-use native.Mathlib.Decide.{ℕ_discrete, dec_le, dec_lt}
+use native.Mathlib.Decide.{ℕ_discrete, dec_le}
 use lib.ListN.{get_elem?}
 use Rattle.atomic_table.proofs.Lists.{one_turn}
 use Rattle.am_cast.specs.declared.views.Own.{Own}
@@ -60,28 +60,16 @@ becomes_else to from n ne = go (ℕ_discrete n from)
 -- two places in one turn of the ring have slots of their own
 pub apart : (p l k i j : ℕ) → k ≤ i → i < k + p → k ≤ j → j < k + p → i ≢ j → slot p l i ≢ slot p l j
 apart p l k i j a b c d ne e =
-    let turn : ℕ = l * p in let same : i % p ≡ j % p = omega (arith, e) in
+    let same : i % p ≡ j % p = omega (arith, e) in
     dite (dec_le i j) (λ le. ne (one_turn i j p le (omega arith) same)) (λ gt. ne (sym (one_turn j i p (omega arith) (omega arith) (sym same))))
 
--- the slots of a lower lane stand below those of a higher one
-below : (p l m i j : ℕ) → 0 < p → l < m → slot p l i < slot p m j
-below p l m i j pos less =
-    let x : ℕ = i % p in let y : ℕ = j % p in let small : x < p = mod-lt i pos in
-    let turn : suc l * p ≤ m * p = mul-le-mul_right p less in
-    let next : suc l * p ≡ l * p + p = suc-mul l p in
-    let a : ℕ = l * p in let b : ℕ = m * p in
-    let far : a + p ≤ b = subst (λ (n : ℕ). n ≤ b) next turn in
-    omega arith
-
-pub other_lane : (p l m i j : ℕ) → 0 < p → l ≢ m → slot p l i ≢ slot p m j
-other_lane p l m i j pos ne e =
-    dite (dec_lt l m)
-    (λ less. let h = below p l m i j pos less in omega (arith, e))
-    (λ no_less. let h = below p m l j i pos (omega arith) in omega (arith, e))
+-- two lanes have slots of their own
+pub other_lane : (p l m i j : ℕ) → l < 8 → m < 8 → l ≢ m → slot p l i ≢ slot p m j
+other_lane p l m i j a b ne e = let x : ℕ = i % p in let y : ℕ = j % p in ne (omega (arith, a, b, e))
 
 -- a place and the one a turn later share a slot
 pub one_turn_on : (p l i : ℕ) → slot p l (i + p) ≡ slot p l i
-one_turn_on p l i = let on : i + p ≡ i + p * 1 = omega arith in ap (λ (x : ℕ). l * p + x) (ap (λ (x : ℕ). x % p) on ∙ add-mul-mod_self_left i p 1)
+one_turn_on p l i = let on : i + p ≡ i + p * 1 = omega arith in ap (λ (x : ℕ). 8 * x + l) (ap (λ (x : ℕ). x % p) on ∙ add-mul-mod_self_left i p 1)
 
 -- a place in the turn from n on that shares the slot of i
 pub same_slot : (p l n i : ℕ) → 0 < p → n ≤ i → (j : ℕ) × (n ≤ j) × (j < n + p) × (slot p l i ≡ slot p l j)
@@ -89,15 +77,10 @@ same_slot p l n i pos le =
     let r : ℕ = (i - n) % p in let k : ℕ = (i - n) / p in let small : r < p = mod-lt (i - n) pos in
     let parts = div-add-mod' (i - n) p in
     let is : i ≡ (n + r) + p * k = let m : ℕ = k * p in let e : m + r ≡ i - n = parts in omega (arith, mul_comm k p) in
-    (n + r, omega arith, omega arith, ap (λ (x : ℕ). l * p + x) (ap (λ (x : ℕ). x % p) is ∙ add-mul-mod_self_left (n + r) p k))
+    (n + r, omega arith, omega arith, ap (λ (x : ℕ). 8 * x + l) (ap (λ (x : ℕ). x % p) is ∙ add-mul-mod_self_left (n + r) p k))
 
 pub slot_inside : (p l i n : ℕ) → l < 8 → 0 < p → n ≡ 8 * p → slot p l i < n
-slot_inside p l i n a b e =
-    let x : ℕ = i % p in let h : x < p = mod-lt i b in
-    let turn : suc l * p ≤ 8 * p = mul-le-mul_right p a in
-    let next : suc l * p ≡ l * p + p = suc-mul l p in
-    let from : ℕ = l * p in let within : from + p ≤ 8 * p = subst (λ (m : ℕ). m ≤ 8 * p) next turn in
-    omega arith
+slot_inside p l i n a b e = let h = mod-lt i b in omega (arith, a, e, h)
 
 module _ {A : Type 0} where
   pub at_length : (l : List A) (i : ℕ) (a : A) → get_elem? l i ≡ some a → i < length l

@@ -83,6 +83,6 @@ module _ {B K A : Type 0} (key : B → ℕ → K) where
   slot_step s r id l me q b b' i h at o still here alike =
       let words : List ℕ = set s.words (writer_word l) (get_or s.words (writer_word l) 0) in let same : words ≡ s.words = set-get_or s.words (writer_word l) 0 in let small = o.small in
       let kept = writer_stepped key s r id me.0 l q b b' words (set s.homes (slot r.tail.places l i) h) at o (ap length same) (length-set s.homes (slot r.tail.places l i) h) (ap (λ (ws : List ℕ). get_or ws 0 0) same) (λ m _. ap (λ (ws : List ℕ). get_or ws (lane_word m) 0) same)
-      (λ m j a ne. set_else s.homes (slot r.tail.places l i) (slot r.tail.places m j) h (other_lane r.tail.places m l j i r.some_places ne)) still
+      (λ m j a ne. set_else s.homes (slot r.tail.places l i) (slot r.tail.places m j) h (other_lane r.tail.places m l j i a small ne)) still
       (here words (ap (λ (ws : List ℕ). get_or ws (lane_word l) 0) same)) in
       (kept.0, work (behind r) (behind kept.0) l b' (subst (λ (c : Account K A). SameAccount c b') (sym o.account) alike) kept.1, refl)

@@ -1,5 +1,7 @@
 -- The writer's numbers after a step.
-use Rattle.std.proofs.Common.{◌≡◌, ◌≢◌, ℕ, zero, suc, ◌+◌, ◌*◌, ◌<◌, ◌≤◌, List, [], ◌∷◌, ◌++◌, map, length, length-append, set, get_or, refl, sym, ap, ◌∙◌, subst, arith, Option, Some, None, Bool, true, false, length-set, get_or-set_same, get_or-set_other}
+use Rattle.std.specs.Prelude.{MatchOption}
+use Rattle.std.specs.Option.{is_some}
+use Rattle.std.proofs.Common.{le_refl, true≢false, ◌≡◌, ◌≢◌, ℕ, zero, suc, ◌+◌, ◌*◌, ◌<◌, ◌≤◌, List, [], ◌∷◌, ◌++◌, map, length, length-append, set, get_or, refl, sym, ap, ◌∙◌, subst, arith, Option, Some, None, Bool, true, false, length-set, get_or-set_same, get_or-set_other}
 use mathlib.Core.Logic.{dite}
 use native.Mathlib.Decide.{ℕ_discrete}
 use Rattle.atomic_table.specs.Seated.{TableId}
@@ -14,7 +16,7 @@ use Rattle.am_cast.proofs.steps.Retire.{either_bool}
 use Rattle.am_cast.proofs.Tails.{grown_live, grown_else}
 use Rattle.am_cast.specs.Steps.{SeatState}
 use Rattle.am_cast.specs.Seats.{some_or, writer_of, account_of}
-use Rattle.am_cast.specs.Writers.{IsCalm, Calm, HasRoom, SameAdmission}
+use Rattle.am_cast.specs.Writers.{IsCalm, Calm, HasRoom, Harvested, IsBehind, SameAdmission, StaysAs}
 use Rattle.am_cast.specs.inside.Filling.{FilledTo, AllLaid, AreReady, filled_as}
 use Rattle.am_cast.specs.declared.writer.lane_account.LaneAccount.{LaneAccount}
 use Rattle.am_cast.specs.declared.writer.lane_account.Stand.TheVariants.{Idle, Live}
@@ -208,3 +210,62 @@ module _ {B K A : Type 0} where
               bound = o.bound;
             };
       }
+
+module _ {B K A : Type 0} (q q' : WriterView B K A) (k : ℕ) (tail : q'.tail ≡ q.tail) (others : (m : ℕ) → m ≢ k → account_of q' m ≡ account_of q m) where
+  -- a lane below k is as full as before
+  pub still_room : (n : ℕ) → n ≤ k → HasRoom q n → HasRoom q' n
+  still_room n few room l below alive = let same = others l (λ e. omega (arith, e, below, few)) in
+      subst (λ (z : Account K A × Tail B). length z.1.log < z.0.known + z.1.places) (λ i. (sym same i, sym tail i)) (room l below (ap (λ (b : Account K A). b.stand) (sym same) ∙ alive))
+
+  pub still_behind : (m : ℕ) → m < k → IsBehind q m → IsBehind q' m
+  still_behind m below behind = let same = others m (λ e. omega (arith, e, below)) in
+      subst (λ (z : Account K A × Tail B). (z.0.stand ≡ live) × (length z.1.log ≡ z.0.known + z.1.places)) (λ i. (sym same i, sym tail i)) behind
+
+  -- one lane more that has room
+  pub more_room : HasRoom q k → ((account_of q' k).stand ≡ live → length q'.tail.log < (account_of q' k).known + q'.tail.places) → HasRoom q' (k + 1)
+  more_room room here l below alive = dite (ℕ_discrete l k)
+      (λ e. subst (λ (l : ℕ). (account_of q' l).stand ≡ live → length q'.tail.log < (account_of q' l).known + q'.tail.places) (sym e) here alive)
+      (λ ne. still_room k (le_refl k) room l (omega (arith, ne, below)) alive)
+
+  -- one lane more was looked at
+  pub harvest_step : (q₀ : WriterView B K A) → k < 8 → Calm q → Harvested q₀ q k → length q'.accounts ≡ length q.accounts → IsCalm (length q.tail.log) q.tail.places (account_of q' k)
+      → StaysAs (account_of q k) (account_of q' k) × ((account_of q k).stand ≡ live → (account_of q k).loads < (account_of q' k).loads) × ((account_of q k).away ≡ true → (account_of q k).loads < (account_of q' k).loads)
+      → Calm q' × Harvested q₀ q' (k + 1)
+  harvest_step q₀ small calm h long here looked =
+      let mine = subst (λ (b : Account K A). StaysAs b (account_of q' k) × (b.stand ≡ live → b.loads < (account_of q' k).loads) × (b.away ≡ true → b.loads < (account_of q' k).loads)) (h.above k (le_refl k)) looked in (
+        (
+          long ∙ calm.0,
+          λ l below. dite (ℕ_discrete l k)
+              (λ e. subst (λ (z : ℕ × Tail B). IsCalm (length z.1.log) z.1.places (account_of q' z.0)) (λ i. (sym e i, sym tail i)) here)
+              (λ ne. subst (λ (z : Account K A × Tail B). IsCalm (length z.1.log) z.1.places z.0) (λ i. (sym (others l ne) i, sym tail i)) (calm.1 l below)),
+        ),
+        record {
+          tail = tail ∙ h.tail;
+          each = λ l below. dite (ℕ_discrete l k)
+              (λ e. subst (λ (l : ℕ). StaysAs (account_of q₀ l) (account_of q' l)) (sym e) mine.0)
+              (λ ne. subst (λ (c : Account K A). StaysAs (account_of q₀ l) c) (sym (others l ne)) (h.each l below));
+          below = λ l few alive. dite (ℕ_discrete l k)
+              (λ e. subst (λ (l : ℕ). (account_of q₀ l).stand ≡ live → (account_of q₀ l).loads < (account_of q' l).loads) (sym e) mine.1 alive)
+              (λ ne. subst (λ (c : Account K A). (account_of q₀ l).loads < c.loads) (sym (others l ne)) (h.below l (omega (arith, few, ne)) alive));
+          aways = λ l few away. dite (ℕ_discrete l k)
+              (λ e. subst (λ (l : ℕ). (account_of q₀ l).away ≡ true → (account_of q₀ l).loads < (account_of q' l).loads) (sym e) mine.2 away)
+              (λ ne. subst (λ (c : Account K A). (account_of q₀ l).loads < c.loads) (sym (others l ne)) (h.aways l (omega (arith, few, ne)) away));
+          above = λ l high. others l (λ e. omega (arith, e, high)) ∙ h.above l (omega (arith, high));
+        },
+      )
+
+  -- the lowest lane below k without room, if there is one
+  abbrev pub Lowest : WriterView B K A → ℕ → Option ℕ → Type 0
+  Lowest p n o = MatchOption o (HasRoom p n) (λ m. (m < n) × IsBehind p m × HasRoom p m)
+
+  pub none_lowest : (o : Option ℕ) → is_some o ≡ false → Lowest q k o → HasRoom q k
+  none_lowest None e room = room
+  none_lowest (Some m) e room = absurd (true≢false e)
+
+  pub none_more : (o : Option ℕ) → is_some o ≡ false → HasRoom q' (k + 1) → Lowest q' (k + 1) o
+  none_more None e room = room
+  none_more (Some m) e room = absurd (true≢false e)
+
+  pub lowest_stays : (o : Option ℕ) → is_some o ≡ true → Lowest q k o → Lowest q' (k + 1) o
+  lowest_stays None e low = absurd (true≢false (sym e))
+  lowest_stays (Some m) e low = let below = low.0 in (omega (arith, below), still_behind m below low.1, still_room m (omega (arith, below)) low.2)

@@ -35,13 +35,13 @@
 //!
 //! A place holds one batch in one segment (`am_segment`), which has eight keys, one for each lane.
 //! `publish` lays a key in the slot of each live lane and keeps the others in the place's row. A
-//! cursor takes its key out of its slot by an exchange on its lane's word, shows the items one by
-//! one, and puts the key back as it passes the place. The writer loads the lanes' words (`harvest`,
-//! and every publish), takes the keys of passed places out, and gathers them in the rows; the
-//! eighth ends the segment. Its block is kept for a later batch of its size (`Writer::spare`): of as
-//! many segments as the log has places, and the others are freed. `rule.rt` has what always holds of
-//! words, slots and what each side knows, and `board.rt` the single steps, each of them an event of
-//! `am_steps`.
+//! cursor takes its slot in hand by an exchange on its lane's word. It shows the items one by one,
+//! through the key where it lies, and gives the slot back as it passes the place. The writer loads the
+//! lanes' words (`harvest`, and every publish), takes the keys of passed places out, and gathers them
+//! in the rows; the eighth ends the segment. Its block is kept for a later batch of its size
+//! (`Writer::spare`): of as many segments as the log has places, and the others are freed. `rule.rt`
+//! has what always holds of words, slots and what each side knows, and `board.rt` the single steps,
+//! each of them an event of `am_steps`.
 //!
 //! A caller:
 //!

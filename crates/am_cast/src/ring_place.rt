@@ -3,6 +3,7 @@ ghost use Rattle.std.specs.Prelude.{◌≡◌, ◌+◌, ◌%◌, ◌<◌, ◌≤
 ghost use Rattle.am_cast.specs.declared.limits.TheConstants.{LANES, LONGEST_LOG, MAX_PLACES};
 ghost use Rattle.am_cast.specs.Rule.{slot};
 
+use crate::limits::LANES;
 use std::marker::Model;
 
 /// The index is kept beside the number, so that neither going on nor a place a little back needs a division.
@@ -62,13 +63,15 @@ impl RingPlace {
         ensures { result ≡ place % self.now.places }
     {
         let back = self.number - place;
-        if back <= self.index {
-            (self.index - back) as usize
-        } else if back <= self.places {
-            (self.index + self.places - back) as usize
-        } else {
-            (place % self.places) as usize
+        if back > self.places {
+            return (place % self.places) as usize;
         }
+        let turned = if back <= self.index {
+            self.index
+        } else {
+            self.index + self.places
+        };
+        (turned - back) as usize
     }
 
     /// The index of the slot of the lane's key of this place.
@@ -76,7 +79,7 @@ impl RingPlace {
         requires { lane < LANES }
         ensures { result ≡ slot self.now.places lane self.now.number }
     {
-        lane * self.places as usize + self.index as usize
+        LANES * self.index as usize + lane
     }
 
     /// The next place.

@@ -1,5 +1,5 @@
 -- A block, a claim and a part may cross threads where their items may.
-use Rattle.std.proofs.Common.{ℕ, ◌-◌, ◌*◌, [], ◌∷◌, List, length}
+use Rattle.std.proofs.Common.{ℕ, Bool, true, false, ◌-◌, ◌*◌, [], ◌∷◌, List, length}
 use Rattle.std.specs.Mem.{type_size}
 use Rattle.core.specs.Allocator.{array_of}
 use Rattle.core.specs.declared.alloc.Allocator.{Ghosts}
@@ -13,7 +13,7 @@ use denote.RawPtr.{Ptr, block_ptr, null_ptr, room_for, ◌+ₚ◌}
 use denote.Param.Send.{IsSend, IsSync, AllSend, AllSync, Common, array_send, array_sync, owning_send, struct_send, struct_sync, sendable}
 use denote.Struct.Owning.{shape, fields, to}
 use denote.Struct.Struct.{exits_of}
-use Rattle.am_segment.specs.inside.Ownership.{front, front_lent, rest}
+use Rattle.am_segment.specs.inside.Ownership.{front, front_lent, rest, claim_owns}
 use Rattle.am_segment.specs.contracts.block.Block as block
 use Rattle.am_segment.specs.contracts.block.Claim as claim
 use Rattle.am_segment.specs.contracts.block.Part as part
@@ -32,6 +32,10 @@ module _ (R : RattleType) (p : Ptr) (places : ℕ) (items : List R.Denot) where
   rest-keyless : (t : Ty → Ptr → Fml) → ((τ : Ty) (q : Ptr) → Keyless (t τ q)) → Keyless (rest R p places items t)
   rest-keyless t frees = (room (array_of R (places - length items)) (p +ₚ length items * type_size R), frees (array_of R places) p)
 
+  claim-keyless : (t : Ty → Ptr → Fml) → ((τ : Ty) (q : Ptr) → Keyless (t τ q)) → IsSend R → (segment : ℕ) (there : Bool) → Keyless (claim_owns t R p places items segment there)
+  claim-keyless t frees sent segment true = (front-keyless sent, rest-keyless t frees)
+  claim-keyless t frees sent segment false = tt
+
 module _ (R A : RattleType) (g : Ghosts A.Denot) where
   pub Block-send : IsSend R → FreesAnywhere A.Denot g → IsSend (block.the_row R A g)
   Block-send sent f = let T = block.the_type R A g in let all : AllSend (fields T) = (search sendable, (search sendable, tt)) in
@@ -44,7 +48,7 @@ module _ (R A : RattleType) (g : Ghosts A.Denot) where
 
   pub Claim-send : IsSend R → FreesAnywhere A.Denot g → IsSend (claim.the_row R A g)
   Claim-send sent f = let T = claim.the_type R A g in let all : AllSend (fields T) = (search sendable, tt) in
-      owning_send T all (λ d. (front-keyless R d.at d.places d.items sent, rest-keyless R d.at d.places d.items (g.dealloc_token d.alloc) (f.frees d.alloc)))
+      owning_send T all (λ d. claim-keyless R d.at d.places d.items (g.dealloc_token d.alloc) (f.frees d.alloc) sent d.segment d.there)
       (λ k. quiet (to T) (exits_of k (fields T)) ((struct_send (shape T) all).leaving k))
 
   pub Claim-sync : IsSync (claim.the_row R A g)

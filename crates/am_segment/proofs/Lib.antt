@@ -4,4 +4,5 @@ pub mod Fronts
 mod Keys
 mod Names
 mod Shares
+pub mod Pairs
 pub mod Values

@@ -1,11 +1,16 @@
 -- Keys that are joined, and the parts of a block that they hold.
-use Rattle.std.proofs.Common.{◌≡◌, ℕ, zero, suc, ◌+◌, ◌-◌, ◌^◌, ◌<◌, ◌≤◌, nat_eq, true, false, List, [], ◌∷◌, ◌++◌, map, drop, length, count_by, refl, sym, ap, ◌∙◌, subst, arith, cond, length-append, append_assoc, Option, Some, None, MatchOption}
-use Rattle.std.proofs.lemmas.List.{length-map, map-append}
+use Rattle.std.proofs.Common.{◌≡◌, ℕ, zero, suc, ◌+◌, ◌-◌, ◌^◌, ◌<◌, ◌≤◌, nat_eq, Bool, true, false, List, [], ◌∷◌, ◌++◌, map, drop, length, count_by, refl, sym, ap, ◌∙◌, subst, arith, cond, true≢false, length-append, append_assoc, Option, Some, None, MatchOption}
+use Rattle.std.proofs.lemmas.List.{length-map}
 use Rattle.std.specs.List.{All, range_with_len}
 use Rattle.std.proofs.lemmas.List.Elements.{All-pop}
 use Rattle.std.proofs.lemmas.List.Sums.{sum_by-append, sum_by-cons}
-use Rattle.am_segment.specs.Segments.{KeyView, AreAllKeys, MayJoin, MayJoinRest, key_with, rest_of}
-use Rattle.am_segment.specs.inside.Shares.{HoldShares, lasts}
+use Rattle.am_segment.specs.Segments.{KeyView, AreAllKeys, key_with, rest_of}
+use Rattle.am_segment.specs.inside.Fields.{key_of_part}
+use Rattle.std.specs.Global.{Global}
+use Rattle.am_segment.specs.declared.block.Claim.{Claim}
+use Rattle.am_segment.specs.declared.block.Part.{Part}
+use Rattle.am_segment.specs.inside.Shares.{HoldShares, IsBlockOf, lasts, name_of}
+use Rattle.am_segment.proofs.Pairs.{same-name}
 
 pub range-rest : (a n : ℕ) → drop 1 (range_with_len a n) ≡ range_with_len (a + 1) (n - 1)
 range-rest a zero = refl
@@ -23,18 +28,63 @@ lasts-range keys a (suc (suc n)) some sum = let apart : nat_eq a (keys - 1) ≡ 
     sum_by-cons (λ number. cond (nat_eq number (keys - 1)) 1 0) a (range_with_len (a + 1) (suc n))
     ∙ ap (λ b. cond b 1 0 + lasts keys (range_with_len (a + 1) (suc n))) apart ∙ omega (arith, lasts-range keys (a + 1) (suc n) (omega arith) (omega arith))
 
--- the keys that are still to come hold all parts that weren't handed out
-pub rest-holds : {H : Type 0} (back : H) (count keys next : ℕ) (numbers : List ℕ) → numbers ≡ range_with_len next (keys - next) → next < keys → keys ≤ 2 ^ 62 → count + next ≡ 2 ^ 63
-    → HoldShares (Some back) count keys numbers
-rest-holds back count keys next numbers is below few parts = let long = ap length is ∙ range-length next (keys - next) in
-    (omega arith, few, (λ none. absurd (some_none none)), (λ x e. (omega arith, ap (lasts keys) is ∙ lasts-range keys next (keys - next) (omega arith) (omega arith))))
-  where
-    some_none : {Y : Type 0} {y : Y} → Some y ≡ None → ⊥
-    some_none e = cc
+-- all keys of a segment have all parts
+pub all-hold : (there : Bool) (count keys : ℕ) (numbers : List ℕ) → there ≡ true → count ≡ 2 ^ 63 → numbers ≡ range_with_len 0 keys → 0 < keys → keys ≤ 2 ^ 62 → HoldShares there count keys numbers
+all-hold true count keys numbers t all is some few = let long = ap length is ∙ range-length 0 keys in
+    (omega arith, omega arith, few, (λ none. absurd (true≢false none)), (λ e. (omega arith, ap (lasts keys) is ∙ lasts-range keys 0 keys some (omega arith))))
+all-hold false count keys numbers t all is some few = absurd (true≢false (sym t))
 
--- the last key is there once where it wasn't among the others
-pub once : (keys : ℕ) (numbers more : List ℕ) → lasts keys numbers ≡ 0 → lasts keys more ≡ 1 → lasts keys (numbers ++ more) ≤ 1
-once keys numbers more none one = let sum = sum_by-append (λ number. cond (nat_eq number (keys - 1)) 1 0) numbers more in omega arith
+-- several keys have several parts
+pub some-parts : (there : Bool) (count keys : ℕ) (numbers : List ℕ) → HoldShares there count keys numbers → (length numbers ≤ count) × (count ≤ 2 ^ 63)
+some-parts true count keys numbers h = let few = h.1 in let most = h.2 in let all = (h.4 refl).0 in (omega arith, omega arith)
+some-parts false count keys numbers h = let few = h.1 in let most = h.2 in let all = (h.3 refl).0 in (omega arith, omega arith)
+
+-- what keys and further keys have is what all of them have
+pub both-hold : (a b : Bool) (count more keys : ℕ) (numbers others : List ℕ) → HoldShares a count keys numbers → HoldShares b more keys others → length numbers + length others ≤ keys → lasts keys (numbers ++ others) ≤ 1
+    → (count + more ≤ 2 ^ 63) × HoldShares (cond b true a) (count + more) keys (numbers ++ others)
+both-hold true true count more keys numbers others h k few one =
+    let sum = sum_by-append (λ number. cond (nat_eq number (keys - 1)) 1 0) numbers others in let last = (h.4 refl).1 in let other = (k.4 refl).1 in absurd (omega arith)
+both-hold true false count more keys numbers others h k few one =
+    let long = length-append numbers others in let sum = sum_by-append (λ number. cond (nat_eq number (keys - 1)) 1 0) numbers others in let all = h.4 refl in let each = k.3 refl in let some = h.0 in let most = h.2 in
+    (omega (arith, all.0, each.0), (omega arith, omega arith, most, (λ e. absurd (true≢false e)), (λ e. (omega (arith, all.0, each.0), omega (arith, all.1, each.1)))))
+both-hold false true count more keys numbers others h k few one =
+    let long = length-append numbers others in let sum = sum_by-append (λ number. cond (nat_eq number (keys - 1)) 1 0) numbers others in let each = h.3 refl in let all = k.4 refl in let some = h.0 in let most = h.2 in
+    (omega (arith, all.0, each.0), (omega arith, omega arith, most, (λ e. absurd (true≢false e)), (λ e. (omega (arith, all.0, each.0), omega (arith, all.1, each.1)))))
+both-hold false false count more keys numbers others h k few one =
+    let long = length-append numbers others in let sum = sum_by-append (λ number. cond (nat_eq number (keys - 1)) 1 0) numbers others in let these = h.3 refl in let those = k.3 refl in let some = h.0 in let most = h.2 in
+    (omega (arith, these.0, those.0), (omega arith, omega arith, most, (λ e. (omega (arith, these.0, those.0), omega (arith, these.1, those.1))), (λ e. absurd (true≢false (sym e)))))
+
+-- the claim that is left of two is to the block of both parts
+module _ {X : Type 0} (v w : Claim X Global) where
+  pub is-there : (t : Bool) → t ≡ w.there → (cond t w v).there ≡ cond t true v.there
+  is-there true e = sym e
+  is-there false e = refl
+
+  pub block-of-both : (part other : Part X) (a b : Global) → name_of other ≡ name_of part → (v.there ≡ true → IsBlockOf v part × (v.alloc ≡ a)) → (w.there ≡ true → IsBlockOf w other × (w.alloc ≡ b))
+      → (t : Bool) → t ≡ w.there → (cond t w v).there ≡ true → IsBlockOf (cond t w v) part × ((cond t w v).alloc ≡ a)
+  block-of-both part other a b name these those true e there = let same = same-name part other name in let is = (those there).0 in
+      ((is.0 ∙ same.1, is.1 ∙ same.0, is.2 ∙ same.2, is.3 ∙ same.3), refl)
+  block-of-both part other a b name these those false e there = these there
+
+-- the last key is there at most once
+last-once : (there : Bool) (count keys : ℕ) (numbers : List ℕ) → HoldShares there count keys numbers → lasts keys numbers ≤ 1
+last-once true count keys numbers h = let one = (h.4 refl).1 in omega arith
+last-once false count keys numbers h = let none = (h.3 refl).1 in omega arith
+
+-- it stays there at most once, where it wasn't there if it is among further keys
+pub once : (here there : Bool) (count more keys : ℕ) (numbers others : List ℕ) → HoldShares here count keys numbers → HoldShares there more keys others → (0 < lasts keys others → lasts keys numbers ≡ 0) → lasts keys (numbers ++ others) ≤ 1
+once here true count more keys numbers others h k new =
+    let sum = sum_by-append (λ number. cond (nat_eq number (keys - 1)) 1 0) numbers others in let one = (k.4 refl).1 in let none = new (omega arith) in omega (arith, sum, one, none)
+once here false count more keys numbers others h k new =
+    let sum = sum_by-append (λ number. cond (nat_eq number (keys - 1)) 1 0) numbers others in let none = (k.3 refl).1 in omega (arith, sum, none, last-once here count keys numbers h)
+
+-- a single key that is the last one
+pub is-last : (keys number : ℕ) → 0 < lasts keys (number ∷ []) → number ≡ keys - 1
+is-last keys number some = by_case (nat_eq number (keys - 1)) refl
+  where
+    by_case : (b : Bool) → nat_eq number (keys - 1) ≡ b → number ≡ keys - 1
+    by_case true e = grind (arith, e)
+    by_case false e = let none = ap {B = ℕ} (λ b. cond b 1 0) e in let one = sum_by-cons (λ number. cond (nat_eq number (keys - 1)) 1 0) number [] in absurd (omega (arith, one, none, some))
 
 rest-is-more : (keys next : ℕ) → next < keys → keys - next ≡ suc (keys - (next + 1))
 rest-is-more keys next below = omega arith
@@ -58,21 +108,12 @@ module _ {X : Type 0} where
       let whole = append_assoc out (next ∷ []) (rest_of rest) ∙ ap (λ rest. out ++ next ∷ rest_of rest) more.1 ∙ ap (λ l. out ++ l) (sym (next-of-rest next more.0)) ∙ is in
       let long = ap length whole in let more = length-append (out ++ next ∷ []) (rest_of rest) in let one = length-append out (next ∷ []) in (omega arith, whole)
 
-  -- a key that may join others is of their segment
-  pub may_join : (segment keys : ℕ) (items : List X) (numbers : List ℕ) (key : KeyView X) → 0 < length numbers → MayJoin (map (key_with segment keys items) numbers) key
-      → (key.segment ≡ segment) × (key.keys ≡ keys) × (key.items ≡ items) × (length numbers < keys)
-  may_join segment keys items [] key some may = absurd (omega arith)
-  may_join segment keys items (number ∷ numbers) key some may =
-      let first = may.of_one 0 key (omega arith) in let few = may.few in let long = length-map numbers (key_with segment keys items) in let count = ap (λ k. k.keys) first in
-      (sym (ap (λ k. k.segment) first), sym count, sym (ap (λ k. k.items) first), omega arith)
+  -- keys that others show are of the others' segment
+  pub of-one : (a b : Part X) (numbers : List ℕ) → 0 < length numbers → All (λ key. key ≡ key_of_part b key.number) (map (key_of_part a) numbers) → (name_of b ≡ name_of a) × (b.keys ≡ a.keys) × (b.items ≡ a.items)
+  of-one a b [] some are = absurd (omega arith)
+  of-one a b (number ∷ numbers) some are = let first = are 0 (key_of_part a number) (omega arith) in (sym (ap (λ k. k.segment) first), sym (ap (λ k. k.keys) first), sym (ap (λ k. k.items) first))
 
-  -- the keys of a part that others of a key's segment joined
-  pub joined : (segment keys : ℕ) (items : List X) (numbers more all : List ℕ) (key : KeyView X) → segment ≡ key.segment → keys ≡ key.keys → items ≡ key.items
-      → all ≡ numbers ++ more → map (key_with segment keys items) all ≡ map (key_with segment keys items) numbers ++ map (key_with key.segment key.keys key.items) more
-  joined segment keys items numbers more all key s k i e = ap (map (key_with segment keys items)) e ∙ map-append (key_with segment keys items) numbers more
-      ∙ (λ j. map (key_with segment keys items) numbers ++ map (key_with (s j) (k j) (i j)) more)
-
-  counted : (segment keys m : ℕ) (items : List X) (numbers : List ℕ) → count_by (λ key. nat_eq key.number m) (map (key_with segment keys items) numbers) ≡ count_by (λ number. nat_eq number m) numbers
+  pub counted : (segment keys m : ℕ) (items : List X) (numbers : List ℕ) → count_by (λ key. nat_eq key.number m) (map (key_with segment keys items) numbers) ≡ count_by (λ number. nat_eq number m) numbers
   counted segment keys m items [] = refl
   counted segment keys m items (number ∷ numbers) =
       sum_by-cons (λ (key : KeyView X). cond (nat_eq key.number m) 1 0) (key_with segment keys items number) (map (key_with segment keys items) numbers)
@@ -81,19 +122,6 @@ module _ {X : Type 0} where
   as_many : (segment keys : ℕ) (items : List X) (numbers : List ℕ) → AreAllKeys (map (key_with segment keys items) numbers) → keys ≡ length numbers
   as_many segment keys items [] all = let some = all.some in absurd (omega arith)
   as_many segment keys items (number ∷ numbers) all = let many = all.as_many 0 (key_with segment keys items number) (omega arith) in let long = length-map numbers (key_with segment keys items) in omega arith
-
-  -- keys that may join others are of their segment
-  pub may_join_rest : (segment keys : ℕ) (items : List X) (numbers : List ℕ) (next : KeyView X) → 0 < length numbers → MayJoinRest (map (key_with segment keys items) numbers) next
-      → (next.segment ≡ segment) × (next.keys ≡ keys) × (next.items ≡ items) × (length numbers ≤ next.number) × (lasts keys numbers ≡ 0)
-  may_join_rest segment keys items [] next some may = absurd (omega arith)
-  may_join_rest segment keys items (number ∷ numbers) next some may =
-      let first = may.of_one 0 next (omega arith) in let few = may.few in let long = length-map numbers (key_with segment keys items) in let count = ap (λ k. k.keys) first in (
-        sym (ap (λ k. k.segment) first),
-        sym count,
-        sym (ap (λ k. k.items) first),
-        omega arith,
-        ap (λ k. lasts k (number ∷ numbers)) count ∙ sym (counted segment keys (next.keys - 1) items (number ∷ numbers)) ∙ may.new,
-      )
 
   -- joined keys that are all keys have each number, the last one's among them
   pub whole : (segment keys : ℕ) (items : List X) (numbers : List ℕ) → 0 < length numbers → AreAllKeys (map (key_with segment keys items) numbers) → (length numbers ≡ keys) × (lasts keys numbers ≡ 1)

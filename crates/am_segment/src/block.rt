@@ -4,7 +4,7 @@
 //! a `Part` that reads its items and can be split. All parts together give the block back for the
 //! claim. Numbers, keys and what a caller sees of a segment are not here.
 
-ghost use Rattle.std.specs.Prelude.{◌≡◌, ◌≢◌, ℕ, ◌+◌, ◌-◌, ◌^◌, ◌≤◌, ◌<◌, List, [], ◌∷◌, ◌++◌, length, drop, IfOk};
+ghost use Rattle.std.specs.Prelude.{◌≡◌, ◌≢◌, ℕ, Bool, true, false, cond, ◌+◌, ◌-◌, ◌^◌, ◌≤◌, ◌<◌, List, [], ◌∷◌, ◌++◌, length, drop, IfOk};
 ghost use Rattle.std.specs.List.{range_with_len};
 ghost use Rattle.std.specs.Vec.Ownership.{FitsInBlock};
 ghost use base.Fml.{ftrue};
@@ -81,8 +81,9 @@ impl<T, A: Allocator> Block<T, A> {
 
     /// Lends the items out, for as long as a part of them is about, to so many keys.
     pub(crate) fn share(self, keys: usize) -> (Claim<T, A>, Part<T>)
-        ensures claim { (result.0.at ≡ result.1.ptr) × (result.0.items ≡ self.items)
-            × (result.0.places ≡ self.places) × (result.0.alloc ≡ self.alloc) }
+        ensures claim { (result.0.there ≡ true) × (result.0.at ≡ result.1.ptr)
+            × (result.0.items ≡ self.items) × (result.0.places ≡ self.places)
+            × (result.0.alloc ≡ self.alloc) }
         ensures part { (result.1.segment ≡ result.0.segment) × (result.1.items ≡ self.items)
             × (result.1.places ≡ self.places) × (result.1.count ≡ 2 ^ 63) }
         ensures key { (result.1.keys ≡ keys) × (result.1.numbers ≡ range_with_len 0 keys) }
@@ -92,9 +93,11 @@ impl<T, A: Allocator> Block<T, A> {
     }
 }
 
-/// The right to a shared block once all of its parts are back. It takes no space.
+/// The right to a shared block once all of its parts are back, if it is there. It takes no space.
 pub(crate) struct Claim<T, A: Allocator> {
     by: PhantomData<*const (T, A)>,
+    // Of a block's claims one is there. No memory depends on which, so none says so at run time.
+    pub(crate) ghost there: { Bool },
     pub(crate) ghost at: { Ptr },
     pub(crate) ghost items: { List T },
     pub(crate) ghost places: { ℕ },
@@ -104,7 +107,7 @@ pub(crate) struct Claim<T, A: Allocator> {
 
 impl<T, A: Allocator> Model for Claim<T, A> {
     ghost also_owns = { λ c.
-        claim_owns (A.dealloc_token c.alloc) T.row c.at c.places c.items c.segment };
+        claim_owns (A.dealloc_token c.alloc) T.row c.at c.places c.items c.segment c.there };
 
     ghost also_shares = { λ _ _ _. ftrue };
 }
@@ -115,10 +118,27 @@ unsafe impl<T: Send, A: Allocator + Send> Send for Claim<T, A> {}
 unsafe impl<T, A: Allocator> Sync for Claim<T, A> {}
 
 impl<T, A: Allocator> Claim<T, A> {
+    /// A claim that isn't there, and this one.
+    pub(crate) fn split(self) -> (Claim<T, A>, Claim<T, A>)
+        ensures { (result.0 ≡ record self { there = false }) × (result.1 ≡ self) }
+    {
+        let Claim { by: _ } = self;
+        (Claim { by: PhantomData }, Claim { by: PhantomData })
+    }
+
+    /// The other claim if it is there, or else this one.
+    pub(crate) fn join(self, other: Claim<T, A>) -> Claim<T, A>
+        ensures { result ≡ cond other.there other self }
+    {
+        let Claim { by: _ } = self;
+        let Claim { by: _ } = other;
+        Claim { by: PhantomData }
+    }
+
     /// The block, for all parts of it.
     pub(crate) fn settle(self, all: Part<T>) -> Block<T, A>
-        requires { (all.ptr ≡ self.at) × (all.segment ≡ self.segment)
-            × (all.count ≡ 2 ^ 63) }
+        requires there { self.there ≡ true }
+        requires all { (all.ptr ≡ self.at) × (all.segment ≡ self.segment) × (all.count ≡ 2 ^ 63) }
         ensures { (result.items ≡ self.items) × (result.places ≡ self.places)
             × (result.alloc ≡ self.alloc) }
     {
@@ -186,7 +206,7 @@ impl<T> Part<T> {
         (Part { ptr }, Part { ptr: at })
     }
 
-    /// Two parts of one block as one, at the first one's address.
+    /// Two parts of one block as one.
     pub(crate) fn join(self, other: Part<T>) -> Part<T>
         requires same { other.segment ≡ self.segment }
         requires parts { (0 < self.count) × (self.count + other.count ≤ 2 ^ 63) }
@@ -197,20 +217,6 @@ impl<T> Part<T> {
     {
         let Part { ptr } = self;
         let Part { ptr: _ } = other;
-        Part { ptr }
-    }
-
-    /// The same, at the second one's address.
-    pub(crate) fn join_to(self, other: Part<T>) -> Part<T>
-        requires same { other.segment ≡ self.segment }
-        requires parts { (0 < self.count) × (self.count + other.count ≤ 2 ^ 63) }
-        ensures { result ≡ record other {
-          count = self.count + other.count;
-          numbers = self.numbers ++ other.numbers;
-        } }
-    {
-        let Part { ptr: _ } = self;
-        let Part { ptr } = other;
         Part { ptr }
     }
 }

@@ -5,13 +5,16 @@ ghost use Rattle.std.specs.Prelude.{IsOk, IfOk, IfErr, OnOk};
 ghost use Rattle.am_segment.specs.Segments.{key_with, keys_of, AreAllKeys};
 
 use crate::block::Block;
-use crate::block_return::{BlockReturn, without_items};
 use crate::key::{MAX_KEYS, SegKey};
 use crate::key_run::KeyRun;
 use crate::seal_fault::SealFault;
+use crate::share::{Share, without_items};
 use std::alloc::{AllocError, Global};
 use std::marker::Model;
 use std_alloc::room::may_hold;
+
+/// The most items of one segment. So a key takes two words.
+pub const MAX_ITEMS: usize = u32::MAX as usize;
 
 /// One block with places for items, of which the first ones are filled. Its keys must be handed out,
 /// as a list by `seal` or one by one, or it must be discarded.
@@ -37,12 +40,13 @@ impl<T> Model for SegmentBuilder<T> {
 }
 
 impl<T> SegmentBuilder<T> {
-    /// An empty builder with places for so many items.
+    /// An empty builder with places for so many items. `MAX_ITEMS` is the most: more are refused as if there
+    /// were no memory.
     pub fn with_places(alloc: Global, places: usize) -> Result<SegmentBuilder<T>, AllocError>
         requires { 1 ≤ places }
         ensures { IfOk result (λ made. made ≡ record { items = []; places = places }) }
     {
-        if !may_hold::<T>(places) {
+        if places > MAX_ITEMS || !may_hold::<T>(places) {
             return Err(AllocError);
         }
         let block = Block::allocate(&alloc, places)?;
@@ -132,18 +136,18 @@ impl<T> SegmentBuilder<T> {
             count,
             alloc,
         } = self;
-        let (claim, rest) = block.share(keys);
-        let back = BlockReturn {
-            places,
+        let (claim, part) = block.share(keys);
+        let rest = Share {
+            part,
+            len: count as u32,
+            places: places as u32,
             claim,
             alloc,
         };
         KeyRun {
             rest,
-            len: count,
             next: 0,
             last: keys - 1,
-            back,
         }
     }
 }

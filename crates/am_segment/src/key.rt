@@ -2,8 +2,7 @@
 
 ghost use Rattle.std.specs.Prelude.{◌≡◌, length, option_copied, slice_get};
 
-use crate::block::Part;
-use crate::block_return::BlockReturn;
+use crate::share::Share;
 use std::marker::Model;
 
 /// The most keys of one segment. No vector has room for more.
@@ -12,9 +11,7 @@ pub const MAX_KEYS: usize = 1 << 62;
 /// The right to read a segment's items. It must be spent, by `reunite` with all other keys of its
 /// segment.
 pub struct SegKey<T> {
-    pub(crate) part: Part<T>,
-    pub(crate) len: usize,
-    pub(crate) last: Option<BlockReturn<T>>,
+    pub(crate) share: Share<T>,
 }
 
 impl<T> Model for SegKey<T> {
@@ -36,7 +33,7 @@ impl<T> SegKey<T> {
     pub fn len(&self) -> usize
         ensures { result ≡ length self.now.items }
     {
-        self.len
+        self.share.len as usize
     }
 
     /// The item at an index.
@@ -50,6 +47,6 @@ impl<T> SegKey<T> {
     pub fn as_slice(&self) -> &[T]
         ensures { result.now ≡ self.now.items }
     {
-        self.part.items(self.len)
+        self.share.items()
     }
 }

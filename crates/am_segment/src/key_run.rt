@@ -3,19 +3,16 @@
 ghost use Rattle.std.specs.Prelude.{◌≡◌, ◌≢◌, ◌+◌, ◌<◌, ◌≤◌, ◌++◌, length, vec_capacity, MatchOption};
 ghost use Rattle.am_segment.specs.Segments.{rest_of};
 
-use crate::block::Part;
-use crate::block_return::BlockReturn;
 use crate::key::SegKey;
+use crate::share::Share;
 use std::marker::Model;
 
 /// The keys of a segment that are still to come, seen as the next of them. It must be spent, by
 /// `next` until no more are left.
 pub struct KeyRun<T> {
-    pub(crate) rest: Part<T>,
-    pub(crate) len: usize,
+    pub(crate) rest: Share<T>,
     pub(crate) next: usize,
     pub(crate) last: usize,
-    pub(crate) back: BlockReturn<T>,
 }
 
 impl<T> Model for KeyRun<T> {
@@ -39,32 +36,38 @@ impl<T> KeyRun<T> {
         ensures same { (result.0 ≡ self) × (result.1 ≡ key) }
         ensures apart { self.segment ≢ key.segment }
     {
-        let KeyRun {
-            rest,
-            len,
-            next,
-            last,
-            back,
-        } = self;
-        let SegKey {
-            part,
-            len: items,
-            last: end,
-        } = key;
-        let (rest, part) = rest.tell_apart(part);
+        let KeyRun { rest, next, last } = self;
+        let SegKey { share } = key;
+        let (rest, share) = rest.tell_apart(share);
+        (KeyRun { rest, next, last }, SegKey { share })
+    }
+
+    /// The next key, and the keys behind it, of which there is at least one.
+    pub fn split_first(self) -> (SegKey<T>, KeyRun<T>)
+        requires { self.number + 1 < self.keys }
+        ensures { (result.0 ≡ self) × (result.1 ≡ record self { number = self.number + 1 }) }
+    {
+        let KeyRun { rest, next, last } = self;
+        let (share, rest) = rest.split_one(next);
         let run = KeyRun {
             rest,
-            len,
-            next,
+            next: next + 1,
             last,
-            back,
         };
-        let key = SegKey {
-            part,
-            len: items,
-            last: end,
-        };
-        (run, key)
+        (SegKey { share }, run)
+    }
+
+    /// The last key.
+    pub fn into_last(self) -> SegKey<T>
+        requires { self.number + 1 ≡ self.keys }
+        ensures { result ≡ self }
+    {
+        let KeyRun {
+            rest: share,
+            next: _,
+            last: _,
+        } = self;
+        SegKey { share }
     }
 
     /// The next key, and the keys behind it.
@@ -74,35 +77,11 @@ impl<T> KeyRun<T> {
             (λ rest. (self.number + 1 < self.keys)
             × (rest ≡ record self { number = self.number + 1 })) }
     {
-        let KeyRun {
-            rest,
-            len,
-            next,
-            last,
-            back,
-        } = self;
-        if next == last {
-            let key = SegKey {
-                part: rest,
-                len,
-                last: Some(back),
-            };
-            return (key, None);
+        if self.next == self.last {
+            return (self.into_last(), None);
         }
-        let (part, others) = rest.split_one(next);
-        let key = SegKey {
-            part,
-            len,
-            last: None,
-        };
-        let run = KeyRun {
-            rest: others,
-            len,
-            next: next + 1,
-            last,
-            back,
-        };
-        (key, Some(run))
+        let (key, rest) = self.split_first();
+        (key, Some(rest))
     }
 
     /// All of them, behind other keys in a list that has room.

@@ -15,8 +15,9 @@
 //!
 //! What a key owns: a share of the right to read. The block's items are lent for a lifetime of
 //! their own, which cannot end while a share is missing; the last key also keeps the right to the
-//! block once it has ended. So a slow reader delays the block that it reads, and no other. Trusted
-//! are the toolchain and the library's allocator: each raw pointer stands in `block.rt`, proved.
+//! block once it has ended. So a slow reader delays the block that it reads, and no other. A key is
+//! two words: the items' address, how many they are, and the block's places. Trusted are the toolchain
+//! and the library's allocator: each raw pointer stands in `block.rt`, proved.
 //!
 //! A caller:
 //!
@@ -39,15 +40,15 @@
 #![tactic(auto)]
 
 mod block;
-mod block_return;
 mod builder;
 mod joined_keys;
 mod key;
 mod key_run;
 mod laws;
 mod seal_fault;
+mod share;
 
-pub use builder::SegmentBuilder;
+pub use builder::{MAX_ITEMS, SegmentBuilder};
 pub use joined_keys::{JoinedKeys, reunite};
 pub use key::{MAX_KEYS, SegKey};
 pub use key_run::KeyRun;

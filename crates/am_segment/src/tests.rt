@@ -4,7 +4,7 @@
 ghost use Rattle.std.specs.Prelude.{◌≡◌, ◌≤◌, length, IfOk};
 ghost use Rattle.am_segment.specs.Segments.{AreAllKeys};
 
-use crate::{JoinedKeys, MAX_KEYS, SealFault, SegKey, SegmentBuilder, reunite};
+use crate::{JoinedKeys, MAX_ITEMS, MAX_KEYS, SealFault, SegKey, SegmentBuilder, reunite};
 use std::alloc::{AllocError, Global};
 use std::mem::size_of;
 use std::sync::Arc;
@@ -364,8 +364,22 @@ fn whole_log_of_full_batches(rt: HostRuntime) -> Result<(), Fail> {
 }
 
 #[test]
+fn no_segment_has_more_places_than_a_key_can_count(rt: HostRuntime) -> Result<(), Fail> {
+    SegmentBuilder::<()>::with_places(rt.alloc(), MAX_ITEMS)?.discard();
+    let is_refused = match SegmentBuilder::<()>::with_places(rt.alloc(), MAX_ITEMS + 1) {
+        Ok(builder) => {
+            builder.discard();
+            false
+        }
+        Err(_) => true,
+    };
+    assert!(rt; is_refused);
+    Ok(())
+}
+
+#[test]
 fn how_large_a_key_is(rt: HostRuntime) -> Result<(), Fail> {
-    assert_eq!(rt; size_of::<SegKey<u64>>(), 32);
-    assert_eq!(rt; size_of::<Option<SegKey<u64>>>(), 40);
+    assert_eq!(rt; size_of::<SegKey<u64>>(), 16);
+    assert_eq!(rt; size_of::<Option<SegKey<u64>>>(), 24);
     Ok(())
 }

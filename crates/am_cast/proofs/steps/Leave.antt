@@ -71,7 +71,7 @@ module _ {B K A : Type 0} (key : B → ℕ → K) where
         gives,
         tt,
         (let kept = lane_stepped key s r id me.0 v w words homes at is refl (length-set s.words at_word new) (length-set s.homes k (some (Some (key x l)))) (get_or-set_other s.words at_word 0 new 0 (λ e. omega arith)) (λ m ne. get_or-set_other s.words at_word (lane_word m) new 0 (λ e. ne (omega arith)))
-            (λ m i a ne. set_else s.homes k (slot p m i) (some (Some (key x l))) (other_lane p m l i v.passed r.some_places ne)) record {
+            (λ m i a ne. set_else s.homes k (slot p m i) (some (Some (key x l))) (other_lane p m l i v.passed a small ne)) record {
               sound = record {
                 seen = record { number = sd.seen.number; places = sd.seen.places; begins = sd.seen.begins; begun = λ e. absurd (true≢false (sym e)); unbegun = λ e _. absurd (true≢false (sym e)); high = sd.seen.high; holds = λ e. absurd (true≢false (sym e)); told = sd.seen.told };
                 counts = sd.counts;

@@ -49,7 +49,7 @@ module _ {B K A : Type 0} (key : B → ℕ → K) where
         takes k (Some (key x.0 l)),
         ok.keys v.passed x.0 (omega arith) (omega arith) there (lives.2 v.passed mid (omega arith)) (λ h. absurd (true≢false (sym h ∙ held))),
         let kept = lane_step key s r id me.0 v w words homes at is refl (length-set s.words at_word new) (length-set s.homes k none) (get_or-set_other s.words at_word 0 new 0 (λ e. omega arith)) (λ m ne. get_or-set_other s.words at_word (lane_word m) new 0 (λ e. ne (omega arith)))
-            (λ m i a ne. set_else s.homes k (slot p m i) none (other_lane p m l i v.passed r.some_places ne)) record {
+            (λ m i a ne. set_else s.homes k (slot p m i) none (other_lane p m l i v.passed a small ne)) record {
               sound = record {
                 seen = record { number = sd.seen.number; places = sd.seen.places; begins = sd.seen.begins; begun = sd.seen.begun; unbegun = λ _ e. absurd (true≢false (sym begun ∙ e)); high = sd.seen.high; holds = λ _. (here, below); told = sd.seen.told };
                 counts = sd.counts;

@@ -6,6 +6,7 @@ ghost use Rattle.am_cast.specs.Changes.{clearing, with_account, with_writer};
 ghost use Rattle.am_cast.specs.Steps.{Clears, Gathers};
 ghost use Rattle.am_cast.specs.Seats.{IsKeyAt, IsPast, IsSized, IsWriter, account_of, writer_of};
 
+use crate::board::slot::take_out;
 use crate::rule::{AnySeat, AnyTop, Keyed};
 use crate::views::View;
 use atomic_table::Play;
@@ -45,10 +46,7 @@ pub(crate) fn clear_slot<B, K, A, R: Keyed<B, K>>(
         IsKeyAt R.key q.tail.log (account_of q lane).cleared lane result }
 {
     top.load::<Gather<R>>(seat, lane + 8);
-    let key = match top.exchange(seat, at, None) {
-        Some(key) => key,
-        None => unreachable!(),
-    };
+    let key = take_out(top, seat, at);
     top.load::<Clear>(seat, lane + 8);
     key
 }

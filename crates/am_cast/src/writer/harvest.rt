@@ -1,6 +1,6 @@
 //! Harvesting, from the call down to the steps: each lane's word is loaded, and the keys that it has
 //! passed come home.
-ghost use Rattle.std.specs.Prelude.{◌≡◌, ◌≢◌, ◌+◌, ◌/◌, ◌%◌, ◌<◌, ◌≤◌, true, false, length, None, Some, IfSome, IfNone};
+ghost use Rattle.std.specs.Prelude.{◌≡◌, ◌≢◌, ◌↔◌, ◌+◌, ◌/◌, ◌%◌, ◌<◌, ◌≤◌, true, false, length, None, Some, IfSome, IfNone, IsTrue};
 ghost use Rattle.am_cast.specs.Rule.{live, cut, vacated, gone};
 ghost use Rattle.am_cast.specs.Changes.{loaded, marked, back, known_to};
 ghost use Rattle.am_cast.specs.Seats.{account_of};
@@ -25,8 +25,7 @@ impl<T: Drop, P, A, N: Feed> Writer<T, P, A, N> {
             × IsBehind self.new r.0 × HasRoom self.new r.0) }
         ensures room { IfNone result (HasRoom self.new LANES) }
     {
-        self.state.harvest(cast);
-        match self.state.full_lane() {
+        match self.state.harvest(cast) {
             Some(lane) => Some((lane, self.state.known_of(lane))),
             None => None,
         }
@@ -34,19 +33,36 @@ impl<T: Drop, P, A, N: Feed> Writer<T, P, A, N> {
 }
 
 impl<T: Drop, P, A, N: Feed> WriterState<T, P, A, N> {
-    /// Loads the lanes' words, in order of lanes, and takes out all keys that they have passed.
-    pub(crate) fn harvest(&mut self, cast: &Cast<T, P, A, N>)
+    /// Loads the lanes' words, in order of lanes, and takes out all keys that they have passed. Answers the
+    /// lowest lane that is as far behind as may be.
+    pub(crate) fn harvest(&mut self, cast: &Cast<T, P, A, N>) -> Option<usize>
         requires { Calm self.old.known }
         ensures calm { Calm self.new.known }
         ensures same { Harvested self.old.known self.new.known LANES }
+        ensures none { IfNone result (HasRoom self.new.known LANES) }
+        ensures some { IfSome result (λ l. (l < LANES) × IsBehind self.new.known l
+            × HasRoom self.new.known l) }
     {
+        let mut full = None;
         for lane in 0..self.used_end() {
-            self.harvest_lane(cast, lane);
+            let word = self.harvest_lane(cast, lane);
+            if full.is_none() && word != u64::MAX && self.is_full_ring(word / 4) {
+                full = Some(lane);
+            }
         }
+        full
+    }
+
+    /// Whether all of a lane's slots are filled that has passed so many places.
+    fn is_full_ring(&self, passed: u64) -> bool
+        requires { passed ≤ length self.now.known.tail.log }
+        ensures { IsTrue result ↔ (passed + self.now.known.tail.places ≤ length self.now.known.tail.log) }
+    {
+        self.next.number() - passed >= self.next.places()
     }
 
     /// Loads the lane's word if the lane is given out, and takes out the keys that it has passed. Answers the
-    /// word, or the greatest u64.
+    /// word of a lane that is live then, or the greatest u64.
     fn harvest_lane(&mut self, cast: &Cast<T, P, A, N>, lane: usize) -> u64
         requires { (lane < LANES) × Calm self.old.known }
         ensures only { OnlyAccount self.old self.new lane (account_of self.new.known lane) }
@@ -55,6 +71,8 @@ impl<T: Drop, P, A, N: Feed> WriterState<T, P, A, N> {
         ensures account { let b = account_of self.old.known lane in
             let c = account_of self.new.known lane in StaysAs b c × (b.stand ≡ live
             → b.loads < c.loads) × (b.away ≡ true → b.loads < c.loads) }
+        ensures word { let c = account_of self.new.known lane in (result ≡ gone → c.stand ≢ live)
+            × (result ≢ gone → (c.stand ≡ live) × (c.known ≡ result / 4)) }
     {
         if self.is_live(lane) {
             return self.harvest_live(cast, lane);
@@ -145,20 +163,5 @@ impl<T: Drop, P, A, N: Feed> WriterState<T, P, A, N> {
             return true;
         }
         false
-    }
-
-    /// The lowest lane that is as far behind as may be.
-    fn full_lane(&self) -> Option<usize>
-        requires { Calm self.now.known }
-        ensures none { IfNone result (HasRoom self.now.known LANES) }
-        ensures some { IfSome result (λ l. (l < LANES) × IsBehind self.now.known l
-            × HasRoom self.now.known l) }
-    {
-        for lane in 0..self.used_end() {
-            if self.is_live(lane) && self.is_behind(lane) {
-                return Some(lane);
-            }
-        }
-        None
     }
 }

@@ -178,17 +178,19 @@ impl<T: Drop, P, A, N: Feed> WriterState<T, P, A, N> {
             is_live (account_of self.old.known l)) LANES result.keys }
     {
         let end = self.used_end();
+        let dealt = if end == LANES { LANES - 1 } else { end };
         let mut row = Row::new(self.next.number());
         self.put_key(cast, 0, first, &mut row);
-        let mut rest = Some(rest);
-        for lane in 1..end {
-            let Some(run) = rest else { unreachable!() };
-            let (key, others) = run.next();
+        let mut rest = rest;
+        for lane in 1..dealt {
+            let (key, others) = rest.split_first();
             rest = others;
             self.put_key(cast, lane, key, &mut row);
         }
-        if let Some(run) = rest {
-            row.add_rest(run);
+        if end == LANES {
+            self.put_key(cast, LANES - 1, rest.into_last(), &mut row);
+        } else {
+            row.add_rest(rest);
         }
         row
     }

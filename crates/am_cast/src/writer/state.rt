@@ -113,7 +113,7 @@ impl<T: Drop, P, A, N: Feed> WriterState<T, P, A, N> {
         ensures room { KeepsRoom self.old.rows self.new.rows }
     {
         let index = self.next.index_of(place);
-        let at = lane * self.next.places() as usize + index;
+        let at = LANES * index + lane;
         let key = board::clear_slot(&cast.board.shared, &mut self.seat, at, lane);
         self.rows.bring(index, place, key);
     }

@@ -1,13 +1,13 @@
 -- What a block, a claim to it and a part of it own, in the logic. Only `block.rt` cites it, and no
 -- public call. R is the items' type, p the block's address, t what its allocator asks for to take
 -- it back. This project's own, in the words of the library's `Vec`.
-use Rattle.std.specs.Prelude.{ℕ, ◌-◌, ◌*◌, ◌^◌, List, [], ◌∷◌, length}
+use Rattle.std.specs.Prelude.{ℕ, Bool, true, false, ◌-◌, ◌*◌, ◌^◌, List, [], ◌∷◌, length}
 use Rattle.std.specs.Mem.{type_size}
 use Rattle.core.specs.Allocator.{array_of}
 use Rattle.std_alloc.specs.Vec.Ownership.{vec_shares}
 use Rattle.left_right.specs.Parted.{tokens}
 use base.Fraction.{full_share}
-use base.Fml.{Lft, Fml, fsep, flt, flft, flent}
+use base.Fml.{Lft, Fml, fsep, flt, flft, flent, ftrue}
 use mir.Syntax.{Ty}
 use denote.RattleType.{RattleType}
 use denote.Array.{Array}
@@ -33,10 +33,11 @@ module _ (R : RattleType) (p : Ptr) (places : ℕ) (items : List R.Denot) where
 abbrev pub block_owns : (Ty → Ptr → Fml) → (R : RattleType) → Ptr → ℕ → List R.Denot → Fml
 block_owns t R p places items = fsep (front R p places items) (rest R p places items t)
 
--- a claim: the items once the lifetime `segment` is over, and the rest of the block
-abbrev pub claim_owns : (Ty → Ptr → Fml) → (R : RattleType) → Ptr → ℕ → List R.Denot → ℕ → Fml
-claim_owns t R p places items segment =
+-- a claim that is there: the items once the lifetime `segment` is over, and the rest of the block
+abbrev pub claim_owns : (Ty → Ptr → Fml) → (R : RattleType) → Ptr → ℕ → List R.Denot → ℕ → Bool → Fml
+claim_owns t R p places items segment true =
     fsep (flent (segment ∷ []) (front R p places items)) (rest R p places items t)
+claim_owns t R p places items segment false = ftrue
 
 -- so many parts in 2 ^ 63 of what keeps that lifetime alive, and the items, readable while it is
 abbrev pub part_owns : (R : RattleType) → Ptr → ℕ → List R.Denot → ℕ → ℕ → Fml

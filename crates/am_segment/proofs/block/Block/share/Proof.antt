@@ -1,5 +1,5 @@
 -- `share`: a lifetime of its own begins, the items are lent for it, and all of its tokens are one part.
-use Rattle.std.proofs.Common.{◌≡◌, ℕ, ◌^◌, List, [], ◌∷◌, w64, refl}
+use Rattle.std.proofs.Common.{◌≡◌, ℕ, true, ◌^◌, List, [], ◌∷◌, w64, refl}
 use Rattle.std.specs.List.{range_with_len}
 use Rattle.std.proofs.raw_atomic.Walks.{proved, leaves}
 use Rattle.std_alloc.proofs.RcSteps.{Ptr-Good}
@@ -59,9 +59,9 @@ share_spec 𝓤 𝓛 𝓜 𝓡 wired X Z L K g d dd met md =
     enter ! 𝓣.C 𝓣.Λ fn (block_val p ∷ vint w64 m ∷ []) Post $ alloc_all ! (λ l. pass_all ! refl (block_good p, ((tt, record { fits = are.1.0.1 }), tt)) $
     use2 𝓛 (later (‵ (fex ℕ (Frozen t laws 𝓛 lent)) ⊛ ‵ (flft κs.0 qs.0))) (freezes t laws 𝓛 lent R.lives κs.0 qs.0 (front-lends R LR p v.places v.items 𝓛 R.lives (Incl-refl R.lives)) le) $
     await ! tt $ split ! $ fpick ! (λ n. fsplit ! $
-    let right : Cl.Denot = record { by = record {}; at = p; items = v.items; places = v.places; alloc = v.alloc; segment = n } in
+    let right : Cl.Denot = record { by = record {}; there = true; at = p; items = v.items; places = v.places; alloc = v.alloc; segment = n } in
     let all : Pt.Denot = record { ptr = p; items = v.items; places = v.places; segment = n; count = 2 ^ 63; numbers = range_with_len 0 m; keys = m } in let out : Val = pair_val claim_val (part_val p) in
-    let Right : Type 0 = (p ≡ p) × (v.items ≡ v.items) × (v.places ≡ v.places) × (v.alloc ≡ v.alloc) in let Numbered : Type 0 = (m ≡ m) × (range_with_len 0 m ≡ range_with_len 0 m) in let All : Type 0 = (n ≡ n) × (v.items ≡ v.items) × (v.places ≡ v.places) × (2 ^ 63 ≡ 2 ^ 63) in
+    let Right : Type 0 = (right.there ≡ true) × (p ≡ p) × (v.items ≡ v.items) × (v.places ≡ v.places) × (v.alloc ≡ v.alloc) in let Numbered : Type 0 = (m ≡ m) × (range_with_len 0 m ≡ range_with_len 0 m) in let All : Type 0 = (n ≡ n) × (v.items ≡ v.items) × (v.places ≡ v.places) × (2 ^ 63 ≡ 2 ^ 63) in
     sets ! (of_opd ! (get_in ! (fld ! refl (stop !)) (sub ! 0 refl (whole !)))) refl (Ptr-Good p) $
     sets ! (agg ! (no_more !)) refl (tt, tt) $ sets ! (agg ! (and_then ! (get ! refl) (no_more !))) refl claim_good $ sets ! (agg ! (and_then ! (get ! refl) (no_more !))) refl (part_good p) $
     sets ! (agg ! (and_then ! (get ! refl) (and_then ! (get ! refl) (no_more !)))) refl (pair_good claim_ty part_ty claim_val (part_val p) claim_good (part_good p)) $
@@ -71,5 +71,5 @@ share_spec 𝓤 𝓛 𝓜 𝓡 wired X Z L K g d dd met md =
     nothing ! $ move ! (2 ∷ 1 ∷ 0 ∷ []) $ fjoin3 ! $ feq_i ! (List Val) (out ∷ []) (out ∷ []) refl $ fjoin ! $
     fpack ! (Valss (Cl ∷ Pt ∷ [])) (within (Declared.shape (tuple_type (Cl ∷ Pt ∷ []))) (right, (all, tt)) (out ∷ [])) (claim_val ∷ [], (part_val p ∷ [], tt)) $
     move ! (1 ∷ 2 ∷ []) $ join ! $
-    use0 𝓛 (raw (fact 𝓤 Numbered)) (fact_i 𝓤 Numbered (emp 𝓤) (refl, refl)) $ use0 𝓛 (raw (fact 𝓤 All)) (fact_i 𝓤 All (emp 𝓤) (refl, refl, refl, refl)) $ join ! $ use0 𝓛 (raw (fact 𝓤 Right)) (fact_i 𝓤 Right (emp 𝓤) (refl, refl, refl, refl)) $ join ! $ nothing ! $ nothing ! $ fjoin ! $ nothing ! $ fjoin ! $
+    use0 𝓛 (raw (fact 𝓤 Numbered)) (fact_i 𝓤 Numbered (emp 𝓤) (refl, refl)) $ use0 𝓛 (raw (fact 𝓤 All)) (fact_i 𝓤 All (emp 𝓤) (refl, refl, refl, refl)) $ join ! $ use0 𝓛 (raw (fact 𝓤 Right)) (fact_i 𝓤 Right (emp 𝓤) (refl, refl, refl, refl, refl)) $ join ! $ nothing ! $ nothing ! $ fjoin ! $ nothing ! $ fjoin ! $
     returns ! (look_at ! 0 refl) $ free_all ! refl $ keep ! (2 ∷ 0 ∷ 3 ∷ 1 ∷ []) $ by ! (leaves 𝓛 En hs c y out (right, all) (tt, (tt, tt)) (tt, (tt, tt)))))))

@@ -1,5 +1,5 @@
 -- `settle`: all tokens of the lifetime end it, and what was lent is there again.
-use Rattle.std.proofs.Common.{◌≡◌, ℕ, ◌^◌, [], ◌∷◌, refl, sym}
+use Rattle.std.proofs.Common.{◌≡◌, ℕ, Bool, true, ◌^◌, [], ◌∷◌, refl, sym}
 use Rattle.std.proofs.raw_atomic.Walks.{proved, leaves}
 use Rattle.std_alloc.proofs.RcSteps.{Ptr-Good}
 use Rattle.core.proofs.alloc.Calls.{Goes-blank}
@@ -28,7 +28,7 @@ use types.Kit.{‵, raw, later, ◌⊛◌, ◌$◌, ◌∵◌, !, qed, by, move,
 use denote.Triple.Entry.{alive}
 use Rattle.left_right.specs.Parted.{tokens}
 use Rattle.left_right.proofs.PartSteps.{thaws}
-use Rattle.am_segment.specs.inside.Ownership.{front, front_lent, rest}
+use Rattle.am_segment.specs.inside.Ownership.{front, front_lent, rest, claim_owns}
 use Rattle.am_segment.specs.contracts.block.Claim.settle as f
 use Rattle.am_segment.proofs.Fronts.{front_laws}
 use Rattle.am_segment.proofs.Values.{BlockData, block_val, block_good, block_made, claim_val, claim_good, claim_told, part_val, part_good, part_told}
@@ -47,9 +47,10 @@ settle_spec 𝓤 𝓛 𝓜 𝓡 wired X Z L K g d dd met md =
     let v : Cl.Denot = a.0 in let e : Pt.Denot = a.1.0 in let p : Ptr = e.ptr in let n : ℕ = v.segment in
     let y : (walk_of 𝓛 En hs c).Ghost = ((κs, qs, bounds, a, (claim_val ∷ [], (part_val p ∷ [], tt))), gh) in let Post : Val → SProp 𝓤 = (walk_of 𝓛 En hs c).post y in
     let lent : Fml = front R v.at v.places v.items in let back : Bl.Denot = record { ptr = p; by = record {}; items = v.items; places = v.places; alloc = v.alloc } in
-    let Asked : Type 0 = (p ≡ v.at) × (e.segment ≡ n) × (e.count ≡ 2 ^ 63) in let Told : Type 0 = (v.items ≡ v.items) × (v.places ≡ v.places) × (v.alloc ≡ v.alloc) in
-    qed 𝓛 ((raw (alive 𝓛 En.signature κs qs) ⊛ ‵ (owns (types_at En.signature.params κs) a y.0.4)) ∷ raw (fact 𝓤 _) ∷ raw (fact 𝓤 _) ∷ raw (fact 𝓤 Asked) ∷ []) ∵
-    keep ! (3 ∷ 0 ∷ []) $ heard ! Asked (λ asked. split ! $ move ! (1 ∷ []) $ fsplit3 ! $ fsplit ! $ keep ! (1 ∷ 2 ∷ 4 ∷ []) $ fsplit ! $
+    let There : Type 0 = v.there ≡ true in let Asked : Type 0 = (p ≡ v.at) × (e.segment ≡ n) × (e.count ≡ 2 ^ 63) in let Told : Type 0 = (v.items ≡ v.items) × (v.places ≡ v.places) × (v.alloc ≡ v.alloc) in
+    qed 𝓛 ((raw (alive 𝓛 En.signature κs qs) ⊛ ‵ (owns (types_at En.signature.params κs) a y.0.4)) ∷ raw (fact 𝓤 _) ∷ raw (fact 𝓤 _) ∷ raw (fact 𝓤 There) ∷ raw (fact 𝓤 Asked) ∷ []) ∵
+    keep ! (3 ∷ 4 ∷ 0 ∷ []) $ heard ! There (λ there. heard ! Asked (λ asked. split ! $ move ! (1 ∷ []) $ fsplit3 ! $ fsplit ! $ keep ! (1 ∷ 2 ∷ 4 ∷ []) $
+    rewrite ! 0 (λ (b : Bool). ‵ (claim_owns (g.dealloc_token v.alloc) R v.at v.places v.items n b)) there refl $ fsplit ! $
     move ! (2 ∷ []) $ fsplit ! $ drop ! $ fsplit ! $ rewrite ! 0 (λ (m : ℕ × ℕ). ‵ (tokens m.0 m.1)) (λ i. (asked.1 i, asked.2 i)) refl $
     -- [all tokens; the right to read; what was lent; the rest of the block; the lifetimes]
     keep ! (2 ∷ 0 ∷ 3 ∷ 4 ∷ []) $
@@ -60,4 +61,4 @@ settle_spec 𝓤 𝓛 𝓜 𝓡 wired X Z L K g d dd met md =
     rewrite ! 0 (λ (q : Ptr). ‵ (front R q v.places v.items)) (sym asked.0) refl $ rewrite ! 1 (λ (q : Ptr). ‵ (rest R q v.places v.items (g.dealloc_token v.alloc))) (sym asked.0) refl $ fjoin ! $
     use0 𝓛 (‵ ((BlockData R P g).own_val (p, (tt, tt)) (block_val p ∷ []))) (block_made R P g 𝓛 p) $ fjoin ! $
     use0 𝓛 (raw (fact 𝓤 Told)) (fact_i 𝓤 Told (emp 𝓤) (refl, refl, refl)) $ nothing ! $ nothing ! $ fjoin ! $ nothing ! $ fjoin ! $
-    returns ! (look_at ! 0 refl) $ free_all ! refl $ keep ! (3 ∷ 0 ∷ 2 ∷ 1 ∷ []) $ by ! (leaves 𝓛 En hs c y (block_val p) back (tt, (tt, tt)) (tt, (tt, tt))))))
+    returns ! (look_at ! 0 refl) $ free_all ! refl $ keep ! (3 ∷ 0 ∷ 2 ∷ 1 ∷ []) $ by ! (leaves 𝓛 En hs c y (block_val p) back (tt, (tt, tt)) (tt, (tt, tt)))))))

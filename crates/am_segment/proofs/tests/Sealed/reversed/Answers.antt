@@ -1,4 +1,4 @@
-use Rattle.std.proofs.Common.{rules, ◌≡◌, ◌<◌, ◌≤◌, List, length, nat_eq, cond, vec_len, sym, ◌∙◌, arith, get_or}
+use Rattle.std.proofs.Common.{rules, ◌≡◌, List, length, nat_eq, cond, vec_len, sym, ◌∙◌, arith, get_or}
 use Rattle.std.specs.Prelude.{IsPermutation}
 use Rattle.std.proofs.lemmas.List.Sorted.{All-permutation, sum_by-IsPermutation}
 use Rattle.std.specs.List.{All}
