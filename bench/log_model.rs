@@ -34,22 +34,19 @@ struct Variant {
     by_place: bool,
 }
 
-// The log before any of this: a slot of five words, by lane.
-const FIRST: Variant =
-    Variant { name: "at first", key: 5, in_place: false, one_exchange: false, spare_blocks: false, by_place: false };
 // The log as it is: a key of two words and whether it is there.
 const AS_IT_IS: Variant =
     Variant { name: "as it is", key: 3, in_place: true, one_exchange: false, spare_blocks: true, by_place: true };
 
 const VARIANTS: [Variant; 8] = [
-    FIRST,
-    Variant { name: "at first, freed blocks serve again", spare_blocks: true, ..FIRST },
-    Variant { name: "and a key is read in its slot", spare_blocks: true, in_place: true, ..FIRST },
-    Variant { name: "and a slot is three words", by_place: false, ..AS_IT_IS },
     AS_IT_IS,
-    Variant { name: "as it is, but a slot is two words", key: 2, ..AS_IT_IS },
-    Variant { name: "as it is, but a slot is one word", key: 1, ..AS_IT_IS },
-    Variant { name: "as it is, but one exchange a batch", one_exchange: true, ..AS_IT_IS },
+    Variant { name: "a slot is five words", key: 5, ..AS_IT_IS },
+    Variant { name: "a slot is two words", key: 2, ..AS_IT_IS },
+    Variant { name: "a slot is one word", key: 1, ..AS_IT_IS },
+    Variant { name: "a key moves out of its slot and back", in_place: false, ..AS_IT_IS },
+    Variant { name: "the slots of one lane lie side by side", by_place: false, ..AS_IT_IS },
+    Variant { name: "each block is freed and made anew", spare_blocks: false, ..AS_IT_IS },
+    Variant { name: "one exchange a batch", one_exchange: true, ..AS_IT_IS },
 ];
 
 // A word that no other one shares a cache line, or a pair of lines, with.
