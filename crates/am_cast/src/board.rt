@@ -34,8 +34,8 @@
 //! Slot 8 (i % places) + l holds lane l's key of place i, from the fill before place i is published to
 //! the clear after the lane has passed it. So the slots of one place lie side by side, and those of the
 //! next place, which the writer fills while lanes read, share no cache line with most of them. A slot is
-//! in the hand of one seat or at home. A cursor has at most one in its hand, that of the place it reads, and reads the key where it
-//! lies; the writer has at most one, the one that it fills or clears.
+//! in the hand of one seat or at home. A cursor has at most one in its hand, that of the place it reads,
+//! and reads the key where it lies; the writer has at most one, the one that it fills or clears.
 
 mod admit;
 mod clear;
