@@ -365,6 +365,7 @@ fn whole_log_of_full_batches(rt: HostRuntime) -> Result<(), Fail> {
 
 #[test]
 fn no_segment_has_more_places_than_a_key_can_count(rt: HostRuntime) -> Result<(), Fail> {
+    assert_eq!(rt; MAX_ITEMS, 4_294_967_295);
     SegmentBuilder::<()>::with_places(rt.alloc(), MAX_ITEMS)?.discard();
     let is_refused = match SegmentBuilder::<()>::with_places(rt.alloc(), MAX_ITEMS + 1) {
         Ok(builder) => {
