@@ -2,13 +2,16 @@
 //! several readers, through one bounded channel of crossbeam-channel a reader, or through tokio's broadcast. A broadcast
 //! drops what a slow reader hasn't taken, so there the writer waits until all readers have taken enough.
 //!
-//!     rivals crossbeam|tokio READERS ITEMS BATCH PLACES     prints the seconds that it took
+//!     rivals crossbeam|crossbeam-asleep|tokio READERS ITEMS BATCH PLACES     prints the seconds that it took
+//!
+//! A reader of a channel blocks while there is nothing, as its crate has it, or sleeps at once, as the log's may.
+use crossbeam_channel::{Receiver, TryRecvError as NoBatch};
 use std::env;
 use std::hint::spin_loop;
 use std::sync::Arc;
 use std::sync::atomic::{AtomicUsize, Ordering::SeqCst};
 use std::thread;
-use std::time::Instant;
+use std::time::{Duration, Instant};
 use tokio::sync::broadcast;
 use tokio::sync::broadcast::error::TryRecvError;
 
@@ -33,13 +36,27 @@ fn add(sum: u64, batch: &Batch) -> u64 {
     batch.iter().fold(sum, |sum, item| sum.wrapping_add(*item))
 }
 
-fn through_channels(readers: usize, batches: usize, size: usize, places: usize) -> Vec<u64> {
+fn read_blocking(receiver: Receiver<Batch>) -> u64 {
+    receiver.iter().fold(0, |sum, batch| add(sum, &batch))
+}
+
+/// A sleep of a microsecond takes some sixty, since a kernel puts its timers together.
+fn read_sleeping(receiver: Receiver<Batch>) -> u64 {
+    let mut sum = 0;
+    loop {
+        match receiver.try_recv() {
+            Ok(batch) => sum = add(sum, &batch),
+            Err(NoBatch::Empty) => thread::sleep(Duration::from_micros(1)),
+            Err(NoBatch::Disconnected) => return sum,
+        }
+    }
+}
+
+fn through_channels(readers: usize, batches: usize, size: usize, places: usize, read: fn(Receiver<Batch>) -> u64) -> Vec<u64> {
     let (senders, receivers): (Vec<_>, Vec<_>) =
         (0..readers).map(|_| crossbeam_channel::bounded::<Batch>(places)).unzip();
-    let threads: Vec<_> = receivers
-        .into_iter()
-        .map(|receiver| thread::spawn(move || receiver.iter().fold(0, |sum, batch| add(sum, &batch))))
-        .collect();
+    let threads: Vec<_> =
+        receivers.into_iter().map(|receiver| thread::spawn(move || read(receiver))).collect();
     for number in 0..batches {
         let batch = batch_of(number, size);
         for sender in &senders {
@@ -90,9 +107,10 @@ fn main() {
     let batches = items / size;
     let begin = Instant::now();
     let sums = match arguments[1].as_str() {
-        "crossbeam" => through_channels(readers, batches, size, places),
+        "crossbeam" => through_channels(readers, batches, size, places, read_blocking),
+        "crossbeam-asleep" => through_channels(readers, batches, size, places, read_sleeping),
         "tokio" => through_broadcast(readers, batches, size, places),
-        _ => panic!("crossbeam or tokio"),
+        _ => panic!("crossbeam, crossbeam-asleep or tokio"),
     };
     let seconds = begin.elapsed().as_secs_f64();
     let all = (batches * size) as u64;

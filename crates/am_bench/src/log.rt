@@ -7,7 +7,7 @@ ghost use Rattle.am_cast.specs.declared.limits.TheConstants.{MAX_PLACES};
 use crate::failure::Failure;
 use crate::printed::Printed;
 use crate::stopwatch::since;
-use crate::words::number;
+use crate::words::{number, small_number};
 use am_cast::{
     Begun, Cast, Cursor, Feed, LANES, MAX_PLACES, Parts, Pass, Refused, Slice, Writer, begin, end,
 };
@@ -28,6 +28,8 @@ pub(crate) struct Load {
     /// How many items each batch has.
     items: usize,
     places: u64,
+    /// How often in a row a reader that finds nothing yields before it sleeps.
+    yields: u32,
     ghost some: { 0 < items },
     ghost within: { (0 < places) × (places ≤ MAX_PLACES) },
 }
@@ -38,6 +40,7 @@ impl Load {
         let batches = number(words, 1)?;
         let items = number(words, 2)? as usize;
         let places = number(words, 3)?;
+        let yields = small_number(words, 4)?;
         if readers > LANES as u64 || items == 0 || places == 0 || places > MAX_PLACES {
             return None;
         }
@@ -46,6 +49,7 @@ impl Load {
             batches,
             items,
             places,
+            yields,
         })
     }
 
@@ -56,6 +60,7 @@ impl Load {
             batches: 100,
             items: 3,
             places: 4,
+            yields: 100,
         }
     }
 }
@@ -98,21 +103,13 @@ fn batch_of<N: Feed>(
     Ok(batch)
 }
 
-// How many microseconds a thread sleeps that can't go on.
-const NAP: u64 = 20;
-
-fn nap<R: Clock>(rt: &R) {
-    thread::sleep(rt, Duration::from_micros(NAP));
-}
-
-// How often in a row a reader that finds nothing yields before it sleeps, as a channel's reader does.
-const YIELDS: u32 = 100;
-
-fn idle<R: Clock>(rt: &R, turns: u32) {
-    if turns < YIELDS {
+// What a reader does that found nothing so many times in a row. A sleep of a microsecond takes some sixty, since a
+// kernel puts its timers together.
+fn idle<R: Clock>(rt: &R, turns: u32, yields: u32) {
+    if turns < yields {
         thread::yield_now();
     } else {
-        nap(rt);
+        thread::sleep(rt, Duration::from_micros(1));
     }
 }
 
@@ -168,11 +165,12 @@ fn publish<N: Feed, R: Clock>(
 }
 
 // Reads to the end of the log.
-fn read_all<N: Feed, R: Clock>(rt: &R, cursor: &mut Option<Cursor<'_, u64, u64, u64, N>>) -> Shown {
+fn read_to_end<N: Feed, R: Clock>(
+    rt: &R,
+    cursor: &mut Cursor<'_, u64, u64, u64, N>,
+    yields: u32,
+) -> Shown {
     let mut shown = Shown { items: 0, sum: 0 };
-    let Some(cursor) = cursor else {
-        return shown;
-    };
     let mut idle_turns: u32 = 0;
     for _turn in 0..u64::MAX {
         match cursor.next_slice() {
@@ -184,13 +182,30 @@ fn read_all<N: Feed, R: Clock>(rt: &R, cursor: &mut Option<Cursor<'_, u64, u64, 
                 }
             }
             Slice::Pending => {
-                idle(rt, idle_turns);
+                idle(rt, idle_turns, yields);
                 idle_turns = idle_turns.saturating_add(1);
             }
             Slice::Closed | Slice::Cut => return shown,
         }
     }
     shown
+}
+
+// Reads to the end of the log, if there is a cursor. It lies in this thread's own memory meanwhile: on one cache
+// line with another thread's, each would wait for the other's writes.
+fn read_all<N: Feed, R: Clock>(
+    rt: &R,
+    lent: &mut Option<Cursor<'_, u64, u64, u64, N>>,
+    yields: u32,
+) -> Shown {
+    let Some(mut cursor) = lent.take() else {
+        return Shown { items: 0, sum: 0 };
+    };
+    let shown = read_to_end(rt, &mut cursor, yields);
+    match lent.replace(cursor) {
+        None => shown,
+        Some(_) => unreachable!(),
+    }
 }
 
 // A lane for a reader that is wanted.
@@ -224,8 +239,13 @@ fn read_both<N: Feed + Send + Sync, R: Threads + Wait + Clock + Sync>(
     rt: &R,
     one: &mut Option<Cursor<'_, u64, u64, u64, N>>,
     other: &mut Option<Cursor<'_, u64, u64, u64, N>>,
+    yields: u32,
 ) -> Shown {
-    let (one, other) = thread::join(rt, move || read_all(rt, one), move || read_all(rt, other));
+    let (one, other) = thread::join(
+        rt,
+        move || read_all(rt, one, yields),
+        move || read_all(rt, other, yields),
+    );
     one.and(other)
 }
 
@@ -260,6 +280,7 @@ fn run<N: Feed + Send + Sync, R: Threads + Wait + Clock + Sync>(
         let (writer, pass) = (&mut writer, &mut pass);
         let (a, b, c, d) = (&mut a, &mut b, &mut c, &mut d);
         let (e, f, g, h) = (&mut e, &mut f, &mut g, &mut h);
+        let yields = load.yields;
         thread::join(
             rt,
             move || publish_all(rt, alloc, log, writer, pass, load),
@@ -269,16 +290,16 @@ fn run<N: Feed + Send + Sync, R: Threads + Wait + Clock + Sync>(
                     move || {
                         let (one, other) = thread::join(
                             rt,
-                            move || read_both(rt, a, b),
-                            move || read_both(rt, c, d),
+                            move || read_both(rt, a, b, yields),
+                            move || read_both(rt, c, d, yields),
                         );
                         one.and(other)
                     },
                     move || {
                         let (one, other) = thread::join(
                             rt,
-                            move || read_both(rt, e, f),
-                            move || read_both(rt, g, h),
+                            move || read_both(rt, e, f, yields),
+                            move || read_both(rt, g, h, yields),
                         );
                         one.and(other)
                     },

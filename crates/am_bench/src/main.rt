@@ -1,7 +1,7 @@
 //! Times the parts of the provider: the log, the provider for threads, routes and groups, and the
 //! inhibitor. The scripts of `bench/` run it.
 //!
-//!     am_bench log READERS BATCHES ITEMS PLACES
+//!     am_bench log READERS BATCHES ITEMS PLACES YIELDS
 //!     am_bench provider bytes|full|ready POSTERS READERS POSTS ALERTS LABELS TRIM
 //!     am_bench routes matches|matches-into|takes ALERTS ROUNDS [WIDTH]
 //!     am_bench inhibitor VALUES ROUNDS FIRST RESOLVED FIRING SWEEPS

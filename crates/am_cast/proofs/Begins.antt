@@ -15,7 +15,7 @@ either_way true x = refl
 either_way false x = refl
 
 module _ {B K A : Type 0} (key : B → ℕ → K) where
-  pub begins_as : (words : List ℕ) (slots : List (Option K)) (places : ℕ) → length words ≡ 144 → get_or words 0 0 ≡ 0 → ((l : ℕ) → l < 8 → get_or words (lane_word l) 0 ≡ gone) → length slots ≡ 8 * places → ((i : ℕ) → i < length slots → get_elem? slots i ≡ some None) → 0 < places
+  pub begins_as : (words : List ℕ) (slots : List (Option K)) (places : ℕ) → length words ≡ 152 → get_or words 0 0 ≡ 0 → ((l : ℕ) → l < 8 → get_or words (lane_word l) 0 ≡ gone) → length slots ≡ 8 * places → ((i : ℕ) → i < length slots → get_elem? slots i ≡ some None) → 0 < places
       → (r : Ruled key (opening words slots (first_view {A = A} places))) × ((posters : ℕ) (seat_of : ℕ → ℕ) → state_of posters seat_of r ≡ first_state places 8 posters)
   unfolding begins
   begins_as words slots places wide zero_first all_gone deep vacant pos = (

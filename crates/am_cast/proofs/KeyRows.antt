@@ -234,37 +234,34 @@ module _ {X : Type 0} where
       }
 
   -- the last key makes all of them
-  pub all_home : (place : ℕ) (rows : List (RowView X)) (k : ℕ) (row new found out : RowView X) (key : KeyView X) → AreApart rows → IsRowOf place rows k → row ≡ get_or rows k row
+  pub all_home : (place : ℕ) (rows : List (RowView X)) (k : ℕ) (row new out : RowView X) (key : KeyView X) → AreApart rows → IsRowOf place rows k → row ≡ get_or rows k row
       → ((keys : List (KeyView X)) × (find_row place rows ≡ Some keys) × MayTake keys key)
-      → new ≡ record row { keys = row.keys ++ key ∷ [] } → found ≡ get_or (set rows k new) k found → nat_eq (length found.keys) 8 ≡ true → out ≡ get_or (set rows k new) k out → AreAllKeys out.keys
-  all_home place rows k row new found out key a h is t e f full o =
+      → new ≡ record row { keys = row.keys ++ key ∷ [] } → nat_eq (length new.keys) 8 ≡ true → out ≡ get_or (set rows k new) k out → AreAllKeys out.keys
+  all_home place rows k row new out key a h is t e full o =
       let keys_is : new.keys ≡ row.keys ++ key ∷ [] = ap (λ (r : RowView X). r.keys) e in
-      let found_is : found ≡ new = f ∙ get_set rows k new found h.0 in let out_is : out ≡ new = o ∙ get_set rows k new out h.0 in
-      subst (λ (l : List (KeyView X)). AreAllKeys l) (sym (ap (λ (r : RowView X). r.keys) out_is ∙ keys_is)) ((taking place rows k row key a h is t).2 (is_last row.keys key (ap (λ (l : List (KeyView X)). nat_eq (length l) 8) (sym (ap (λ (r : RowView X). r.keys) found_is ∙ keys_is)) ∙ full)))
-
-  pub found_full : (rows : List (RowView X)) (k : ℕ) (new found : RowView X) (b : Bool) → k < length rows → found ≡ get_or (set rows k new) k found → nat_eq (length found.keys) 8 ≡ b → nat_eq (length new.keys) 8 ≡ b
-  found_full rows k new found b h f e = ap (λ (r : RowView X). nat_eq (length r.keys) 8) (sym (f ∙ get_set rows k new found h)) ∙ e
+      let out_is : out ≡ new = o ∙ get_set rows k new out h.0 in
+      subst (λ (l : List (KeyView X)). AreAllKeys l) (sym (ap (λ (r : RowView X). r.keys) out_is ∙ keys_is)) ((taking place rows k row key a h is t).2 (is_last row.keys key (ap (λ (l : List (KeyView X)). nat_eq (length l) 8) (sym keys_is) ∙ full)))
 
   -- the same, of rows known by another name
   pub may_add : (place : ℕ) (rows inside : List (RowView X)) (k : ℕ) (row : RowView X) (key : KeyView X) → inside ≡ rows → AreApart rows → IsRowOf place rows k → row ≡ get_or inside k row
       → ((keys : List (KeyView X)) × (find_row place rows ≡ Some keys) × MayTake keys key) → MayJoin row.keys key
   may_add place rows inside k row key same a h is t = (taking place rows k row key a h (is ∙ ap (λ (l : List (RowView X)). get_or l k row) same) t).0
 
-  pub may_end : (place : ℕ) (rows inside : List (RowView X)) (k : ℕ) (row new found out : RowView X) (key : KeyView X) → inside ≡ rows → AreApart rows → IsRowOf place rows k → row ≡ get_or inside k row
+  pub may_end : (place : ℕ) (rows inside : List (RowView X)) (k : ℕ) (row new out : RowView X) (key : KeyView X) → inside ≡ rows → AreApart rows → IsRowOf place rows k → row ≡ get_or inside k row
       → ((keys : List (KeyView X)) × (find_row place rows ≡ Some keys) × MayTake keys key)
-      → new ≡ record row { keys = row.keys ++ key ∷ [] } → found ≡ get_or (set inside k new) k found → nat_eq (length found.keys) 8 ≡ true → out ≡ get_or (set inside k new) k out → AreAllKeys out.keys
-  may_end place rows inside k row new found out key same a h is t e f full o =
-      all_home place rows k row new found out key a h (is ∙ ap (λ (l : List (RowView X)). get_or l k row) same) t e (f ∙ ap (λ (l : List (RowView X)). get_or (set l k new) k found) same) full (o ∙ ap (λ (l : List (RowView X)). get_or (set l k new) k out) same)
+      → new ≡ record row { keys = row.keys ++ key ∷ [] } → nat_eq (length new.keys) 8 ≡ true → out ≡ get_or (set inside k new) k out → AreAllKeys out.keys
+  may_end place rows inside k row new out key same a h is t e full o =
+      all_home place rows k row new out key a h (is ∙ ap (λ (l : List (RowView X)). get_or l k row) same) t e full (o ∙ ap (λ (l : List (RowView X)). get_or (set l k new) k out) same)
 
-  pub one_more : (place : ℕ) (rows inside : List (RowView X)) (k : ℕ) (row new found : RowView X) (key : KeyView X) → inside ≡ rows → AreApart rows → IsRowOf place rows k → row ≡ get_or inside k row
-      → new ≡ record row { keys = row.keys ++ key ∷ [] } → found ≡ get_or (set inside k new) k found → nat_eq (length found.keys) 8 ≡ false → Brought place rows (set inside k new) key
-  one_more place rows inside k row new found key same a h is e f more = subst (λ (l : List (RowView X)). Brought place rows (set l k new) key) (sym same)
-      (brought_one place rows k row new key a h (is ∙ ap (λ (l : List (RowView X)). get_or l k row) same) e (found_full rows k new found false h.0 (f ∙ ap (λ (l : List (RowView X)). get_or (set l k new) k found) same) more))
+  pub one_more : (place : ℕ) (rows inside : List (RowView X)) (k : ℕ) (row new : RowView X) (key : KeyView X) → inside ≡ rows → AreApart rows → IsRowOf place rows k → row ≡ get_or inside k row
+      → new ≡ record row { keys = row.keys ++ key ∷ [] } → nat_eq (length new.keys) 8 ≡ false → Brought place rows (set inside k new) key
+  one_more place rows inside k row new key same a h is e more = subst (λ (l : List (RowView X)). Brought place rows (set l k new) key) (sym same)
+      (brought_one place rows k row new key a h (is ∙ ap (λ (l : List (RowView X)). get_or l k row) same) e more)
 
-  pub last_more : (place : ℕ) (rows inside after : List (RowView X)) (k : ℕ) (row new found : RowView X) (key : KeyView X) → inside ≡ rows → AreApart rows → IsRowOf place rows k → row ≡ get_or inside k row
-      → new ≡ record row { keys = row.keys ++ key ∷ [] } → found ≡ get_or (set inside k new) k found → nat_eq (length found.keys) 8 ≡ true → after ≡ take k (set inside k new) ++ drop (suc k) (set inside k new) → Brought place rows after key
-  last_more place rows inside after k row new found key same a h is e f full out =
-      brought_last place rows after k row new key a h (is ∙ ap (λ (l : List (RowView X)). get_or l k row) same) e (found_full rows k new found true h.0 (f ∙ ap (λ (l : List (RowView X)). get_or (set l k new) k found) same) full) (out ∙ ap (λ (l : List (RowView X)). take k (set l k new) ++ drop (suc k) (set l k new)) same)
+  pub last_more : (place : ℕ) (rows inside after : List (RowView X)) (k : ℕ) (row new : RowView X) (key : KeyView X) → inside ≡ rows → AreApart rows → IsRowOf place rows k → row ≡ get_or inside k row
+      → new ≡ record row { keys = row.keys ++ key ∷ [] } → nat_eq (length new.keys) 8 ≡ true → after ≡ take k (set inside k new) ++ drop (suc k) (set inside k new) → Brought place rows after key
+  last_more place rows inside after k row new key same a h is e full out =
+      brought_last place rows after k row new key a h (is ∙ ap (λ (l : List (RowView X)). get_or l k row) same) e full (out ∙ ap (λ (l : List (RowView X)). take k (set l k new) ++ drop (suc k) (set l k new)) same)
 
   out_of : (bs : List (BucketView X)) (n : ℕ) → length bs ≤ n → get_or bs n no_bucket ≡ no_bucket
   out_of [] n h = refl

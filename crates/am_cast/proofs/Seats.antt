@@ -181,7 +181,7 @@ module _ {B K A : Type 0} (key : B → ℕ → K) where
             (at_set (set s.views id (both_of v w)) other j blank u e);
       }
 
-  unfoldable pub begins : (words : List ℕ) (slots : List (Option K)) (places : ℕ) → length words ≡ 144 → get_or words 0 0 ≡ 0 → ((l : ℕ) → l < 8 → get_or words (lane_word l) 0 ≡ gone) → length slots ≡ 8 * places → ((i : ℕ) → i < length slots → get_elem? slots i ≡ some None) → 0 < places
+  unfoldable pub begins : (words : List ℕ) (slots : List (Option K)) (places : ℕ) → length words ≡ 152 → get_or words 0 0 ≡ 0 → ((l : ℕ) → l < 8 → get_or words (lane_word l) 0 ≡ gone) → length slots ≡ 8 * places → ((i : ℕ) → i < length slots → get_elem? slots i ≡ some None) → 0 < places
       → Ruled key (opening words slots (first_view {A = A} places))
   begins words slots places wide zero_first all_gone deep vacant pos = record {
     tail = first_tail places;

@@ -53,7 +53,7 @@ tail_word n closed = 2 * n + bit closed
 
 -- the index of the word that the writer loads at its silent steps on the slots of the lane l
 abbrev pub writer_word : ℕ → ℕ
-writer_word l = l + 8
+writer_word l = l + 144
 
 -- the index of a lane's word
 abbrev pub lane_word : ℕ → ℕ

@@ -5,7 +5,7 @@
 //!
 //! # Words
 //!
-//! All loads and stores are sequentially consistent. The table has 144 words of 64 bits.
+//! All loads and stores are sequentially consistent. The table has 152 words of 64 bits.
 //!
 //! **Word 0, the tail.** Twice the log's length, and one more once the log is closed. The writer
 //! stores it (`publish`, `close`). Lanes load it (`look`), posters do (`note`), and so does a seat
@@ -20,12 +20,13 @@
 //! number) and stores it (`leave`: the greatest u64); it loads it once (`open`). The writer stores
 //! it once (`admit`), loads it (`harvest`, `recover`, `retire`), and exchanges it to cut a slow
 //! lane (`cut`: plus 1, only if it is still the word found last). So of a take and a cut one is
-//! first, and the other finds it. Lanes' words are 128 bytes apart, so that no two share a cache
-//! line or a pair of lines.
+//! first, and the other finds it.
 //!
-//! **Words 8 to 15.** Nobody stores them. The writer loads word l + 8 at its silent steps on lane
-//! l's slots (`fill`, `clear`), so that the step's word says which lane it is. The line is never
-//! dirty.
+//! **Words 144 to 151.** Nobody stores them. The writer loads word l + 144 at its silent steps on
+//! lane l's slots (`fill`, `clear`), so that the step's word says which lane it is.
+//!
+//! The tail, each lane's word and the last eight words are 128 bytes apart, wherever the table lies.
+//! So no two of them share a cache line, nor the pair of lines that a processor may fetch at once.
 //!
 //! All other words stay 0, and nobody loads them.
 //!

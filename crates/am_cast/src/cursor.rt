@@ -22,7 +22,8 @@ pub struct Cast<T, P, A, N: Feed> {
 }
 
 /// How far a subscription has read the log. It must be spent by `Writer::retire`. Contracts see it as
-/// what its lane knows, and how many items of the place in its hand it has shown.
+/// what its lane knows, and how many items of the place in its hand it has shown. Each call writes to it, so
+/// keep it in its own thread's memory: two threads' cursors on one cache line slow each other down.
 pub struct Cursor<'a, T, P, A, N: Feed> {
     pub(crate) cast: &'a Cast<T, P, A, N>,
     pub(crate) seat: LogSeat<T, P, A>,

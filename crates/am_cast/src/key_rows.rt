@@ -87,9 +87,7 @@ impl<T> KeyRows<T> {
         ensures others { (p : ℕ) → p ≢ place → row_at self.new p ≡ row_at self.old p }
         ensures room { (p : ℕ) → (bucket_of self.old p).room ≤ (bucket_of self.new p).room }
     {
-        if let Some(builder) = self.buckets[index].bring(place, key) {
-            self.spares.keep(builder);
-        }
+        self.buckets[index].bring(place, key, &mut self.spares);
     }
 
     /// The segment of a row with all of its keys ends.

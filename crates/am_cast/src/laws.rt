@@ -175,5 +175,5 @@ pub fn a_needed_place_is_not_freed_by_the_writer<B, K, A, R: Keyed<B, K>>()
 pub fn the_limits()
     ensures subscribers { LANES ≡ 8 }
     ensures places { (MAX_PLACES ≡ 256) × (LONGEST_LOG ≡ 2 ^ 51) }
-    ensures words { WORDS ≡ 144 }
+    ensures words { WORDS ≡ 152 }
 {}

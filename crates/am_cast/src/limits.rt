@@ -10,4 +10,4 @@ pub const MAX_PLACES: u64 = 256;
 pub const LONGEST_LOG: u64 = 2_251_799_813_685_248;
 
 /// How many words the table of a log has.
-pub(crate) const WORDS: usize = 144;
+pub(crate) const WORDS: usize = 152;

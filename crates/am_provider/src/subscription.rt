@@ -15,7 +15,8 @@ use am_store::StoredAlerts;
 use std::marker::Model;
 
 /// One subscriber's place. It must be given back by `leave`. Contracts see it as what was stored when
-/// it came, how much of that was shown, and its cursor in the log.
+/// it came, how much of that was shown, and its cursor in the log. Each call writes to it, so keep it in its
+/// own thread's memory: two threads' subscriptions on one cache line slow each other down.
 pub struct Subscription<'a, N: Origin> {
     at: u64,
     opening: StoredAlerts,

@@ -114,15 +114,17 @@ impl<T> Share<T> {
     {
         let Share {
             part,
-            len,
-            places,
+            len: _,
+            places: _,
             claim,
             alloc,
         } = self;
+        // The two are of one segment, so either's numbers will do. With those of `more` the compiler takes it
+        // apart where it comes from, and copies nothing.
         let Share {
             part: other,
-            len: _,
-            places: _,
+            len,
+            places,
             claim: right,
             alloc: _,
         } = more;

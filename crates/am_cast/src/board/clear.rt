@@ -45,8 +45,8 @@ pub(crate) fn clear_slot<B, K, A, R: Keyed<B, K>>(
     ensures key { let q = writer_of seat.old.me.0 in
         IsKeyAt R.key q.tail.log (account_of q lane).cleared lane result }
 {
-    top.load::<Gather<R>>(seat, lane + 8);
+    top.load::<Gather<R>>(seat, lane + 144);
     let key = take_out(top, seat, at);
-    top.load::<Clear>(seat, lane + 8);
+    top.load::<Clear>(seat, lane + 144);
     key
 }

@@ -43,7 +43,7 @@ pub(crate) fn fill_slot<B, K, A, R: Keyed<B, K>>(
     ensures writer { let q = writer_of seat.old.me.0 in
         seat.new.me.0 ≡ with_writer (with_account lane (laying key (account_of q lane)) q) seat.old.me.0 }
 {
-    top.load::<Reach>(seat, lane + 8);
+    top.load::<Reach>(seat, lane + 144);
     lay_in(top, seat, at, key);
-    top.load::<Lay>(seat, lane + 8);
+    top.load::<Lay>(seat, lane + 144);
 }

@@ -4,7 +4,8 @@ ghost use Rattle.am_segment.specs.Segments.{KeyView, AreAllKeys};
 ghost use Rattle.am_cast.specs.inside.KeyRows.{RowView, find_row, HasNoRow, AreApart, MayTake, row_with, IsRowOf, HaveRemainder};
 
 use crate::key_rows::row::Row;
-use am_segment::{JoinedKeys, SegKey, SegmentBuilder};
+use crate::key_rows::spares::Spares;
+use am_segment::{JoinedKeys, SegKey};
 use std::alloc::{AllocError, Global};
 use std::marker::Model;
 
@@ -65,8 +66,8 @@ impl<T> Bucket<T> {
         }
     }
 
-    /// The key goes to the others of its place. The eighth ends its segment, of which an empty builder is left.
-    pub(crate) fn bring(&mut self, place: u64, key: SegKey<T>) -> Option<SegmentBuilder<T>>
+    /// The key goes to the others of its place. The eighth ends its segment, and what is left of it is kept.
+    pub(crate) fn bring(&mut self, place: u64, key: SegKey<T>, spares: &mut Spares<T>)
     where
         T: Drop,
         requires row { (keys : List (KeyView T)) × (find_row place self.old.rows ≡ Some keys)
@@ -79,32 +80,29 @@ impl<T> Bucket<T> {
         ensures remainder { (places n : ℕ) → HaveRemainder places n self.old.rows
             → HaveRemainder places n self.new.rows }
         ensures room { self.old.room ≤ self.new.room }
-        ensures ended { IfSome result (λ builder. builder.items ≡ []) }
     {
         let Some(index) = self.find(place) else {
             unreachable!()
         };
-        self.rows[index].add(key);
-        if self.rows[index].is_full() {
-            Some(self.end_row(index))
-        } else {
-            None
+        let row = &mut self.rows[index];
+        row.add(key);
+        if row.is_full() {
+            self.end_row(index, spares);
         }
     }
 
-    /// The segment of the row at the index ends. It stands apart, so that the seven keys before take little
-    /// code.
+    /// The segment of the row at the index ends, and what is left of it is kept. It stands apart, so that the
+    /// seven keys before take little code.
     #[inline(never)]
-    fn end_row(&mut self, index: usize) -> SegmentBuilder<T>
+    fn end_row(&mut self, index: usize, spares: &mut Spares<T>)
     where
         T: Drop,
         requires { (index < length self.old.rows) × ((row : RowView T)
             → row ≡ slice_index_or self.old.rows index row → AreAllKeys row.keys) }
         ensures rows { self.new.rows ≡ take index self.old.rows ++ drop (suc index) self.old.rows }
         ensures room { self.old.room ≤ self.new.room }
-        ensures ended { result.items ≡ [] }
     {
-        self.rows.remove(index).end()
+        spares.keep(self.rows.remove(index).end());
     }
 
     /// A row more, of a place that had none.
