@@ -1,10 +1,10 @@
 // A model of the log's traffic between its writer and its readers, without its proofs: what would a change bring?
 //
-//     log_model [ROUNDS]
+//     log_model [ROUNDS [YIELDS]]
 //
 // It has the log's words, slots and blocks. One writer sends a million batches of one number to 1, 4 and 8 readers over
-// 256 places. Each variant runs as often as ROUNDS says (9), in turn with the others, and its median counts, in millions
-// of batches received a second.
+// 256 places. A reader that finds nothing yields YIELDS times (100) before it sleeps. Each variant runs as often as ROUNDS
+// says (9), in turn with the others, and its median counts, in millions of batches received a second.
 //
 //     rustc -O -o /tmp/log_model bench/log_model.rs && /tmp/log_model
 use std::alloc::{alloc, dealloc, Layout};
@@ -16,8 +16,6 @@ const PLACES: usize = 256;
 // How many lanes there are slots for.
 const LANES: usize = 8;
 const BATCHES: u64 = 1_000_000;
-// How often in a row a reader that finds nothing yields before it sleeps.
-const YIELDS: u32 = 100;
 
 #[derive(Clone, Copy)]
 struct Variant {
@@ -55,6 +53,7 @@ struct Word(AtomicU64);
 
 struct Log {
     variant: Variant,
+    yields: u32,
     tail: Word,
     lanes: Vec<Word>,
     slots: Vec<UnsafeCell<u64>>,
@@ -121,7 +120,7 @@ fn read(log: &Log, lane: usize) -> u64 {
                     if tail % 2 == 1 {
                         return sum;
                     }
-                    if idle < YIELDS { std::thread::yield_now() } else { std::thread::sleep(Duration::from_micros(20)) }
+                    if idle < log.yields { std::thread::yield_now() } else { std::thread::sleep(Duration::from_micros(1)) }
                     idle += 1;
                     continue;
                 }
@@ -175,10 +174,10 @@ fn write(log: &Log) {
 }
 
 // How many millions of batches were received a second.
-fn rate(variant: Variant, readers: usize) -> f64 {
+fn rate(variant: Variant, readers: usize, yields: u32) -> f64 {
     let words = |count| (0..count).map(|_| Word(AtomicU64::new(0))).collect::<Vec<_>>();
     let slots = (0..LANES * PLACES * variant.key).map(|_| UnsafeCell::new(0)).collect();
-    let log = Log { variant, tail: Word(AtomicU64::new(0)), lanes: words(readers), slots };
+    let log = Log { variant, yields, tail: Word(AtomicU64::new(0)), lanes: words(readers), slots };
     let begun = Instant::now();
     std::thread::scope(|threads| {
         for lane in 0..readers {
@@ -190,13 +189,18 @@ fn rate(variant: Variant, readers: usize) -> f64 {
     readers as f64 * BATCHES as f64 / begun.elapsed().as_secs_f64() / 1e6
 }
 
+// The argument at a place, or what is taken where there is none.
+fn number(at: usize, or: usize) -> usize {
+    std::env::args().nth(at).map_or(or, |word| word.parse().expect("a number"))
+}
+
 fn main() {
-    let rounds: usize = std::env::args().nth(1).map_or(9, |word| word.parse().expect("a number of rounds"));
+    let (rounds, yields) = (number(1, 9), number(2, 100) as u32);
     for readers in [1, 4, 8] {
         let mut rates = vec![vec![]; VARIANTS.len()];
         for _ in 0..rounds {
             for (variant, rates) in VARIANTS.iter().zip(&mut rates) {
-                rates.push(rate(*variant, readers));
+                rates.push(rate(*variant, readers, yields));
             }
         }
         for (variant, rates) in VARIANTS.iter().zip(&mut rates) {
