@@ -40,7 +40,7 @@ fn read_blocking(receiver: Receiver<Batch>) -> u64 {
     receiver.iter().fold(0, |sum, batch| add(sum, &batch))
 }
 
-/// A sleep of a microsecond takes some sixty, since a kernel puts its timers together.
+/// A sleep of a microsecond takes some sixty, since Linux lets a timer be late by 50 (its timer slack).
 fn read_sleeping(receiver: Receiver<Batch>) -> u64 {
     let mut sum = 0;
     loop {
@@ -52,7 +52,13 @@ fn read_sleeping(receiver: Receiver<Batch>) -> u64 {
     }
 }
 
-fn through_channels(readers: usize, batches: usize, size: usize, places: usize, read: fn(Receiver<Batch>) -> u64) -> Vec<u64> {
+fn through_channels(
+    readers: usize,
+    batches: usize,
+    size: usize,
+    places: usize,
+    read: fn(Receiver<Batch>) -> u64,
+) -> Vec<u64> {
     let (senders, receivers): (Vec<_>, Vec<_>) =
         (0..readers).map(|_| crossbeam_channel::bounded::<Batch>(places)).unzip();
     let threads: Vec<_> =

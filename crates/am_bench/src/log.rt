@@ -103,8 +103,8 @@ fn batch_of<N: Feed>(
     Ok(batch)
 }
 
-// What a reader does that found nothing so many times in a row. A sleep of a microsecond takes some sixty, since a
-// kernel puts its timers together.
+// What a reader does that found nothing so many times in a row. A sleep of a microsecond takes some sixty, since Linux
+// lets a timer be late by 50 (its timer slack).
 fn idle<R: Clock>(rt: &R, turns: u32, yields: u32) {
     if turns < yields {
         thread::yield_now();
