@@ -132,14 +132,37 @@ fn frees_one<N: Feed>(writer: &mut Writer<Vec<u64>, u64, u64, N>, places: usize)
     }
 }
 
+// Whether a segment that has ended can be had while a reader holds a batch, and once it has passed it.
+fn end_a_read_one<N: Feed>(
+    alloc: Global,
+    cast: &Cast<Vec<u64>, u64, u64, N>,
+    writer: &mut Writer<Vec<u64>, u64, u64, N>,
+    pass: &mut Pass<Vec<u64>, u64, u64, N>,
+) -> Result<[bool; 2], AllocError> {
+    let note = 0;
+    let Ok(mut cursor) = writer.admit(cast, Snapshot::of(&note)) else {
+        return Err(AllocError);
+    };
+    let posted = post(alloc, cast, writer, pass, 9);
+    let _both = [shown(&mut cursor), shown(&mut cursor)];
+    let _full = writer.harvest(cast);
+    let held = frees_one(writer, 2);
+    let _none = shown(&mut cursor);
+    let _full = writer.harvest(cast);
+    let passed = frees_one(writer, 2);
+    writer.retire(cast, cursor);
+    let _posted = posted?;
+    Ok([held, passed])
+}
+
 // Three posts that nobody reads, and then what is left of their segments, of which a log of two places
-// keeps two; then one more, of which no segment of another size is made.
+// keeps two; then one more, of which no segment of another size is made; and then one that is read.
 fn end_some<N: Feed>(
     alloc: Global,
     cast: &Cast<Vec<u64>, u64, u64, N>,
     writer: &mut Writer<Vec<u64>, u64, u64, N>,
     pass: &mut Pass<Vec<u64>, u64, u64, N>,
-) -> Result<[bool; 6], AllocError> {
+) -> Result<[bool; 8], AllocError> {
     let before = frees_one(writer, 2);
     for number in 0..3 {
         let _posted = post(alloc, cast, writer, pass, number)?;
@@ -152,14 +175,17 @@ fn end_some<N: Feed>(
     let _posted = post(alloc, cast, writer, pass, 7)?;
     let other = frees_one(writer, 1);
     let after = frees_one(writer, 2);
-    Ok([before, left[0], left[1], left[2], other, after])
+    let read = end_a_read_one(alloc, cast, writer, pass)?;
+    Ok([
+        before, left[0], left[1], left[2], other, after, read[0], read[1],
+    ])
 }
 
 fn end_in<N: Feed, R: Wait>(
     rt: &R,
     alloc: Global,
     parts: Parts<Vec<u64>, u64, u64>,
-) -> Result<[bool; 6], AllocError>
+) -> Result<[bool; 8], AllocError>
     requires { parts.board.shared.table_id ≡ N.table }
 {
     let Log {
@@ -172,7 +198,7 @@ fn end_in<N: Feed, R: Wait>(
     left
 }
 
-fn end_of<R: Wait>(rt: &R, alloc: Global) -> Result<[bool; 6], AllocError> {
+fn end_of<R: Wait>(rt: &R, alloc: Global) -> Result<[bool; 8], AllocError> {
     let parts = Parts::make(alloc, 2)?;
     end_in::<Brand, R>(rt, alloc, parts)
 }
@@ -182,7 +208,7 @@ fn as_many_segments_are_left_as_places(rt: HostRuntime) -> Result<(), Fail> {
     let left = end_of(&rt, rt.alloc())?;
     assert_eq!(rt;
         left.as_slice(),
-        [false, true, true, false, false, false].as_slice()
+        [false, true, true, false, false, false, false, true].as_slice()
     );
     Ok(())
 }
