@@ -131,8 +131,9 @@ with a command as `do`, a `thread` from 0 to 7, and the command's own members:
   collect    at                removes the alerts that are resolved by then
   close                        closes the log: no more posts and subscribers
   trim                         discards the calls that no subscription needs any more
-  groups     sub, at           prints the dispatcher's groups, and with `at` what mutes their alerts then
-  sweep      sub, at           drops what is resolved from the groups and the inhibitor
+  groups     sub, at           prints the dispatcher's groups; of `notify` with `at` also what mutes their alerts
+  sweep      sub, at           drops what is resolved from the dispatcher's groups
+  forget     sub, at           drops what is resolved from the inhibitor
   mutes      sub, at, labels   asks the inhibitor whether it mutes such an alert
   stored                       prints all stored alerts
   get        labels            prints the stored alert of these labels

@@ -20,9 +20,11 @@ use Rattle.am_script.specs.declared.kind.Kind.{Kind}
 use Rattle.am_script.specs.declared.kind.Kind.TheVariants.{Plain, Dispatch, Inhibit, Notify}
 use Rattle.am_runner.specs.Consuming.{HasTaken, fresh_consumer}
 use Rattle.am_runner.specs.Reading.{OpenView}
-use Rattle.am_runner.specs.Sessions.{Setting, SessionView, Does, subscribed, OnNamed, one_named, none_named, index_named}
+use Rattle.am_runner.specs.Sessions.{Setting, SessionView, Does, subscribed, swept, forgot, SweepsNamed, sweep_command, OnNamed, one_named, none_named, index_named}
 use Rattle.am_runner.specs.declared.answer.Answer.{Answer}
 use Rattle.am_runner.specs.declared.answer.Answer.TheVariants.{Subscribed}
+use Rattle.am_runner.specs.declared.consumer.Half.{Half}
+use Rattle.am_runner.specs.declared.consumer.Half.TheVariants as half
 
 -- none of the first so many passes, nor does the next
 pub none_more : {A : Type 0} (p : A → Bool) (xs : List A) (i : ℕ) (one : A) → ((k : ℕ) (d : A) → k < i → p (get_or xs k d) ≡ false) → i < length xs → one ≡ get_or xs i one → p one ≡ false
@@ -59,7 +61,7 @@ pub fresh_took : (config : Config) (kind : Kind) → IfSome (fresh_consumer conf
 fresh_took config Plain = tt
 fresh_took config Dispatch = ([], refl, refl)
 fresh_took config Inhibit = ([], refl, refl)
-fresh_took config Notify = ([], refl, refl, refl)
+fresh_took config Notify = (([], refl, refl), ([], refl, refl))
 
 pub subscribed_so : (config : Config) (setting : Setting) (old new : SessionView) (name : List ℕ) (kind : Kind) (made : OpenView) (lane opening : ℕ)
     → made.name ≡ name → SeesCall old.front new.front (AnswersSubscribe (Ok made.subscription)) → made.consumer ≡ fresh_consumer config kind
@@ -72,6 +74,12 @@ subscribed_so config setting old new name kind made lane opening named sees fres
     (subst (λ (n : ℕ). Does config setting old (Subscribe name kind) (Subscribed n opening ∷ []) then) (sym on_lane)
     (subst (λ (n : ℕ). Does config setting old (Subscribe name kind) (Subscribed made.subscription.cursor.lane.number n ∷ []) then) (sym counted)
     (subscribed made named sees fresh)))
+
+-- the command that sweeps a half of a subscription's consumer
+pub swept_so : (config : Config) (setting : Setting) (old : SessionView) (which : Half) (name : List ℕ) (at : ℕ) (answers : List Answer) (opened : List OpenView)
+    → SweepsNamed which name at old.opened answers opened → Does config setting old (sweep_command which name at) answers (record old { opened = opened })
+swept_so config setting old half.Dispatcher name at answers opened it = swept it
+swept_so config setting old half.Inhibitor name at answers opened it = forgot it
 
 -- as many subscriptions are there as before
 pub as_many : (name : List ℕ) (word : Verb) (does : OpenView → List Answer → OpenView → Type 0) (old new : List OpenView) (answers : List Answer) → OnNamed name word does old answers new → length new ≡ length old

@@ -42,6 +42,7 @@ use Rattle.am_runner.specs.Working as works
 use Rattle.am_runner.proofs.Turning.{prefix_then}
 use Rattle.am_runner.specs.declared.answer.Answer.{Answer}
 use Rattle.am_runner.specs.declared.answer.Answer.TheVariants as answer
+use Rattle.am_runner.specs.declared.consumer.Half.TheVariants as half
 
 -- ---- what a read takes
 
@@ -292,7 +293,11 @@ module _ (law : StaysFrontOfDue) (entries : List EntryView) where
   does_back config setting old new command given (does.groups is) owed = owed
   does_back config setting old new command given (does.swept {name = name} {at = at} {answers = answers} {opened = opened} it) owed = record {
     seen = owed.seen;
-    owed = on_named name verb.Sweep _ old.opened opened answers (asked (IsSwept at) (answer.NotOpen verb.Sweep ∷ [])) it owed.owed;
+    owed = on_named name verb.Sweep _ old.opened opened answers (asked_one (IsSwept at half.Dispatcher) (answer.NotOpen verb.Sweep)) it owed.owed;
+  }
+  does_back config setting old new command given (does.forgot {name = name} {at = at} {answers = answers} {opened = opened} it) owed = record {
+    seen = owed.seen;
+    owed = on_named name verb.Forget _ old.opened opened answers (asked_one (IsSwept at half.Inhibitor) (answer.NotOpen verb.Forget)) it owed.owed;
   }
   does_back config setting old new command given (does.mutes {name = name} {at = at} {labels = labels} {answers = answers} {opened = opened} it) owed = record {
     seen = owed.seen;

@@ -15,32 +15,34 @@ use Rattle.am_inhibit.specs.LastAlerts.{last_alerts}
 use Rattle.am_inhibit.specs.InhibitionLaws.{KeptAlertsGoOn}
 use Rattle.am_routes.specs.Groups.{DispatcherView, Take, Sweep, Follows}
 use Rattle.am_runner.specs.Answers.{is_item}
-use Rattle.am_runner.specs.Consuming.{HasTaken, TakesAlert, IsSwept, swept, forgot, both_swept, alert_kept, alert_taken, same_event}
+use Rattle.am_runner.specs.Consuming.{HasTaken, DispatcherTook, InhibitorTook, InhibitorTakes, TakesAlert, IsSwept, DispatcherSwept, InhibitorSwept, alert_kept, alert_taken}
 use Rattle.am_runner.specs.Reading.{OpenView, NextIs, IsTaken, ReadsOne, takes, misses, ends, TookAll, TakenBeside, AsksBeside, asks, none_beside}
 use Rattle.am_runner.specs.declared.answer.Answer.{Answer}
 use Rattle.am_runner.specs.declared.answer.Answer.TheVariants as answer
 use Rattle.am_runner.specs.declared.consumer.Consumer.{Consumer}
 use Rattle.am_runner.specs.declared.consumer.Consumer.TheVariants.{Dispatcher, Inhibitor, Notifier}
+use Rattle.am_runner.specs.declared.consumer.Half.{Half}
+use Rattle.am_runner.specs.declared.consumer.Half.TheVariants as half
 
 -- one alert more was taken
-pub one_taken : KeptAlertsGoOn → (alerts : List Alert) (alert : Alert) (old new : Consumer) → TakesAlert alert old new → HasTaken alerts old → HasTaken (alerts ++ alert ∷ []) new
-one_taken go_on alerts alert (Dispatcher old) (Dispatcher new) follows (events, are, groups) =
+dispatcher_taken : (alerts : List Alert) (alert : Alert) (old new : DispatcherView) → Follows (Take alert) old new → DispatcherTook alerts old → DispatcherTook (alerts ++ alert ∷ []) new
+dispatcher_taken alerts alert old new follows (events, are, groups) =
     (events ++ Take alert ∷ [], filter_map-append alert_taken events (Take alert ∷ []) ∙ ap (λ (taken : List Alert). taken ++ alert ∷ []) are, follows.1 events groups)
-one_taken go_on alerts alert (Inhibitor old) (Inhibitor new) same (events, are, keeps) =
+
+inhibitor_taken : KeptAlertsGoOn → (alerts : List Alert) (alert : Alert) (old new : InhibitorView) → InhibitorTakes alert old new → InhibitorTook alerts old → InhibitorTook (alerts ++ alert ∷ []) new
+inhibitor_taken go_on alerts alert old new same (events, are, keeps) =
     let more : filter_map alert_kept (events ++ keeping.Take alert ∷ []) ≡ alerts ++ alert ∷ [] =
     filter_map-append alert_kept events (keeping.Take alert ∷ []) ∙ ap (λ (taken : List Alert). taken ++ alert ∷ []) are in (
       events ++ keeping.Take alert ∷ [],
       more,
       ap (λ one. one.alerts) same ∙ (ap (λ (before : List Alert). last_alerts (before ++ alert ∷ [])) keeps ∙ sym ((go_on events).0 alert)),
     )
-one_taken go_on alerts alert (Notifier old) (Notifier new) (follows, same) (events, are, groups, keeps) = (
-  events ++ Take alert ∷ [],
-  filter_map-append alert_taken events (Take alert ∷ []) ∙ ap (λ (taken : List Alert). taken ++ alert ∷ []) are,
-  follows.1 events groups,
-  ap (λ one. one.alerts) same
-      ∙ (ap (λ (before : List Alert). last_alerts (before ++ alert ∷ [])) keeps
-      ∙ (sym ((go_on (map same_event events)).0 alert) ∙ ap keeping.kept_alerts (sym (map-append same_event events (Take alert ∷ []))))),
-)
+
+pub one_taken : KeptAlertsGoOn → (alerts : List Alert) (alert : Alert) (old new : Consumer) → TakesAlert alert old new → HasTaken alerts old → HasTaken (alerts ++ alert ∷ []) new
+one_taken go_on alerts alert (Dispatcher old) (Dispatcher new) follows took = dispatcher_taken alerts alert old new follows took
+one_taken go_on alerts alert (Inhibitor old) (Inhibitor new) same took = inhibitor_taken go_on alerts alert old new same took
+one_taken go_on alerts alert (Notifier old) (Notifier new) (follows, same) (by_one, by_other) =
+    (dispatcher_taken alerts alert old.dispatcher new.dispatcher follows by_one, inhibitor_taken go_on alerts alert old.inhibitor new.inhibitor same by_other)
 one_taken go_on alerts alert (Dispatcher old) (Inhibitor new) never is = absurd never
 one_taken go_on alerts alert (Dispatcher old) (Notifier new) never is = absurd never
 one_taken go_on alerts alert (Inhibitor old) (Dispatcher new) never is = absurd never
@@ -48,35 +50,107 @@ one_taken go_on alerts alert (Inhibitor old) (Notifier new) never is = absurd ne
 one_taken go_on alerts alert (Notifier old) (Dispatcher new) never is = absurd never
 one_taken go_on alerts alert (Notifier old) (Inhibitor new) never is = absurd never
 
-dispatcher_swept : (now : ℕ) (old new : DispatcherView) (given : List Answer) → IsSwept now (Dispatcher old) (Dispatcher new) given → Follows (Sweep now) old new
-dispatcher_swept now old new given (swept gone follows counted groups_gone) = follows
-
-inhibitor_swept : (now : ℕ) (old new : InhibitorView) (given : List Answer) → IsSwept now (Inhibitor old) (Inhibitor new) given → new ≡ record old { alerts = keeping.unresolved now old.alerts }
-inhibitor_swept now old _ given (forgot gone counted) = refl
-
--- a sweep takes nothing
-pub sweep_takes_none : KeptAlertsGoOn → (alerts : List Alert) (now : ℕ) (old new : Consumer) (given : List Answer) → IsSwept now old new given → HasTaken alerts old → HasTaken alerts new
-sweep_takes_none go_on alerts now (Dispatcher old) (Dispatcher new) given (swept gone follows counted groups_gone) (events, are, groups) =
+dispatcher_swept : (alerts : List Alert) (now : ℕ) (old new : DispatcherView) → Follows (Sweep now) old new → DispatcherTook alerts old → DispatcherTook alerts new
+dispatcher_swept alerts now old new follows (events, are, groups) =
     (events ++ Sweep now ∷ [], filter_map-append alert_taken events (Sweep now ∷ []) ∙ (append-nil _ ∙ are), follows.1 events groups)
-sweep_takes_none go_on alerts now (Inhibitor old) (Inhibitor _) given (forgot gone counted) (events, are, keeps) = (
+
+inhibitor_swept : KeptAlertsGoOn → (alerts : List Alert) (now : ℕ) (old new : InhibitorView) → new ≡ record old { alerts = keeping.unresolved now old.alerts } → InhibitorTook alerts old → InhibitorTook alerts new
+inhibitor_swept go_on alerts now old new is (events, are, keeps) = (
   events ++ keeping.Sweep now ∷ [],
   filter_map-append alert_kept events (keeping.Sweep now ∷ []) ∙ (append-nil _ ∙ are),
-  ap (keeping.unresolved now) keeps ∙ sym ((go_on events).1 now),
+  ap (λ (i : InhibitorView). i.alerts) is ∙ (ap (keeping.unresolved now) keeps ∙ sym ((go_on events).1 now)),
 )
-sweep_takes_none go_on alerts now (Notifier old) (Notifier new) given (both_swept groups_swept alerts_swept) (events, are, groups, keeps) = (
-  events ++ Sweep now ∷ [],
-  filter_map-append alert_taken events (Sweep now ∷ []) ∙ (append-nil _ ∙ are),
-  (dispatcher_swept now old.dispatcher new.dispatcher _ groups_swept).1 events groups,
-  ap (λ one. one.alerts) (inhibitor_swept now old.inhibitor new.inhibitor _ alerts_swept)
-      ∙ (ap (keeping.unresolved now) keeps
-      ∙ (sym ((go_on (map same_event events)).1 now) ∙ ap keeping.kept_alerts (sym (map-append same_event events (Sweep now ∷ []))))),
+
+follows_of : (now : ℕ) (old new : DispatcherView) (given : Answer) → DispatcherSwept now old new given → Follows (Sweep now) old new
+follows_of now old new (answer.Posted v p) done = absurd done
+follows_of now old new (answer.Invalid i f) done = absurd done
+follows_of now old new (answer.CutLane l) done = absurd done
+follows_of now old new (answer.PostRefused w) done = absurd done
+follows_of now old new (answer.Subscribed l o) done = absurd done
+follows_of now old new (answer.SubscribeRefused w) done = absurd done
+follows_of now old new (answer.Item a) done = absurd done
+follows_of now old new answer.Pending done = absurd done
+follows_of now old new answer.SawClosed done = absurd done
+follows_of now old new answer.SawCut done = absurd done
+follows_of now old new (answer.Left t c u) done = absurd done
+follows_of now old new (answer.Collected n) done = absurd done
+follows_of now old new answer.CollectRefused done = absurd done
+follows_of now old new answer.CloseAccepted done = absurd done
+follows_of now old new answer.CloseRefused done = absurd done
+follows_of now old new (answer.Trimmed n) done = absurd done
+follows_of now old new answer.TrimRefused done = absurd done
+follows_of now old new answer.TakeRefused done = absurd done
+follows_of now old new (answer.Group r c l a) done = absurd done
+follows_of now old new (answer.Member a) done = absurd done
+follows_of now old new (answer.Swept s) done = done.0
+follows_of now old new (answer.Forgotten n) done = absurd done
+follows_of now old new (answer.Muted r b) done = absurd done
+follows_of now old new answer.NotMuted done = absurd done
+follows_of now old new answer.MutesRefused done = absurd done
+follows_of now old new (answer.StoredCount n) done = absurd done
+follows_of now old new (answer.StoredAlert a) done = absurd done
+follows_of now old new answer.NotStored done = absurd done
+follows_of now old new (answer.Route r) done = absurd done
+follows_of now old new (answer.Matched r) done = absurd done
+follows_of now old new (answer.OutOfMemory v) done = absurd done
+follows_of now old new (answer.NotOpen v) done = absurd done
+
+unresolved_of : (now : ℕ) (old new : InhibitorView) (given : Answer) → InhibitorSwept now old new given → new ≡ record old { alerts = keeping.unresolved now old.alerts }
+unresolved_of now old new (answer.Posted v p) done = absurd done
+unresolved_of now old new (answer.Invalid i f) done = absurd done
+unresolved_of now old new (answer.CutLane l) done = absurd done
+unresolved_of now old new (answer.PostRefused w) done = absurd done
+unresolved_of now old new (answer.Subscribed l o) done = absurd done
+unresolved_of now old new (answer.SubscribeRefused w) done = absurd done
+unresolved_of now old new (answer.Item a) done = absurd done
+unresolved_of now old new answer.Pending done = absurd done
+unresolved_of now old new answer.SawClosed done = absurd done
+unresolved_of now old new answer.SawCut done = absurd done
+unresolved_of now old new (answer.Left t c u) done = absurd done
+unresolved_of now old new (answer.Collected n) done = absurd done
+unresolved_of now old new answer.CollectRefused done = absurd done
+unresolved_of now old new answer.CloseAccepted done = absurd done
+unresolved_of now old new answer.CloseRefused done = absurd done
+unresolved_of now old new (answer.Trimmed n) done = absurd done
+unresolved_of now old new answer.TrimRefused done = absurd done
+unresolved_of now old new answer.TakeRefused done = absurd done
+unresolved_of now old new (answer.Group r c l a) done = absurd done
+unresolved_of now old new (answer.Member a) done = absurd done
+unresolved_of now old new (answer.Swept s) done = absurd done
+unresolved_of now old new (answer.Forgotten n) done = done.0
+unresolved_of now old new (answer.Muted r b) done = absurd done
+unresolved_of now old new answer.NotMuted done = absurd done
+unresolved_of now old new answer.MutesRefused done = absurd done
+unresolved_of now old new (answer.StoredCount n) done = absurd done
+unresolved_of now old new (answer.StoredAlert a) done = absurd done
+unresolved_of now old new answer.NotStored done = absurd done
+unresolved_of now old new (answer.Route r) done = absurd done
+unresolved_of now old new (answer.Matched r) done = absurd done
+unresolved_of now old new (answer.OutOfMemory v) done = absurd done
+unresolved_of now old new (answer.NotOpen v) done = absurd done
+
+-- a sweep takes nothing
+pub sweep_takes_none : KeptAlertsGoOn → (alerts : List Alert) (now : ℕ) (which : Half) (old new : Consumer) (given : Answer) → IsSwept now which old new given → HasTaken alerts old → HasTaken alerts new
+sweep_takes_none go_on alerts now half.Dispatcher (Dispatcher old) (Dispatcher new) given done took = dispatcher_swept alerts now old new (follows_of now old new given done) took
+sweep_takes_none go_on alerts now half.Dispatcher (Notifier old) (Notifier new) given (done, same) (by_one, by_other) = (
+  dispatcher_swept alerts now old.dispatcher new.dispatcher (follows_of now old.dispatcher new.dispatcher given done) by_one,
+  subst (InhibitorTook alerts) (sym same) by_other,
 )
-sweep_takes_none go_on alerts now (Dispatcher old) (Inhibitor new) given never is = elim never [ ]
-sweep_takes_none go_on alerts now (Dispatcher old) (Notifier new) given never is = elim never [ ]
-sweep_takes_none go_on alerts now (Inhibitor old) (Dispatcher new) given never is = elim never [ ]
-sweep_takes_none go_on alerts now (Inhibitor old) (Notifier new) given never is = elim never [ ]
-sweep_takes_none go_on alerts now (Notifier old) (Dispatcher new) given never is = elim never [ ]
-sweep_takes_none go_on alerts now (Notifier old) (Inhibitor new) given never is = elim never [ ]
+sweep_takes_none go_on alerts now half.Dispatcher (Inhibitor old) new given (same, said) took = subst (HasTaken alerts) (sym same) took
+sweep_takes_none go_on alerts now half.Inhibitor (Inhibitor old) (Inhibitor new) given done took = inhibitor_swept go_on alerts now old new (unresolved_of now old new given done) took
+sweep_takes_none go_on alerts now half.Inhibitor (Notifier old) (Notifier new) given (done, same) (by_one, by_other) = (
+  subst (DispatcherTook alerts) (sym same) by_one,
+  inhibitor_swept go_on alerts now old.inhibitor new.inhibitor (unresolved_of now old.inhibitor new.inhibitor given done) by_other,
+)
+sweep_takes_none go_on alerts now half.Inhibitor (Dispatcher old) new given (same, said) took = subst (HasTaken alerts) (sym same) took
+sweep_takes_none go_on alerts now half.Dispatcher (Dispatcher old) (Inhibitor new) given never took = absurd never
+sweep_takes_none go_on alerts now half.Dispatcher (Dispatcher old) (Notifier new) given never took = absurd never
+sweep_takes_none go_on alerts now half.Dispatcher (Notifier old) (Dispatcher new) given never took = absurd never
+sweep_takes_none go_on alerts now half.Dispatcher (Notifier old) (Inhibitor new) given never took = absurd never
+sweep_takes_none go_on alerts now half.Inhibitor (Inhibitor old) (Dispatcher new) given never took = absurd never
+sweep_takes_none go_on alerts now half.Inhibitor (Inhibitor old) (Notifier new) given never took = absurd never
+sweep_takes_none go_on alerts now half.Inhibitor (Notifier old) (Dispatcher new) given never took = absurd never
+sweep_takes_none go_on alerts now half.Inhibitor (Notifier old) (Inhibitor new) given never took = absurd never
 
 pub beside_taken : KeptAlertsGoOn → (alerts : List Alert) (alert : Alert) (old new : Option Consumer) → TakenBeside alert old new → IfSome old (HasTaken alerts) → IfSome new (HasTaken (alerts ++ alert ∷ []))
 beside_taken go_on alerts alert None None did took = tt
@@ -84,17 +158,11 @@ beside_taken go_on alerts alert (Some old) (Some new) did took = one_taken go_on
 beside_taken go_on alerts alert (Some old) None did took = absurd did
 beside_taken go_on alerts alert None (Some new) did took = absurd did
 
-beside_swept : KeptAlertsGoOn → (alerts : List Alert) (now : ℕ) (without given : List Answer) (old new : Option Consumer) → AsksBeside (IsSwept now) without old given new → IfSome old (HasTaken alerts) → IfSome new (HasTaken alerts)
-beside_swept go_on alerts now without given (Some old) (Some new) (asks does) took = sweep_takes_none go_on alerts now old new given does took
-beside_swept go_on alerts now without given None None none_beside took = tt
-beside_swept go_on alerts now without given None (Some new) never took = elim never [ ]
-beside_swept go_on alerts now without given (Some old) None never took = elim never [ ]
-
--- nor does a sweep that had no memory for its answers, and changed nothing
-pub result_swept : {E : Type 0} → KeptAlertsGoOn → (alerts : List Alert) (now : ℕ) (without : List Answer) (old new : Option Consumer) (result : Result (Vec Answer) E)
-    → IfOk result (λ answers. AsksBeside (IsSwept now) without old answers.items new) → OnErr result (new ≡ old) → IfSome old (HasTaken alerts) → IfSome new (HasTaken alerts)
-result_swept go_on alerts now without old new (Ok answers) done same took = beside_swept go_on alerts now without answers.items old new done took
-result_swept go_on alerts now without old new (Err error) done same took = subst (λ (consumer : Option Consumer). IfSome consumer (HasTaken alerts)) (sym same) took
+pub beside_swept : KeptAlertsGoOn → (alerts : List Alert) (now : ℕ) (which : Half) (without given : Answer) (old new : Option Consumer) → AsksBeside (IsSwept now which) without old given new → IfSome old (HasTaken alerts) → IfSome new (HasTaken alerts)
+beside_swept go_on alerts now which without given (Some old) (Some new) (asks does) took = sweep_takes_none go_on alerts now which old new given does took
+beside_swept go_on alerts now which without given None None none_beside took = tt
+beside_swept go_on alerts now which without given None (Some new) never took = elim never [ ]
+beside_swept go_on alerts now which without given (Some old) None never took = elim never [ ]
 
 -- an alert was shown, and taken beside
 pub took_one : KeptAlertsGoOn → (old new : SubscriptionView) (alert : Alert) (before after : Option Consumer) (missed : Bool) → ShowsItem old alert new → TakenBeside alert before after → TookAll old before missed → TookAll new after missed

@@ -17,11 +17,14 @@ use Rattle.am_inhibit.specs.LastAlerts.{last_alerts}
 use Rattle.am_inhibit.specs.Muting.{candidates_seen, muted}
 use Rattle.am_script.specs.declared.kind.Kind.{Kind}
 use Rattle.am_script.specs.declared.kind.Kind.TheVariants.{Plain, Dispatch, Inhibit, Notify}
+use Rattle.am_script.specs.declared.command.Verb.{Verb}
 use Rattle.am_script.specs.declared.command.Verb.TheVariants as verb
 use Rattle.am_runner.specs.declared.answer.Answer.{Answer}
 use Rattle.am_runner.specs.declared.answer.Answer.TheVariants as answer
 use Rattle.am_runner.specs.declared.consumer.Consumer.{Consumer}
 use Rattle.am_runner.specs.declared.consumer.Consumer.TheVariants.{Dispatcher, Inhibitor, Notifier}
+use Rattle.am_runner.specs.declared.consumer.Half.{Half}
+use Rattle.am_runner.specs.declared.consumer.Half.TheVariants as half
 use Rattle.am_runner.specs.Notifiers.{NotifierView}
 
 -- a dispatcher that took nothing yet
@@ -68,40 +71,61 @@ abbrev pub alert_kept : keeping.InhibitorEvent → Option Alert
 alert_kept (keeping.Take alert) = Some alert
 alert_kept (keeping.Sweep now) = None
 
--- what a notifier's inhibitor is given by an event of its dispatcher: the same
-abbrev pub same_event : DispatchEvent → keeping.InhibitorEvent
-same_event (Take alert) = keeping.Take alert
-same_event (Sweep now) = keeping.Sweep now
-
--- a consumer took these alerts and no others, in their order, with its sweeps somewhere between: the groups
--- of a dispatcher and the alerts of an inhibitor are those of its takes and sweeps, and a notifier's two have
--- the same takes and sweeps
-abbrev pub HasTaken : List Alert → Consumer → Type 0
-HasTaken alerts (Dispatcher dispatcher) = (events : List DispatchEvent)
+-- a dispatcher took these alerts and no others, in their order, with its sweeps somewhere between: its groups
+-- are those of its takes and sweeps
+abbrev pub DispatcherTook : List Alert → DispatcherView → Type 0
+DispatcherTook alerts dispatcher = (events : List DispatchEvent)
     × (alerts_taken events ≡ alerts) × (dispatcher.groups ≡ groups_of dispatcher.tree events)
-HasTaken alerts (Inhibitor inhibitor) = (events : List keeping.InhibitorEvent)
+
+-- the same of an inhibitor and its alerts
+abbrev pub InhibitorTook : List Alert → InhibitorView → Type 0
+InhibitorTook alerts inhibitor = (events : List keeping.InhibitorEvent)
     × (filter_map alert_kept events ≡ alerts) × (inhibitor.alerts ≡ keeping.kept_alerts events)
-HasTaken alerts (Notifier notifier) = (events : List DispatchEvent) × (alerts_taken events ≡ alerts)
-    × (notifier.dispatcher.groups ≡ groups_of notifier.dispatcher.tree events)
-    × (notifier.inhibitor.alerts ≡ keeping.kept_alerts (map same_event events))
+
+-- the same of a consumer; a notifier's two took the same alerts
+abbrev pub HasTaken : List Alert → Consumer → Type 0
+HasTaken alerts (Dispatcher dispatcher) = DispatcherTook alerts dispatcher
+HasTaken alerts (Inhibitor inhibitor) = InhibitorTook alerts inhibitor
+HasTaken alerts (Notifier notifier) =
+    DispatcherTook alerts notifier.dispatcher × InhibitorTook alerts notifier.inhibitor
 
 -- where the numbers of alerts that are counted for an answer stop
 abbrev pub most_counted : ℕ
 most_counted = 2 ^ 64 - 1
 
--- a dispatcher or an inhibitor is swept, or both, of which the dispatcher answers first
-pub data IsSwept (now : ℕ) : Consumer → Consumer → List Answer → Type 0 where
-  swept : {old new : DispatcherView} (gone : Swept) → Follows (Sweep now) old new
-      → gone.alerts ≡ min (removed_alerts now old.groups) most_counted
-      → gone.groups ≡ removed_groups now old.groups
-      → IsSwept now (Dispatcher old) (Dispatcher new) (answer.Swept gone ∷ [])
-  forgot : {old : InhibitorView} (gone : ℕ) → gone ≡ count_by (is_resolved_at now) old.alerts
-      → IsSwept now (Inhibitor old) (Inhibitor (record old { alerts = keeping.unresolved now old.alerts }))
-      (answer.Forgotten gone ∷ [])
-  both_swept : {old new : NotifierView} {gone forgotten : Answer}
-      → IsSwept now (Dispatcher old.dispatcher) (Dispatcher new.dispatcher) (gone ∷ [])
-      → IsSwept now (Inhibitor old.inhibitor) (Inhibitor new.inhibitor) (forgotten ∷ [])
-      → IsSwept now (Notifier old) (Notifier new) (gone ∷ forgotten ∷ [])
+-- the word of the command that sweeps a half
+abbrev pub sweep_word : Half → Verb
+sweep_word half.Dispatcher = verb.Sweep
+sweep_word half.Inhibitor = verb.Forget
+
+-- a dispatcher is swept, and answers how much it dropped
+abbrev pub DispatcherSwept : ℕ → DispatcherView → DispatcherView → Answer → Type 0
+DispatcherSwept now old new (answer.Swept gone) = Follows (Sweep now) old new
+    × (gone.alerts ≡ min (removed_alerts now old.groups) most_counted)
+    × (gone.groups ≡ removed_groups now old.groups)
+DispatcherSwept now old new other = ⊥
+
+-- an inhibitor is swept, and answers how many alerts it dropped
+abbrev pub InhibitorSwept : ℕ → InhibitorView → InhibitorView → Answer → Type 0
+InhibitorSwept now old new (answer.Forgotten gone) =
+    (new ≡ record old { alerts = keeping.unresolved now old.alerts })
+    × (gone ≡ count_by (is_resolved_at now) old.alerts)
+InhibitorSwept now old new other = ⊥
+
+-- One half of a consumer is swept, and the other stays as it was. A consumer without that half stays, and
+-- that is answered.
+abbrev pub IsSwept : ℕ → Half → Consumer → Consumer → Answer → Type 0
+IsSwept now half.Dispatcher (Dispatcher old) (Dispatcher new) given = DispatcherSwept now old new given
+IsSwept now half.Dispatcher (Notifier old) (Notifier new) given =
+    DispatcherSwept now old.dispatcher new.dispatcher given × (new.inhibitor ≡ old.inhibitor)
+IsSwept now half.Dispatcher (Inhibitor old) new given =
+    (new ≡ Inhibitor old) × (given ≡ answer.NotOpen verb.Sweep)
+IsSwept now half.Inhibitor (Inhibitor old) (Inhibitor new) given = InhibitorSwept now old new given
+IsSwept now half.Inhibitor (Notifier old) (Notifier new) given =
+    InhibitorSwept now old.inhibitor new.inhibitor given × (new.dispatcher ≡ old.dispatcher)
+IsSwept now half.Inhibitor (Dispatcher old) new given =
+    (new ≡ Dispatcher old) × (given ≡ answer.NotOpen verb.Forget)
+IsSwept now which old new given = ⊥
 
 -- what is answered of the rule that mutes a target and the label set by which it does, if there is one
 abbrev pub muting_answer : Option (ℕ × Labels) → Answer
@@ -150,11 +174,10 @@ answers_of_group_at inhibitor now group =
     answer.Group group.route group.receiver group.labels (length group.alerts)
     ∷ flat_map (answers_of_member inhibitor now) group.alerts
 
--- what is answered of the groups of a dispatcher, and of what mutes their alerts at a moment, if it is given;
--- an inhibitor alone has no groups, and a dispatcher alone mutes nothing
+-- what is answered of the groups of a dispatcher, and of what mutes their alerts at a moment, if it is given
+-- and there is an inhibitor; an inhibitor alone has no groups
 abbrev pub answers_of_groups : Option ℕ → Consumer → List Answer
-answers_of_groups None (Dispatcher dispatcher) = flat_map answers_of_group dispatcher.groups
-answers_of_groups (Some now) (Dispatcher dispatcher) = answer.NotOpen verb.Mutes ∷ []
+answers_of_groups at (Dispatcher dispatcher) = flat_map answers_of_group dispatcher.groups
 answers_of_groups at (Inhibitor inhibitor) = answer.NotOpen verb.Groups ∷ []
 answers_of_groups None (Notifier notifier) = flat_map answers_of_group notifier.dispatcher.groups
 answers_of_groups (Some now) (Notifier notifier) =

@@ -114,7 +114,7 @@ answer_members (answer.Group route receiver labels alerts) =
     group_members route receiver labels alerts
 answer_members (answer.Member alert) = showing (codes "member") alert
 answer_members (answer.Swept swept) = swept_members swept
-answer_members (answer.Forgotten alerts) = counting (codes "sweep_alerts") (codes "alerts") alerts
+answer_members (answer.Forgotten alerts) = counting (codes "forget") (codes "alerts") alerts
 answer_members (answer.Muted rule by) = worded (codes "muted")
     (member (codes "rule") (whole rule) (member (codes "by") (labels_json by) no_members))
 answer_members answer.NotMuted = worded (codes "not_muted") no_members

@@ -11,6 +11,7 @@ use Rattle.am_script.specs.declared.command.Verb.TheVariants as verb
 use Rattle.am_runner.specs.declared.answer.Answer.{Answer}
 use Rattle.am_runner.specs.declared.answer.Answer.TheVariants as answer
 use Rattle.am_runner.specs.declared.consumer.Consumer.{Consumer}
+use Rattle.am_runner.specs.declared.consumer.Consumer.TheVariants.{Notifier}
 
 -- a subscription, its name, what stands beside it, and whether that had no memory for an alert that was
 -- shown
@@ -79,6 +80,11 @@ pub data ReadAnswers (old : OpenView) (max : ℕ) : List Answer → OpenView →
 abbrev pub groups_beside : Option ℕ → Option Consumer → List Answer
 groups_beside at (Some consumer) = answers_of_groups at consumer
 groups_beside at None = answer.NotOpen verb.Groups ∷ []
+
+-- whether a consumer is a dispatcher and an inhibitor
+abbrev pub is_notifier : Option Consumer → Bool
+is_notifier (Some (Notifier both)) = true
+is_notifier other = false
 
 -- what a consumer, if there is one, does and answers; where there is none, nothing is done
 pub data AsksBeside {A : Type 0} (does : Consumer → Consumer → A → Type 0) (without_one : A)

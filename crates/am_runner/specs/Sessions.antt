@@ -1,6 +1,6 @@
 -- A thread's pass and its open subscriptions, and what each command of its lines does to them.
-use Rattle.std.specs.Prelude.{◌≡◌, ℕ, zero, suc, List, [], ◌∷◌, ◌++◌, map, length, position, slice_get}
-use Rattle.std.specs.Prelude.{slice_set, remove, Option, Some, None, Ok, Err, if◌then◌else◌}
+use Rattle.std.specs.Prelude.{◌≡◌, ℕ, zero, suc, Bool, false, List, [], ◌∷◌, ◌++◌, map, length, position}
+use Rattle.std.specs.Prelude.{slice_get, slice_set, remove, Option, Some, None, Ok, Err, if◌then◌else◌}
 use Rattle.std.specs.Option.{option_and_then, option_map}
 use Rattle.std.specs.Str.{bytes_eq}
 use Rattle.std.specs.Arc.{arc_value}
@@ -32,16 +32,20 @@ use Rattle.am_config.specs.RouteLists.{root_of}
 use Rattle.am_config.specs.declared.config.Config.{Config}
 use Rattle.am_script.specs.declared.command.Command.{Command}
 use Rattle.am_script.specs.declared.command.Command.TheVariants.{Post, Put, Subscribe, Read, Leave, Collect}
-use Rattle.am_script.specs.declared.command.Command.TheVariants.{Close, Trim, Groups, Sweep, Mutes, Stored}
-use Rattle.am_script.specs.declared.command.Command.TheVariants.{Get, Routes, Route}
+use Rattle.am_script.specs.declared.command.Command.TheVariants.{Close, Trim, Groups, Sweep, Forget, Mutes}
+use Rattle.am_script.specs.declared.command.Command.TheVariants.{Stored, Get, Routes, Route}
+use Rattle.am_script.specs.declared.command.GivenMoment.{GivenMoment}
+use Rattle.am_script.specs.Commands.{moment_in}
 use Rattle.am_script.specs.declared.command.Verb.{Verb}
 use Rattle.am_script.specs.declared.command.Verb.TheVariants as verb
 use Rattle.am_runner.specs.Asking.{AsksTree, ShowsTree}
-use Rattle.am_runner.specs.Consuming.{fresh_consumer, IsAsked, IsSwept}
+use Rattle.am_runner.specs.Consuming.{fresh_consumer, IsAsked, IsSwept, sweep_word}
 use Rattle.am_runner.specs.Putting.{AnswersPosted, AnswersPut}
-use Rattle.am_runner.specs.Reading.{OpenView, ReadAnswers, Asks, groups_beside}
+use Rattle.am_runner.specs.Reading.{OpenView, ReadAnswers, Asks, groups_beside, is_notifier}
 use Rattle.am_runner.specs.declared.answer.Answer.{Answer}
 use Rattle.am_runner.specs.declared.answer.Answer.TheVariants as answer
+use Rattle.am_runner.specs.declared.consumer.Half.{Half}
+use Rattle.am_runner.specs.declared.consumer.Half.TheVariants as half
 
 -- what a script is run under: a resolve timeout in nanoseconds, how many places the log has, and what a post
 -- does if it is full
@@ -140,10 +144,25 @@ groups_told at (Some open_one) = groups_beside at open_one.consumer
 abbrev pub named_in : List ℕ → List OpenView → Option OpenView
 named_in name opened = option_and_then (slice_get opened) (index_named name opened)
 
--- what consumes its alerts is swept
-abbrev pub SweepsNamed : List ℕ → ℕ → List OpenView → List Answer → List OpenView → Type 0
-SweepsNamed name at old answers new = OnNamed name verb.Sweep (λ before given after.
-    Asks (IsSwept at) (answer.NotOpen verb.Sweep ∷ []) before given after) old answers new
+-- whether there is a subscription with a dispatcher and an inhibitor
+abbrev pub is_notified : Option OpenView → Bool
+is_notified None = false
+is_notified (Some one) = is_notifier one.consumer
+
+-- whether the subscription of a name has both
+abbrev pub has_notifier : List ℕ → List OpenView → Bool
+has_notifier name opened = is_notified (named_in name opened)
+
+-- the command that sweeps a half of what consumes a subscription's alerts
+abbrev pub sweep_command : Half → List ℕ → ℕ → Command
+sweep_command half.Dispatcher name at = Sweep name at
+sweep_command half.Inhibitor name at = Forget name at
+
+-- that half is swept
+abbrev pub SweepsNamed : Half → List ℕ → ℕ → List OpenView → List Answer → List OpenView → Type 0
+SweepsNamed which name at old answers new = OnNamed name (sweep_word which) (λ before given after.
+    IsOne (λ one. Asks (IsSwept at which) (answer.NotOpen (sweep_word which)) before one after) given)
+    old answers new
 
 -- the inhibitor beside it is asked of a target
 abbrev pub AsksNamed : List ℕ → Labels → ℕ → List OpenView → List Answer → List OpenView → Type 0
@@ -214,12 +233,15 @@ pub data Does (config : Config) (setting : Setting) (old : SessionView)
   trim_refused : {error : AllocError} {front : FrontView EntryView}
       → SeesCall old.front front (AnswersTrim (Err error))
       → Does config setting old Trim (answer.TrimRefused ∷ []) (record old { front = front })
-  groups : {name : List ℕ} {at : Option ℕ} {answers : List Answer}
-      → answers ≡ groups_told at (named_in name old.opened)
+  groups : {name : List ℕ} {at : GivenMoment} {answers : List Answer}
+      → answers ≡ groups_told (moment_in at) (named_in name old.opened)
       → Does config setting old (Groups name at) answers old
   swept : {name : List ℕ} {at : ℕ} {answers : List Answer} {opened : List OpenView}
-      → SweepsNamed name at old.opened answers opened
+      → SweepsNamed half.Dispatcher name at old.opened answers opened
       → Does config setting old (Sweep name at) answers (record old { opened = opened })
+  forgot : {name : List ℕ} {at : ℕ} {answers : List Answer} {opened : List OpenView}
+      → SweepsNamed half.Inhibitor name at old.opened answers opened
+      → Does config setting old (Forget name at) answers (record old { opened = opened })
   mutes : {name : List ℕ} {at : ℕ} {labels : Labels} {answers : List Answer} {opened : List OpenView}
       → AsksNamed name labels at old.opened answers opened
       → Does config setting old (Mutes name at labels) answers (record old { opened = opened })

@@ -151,7 +151,7 @@ impl fmt::Display for Answer {
             } => write_group(*route, receiver, labels, *alerts, f),
             Answer::Member(alert) => write!(f, "member {alert}"),
             Answer::Swept(swept) => write_swept(*swept, f),
-            Answer::Forgotten(alerts) => write!(f, "sweep alerts {alerts}"),
+            Answer::Forgotten(alerts) => write!(f, "forget alerts {alerts}"),
             Answer::Muted { rule, by } => write!(f, "muted rule {rule} by {by}"),
             Answer::NotMuted => f.write_str("not muted"),
             Answer::StoredCount(count) => write!(f, "stored {count}"),

@@ -119,7 +119,7 @@ fn write_members(line: &mut JsonLine, answer: &Answer) -> Result<(), AllocError>
         }
         Answer::Swept(swept) => write_swept(line, *swept),
         Answer::Forgotten(alerts) => {
-            line.text("answer", "sweep_alerts")?;
+            line.text("answer", "forget")?;
             line.number("alerts", *alerts)
         }
         Answer::Muted { rule, by } => {

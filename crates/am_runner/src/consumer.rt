@@ -2,7 +2,7 @@
 //! shows, and knows of no provider.
 
 ghost use Rattle.std.specs.Prelude.{◌≡◌, ◌⊎◌, ◌++◌, ◌∷◌, [], List, IfOk, OnOk, OnErr, flat_map, length, map};
-ghost use Rattle.am_runner.specs.Consuming.{answers_of_group, answers_of_groups, fresh_consumer};
+ghost use Rattle.am_runner.specs.Consuming.{answers_of_group, answers_of_groups, fresh_consumer, sweep_word};
 ghost use Rattle.am_runner.specs.Consuming.{AsksInhibitor, HasTaken, IsAsked, IsSwept, TakesAlert, muting_at};
 ghost use Rattle.am_runner.specs.Notifiers.{unasked};
 ghost use Rattle.am_alert.specs.declared.alert.Alert.{Alert};
@@ -23,6 +23,25 @@ pub enum Consumer<'c> {
     Dispatcher(Dispatcher<'c>),
     Inhibitor(Inhibitor<'c>),
     Notifier(Notifier<'c>),
+}
+
+/// One of the two consumers that a subscription can have.
+#[derive(Clone, Copy, Debug, PartialEq, Eq)]
+pub enum Half {
+    Dispatcher,
+    Inhibitor,
+}
+
+impl Half {
+    /// The word of the command that sweeps it.
+    pub fn sweep_word(self) -> Verb
+        ensures { result ≡ sweep_word self }
+    {
+        match self {
+            Half::Dispatcher => Verb::Sweep,
+            Half::Inhibitor => Verb::Forget,
+        }
+    }
 }
 
 impl<'c> Consumer<'c> {
@@ -54,28 +73,46 @@ impl<'c> Consumer<'c> {
         }
     }
 
-    /// The groups of a dispatcher, each followed by its alerts. At a moment, if one is given, each alert
+    /// The groups of a dispatcher, each followed by its alerts. With an inhibitor and a moment each alert
     /// is followed by what mutes it then.
     pub fn groups(&mut self, alloc: Global, at: Option<Moment>) -> Result<Vec<Answer>, AllocError>
         ensures answers { IfOk result (λ answers. answers.items ≡ answers_of_groups at self.old) }
         ensures same { self.new ≡ self.old }
     {
         match self {
-            Consumer::Dispatcher(dispatcher) => unmuted_groups(alloc, dispatcher, at),
+            Consumer::Dispatcher(dispatcher) => groups_of(alloc, dispatcher),
             Consumer::Inhibitor(_) => one(alloc, Answer::NotOpen(Verb::Groups)),
             Consumer::Notifier(notifier) => notifier.groups(alloc, at),
         }
     }
 
-    /// Drops what is resolved at a moment. If memory runs out, all stays as it was.
-    pub fn sweep(&mut self, alloc: Global, now: Moment) -> Result<Vec<Answer>, AllocError>
-        ensures swept { IfOk result (λ answers. IsSwept now self.old self.new answers.items) }
-        ensures err { OnErr result (self.new ≡ self.old) }
+    /// One half drops what is resolved at a moment. The other stays as it was.
+    pub fn sweep(&mut self, half: Half, now: Moment) -> Answer
+        ensures { IsSwept now half self.old self.new result }
+    {
+        match half {
+            Half::Dispatcher => self.sweep_dispatcher(now),
+            Half::Inhibitor => self.sweep_inhibitor(now),
+        }
+    }
+
+    fn sweep_dispatcher(&mut self, now: Moment) -> Answer
+        ensures { IsSwept now Half.Dispatcher self.old self.new result }
     {
         match self {
-            Consumer::Dispatcher(dispatcher) => sweep_dispatcher(alloc, dispatcher, now),
-            Consumer::Inhibitor(inhibitor) => sweep_inhibitor(alloc, inhibitor, now),
-            Consumer::Notifier(notifier) => sweep_notifier(alloc, notifier, now),
+            Consumer::Dispatcher(dispatcher) => Answer::Swept(dispatcher.sweep(now)),
+            Consumer::Inhibitor(_) => Answer::NotOpen(Verb::Sweep),
+            Consumer::Notifier(notifier) => Answer::Swept(notifier.sweep(now)),
+        }
+    }
+
+    fn sweep_inhibitor(&mut self, now: Moment) -> Answer
+        ensures { IsSwept now Half.Inhibitor self.old self.new result }
+    {
+        match self {
+            Consumer::Dispatcher(_) => Answer::NotOpen(Verb::Forget),
+            Consumer::Inhibitor(inhibitor) => Answer::Forgotten(inhibitor.sweep(now)),
+            Consumer::Notifier(notifier) => Answer::Forgotten(notifier.forget(now)),
         }
     }
 
@@ -90,50 +127,6 @@ impl<'c> Consumer<'c> {
             Consumer::Notifier(notifier) => notifier.mutes(labels, now),
         }
     }
-}
-
-fn sweep_dispatcher(
-    alloc: Global,
-    dispatcher: &mut Dispatcher<'_>,
-    now: Moment,
-) -> Result<Vec<Answer>, AllocError>
-    ensures swept { IfOk result (λ answers. IsSwept now
-        (Consumer.Dispatcher dispatcher.old) (Consumer.Dispatcher dispatcher.new) answers.items) }
-    ensures err { OnErr result (dispatcher.new ≡ dispatcher.old) }
-{
-    let mut answers = Vec::with_capacity(alloc, 1)?;
-    answers.push_reserved(Answer::Swept(dispatcher.sweep(now)));
-    Ok(answers)
-}
-
-fn sweep_inhibitor(
-    alloc: Global,
-    inhibitor: &mut Inhibitor<'_>,
-    now: Moment,
-) -> Result<Vec<Answer>, AllocError>
-    ensures swept { IfOk result (λ answers. IsSwept now
-        (Consumer.Inhibitor inhibitor.old) (Consumer.Inhibitor inhibitor.new) answers.items) }
-    ensures err { OnErr result (inhibitor.new ≡ inhibitor.old) }
-{
-    let mut answers = Vec::with_capacity(alloc, 1)?;
-    answers.push_reserved(Answer::Forgotten(inhibitor.sweep(now)));
-    Ok(answers)
-}
-
-fn sweep_notifier(
-    alloc: Global,
-    notifier: &mut Notifier<'_>,
-    now: Moment,
-) -> Result<Vec<Answer>, AllocError>
-    ensures swept { IfOk result (λ answers. IsSwept now
-        (Consumer.Notifier notifier.old) (Consumer.Notifier notifier.new) answers.items) }
-    ensures err { OnErr result (notifier.new ≡ notifier.old) }
-{
-    let mut answers = Vec::with_capacity(alloc, 2)?;
-    let (swept, forgotten) = notifier.sweep(now);
-    answers.push_reserved(Answer::Swept(swept));
-    answers.push_reserved(Answer::Forgotten(forgotten));
-    Ok(answers)
 }
 
 // What mutes a target.
@@ -157,19 +150,11 @@ pub(crate) fn muting_answer(
     }
 }
 
-// The groups of a dispatcher without an inhibitor, which can't say what mutes their alerts.
-fn unmuted_groups(
-    alloc: Global,
-    dispatcher: &Dispatcher<'_>,
-    at: Option<Moment>,
-) -> Result<Vec<Answer>, AllocError>
-    ensures { IfOk result (λ answers.
-        answers.items ≡ answers_of_groups at (Consumer.Dispatcher dispatcher.now)) }
+// Each group of a dispatcher, followed by its alerts.
+fn groups_of(alloc: Global, dispatcher: &Dispatcher<'_>) -> Result<Vec<Answer>, AllocError>
+    ensures { IfOk result (λ answers. answers.items ≡ flat_map answers_of_group dispatcher.now.groups) }
 {
-    match at {
-        Some(_) => one(alloc, Answer::NotOpen(Verb::Mutes)),
-        None => group_answers(alloc, dispatcher.groups()),
-    }
+    group_answers(alloc, dispatcher.groups())
 }
 
 // Each group, followed by its alerts.

@@ -36,7 +36,7 @@ mod work;
 
 pub use answer::{Answer, write_answers};
 pub use answer_json::write_count;
-pub use consumer::Consumer;
+pub use consumer::{Consumer, Half};
 pub use context::Context;
 pub use form::Form;
 pub use laws::{reading_laws, turn_laws};

@@ -2,13 +2,14 @@
 //! alerts. Here Alertmanager's two halves meet, as at the flush of a group, whose pipeline asks the
 //! inhibitor of each alert of the group (`notify.MuteStage`).
 
-ghost use Rattle.std.specs.Prelude.{◌≡◌, ◌++◌, ◌∷◌, [], IfOk, OnErr, OnOk, flat_map};
+ghost use Rattle.std.specs.Prelude.{◌≡◌, ◌++◌, IfOk, OnErr, OnOk, flat_map};
 ghost use Rattle.am_inhibit.specs.Inhibitors.{InhibitorView};
 ghost use Rattle.am_runner.specs.Consuming.{answers_of_group_at, answers_of_groups, answers_of_member};
 ghost use Rattle.am_runner.specs.Consuming.{fresh_dispatcher, fresh_inhibitor, muting_at};
 ghost use Rattle.am_runner.specs.Consuming.{IsAsked, IsSwept, TakesAlert};
 ghost use Rattle.am_runner.specs.Notifiers.{unasked};
 ghost use Rattle.am_runner.specs.declared.consumer.Consumer.TheVariants as consumer;
+ghost use Rattle.am_runner.specs.declared.consumer.Half.TheVariants as half;
 
 use crate::answer::Answer;
 use crate::consumer::{add_group_line, group_answers, muting_answer};
@@ -85,14 +86,20 @@ impl<'c> Notifier<'c> {
         }
     }
 
-    /// Both drop what is resolved at a moment.
-    pub fn sweep(&mut self, now: Moment) -> (Swept, u64)
-        ensures { IsSwept now (consumer.Notifier self.old) (consumer.Notifier self.new)
-            (Answer.Swept result.0 ∷ Answer.Forgotten result.1 ∷ []) }
+    /// The dispatcher drops what is resolved at a moment.
+    pub fn sweep(&mut self, now: Moment) -> Swept
+        ensures { IsSwept now half.Dispatcher
+            (consumer.Notifier self.old) (consumer.Notifier self.new) (Answer.Swept result) }
     {
-        let swept = self.dispatcher.sweep(now);
-        let forgotten = self.inhibitor.sweep(now);
-        (swept, forgotten)
+        self.dispatcher.sweep(now)
+    }
+
+    /// The inhibitor does, and answers how many alerts.
+    pub fn forget(&mut self, now: Moment) -> u64
+        ensures { IsSwept now half.Inhibitor
+            (consumer.Notifier self.old) (consumer.Notifier self.new) (Answer.Forgotten result) }
+    {
+        self.inhibitor.sweep(now)
     }
 
     /// By what the inhibitor mutes a target.

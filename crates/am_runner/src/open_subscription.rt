@@ -3,14 +3,14 @@
 ghost use Rattle.std.specs.Prelude.{◌≡◌, ◌∷◌, ℕ, List, false, true, [], IfOk, IfSome, OnErr, OnOk};
 ghost use Rattle.std.specs.Str.{bytes_eq};
 ghost use Rattle.am_provider.specs.Subscriptions.{taken};
-ghost use Rattle.am_runner.specs.Consuming.{HasTaken, IsAsked, IsSwept};
+ghost use Rattle.am_runner.specs.Consuming.{HasTaken, IsAsked, IsSwept, sweep_word};
 ghost use Rattle.am_alert.specs.declared.alert.Alert.{Alert};
 ghost use Rattle.am_runner.specs.Answers.{is_item};
 ghost use Rattle.am_runner.specs.Reading.{Asks, AsksBeside, IsTaken, NextIs, ReadAnswers};
-ghost use Rattle.am_runner.specs.Reading.{ReadsOne, TakenBeside, TookAll, groups_beside};
+ghost use Rattle.am_runner.specs.Reading.{ReadsOne, TakenBeside, TookAll, groups_beside, is_notifier};
 
 use crate::answer::{Answer, one};
-use crate::consumer::Consumer;
+use crate::consumer::{Consumer, Half};
 use am_alert::{Alert, Moment};
 use am_inhibit::kept_laws;
 use am_labels::{LabelSet, Text};
@@ -83,6 +83,16 @@ impl<'p, 'c, N: Origin> OpenSubscription<'p, 'c, N> {
         self.name == *name
     }
 
+    /// Whether its consumer is a dispatcher and an inhibitor.
+    pub fn has_notifier(&self) -> bool
+        ensures { result ≡ is_notifier self.now.consumer }
+    {
+        match &self.consumer {
+            Some(Consumer::Notifier(_)) => true,
+            _ => false,
+        }
+    }
+
     /// What at most this many reads answer. Any answer that isn't an alert ends them.
     pub fn read(&mut self, alloc: Global, max: u32) -> Result<Vec<Answer>, AllocError>
         ensures { IfOk result (λ answers. ReadAnswers self.old max answers.items self.new) }
@@ -118,14 +128,12 @@ impl<'p, 'c, N: Origin> OpenSubscription<'p, 'c, N> {
         groups_beside(&mut self.consumer, alloc, at)
     }
 
-    /// Its consumer drops what is resolved at a moment. If memory runs out, all stays as it was.
-    pub fn sweep(&mut self, alloc: Global, now: Moment) -> Result<Vec<Answer>, AllocError>
-        ensures swept { IfOk result (λ answers. Asks (IsSwept now)
-            (Answer.NotOpen Verb.Sweep ∷ []) self.old answers.items self.new) }
-        ensures err { OnErr result (self.new ≡ self.old) }
+    /// One half of its consumer drops what is resolved at a moment.
+    pub fn sweep(&mut self, half: Half, now: Moment) -> Answer
+        ensures { Asks (IsSwept now half) (Answer.NotOpen (sweep_word half)) self.old result self.new }
     {
         kept_laws();
-        sweep_beside(&mut self.consumer, alloc, now)
+        sweep_beside(&mut self.consumer, half, now)
     }
 
     /// By what the inhibitor beside it mutes a target.
@@ -214,18 +222,13 @@ fn groups_beside(
     }
 }
 
-fn sweep_beside(
-    consumer: &mut Option<Consumer<'_>>,
-    alloc: Global,
-    now: Moment,
-) -> Result<Vec<Answer>, AllocError>
-    ensures swept { IfOk result (λ answers. AsksBeside (IsSwept now)
-        (Answer.NotOpen Verb.Sweep ∷ []) consumer.old answers.items consumer.new) }
-    ensures err { OnErr result (consumer.new ≡ consumer.old) }
+fn sweep_beside(consumer: &mut Option<Consumer<'_>>, half: Half, now: Moment) -> Answer
+    ensures { AsksBeside (IsSwept now half)
+        (Answer.NotOpen (sweep_word half)) consumer.old result consumer.new }
 {
     match consumer {
-        Some(consumer) => consumer.sweep(alloc, now),
-        None => one(alloc, Answer::NotOpen(Verb::Sweep)),
+        Some(consumer) => consumer.sweep(half, now),
+        None => Answer::NotOpen(half.sweep_word()),
     }
 }
 

@@ -10,11 +10,12 @@ ghost use Rattle.am_config.specs.declared.config.Config.{Config};
 ghost use Rattle.am_runner.specs.Asking.{AsksTree, ShowsTree};
 ghost use Rattle.am_runner.specs.Sessions.{AsksNamed, Does, LeavesAll, LeavesAt, ReadsNamed, Setting};
 ghost use Rattle.am_runner.specs.Sessions.{SweepsNamed, cut_below, groups_told, named_in, setting_of};
+ghost use Rattle.am_runner.specs.Sessions.{has_notifier, sweep_command};
 ghost use Rattle.am_runner.specs.Turning.{Begins, Ends};
 ghost use Rattle.am_runner.specs.Sessions.{found_answer, index_named, posted_answers, stored_answers};
 
 use crate::answer::{Answer, one};
-use crate::consumer::Consumer;
+use crate::consumer::{Consumer, Half};
 use crate::context::Context;
 use crate::open_subscription::OpenSubscription;
 use crate::register::{Register, TurnsSeen};
@@ -25,7 +26,7 @@ use am_history::Timeline;
 use am_labels::{LabelSet, Text};
 use am_provider::{Caller, Ended, Gate, PostRefused, Posted, Recorded};
 use am_routes::{ListedRoute, MatchedRoute, list_routes, matched_routes};
-use am_script::{Command, Kind, PutAlerts, Verb};
+use am_script::{Command, GivenMoment, Kind, PutAlerts, Verb};
 use am_store::{LaneSet, SharedAlert};
 use std::alloc::{AllocError, Global};
 use std::marker::Model;
@@ -75,6 +76,16 @@ impl<'p, 'c, N: Recorded> Session<'p, 'c, N> {
         ensures { result ≡ is_some (index_named name.now self.now.opened) }
     {
         index_named(&self.opened, name).is_some()
+    }
+
+    /// Whether the subscription of that name has a dispatcher and an inhibitor.
+    pub fn has_notifier(&self, name: &Text) -> bool
+        ensures { result ≡ has_notifier name.now self.now.opened }
+    {
+        match index_named(&self.opened, name) {
+            Some(index) => self.opened[index].has_notifier(),
+            None => false,
+        }
     }
 
     // Begins a turn of its caller.
@@ -141,7 +152,8 @@ impl<'p, 'c, N: Recorded> Session<'p, 'c, N> {
             Command::Close => one(alloc, self.close(context)),
             Command::Trim => one(alloc, self.trim(context)),
             Command::Groups { name, at } => self.groups(alloc, name, *at),
-            Command::Sweep { name, at } => self.sweep(alloc, name, *at),
+            Command::Sweep { name, at } => self.sweep(alloc, Half::Dispatcher, name, *at),
+            Command::Forget { name, at } => self.sweep(alloc, Half::Inhibitor, name, *at),
             Command::Mutes { name, at, labels } => self.mutes(alloc, name, labels, *at),
             Command::Stored => self.stored(context),
             Command::Get { labels } => one(alloc, self.get(context, labels)?),
@@ -248,19 +260,26 @@ impl<'p, 'c, N: Recorded> Session<'p, 'c, N> {
         &mut self,
         alloc: Global,
         name: &Text,
-        at: Option<Moment>,
+        at: GivenMoment,
     ) -> Result<Vec<Answer>, AllocError>
         ensures { IfOk result (λ answers. (config : Config) (setting : Setting) → Does config setting
             self.old (Command.Groups name.now at) answers.items self.new) }
     {
-        groups_named(&mut self.opened, alloc, name, at)
+        groups_named(&mut self.opened, alloc, name, at.moment())
     }
 
-    fn sweep(&mut self, alloc: Global, name: &Text, at: Moment) -> Result<Vec<Answer>, AllocError>
+    // One half of the subscription's consumer drops what is resolved.
+    fn sweep(
+        &mut self,
+        alloc: Global,
+        half: Half,
+        name: &Text,
+        at: Moment,
+    ) -> Result<Vec<Answer>, AllocError>
         ensures { IfOk result (λ answers. (config : Config) (setting : Setting) → Does config setting
-            self.old (Command.Sweep name.now at) answers.items self.new) }
+            self.old (sweep_command half name.now at) answers.items self.new) }
     {
-        sweep_named(&mut self.opened, alloc, name, at)
+        sweep_named(&mut self.opened, alloc, half, name, at)
     }
 
     fn mutes(
@@ -428,15 +447,16 @@ fn groups_named<N: Recorded>(
 fn sweep_named<N: Recorded>(
     opened: &mut [OpenSubscription<'_, '_, N>],
     alloc: Global,
+    half: Half,
     name: &Text,
     at: Moment,
 ) -> Result<Vec<Answer>, AllocError>
     ensures { IfOk result (λ answers.
-        SweepsNamed name.now at opened.old answers.items opened.new) }
+        SweepsNamed half name.now at opened.old answers.items opened.new) }
 {
     match index_named(opened, name) {
-        Some(index) => opened[index].sweep(alloc, at),
-        None => one(alloc, Answer::NotOpen(Verb::Sweep)),
+        Some(index) => one(alloc, opened[index].sweep(half, at)),
+        None => one(alloc, Answer::NotOpen(half.sweep_word())),
     }
 }
 

@@ -15,11 +15,12 @@ use Rattle.am_alert.specs.WholeAlerts.{whole_alerts_in}
 use Rattle.am_alert.specs.declared.alert.Alert.{Alert}
 use Rattle.am_alert.specs.declared.body.Body.{Body}
 use Rattle.am_alert.proofs.Tokens.{apart}
-use Rattle.am_script.specs.Commands.{HasItsBody, IsLineFrom, ReadsCommand, command_for, command_of, given_moment_of, kind_of, labels_at, line_of, max_of, moment_of, name_of, posted_body, thread_of, unless_empty, verb_at, verb_of, within}
+use Rattle.am_script.specs.Commands.{HasItsBody, IsLineFrom, ReadsCommand, command_for, command_of, given_as, given_moment_of, kind_of, labels_at, line_of, max_of, moment_of, name_of, posted_body, thread_of, unless_empty, verb_at, verb_of, within}
 use Rattle.am_script.specs.Kinds.{kind_named}
 use Rattle.am_script.specs.Members.{◌>>=◌}
 use Rattle.am_script.specs.declared.command.Command.{Command}
 use Rattle.am_script.specs.declared.command.Command.TheVariants as command
+use Rattle.am_script.specs.declared.command.GivenMoment.TheVariants.{Absent}
 use Rattle.am_script.specs.declared.command.Verb.{Verb}
 use Rattle.am_script.specs.declared.command.Verb.TheVariants as verb
 use Rattle.am_script.specs.declared.kind.Kind.TheVariants.{Plain}
@@ -125,8 +126,9 @@ no_body b d verb.Leave c other is = none_for command.Leave (name_of d) c (λ nam
 no_body b d verb.Collect c other is = none_for command.Collect (moment_of d) c (λ at d. tt) is
 no_body b d verb.Close c other is = is_that command.Close c (λ d. tt) is
 no_body b d verb.Trim c other is = is_that command.Trim c (λ d. tt) is
-no_body b d verb.Groups c other is = none_for_two command.Groups (name_of d) (given_moment_of d) c (λ name at d. tt) is
+no_body b d verb.Groups c other is = none_for (λ name. command.Groups name (given_moment_of d)) (name_of d) c (λ name d. tt) is
 no_body b d verb.Sweep c other is = none_for_two command.Sweep (name_of d) (moment_of d) c (λ name at d. tt) is
+no_body b d verb.Forget c other is = none_for_two command.Forget (name_of d) (moment_of d) c (λ name at d. tt) is
 no_body b d verb.Mutes c other is = none_for_three command.Mutes (name_of d) (moment_of d) (labels_at d) c (λ name at labels d. tt) is
 no_body b d verb.Stored c other is = is_that command.Stored c (λ d. tt) is
 no_body b d verb.Get c other is = none_for command.Get (labels_at d) c (λ labels d. tt) is
@@ -156,7 +158,7 @@ module _ (body : Option Body) (alerts : Option (List Alert)) (d : Data) (ms : Me
   same_max = ap (λ o. cond (is_some o) (option_and_then (within 1 65536) (option_and_then as_u64 (option_and_then as_number o))) (Some 1)) (here (codes "max") refl refl)
 
   same_given_moment : given_moment_of d ≡ given_moment_of (object ms)
-  same_given_moment = ap (λ o. cond (is_some o) (option_map Some (option_and_then (λ (time : Option ℕ). time) (option_and_then time_of (option_and_then as_str o)))) (Some None)) (here (codes "at") refl refl)
+  same_given_moment = ap (λ o. cond (is_some o) (given_as (option_and_then (λ (time : Option ℕ). time) (option_and_then time_of (option_and_then as_str o)))) Absent) (here (codes "at") refl refl)
 
   same_labels : labels_at d ≡ labels_at (object ms)
   same_labels = ap (option_and_then labels_of) (here (codes "labels") refl refl)
@@ -173,6 +175,7 @@ module _ (body : Option Body) (alerts : Option (List Alert)) (d : Data) (ms : Me
   same_command b verb.Trim other = refl
   same_command b verb.Groups other = rw (same_name, same_given_moment) refl
   same_command b verb.Sweep other = rw (same_name, same_moment) refl
+  same_command b verb.Forget other = rw (same_name, same_moment) refl
   same_command b verb.Mutes other = rw (same_name, same_moment, same_labels) refl
   same_command b verb.Stored other = refl
   same_command b verb.Get other = ap (option_map command.Get) same_labels

@@ -13,8 +13,10 @@ use Rattle.am_alert.specs.declared.body.Body.{Body}
 use Rattle.am_alert.specs.declared.body.Body.TheVariants.{Text}
 use Rattle.am_script.specs.declared.command.Command.{Command}
 use Rattle.am_script.specs.declared.command.Command.TheVariants.{Post, Put, Subscribe, Read, Leave, Collect}
-use Rattle.am_script.specs.declared.command.Command.TheVariants.{Close, Trim, Groups, Sweep, Mutes, Stored}
-use Rattle.am_script.specs.declared.command.Command.TheVariants.{Get, Routes, Route}
+use Rattle.am_script.specs.declared.command.Command.TheVariants.{Close, Trim, Groups, Sweep, Forget, Mutes}
+use Rattle.am_script.specs.declared.command.Command.TheVariants.{Stored, Get, Routes, Route}
+use Rattle.am_script.specs.declared.command.GivenMoment.{GivenMoment}
+use Rattle.am_script.specs.declared.command.GivenMoment.TheVariants.{Absent, At, Unread}
 use Rattle.am_script.specs.declared.command.Line.{Line}
 use Rattle.am_script.specs.declared.command.LineFault.{LineFault}
 use Rattle.am_script.specs.declared.command.LineFault.TheVariants.{BadLine, NoMemory}
@@ -43,10 +45,20 @@ thread_of d = number_member (codes "thread") 0 7 d
 abbrev pub moment_of : Data → Option ℕ
 moment_of d = moment_at (codes "at") d
 
--- the moment of `at`, if there is that member
-abbrev pub given_moment_of : Data → Option (Option ℕ)
-given_moment_of d =
-    if is_some (get (codes "at") d) then option_map Some (moment_of d) else Some None
+-- a member that is there: a moment, or none
+abbrev pub given_as : Option ℕ → GivenMoment
+given_as (Some moment) = At moment
+given_as None = Unread
+
+-- what `at` is, if there is that member
+abbrev pub given_moment_of : Data → GivenMoment
+given_moment_of d = if is_some (get (codes "at") d) then given_as (moment_of d) else Absent
+
+-- the moment that is given, if one is
+abbrev pub moment_in : GivenMoment → Option ℕ
+moment_in (At moment) = Some moment
+moment_in Absent = None
+moment_in Unread = None
 
 -- a text that isn't empty
 abbrev pub unless_empty : List ℕ → Option (List ℕ)
@@ -89,12 +101,13 @@ verb_of text =
     else (if bytes_eq text (codes "trim") then Some verb.Trim
     else (if bytes_eq text (codes "groups") then Some verb.Groups
     else (if bytes_eq text (codes "sweep") then Some verb.Sweep
+    else (if bytes_eq text (codes "forget") then Some verb.Forget
     else (if bytes_eq text (codes "mutes") then Some verb.Mutes
     else (if bytes_eq text (codes "stored") then Some verb.Stored
     else (if bytes_eq text (codes "get") then Some verb.Get
     else (if bytes_eq text (codes "routes") then Some verb.Routes
     else (if bytes_eq text (codes "route") then Some verb.Route
-    else None))))))))))))))
+    else None)))))))))))))))
 
 -- the word in `do`
 abbrev pub verb_at : Data → Option Verb
@@ -124,12 +137,15 @@ command_for body d verb.Close = Some Close
 command_for body d verb.Trim = Some Trim
 command_for body d verb.Groups = do
   name ← name_of d
-  at ← given_moment_of d
-  Some (Groups name at)
+  Some (Groups name (given_moment_of d))
 command_for body d verb.Sweep = do
   name ← name_of d
   at ← moment_of d
   Some (Sweep name at)
+command_for body d verb.Forget = do
+  name ← name_of d
+  at ← moment_of d
+  Some (Forget name at)
 command_for body d verb.Mutes = do
   name ← name_of d
   at ← moment_of d
@@ -160,6 +176,7 @@ posted_body Close = Text []
 posted_body Trim = Text []
 posted_body (Groups name at) = Text []
 posted_body (Sweep name at) = Text []
+posted_body (Forget name at) = Text []
 posted_body (Mutes name at labels) = Text []
 posted_body Stored = Text []
 posted_body (Get labels) = Text []
@@ -178,6 +195,7 @@ HasItsBody d Close = ⊤
 HasItsBody d Trim = ⊤
 HasItsBody d (Groups name at) = ⊤
 HasItsBody d (Sweep name at) = ⊤
+HasItsBody d (Forget name at) = ⊤
 HasItsBody d (Mutes name at labels) = ⊤
 HasItsBody d Stored = ⊤
 HasItsBody d (Get labels) = ⊤

@@ -1,5 +1,5 @@
 -- The kind of a subscription: what consumes its alerts.
-use Rattle.std.specs.Prelude.{ℕ, Bool, true, false, ◌&&◌, List, codes, Option, Some, None, if◌then◌else◌}
+use Rattle.std.specs.Prelude.{ℕ, Bool, true, false, List, codes, Option, Some, None, if◌then◌else◌}
 use Rattle.std.specs.Str.{bytes_eq}
 use Rattle.am_script.specs.declared.kind.Kind.{Kind}
 use Rattle.am_script.specs.declared.kind.Kind.TheVariants.{Plain, Dispatch, Inhibit, Notify}
@@ -18,13 +18,6 @@ is_inhibit Dispatch = false
 is_inhibit Inhibit = true
 is_inhibit Notify = true
 
--- whether something consumes the alerts
-abbrev pub is_consumer : Kind → Bool
-is_consumer Plain = false
-is_consumer Dispatch = true
-is_consumer Inhibit = true
-is_consumer Notify = true
-
 -- whether there is one, and a dispatcher consumes its alerts
 abbrev pub is_some_dispatch : Option Kind → Bool
 is_some_dispatch None = false
@@ -34,17 +27,6 @@ is_some_dispatch (Some kind) = is_dispatch kind
 abbrev pub is_some_inhibit : Option Kind → Bool
 is_some_inhibit None = false
 is_some_inhibit (Some kind) = is_inhibit kind
-
--- whether there is one, and something consumes its alerts
-abbrev pub is_some_consumer : Option Kind → Bool
-is_some_consumer None = false
-is_some_consumer (Some kind) = is_consumer kind
-
--- whether there is one whose groups can be asked for, and at a moment, if one is given, what mutes
--- their alerts
-abbrev pub is_some_grouping : Option ℕ → Option Kind → Bool
-is_some_grouping None kind = is_some_dispatch kind
-is_some_grouping (Some at) kind = is_some_dispatch kind && is_some_inhibit kind
 
 -- the kind of a word
 abbrev pub kind_named : List ℕ → Option Kind

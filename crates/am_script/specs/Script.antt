@@ -1,9 +1,9 @@
 -- Checking a whole script before anything runs: its lines, its limits, and the names of its
 -- subscriptions.
-use Rattle.std.specs.Prelude.{◌≡◌, ◌⊎◌, ◌<◌, ◌≤◌, ◌+◌, ℕ, ◌&&◌, ◌==◌, Bool, true, false, if◌then◌else◌, List}
-use Rattle.std.specs.Prelude.{[], ◌∷◌, ◌++◌, length, fold, Option, Some, None, is_some, is_none, Result, Ok}
-use Rattle.std.specs.Prelude.{Err, ⊤}
-use Rattle.am_script.specs.Kinds.{is_some_consumer, is_some_grouping, is_some_inhibit}
+use Rattle.std.specs.Prelude.{◌≡◌, ◌⊎◌, ◌<◌, ◌≤◌, ◌+◌, ℕ, ◌&&◌, ◌==◌, Bool, true, false, not, if◌then◌else◌}
+use Rattle.std.specs.Prelude.{List, [], ◌∷◌, ◌++◌, length, fold, Option, Some, None, is_some, is_none, Result}
+use Rattle.std.specs.Prelude.{Ok, Err, ⊤}
+use Rattle.am_script.specs.Kinds.{is_some_dispatch, is_some_inhibit}
 use Rattle.am_script.specs.declared.kind.Kind.{Kind}
 use Rattle.am_script.specs.declared.limits.TheConstants.{LONGEST_LINE, MOST_LINES}
 use Rattle.std.specs.List.{onto_first}
@@ -11,10 +11,12 @@ use Rattle.std.specs.Str.{bytes_eq}
 use Rattle.am_script.specs.Commands.{IsLineOf}
 use Rattle.am_script.specs.declared.command.Command.{Command}
 use Rattle.am_script.specs.declared.command.Command.TheVariants.{Post, Put, Subscribe, Read, Leave, Collect}
-use Rattle.am_script.specs.declared.command.Command.TheVariants.{Close, Trim, Groups, Sweep, Mutes, Stored}
-use Rattle.am_script.specs.declared.command.Command.TheVariants.{Get, Routes, Route}
+use Rattle.am_script.specs.declared.command.Command.TheVariants.{Close, Trim, Groups, Sweep, Forget, Mutes}
+use Rattle.am_script.specs.declared.command.Command.TheVariants.{Stored, Get, Routes, Route}
+use Rattle.am_script.specs.declared.command.GivenMoment.TheVariants.{Unread}
 use Rattle.am_script.specs.declared.command.Line.{Line}
 use Rattle.am_script.specs.declared.command.LineFault.TheVariants as line_fault
+use Rattle.am_script.specs.declared.script.Fault.{Fault}
 use Rattle.am_script.specs.declared.script.Fault.TheVariants.{BadLine, BadName, TooLarge}
 use Rattle.am_script.specs.declared.script.Refusal.{Refusal}
 use Rattle.am_script.specs.declared.script.ScriptFault.{ScriptFault}
@@ -45,6 +47,7 @@ subscribed_after here name before Close = before
 subscribed_after here name before Trim = before
 subscribed_after here name before (Groups other at) = before
 subscribed_after here name before (Sweep other at) = before
+subscribed_after here name before (Forget other at) = before
 subscribed_after here name before (Mutes other at labels) = before
 subscribed_after here name before Stored = before
 subscribed_after here name before (Get labels) = before
@@ -62,8 +65,9 @@ abbrev pub is_named_well : (List ℕ → Option Kind) → Command → Bool
 is_named_well subscribed (Subscribe name kind) = is_none (subscribed name)
 is_named_well subscribed (Leave name) = is_some (subscribed name)
 is_named_well subscribed (Read name max) = is_some (subscribed name)
-is_named_well subscribed (Groups name at) = is_some_grouping at (subscribed name)
-is_named_well subscribed (Sweep name at) = is_some_consumer (subscribed name)
+is_named_well subscribed (Groups name at) = is_some_dispatch (subscribed name)
+is_named_well subscribed (Sweep name at) = is_some_dispatch (subscribed name)
+is_named_well subscribed (Forget name at) = is_some_inhibit (subscribed name)
 is_named_well subscribed (Mutes name at labels) = is_some_inhibit (subscribed name)
 is_named_well subscribed (Post at body) = true
 is_named_well subscribed (Put at alerts) = true
@@ -78,6 +82,21 @@ is_named_well subscribed (Route labels) = true
 -- whether a line's name is the right one after the lines before it
 abbrev pub is_well_named : List Line → Line → Bool
 is_well_named earlier line = is_named_well (subscribed_as earlier line.thread) line.command
+
+-- whether the `at` of `groups` is a moment where it is a member: if the name is subscribed with an inhibitor
+abbrev pub is_moment_read : (List ℕ → Option Kind) → Command → Bool
+is_moment_read subscribed (Groups name Unread) = not (is_some_inhibit (subscribed name))
+is_moment_read subscribed other = true
+
+-- whether it is for a line after the lines before it
+abbrev pub has_its_moment : List Line → Line → Bool
+has_its_moment earlier line = is_moment_read (subscribed_as earlier line.thread) line.command
+
+-- what is wrong with a line that reads as a command, after the lines before it
+abbrev pub Misfits : List Line → Line → Fault → Type 0
+Misfits earlier line BadLine = has_its_moment earlier line ≡ false
+Misfits earlier line BadName = is_well_named earlier line ≡ false
+Misfits earlier line TooLarge = ⊥
 
 -- the first of some lines, or an empty one
 abbrev pub first_of : List (List ℕ) → List ℕ
@@ -116,16 +135,17 @@ pub data Checks : ℕ → List Line → List (List ℕ) → Result (List Line) R
       → IsWithinLimits number bytes → 1 < number → 0 < length bytes
       → IsLineOf number bytes (Err line_fault.BadLine)
       → Checks number earlier (bytes ∷ rest) (Err (record { number = number; fault = BadLine }))
-  bad_name : {number : ℕ} {earlier : List Line} {bytes : List ℕ} {rest : List (List ℕ)} {line : Line}
+  misfits : {number : ℕ} {earlier : List Line} {bytes : List ℕ} {rest : List (List ℕ)} {line : Line}
+      {fault : Fault}
       → IsWithinLimits number bytes → 1 < number → 0 < length bytes
-      → IsLineOf number bytes (Ok line)
-      → is_well_named earlier line ≡ false
-      → Checks number earlier (bytes ∷ rest) (Err (record { number = number; fault = BadName }))
+      → IsLineOf number bytes (Ok line) → Misfits earlier line fault
+      → Checks number earlier (bytes ∷ rest) (Err (record { number = number; fault = fault }))
   command : {number : ℕ} {earlier : List Line} {bytes : List ℕ} {rest : List (List ℕ)} {line : Line}
       {result : Result (List Line) Refusal}
       → IsWithinLimits number bytes → 1 < number → 0 < length bytes
       → IsLineOf number bytes (Ok line)
-      → is_well_named earlier line ≡ true → Checks (number + 1) (earlier ++ line ∷ []) rest result
+      → has_its_moment earlier line ≡ true → is_well_named earlier line ≡ true
+      → Checks (number + 1) (earlier ++ line ∷ []) rest result
       → Checks number earlier (bytes ∷ rest) result
 
 -- what checking a text answers, unless it is out of memory

@@ -3,3 +3,4 @@ pub mod Counting
 pub mod Intakes
 pub mod AlertTokens
 pub mod LineMembers
+pub mod Checking

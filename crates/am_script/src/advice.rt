@@ -2,7 +2,7 @@
 //!
 //! The output has the line's number and its fault, and that is what contracts speak of. This is for the error stream.
 
-use crate::command::{LineFault, Verb};
+use crate::command::{GivenMoment, LineFault, Verb};
 use crate::limits::{LONGEST_LINE, MOST_LINES};
 use crate::members::{
     given_moment_at, kind_at, labels_at, max_at, moment_at, name_at, thread_at, verb_at,
@@ -63,7 +63,10 @@ impl Member {
             Member::Thread => thread_at(value).map(drop),
             Member::Verb => verb_at(value).map(drop),
             Member::At => moment_at(value, "at").map(drop),
-            Member::GivenAt => given_moment_at(value).map(drop),
+            Member::GivenAt => match given_moment_at(value)? {
+                GivenMoment::Absent | GivenMoment::At(_) => Ok(()),
+                GivenMoment::Unread => Err(LineFault::BadLine),
+            },
             Member::Body => match value.get("body") {
                 Some(_) => Ok(()),
                 None => Err(LineFault::BadLine),
@@ -87,7 +90,7 @@ fn members_of(verb: Verb) -> &'static [Member] {
         Verb::Leave => &[Member::Name],
         Verb::Groups => &[Member::Name, Member::GivenAt],
         Verb::Collect => &[Member::At],
-        Verb::Sweep => &[Member::Name, Member::At],
+        Verb::Sweep | Verb::Forget => &[Member::Name, Member::At],
         Verb::Mutes => &[Member::Name, Member::At, Member::Labels],
         Verb::Get | Verb::Route => &[Member::Labels],
         Verb::Close | Verb::Trim | Verb::Stored | Verb::Routes => &[],

@@ -1,6 +1,7 @@
 //! The commands of a script: what a line can ask for, and the word for each.
 
 ghost use Rattle.std.specs.Prelude.{◌≡◌, Some};
+ghost use Rattle.am_script.specs.Commands.{moment_in};
 ghost use Rattle.am_script.specs.ScriptTexts.{verb_text};
 
 use crate::kind::Kind;
@@ -41,14 +42,19 @@ pub enum Command {
     },
     Close,
     Trim,
-    /// The groups of a subscription's dispatcher. At a moment, if one is given, also what its inhibitor
-    /// mutes each of their alerts by.
+    /// The groups of a subscription's dispatcher. With an inhibitor and a moment also what mutes each of
+    /// their alerts then.
     Groups {
         name: Text,
-        at: Option<Moment>,
+        at: GivenMoment,
     },
-    /// Its dispatcher and its inhibitor, those that it has, drop what is resolved at the moment.
+    /// A subscription's dispatcher drops what is resolved at the moment.
     Sweep {
+        name: Text,
+        at: Moment,
+    },
+    /// A subscription's inhibitor drops what is resolved at the moment.
+    Forget {
         name: Text,
         at: Moment,
     },
@@ -71,6 +77,28 @@ pub enum Command {
     Route {
         labels: LabelSet,
     },
+}
+
+/// The `at` of `groups`. It is a member of that command only if the subscription has an inhibitor too. Other
+/// members are ignored, so one that is no moment is kept until the kind of the subscription is known.
+#[derive(Clone, Copy, Debug, PartialEq, Eq)]
+pub enum GivenMoment {
+    Absent,
+    At(Moment),
+    /// There is that member, and it is no moment.
+    Unread,
+}
+
+impl GivenMoment {
+    /// The moment, if one is given.
+    pub fn moment(self) -> Option<Moment>
+        ensures { result ≡ moment_in self }
+    {
+        match self {
+            GivenMoment::At(moment) => Some(moment),
+            GivenMoment::Absent | GivenMoment::Unread => None,
+        }
+    }
 }
 
 /// A command, with the thread that gives it and the number of its line.
@@ -121,6 +149,7 @@ pub enum Verb {
     Trim,
     Groups,
     Sweep,
+    Forget,
     Mutes,
     Stored,
     Get,
@@ -143,6 +172,7 @@ impl fmt::Display for Verb {
             Verb::Trim => "trim",
             Verb::Groups => "groups",
             Verb::Sweep => "sweep",
+            Verb::Forget => "forget",
             Verb::Mutes => "mutes",
             Verb::Stored => "stored",
             Verb::Get => "get",

@@ -1,7 +1,7 @@
 //! The kind of a subscription: what consumes its alerts.
 
 ghost use Rattle.std.specs.Prelude.{◌≡◌};
-ghost use Rattle.am_script.specs.Kinds.{is_consumer, is_dispatch, is_inhibit};
+ghost use Rattle.am_script.specs.Kinds.{is_dispatch, is_inhibit};
 
 /// What consumes the alerts of a subscription.
 #[derive(Clone, Copy, Debug, PartialEq, Eq)]
@@ -24,16 +24,6 @@ impl Kind {
         match self {
             Kind::Dispatch | Kind::Notify => true,
             Kind::Plain | Kind::Inhibit => false,
-        }
-    }
-
-    /// Whether something consumes the alerts.
-    pub fn is_consumer(self) -> bool
-        ensures { result ≡ is_consumer self }
-    {
-        match self {
-            Kind::Dispatch | Kind::Inhibit | Kind::Notify => true,
-            Kind::Plain => false,
         }
     }
 

@@ -43,7 +43,7 @@ mod script;
 mod thread;
 
 pub use advice::{config_advice, script_advice};
-pub use command::{Command, Line, LineFault, Verb};
+pub use command::{Command, GivenMoment, Line, LineFault, Verb};
 pub use failure::Failure;
 pub use input::read_input;
 pub use json_line::{JsonLine, write_fault};

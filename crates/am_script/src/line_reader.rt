@@ -152,6 +152,7 @@ pub(crate) fn command_for(alloc: Global, value: Value, verb: Verb) -> Result<Com
         Verb::Trim => Ok(Command::Trim),
         Verb::Groups => groups_of(alloc, &value),
         Verb::Sweep => sweep_of(alloc, &value),
+        Verb::Forget => forget_of(alloc, &value),
         Verb::Mutes => mutes_of(alloc, &value),
         Verb::Stored => Ok(Command::Stored),
         Verb::Get => get_of(alloc, &value),
@@ -239,6 +240,16 @@ fn sweep_of(alloc: Global, value: &Value) -> Result<Command, LineFault>
     let name = name_at(alloc, value)?;
     let at = moment_at(value, "at")?;
     Ok(Command::Sweep { name, at })
+}
+
+#[tactic(auto, unfolding(crate::specs::Commands::command_for))]
+fn forget_of(alloc: Global, value: &Value) -> Result<Command, LineFault>
+    ensures { ReadsCommand (view value.now) result
+        (λ body. command_for body (view value.now) Verb.Forget) }
+{
+    let name = name_at(alloc, value)?;
+    let at = moment_at(value, "at")?;
+    Ok(Command::Forget { name, at })
 }
 
 #[tactic(auto, unfolding(crate::specs::Commands::command_for))]

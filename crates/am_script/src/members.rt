@@ -9,13 +9,13 @@ ghost use Rattle.am_script.specs.Commands.{IsReadAs};
 ghost use Rattle.am_script.specs.Members.{moment_at, text_member};
 ghost use Rattle.am_script.specs.Kinds.{kind_named};
 
-use crate::command::{LineFault, Verb};
+use crate::command::{GivenMoment, LineFault, Verb};
 use crate::kind::Kind;
 use crate::thread::Thread;
 use am_alert::{Moment, TimeFault, read_time};
 use am_labels::{LabelSet, Text};
 use serde_json::{Map, Value};
-use std::alloc::Global;
+use std::alloc::{AllocError, Global};
 
 pub(crate) fn thread_at(value: &Value) -> Result<Thread, LineFault>
     ensures { IsReadAs result (thread_of (view value.now)) }
@@ -68,6 +68,8 @@ fn verb_of(text: &str) -> Option<Verb>
         Some(Verb::Groups)
     } else if text == "sweep" {
         Some(Verb::Sweep)
+    } else if text == "forget" {
+        Some(Verb::Forget)
     } else if text == "mutes" {
         Some(Verb::Mutes)
     } else if text == "stored" {
@@ -167,13 +169,17 @@ pub(crate) fn moment_at(value: &Value, name: &str) -> Result<Moment, LineFault>
     }
 }
 
-// The moment of `at`, if there is that member.
-pub(crate) fn given_moment_at(value: &Value) -> Result<Option<Moment>, LineFault>
-    ensures { IsReadAs result (given_moment_of (view value.now)) }
+// What `at` is, if there is that member.
+pub(crate) fn given_moment_at(value: &Value) -> Result<GivenMoment, AllocError>
+    ensures { IfOk result (λ at. at ≡ given_moment_of (view value.now)) }
 {
-    match value.get("at") {
-        Some(_) => Ok(Some(moment_at(value, "at")?)),
-        None => Ok(None),
+    if value.get("at").is_none() {
+        return Ok(GivenMoment::Absent);
+    }
+    match moment_at(value, "at") {
+        Ok(moment) => Ok(GivenMoment::At(moment)),
+        Err(LineFault::BadLine) => Ok(GivenMoment::Unread),
+        Err(LineFault::NoMemory) => Err(AllocError),
     }
 }
 

@@ -5,13 +5,12 @@ ghost use Rattle.std.specs.Prelude.{IfOk, OnErr};
 ghost use Rattle.std.specs.Bool.{OnFalse, OnTrue};
 ghost use Rattle.std.specs.BTreeMap.{get, IsUnchanged, Updates};
 ghost use Rattle.am_script.specs.Names.{name_cmp, HoldsNames};
-ghost use Rattle.am_script.specs.Kinds.{is_some_consumer, is_some_grouping, is_some_inhibit};
-ghost use Rattle.am_script.specs.Script.{is_well_named};
+ghost use Rattle.am_script.specs.Kinds.{is_some_dispatch, is_some_inhibit};
+ghost use Rattle.am_script.specs.Script.{has_its_moment, is_well_named};
 
-use crate::command::{Command, Line};
+use crate::command::{Command, GivenMoment, Line};
 use crate::kind::Kind;
 use crate::thread::Thread;
-use am_alert::Moment;
 use am_labels::Text;
 use std::alloc::AllocError;
 use std::collections::BTreeMap;
@@ -31,9 +30,12 @@ pub(crate) fn follow(names: &mut Names, line: &Line) -> Result<bool, AllocError>
         Command::Subscribe { name, kind } => subscribe(names, (thread, name.copy()?), *kind),
         Command::Leave { name } => Ok(names.remove(&(thread, name.copy()?)).is_some()),
         Command::Read { name, max: _ } => Ok(names.contains_key(&(thread, name.copy()?))),
-        Command::Groups { name, at } => Ok(has_grouping(names, &(thread, name.copy()?), *at)),
-        Command::Sweep { name, at: _ } => Ok(has_consumer(names, &(thread, name.copy()?))),
-        Command::Mutes { name, .. } => Ok(has_inhibitor(names, &(thread, name.copy()?))),
+        Command::Groups { name, at: _ } | Command::Sweep { name, at: _ } => {
+            Ok(has_dispatcher(names, &(thread, name.copy()?)))
+        }
+        Command::Forget { name, at: _ } | Command::Mutes { name, .. } => {
+            Ok(has_inhibitor(names, &(thread, name.copy()?)))
+        }
         Command::Post { .. }
         | Command::Put { .. }
         | Command::Collect { .. }
@@ -61,23 +63,26 @@ fn subscribe(names: &mut Names, name: (Thread, Text), kind: Kind) -> Result<bool
     Ok(true)
 }
 
-// Whether the name is subscribed with a dispatcher, and with an inhibitor too if a moment is given.
-fn has_grouping(names: &Names, name: &(Thread, Text), at: Option<Moment>) -> bool
-    ensures { result ≡ is_some_grouping at (get name_cmp names.now name.now) }
+// Whether the `at` of `groups` is a moment where it is a member: if the name is subscribed with an inhibitor.
+pub(crate) fn has_its_moment(names: &Names, line: &Line) -> Result<bool, AllocError>
+    ensures { IfOk result (λ has. (earlier : List Line) → HoldsNames names.now earlier
+        → has ≡ has_its_moment earlier line.now) }
 {
-    match (names.get(name), at) {
-        (Some(kind), None) => kind.is_dispatch(),
-        (Some(kind), Some(_)) => kind.is_dispatch() && kind.is_inhibit(),
-        (None, _) => false,
+    match &line.command {
+        Command::Groups {
+            name,
+            at: GivenMoment::Unread,
+        } => Ok(!has_inhibitor(names, &(line.thread, name.copy()?))),
+        _ => Ok(true),
     }
 }
 
-// Whether the name is subscribed with a dispatcher or an inhibitor.
-fn has_consumer(names: &Names, name: &(Thread, Text)) -> bool
-    ensures { result ≡ is_some_consumer (get name_cmp names.now name.now) }
+// Whether the name is subscribed with a dispatcher.
+fn has_dispatcher(names: &Names, name: &(Thread, Text)) -> bool
+    ensures { result ≡ is_some_dispatch (get name_cmp names.now name.now) }
 {
     match names.get(name) {
-        Some(kind) => kind.is_consumer(),
+        Some(kind) => kind.is_dispatch(),
         None => false,
     }
 }

@@ -1,18 +1,19 @@
 //! The whole script: its lines, checked one after another before anything runs.
 
-ghost use Rattle.std.specs.Prelude.{◌≡◌, ◌⊎◌, ◌<◌, ◌≤◌, [], ◌∷◌, ◌++◌, length};
+ghost use Rattle.std.specs.Prelude.{◌≡◌, ◌<◌, ◌≤◌, [], ◌∷◌, ◌++◌, length};
 ghost use Rattle.std.specs.Prelude.{true, false, Some, Ok, Err, IfOk, IfErr, OnOk, OnErr};
 ghost use Rattle.am_script.specs.Names.{HoldsNames};
 ghost use Rattle.am_script.specs.ScriptTexts.{fault_text, refusal_text};
 ghost use Rattle.am_script.specs.Script.{Checks, Continues, IsRefused, Stops};
-ghost use Rattle.am_script.specs.Script.{config_line, is_well_named, lines_of};
+ghost use Rattle.am_script.specs.inside.Checking.{IsRefusedAfter};
+ghost use Rattle.am_script.specs.Script.{config_line, has_its_moment, is_well_named, lines_of};
 
 use crate::command::{Line, LineFault};
 use crate::kind::Kind;
 use crate::limits::{LONGEST_LINE, MOST_LINES};
 use crate::line_feed::line_feed;
 use crate::line_reader::LineReader;
-use crate::names::follow;
+use crate::names::{follow, has_its_moment};
 use crate::thread::Thread;
 use am_labels::Text;
 use std::alloc::{AllocError, AllocFailed, Global};
@@ -164,15 +165,17 @@ impl Checked {
         }
     }
 
-    // Adds a line whose name is the right one.
+    // Adds a line whose name and moment are the right ones.
     fn add_line(&mut self, number: u32, line: Line) -> Result<(), ScriptFault>
-        ensures ok { OnOk result ((self.new.lines.items ≡ self.old.lines.items ++ line ∷ [])
-            × (is_well_named self.old.lines.items line ≡ true)) }
-        ensures refused { IfErr result (λ fault. (fault ≡ ScriptFault.NoMemory)
-            ⊎ ((fault ≡ ScriptFault.Refused (record { number = number; fault = Fault.BadName }))
-            × (is_well_named self.old.lines.items line ≡ false))) }
+        ensures ok { OnOk result (self.new.lines.items ≡ self.old.lines.items ++ line ∷ []) }
+        ensures moment { OnOk result (has_its_moment self.old.lines.items line ≡ true) }
+        ensures named { OnOk result (is_well_named self.old.lines.items line ≡ true) }
+        ensures refused { IfErr result (IsRefusedAfter number self.old.lines.items line) }
     {
         self.lines.reserve(1)?;
+        if !has_its_moment(&self.names, &line)? {
+            return refused(number, Fault::BadLine);
+        }
         match follow(&mut self.names, &line) {
             Ok(true) => {
                 self.lines.push_reserved(line);

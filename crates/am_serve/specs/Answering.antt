@@ -1,12 +1,13 @@
 -- What a line does and prints.
-use Rattle.std.specs.Prelude.{◌≡◌, ◌<◌, ◌≤◌, ℕ, Bool, true, false, is_none, List, [], ◌∷◌, ◌++◌, length}
+use Rattle.std.specs.Prelude.{◌≡◌, ◌<◌, ◌≤◌, ℕ, Bool, true, false, not, is_none, List, [], ◌∷◌, ◌++◌, length}
 use Rattle.std.specs.Prelude.{Ok, Err}
 use Rattle.std.specs.Fmt.{decimal}
 use Rattle.am_config.specs.declared.config.Config.{Config}
 use Rattle.am_script.specs.Commands.{IsCommandOf}
 use Rattle.am_script.specs.ScriptTexts.{fault_text}
 use Rattle.am_script.specs.declared.command.Command.{Command}
-use Rattle.am_script.specs.declared.command.Command.TheVariants.{Subscribe}
+use Rattle.am_script.specs.declared.command.Command.TheVariants.{Groups, Subscribe}
+use Rattle.am_script.specs.declared.command.GivenMoment.TheVariants.{Unread}
 use Rattle.am_script.specs.declared.command.LineFault.TheVariants as line_fault
 use Rattle.am_script.specs.declared.limits.TheConstants.{LONGEST_LINE}
 use Rattle.am_script.specs.declared.script.Fault.{Fault}
@@ -17,7 +18,7 @@ use Rattle.am_runner.specs.PrintingJson.{count_members}
 use Rattle.am_runner.specs.declared.form.Form.{Form}
 use Rattle.am_runner.specs.declared.form.Form.TheVariants.{Text, Json}
 use Rattle.am_runner.specs.Reading.{OpenView}
-use Rattle.am_runner.specs.Sessions.{Setting, SessionView, Does, index_named}
+use Rattle.am_runner.specs.Sessions.{Setting, SessionView, Does, has_notifier, index_named}
 use Rattle.am_runner.specs.declared.answer.Answer.{Answer}
 
 -- a refused line: its number and its fault, as an object followed by how many answers the line has
@@ -31,14 +32,21 @@ abbrev pub has_free_name : Command → List OpenView → Bool
 has_free_name (Subscribe name kind) opened = is_none (index_named name opened)
 has_free_name _ opened = true
 
+-- whether the `at` of `groups` is a moment where it is a member: if the subscription has an inhibitor too
+abbrev pub has_its_moment : Command → List OpenView → Bool
+has_its_moment (Groups name Unread) opened = not (has_notifier name opened)
+has_its_moment _ opened = true
+
 -- what a command of the line of this number prints, and what it does to a session: nothing, if it
--- subscribes a name that is open; else what it answers
+-- subscribes a name that is open or its moment isn't one; else what it answers
 pub data Obeys (config : Config) (setting : Setting) (form : Form) (number : ℕ) (command : Command)
     (old : SessionView) : List ℕ → SessionView → Type 0 where
   bad_name : has_free_name command old.opened ≡ false
       → Obeys config setting form number command old (refused_text form number BadName) old
+  bad_moment : has_its_moment command old.opened ≡ false
+      → Obeys config setting form number command old (refused_text form number BadLine) old
   ran : {given : List Answer} {new : SessionView} → has_free_name command old.opened ≡ true
-      → Does config setting old command given new
+      → has_its_moment command old.opened ≡ true → Does config setting old command given new
       → Obeys config setting form number command old (answers_printed form number given) new
 
 -- What the line of this number prints, and what it does to a session: nothing, if it is empty; a refusal,

@@ -2,11 +2,11 @@
 
 ghost use Rattle.std.specs.Prelude.{◌≡◌, IfOk, string_bytes};
 ghost use Rattle.am_runner.specs.Sessions.{setting_of};
-ghost use Rattle.am_serve.specs.Answering.{Answers, Obeys, has_free_name, refused_text};
+ghost use Rattle.am_serve.specs.Answering.{Answers, Obeys, has_free_name, has_its_moment, refused_text};
 
 use am_provider::{Gate, Recorded};
 use am_runner::{Context, Form, Session, write_answers, write_count};
-use am_script::{Command, Fault, LONGEST_LINE, LineFault, LineReader, write_fault};
+use am_script::{Command, Fault, GivenMoment, LONGEST_LINE, LineFault, LineReader, write_fault};
 use std::alloc::{AllocError, Global};
 use std::sync::Wait;
 
@@ -38,7 +38,7 @@ pub fn answer_line<'p, 'c, N: Recorded, R: Wait, G: Gate>(
     }
 }
 
-// Does what a command asks for, unless its name is taken.
+// Does what a command asks for, unless its name is taken or its moment isn't one.
 fn obey<'p, 'c, N: Recorded, R: Wait, G: Gate>(
     context: &Context<'p, 'c, N, R, G>,
     session: &mut Session<'p, 'c, N>,
@@ -53,6 +53,9 @@ fn obey<'p, 'c, N: Recorded, R: Wait, G: Gate>(
     if !has_free_name(session, command) {
         return refused(context.alloc, form, number, Fault::BadName);
     }
+    if !has_its_moment(session, command) {
+        return refused(context.alloc, form, number, Fault::BadLine);
+    }
     let given = session.run(context, command)?;
     let mut text = String::new(context.alloc);
     write_answers(&mut text, form, number, &given)?;
@@ -65,6 +68,19 @@ fn has_free_name<N: Recorded>(session: &Session<'_, '_, N>, command: &Command) -
 {
     match command {
         Command::Subscribe { name, kind: _ } => !session.has_name(name),
+        _ => true,
+    }
+}
+
+// Whether the `at` of `groups` is a moment where it is a member: if the subscription has an inhibitor too.
+fn has_its_moment<N: Recorded>(session: &Session<'_, '_, N>, command: &Command) -> bool
+    ensures { result ≡ has_its_moment command.now session.now.opened }
+{
+    match command {
+        Command::Groups {
+            name,
+            at: GivenMoment::Unread,
+        } => !session.has_notifier(name),
         _ => true,
     }
 }

@@ -92,7 +92,7 @@ returns-in_ok-write_refused-in-OutOfMemory c =
 
 pub returns-in_ok-text-in-Forgotten : goal.returns-in_ok-text-in-Forgotten
 returns-in_ok-text-in-Forgotten c =
-    let part-0 : List Token = named (codes "answer") (string (codes "sweep_alerts")) in
+    let part-0 : List Token = named (codes "answer") (string (codes "forget")) in
     let step-0 : c.text-in-Forgotten.new.self ≡ c.args.line.now ++ part-0 = c.in_ok-text-in-Forgotten.ensures in
     let part-1 : List Token = named (codes "alerts") (whole c.in-Forgotten.alerts) in
     IfOk-weaker c.number-in-Forgotten.result _ _ (λ _ last. and_then c.text-in-Forgotten.new.self c.number-in-Forgotten.new.self part-1 (end_object ∷ []) last

@@ -1,20 +1,18 @@
-use Rattle.std.proofs.Common.{Option, Some, List, ◌∷◌, [], IfOk, sym, subst}
-use Rattle.am_runner.specs.Consuming.{IsSwept}
+use Rattle.std.proofs.Common.{Option, Some, sym, subst}
+use Rattle.am_runner.specs.Consuming.{IsSwept, sweep_word}
 use Rattle.am_runner.specs.Reading.{AsksBeside, asks, none_beside}
 use Rattle.am_runner.specs.declared.answer.Answer.{Answer}
 use Rattle.am_runner.specs.declared.answer.Answer.TheVariants.{NotOpen}
 use Rattle.am_runner.specs.declared.consumer.Consumer.{Consumer}
-use Rattle.am_script.specs.declared.command.Verb.TheVariants.{Sweep}
-use Rattle.am_runner.proofs.Results.{if_ok_map}
+use Rattle.am_script.specs.declared.command.Verb.{Verb}
 use Rattle.am_runner.proofs.open_subscription.sweep_beside.Goals as goal
 
-pub returns-in-Some-clause-swept : goal.returns-in-Some-clause-swept
-returns-in-Some-clause-swept c =
-    subst (λ (old : Option Consumer). IfOk c.sweep.result (λ answers. AsksBeside (IsSwept c.args.now) (NotOpen Sweep ∷ []) old answers.items (Some c.sweep.new.self))) (sym c.in-Some.is)
-    (if_ok_map c.sweep.result c.sweep.ensures.swept (λ answers done. asks done))
+pub returns-in-Some : goal.returns-in-Some
+returns-in-Some c =
+    subst (λ (old : Option Consumer). AsksBeside (IsSwept c.args.now c.args.half) (NotOpen (sweep_word c.args.half)) old c.sweep.result (Some c.sweep.new.self)) (sym c.in-Some.is)
+    (asks c.sweep.ensures)
 
-pub returns-in-None-clause-swept : goal.returns-in-None-clause-swept
-returns-in-None-clause-swept c =
-    if_ok_map c.one.result c.one.ensures (λ answers are.
-    subst (λ (given : List Answer). AsksBeside (IsSwept c.args.now) (NotOpen Sweep ∷ []) c.args.consumer.now given c.args.consumer.now) (sym are)
-    (subst (λ (old : Option Consumer). AsksBeside (IsSwept c.args.now) (NotOpen Sweep ∷ []) old (NotOpen Sweep ∷ []) old) (sym c.in-None.is) none_beside))
+pub returns-in-None : goal.returns-in-None
+returns-in-None c =
+    subst (λ (word : Verb). AsksBeside (IsSwept c.args.now c.args.half) (NotOpen (sweep_word c.args.half)) c.args.consumer.now (NotOpen word) c.args.consumer.now) (sym c.sweep_word.ensures)
+    (subst (λ (old : Option Consumer). AsksBeside (IsSwept c.args.now c.args.half) (NotOpen (sweep_word c.args.half)) old (NotOpen (sweep_word c.args.half)) old) (sym c.in-None.is) none_beside)

@@ -1,4 +1,4 @@
-use Rattle.std.proofs.Common.{◌≡◌, List, ap, sym, subst, length, ◌∙◌}
+use Rattle.std.proofs.Common.{◌≡◌, ℕ, List, Option, ap, sym, subst, length, ◌∙◌}
 use Rattle.std.proofs.lemmas.List.{with_items_is}
 use Rattle.am_runner.specs.Reading.{OpenView}
 use Rattle.am_runner.specs.Sessions.{SessionView, Does, groups, groups_told, named_in}
@@ -14,4 +14,4 @@ returns g c =
     let many : length c.groups_named.new.opened ≡ c.self.inside.opened.len = ap length same ∙ sym c.self.inside.opened.ok.0 in
     subst (λ (opened : List OpenView). Does config setting c.args.self.now command answers.items (record { pass = c.self.inside.caller.pass; front = c.self.inside.caller.front; opened = opened })) (sym (with_items_is c.self.inside.opened c.groups_named.new.opened many ∙ same))
     (subst (λ (old : SessionView). Does config setting old command answers.items (record { pass = c.self.inside.caller.pass; front = c.self.inside.caller.front; opened = c.self.inside.opened.items })) c.self.view_is
-    (groups (are ∙ ap (λ (opened : List OpenView). groups_told c.args.at (named_in c.args.name.now opened)) c.deref_mut.ensures.value))))
+    (groups (are ∙ (ap (λ (opened : List OpenView). groups_told c.moment.result (named_in c.args.name.now opened)) c.deref_mut.ensures.value ∙ ap (λ (at : Option ℕ). groups_told at (named_in c.args.name.now c.self.inside.opened.items)) c.moment.ensures)))))

@@ -27,7 +27,7 @@ returns-then-number-le1-clause-ok c =
 pub returns-in-Ok-clause-ok : goal.returns-in-Ok-clause-ok
 returns-in-Ok-clause-ok c =
     line_continues c.args.number c.args.self.now.lines.items c.args.bytes.now c.in-Ok.line (omega arith, omega arith) (omega arith) (search rules) c.in-Ok.ensures
-    c.add_line.new.self.lines.items c.add_line.result c.add_line.ensures.ok
+    c.add_line.new.self.lines.items c.add_line.result c.add_line.ensures.ok c.add_line.ensures.moment c.add_line.ensures.named
 
 pub returns-in-Ok-clause-err : goal.returns-in-Ok-clause-err
 returns-in-Ok-clause-err c =
