@@ -1,5 +1,5 @@
 -- What the Book answers is what the history of its calls says.
-use Rattle.std.proofs.Common.{◌≡◌, ◌↔◌, ◌⊎◌, inr, ℕ, suc, ◌-◌, ◌<◌, Bool, true, false, IsTrue, List, [], ◌∷◌, ◌++◌, length, filter, Option, None, Ok, Err, refl, sym, ap, subst, ◌∙◌, arith, slice_index_or, length-append}
+use Rattle.std.proofs.Common.{◌≡◌, ◌↔◌, ◌⊎◌, inr, ℕ, suc, ◌+◌, ◌-◌, ◌<◌, Bool, true, false, IsTrue, List, [], ◌∷◌, ◌++◌, length, filter, Option, None, Ok, Err, refl, sym, ap, subst, ◌∙◌, arith, slice_index_or, length-append}
 use mathlib.Core.List.{IsPrefix}
 use mathlib.Core.Logic.{dite}
 use native.Mathlib.Decide.{ℕ_discrete}
@@ -39,25 +39,27 @@ use Rattle.am_provider.proofs.Recording.{same_closed, same_open, same_places, te
 -- ---- a caller that has seen its call
 
 pub sees_added : (was is : FrontView EntryView) (before after : List EntryView) (entry : EntryView) (Answers : List EntryView → List EntryView → Type 0) → after ≡ before ++ entry ∷ [] → IsPrefix was.seen before
-    → is.seen ≡ after → is.made ≡ was.made ++ made_at (length before) entry ∷ [] → Answers before (entry ∷ []) → SeesCall was is Answers
-sees_added was is before after entry Answers longer known seen made it =
-    record { before = before; added = entry ∷ []; known = known; seen = seen ∙ longer; made = made; answers = it }
+    → is.seen ≡ after → is.made ≡ was.made ++ made_at (length before) entry ∷ [] → (is.seat ≡ was.seat) × (is.looks ≡ was.looks + 1) → Answers before (entry ∷ []) → SeesCall was is Answers
+sees_added was is before after entry Answers longer known seen made looked it =
+    record { before = before; added = entry ∷ []; known = known; seen = seen ∙ longer; made = made; same = looked.0; looked = looked.1; answers = it }
 
 -- the same of an entry whose call is known by another name
 pub sees_called : (was is : FrontView EntryView) (before after : List EntryView) (given call : Call) (bits : ℕ) (ended : Option Ended) (Answers : List EntryView → List EntryView → Type 0) → given ≡ call
-    → after ≡ before ++ Accepted given bits ended ∷ [] → IsPrefix was.seen before → is.seen ≡ after → is.made ≡ was.made ++ made_at (length before) (Accepted given bits ended) ∷ []
+    → after ≡ before ++ Accepted given bits ended ∷ [] → IsPrefix was.seen before → is.seen ≡ after → is.made ≡ was.made ++ made_at (length before) (Accepted given bits ended) ∷ [] → (is.seat ≡ was.seat) × (is.looks ≡ was.looks + 1)
     → Answers before (Accepted call bits ended ∷ []) → SeesCall was is Answers
-sees_called was is before after given call bits ended Answers same longer known seen made it =
+sees_called was is before after given call bits ended Answers same longer known seen made looked it =
     sees_added was is before after (Accepted call bits ended) Answers (longer ∙ ap (λ c. before ++ Accepted c bits ended ∷ []) same) known seen
-    (made ∙ ap (λ c. was.made ++ made_at (length before) (Accepted c bits ended) ∷ []) same) it
+    (made ∙ ap (λ c. was.made ++ made_at (length before) (Accepted c bits ended) ∷ []) same) looked it
 
-pub sees_none : (was is : FrontView EntryView) (before : List EntryView) (Answers : List EntryView → List EntryView → Type 0) → IsPrefix was.seen before → is ≡ record was { seen = before } → Answers before [] → SeesCall was is Answers
+pub sees_none : (was is : FrontView EntryView) (before : List EntryView) (Answers : List EntryView → List EntryView → Type 0) → IsPrefix was.seen before → is ≡ record was { seen = before; looks = was.looks + 1 } → Answers before [] → SeesCall was is Answers
 sees_none was is before Answers known same it = record {
   before = before;
   added = [];
   known = known;
   seen = ap (λ (f : FrontView EntryView). f.seen) same ∙ sym (Rattle.std.proofs.lemmas.List.append-nil before);
   made = ap (λ (f : FrontView EntryView). f.made) same ∙ sym (Rattle.std.proofs.lemmas.List.append-nil was.made);
+  same = ap (λ (f : FrontView EntryView). f.seat) same;
+  looked = ap (λ (f : FrontView EntryView). f.looks) same;
   answers = it;
 }
 
@@ -75,6 +77,8 @@ sees_taken E now removed resolved was is entries olds whole all seen sees =
       known = sees.known;
       seen = sees.seen;
       made = sees.made;
+      same = sees.same;
+      looked = sees.looked;
       answers = (all ∙ ap (filter (is_resolved_at now)) (whole ∙ ap stored_after (sym same)), sees.answers.1);
     }
 
@@ -96,6 +100,8 @@ sees_put_if judges accepts last policy places now post kept done was is entries 
       known = sees.known;
       seen = sees.seen;
       made = sees.made;
+      same = sees.same;
+      looked = sees.looked;
       answers = (
         (last, subst (λ (olds : List Alert). AreJudged judges now last accepts 0 olds post.valid kept.valid done.refused.items) (stored ∙ ap stored_after (sym same)) judged),
         sees.answers,
@@ -121,6 +127,8 @@ sees_put_if_refused judges accepts last policy places now post kept refused faul
       known = sees.known;
       seen = sees.seen;
       made = sees.made;
+      same = sees.same;
+      looked = sees.looked;
       answers = (
         inr (kept.valid, refused, last, subst (λ (olds : List Alert). AreJudged judges now last accepts 0 olds post.valid kept.valid refused) (stored ∙ ap stored_after (sym same)) judged, sees.answers.0),
         sees.answers.1,

@@ -25,7 +25,9 @@ made_from index [] = []
 made_from index (entry ∷ entries) = made_at index entry ∷ made_from (index + 1) entries
 
 -- a call's place in the one history: it was made when the entries were `before`, which begin with all that
--- its caller had seen; it added these, which are its caller's own; and its caller has seen all of them
+-- its caller had seen; it added these, which are its caller's own; and its caller has seen all of them. In
+-- this call, and once, the caller's front was shown all that there was: so `before` has every entry of the
+-- calls that had returned when it began, and none of those that began when it had returned
 pub record SeesCall (was is : FrontView EntryView) (Answers : List EntryView → List EntryView → Type 0)
     : Type 0 where
   pub before : List EntryView
@@ -33,14 +35,16 @@ pub record SeesCall (was is : FrontView EntryView) (Answers : List EntryView →
   pub known : IsPrefix was.seen before
   pub seen : is.seen ≡ before ++ added
   pub made : is.made ≡ was.made ++ made_from (length before) added
+  pub same : is.seat ≡ was.seat
+  pub looked : is.looks ≡ was.looks + 1
   pub answers : Answers before added
 
 -- a caller and an onlooker are shown the same entries, of which both had seen a beginning; nothing is added
 pub record SeesWhole (was is saw sees : FrontView EntryView) : Type 0 where
   pub entries : List EntryView
   pub known : IsPrefix was.seen entries × IsPrefix saw.seen entries
-  pub caller : is ≡ record was { seen = entries }
-  pub onlooker : sees ≡ record saw { seen = entries }
+  pub caller : is ≡ record was { seen = entries; looks = was.looks + 1 }
+  pub onlooker : sees ≡ record saw { seen = entries; looks = saw.looks + 1 }
 
 -- what a post of a body comes to: a body that can't be read is refused for its fault before the history is
 -- looked at; another is posted, and then the pass owns its place with what was read
@@ -80,4 +84,5 @@ AnswersPostIf {F} filter accepts policy places now post was is saw sees (Err fau
 -- a caller that has posted nothing, seen nothing and added nothing
 abbrev pub IsNewCaller : PassView Alert Call → FrontView EntryView → Type 0
 IsNewCaller pass front =
-    (pass ≡ record { noted = []; own = [] }) × (front ≡ record { seen = []; made = []; parts = 1 })
+    (pass ≡ record { noted = []; own = [] })
+    × (front ≡ record { seen = []; made = []; parts = 1; seat = front.seat; looks = 0 })

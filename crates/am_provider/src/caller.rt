@@ -32,7 +32,13 @@ pub(crate) fn deal<N: Recorded>(
     passes: Vec<Pass<N>>,
     room: Vec<Caller<N>>,
 ) -> Vec<Caller<N>>
-    requires front { front ≡ record { seen = []; made = []; parts = length passes.items } }
+    requires front { front ≡ record {
+      seen = [];
+      made = [];
+      parts = length passes.items;
+      seat = front.seat;
+      looks = 0;
+    } }
     requires room { (room.items ≡ []) × (length passes.items ≤ vec_capacity room) }
     requires fresh { All (λ pass. pass ≡ record { noted = []; own = [] }) passes.items }
     ensures count { length result.items ≡ length passes.items }

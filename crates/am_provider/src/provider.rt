@@ -288,7 +288,13 @@ impl<N: Recorded> Provider<N> {
     pub fn onlooker(&self, caller: &mut Caller<N>) -> Front<Entry, N>
         ensures pass { caller.new.pass ≡ caller.old.pass }
         ensures front { caller.new.front ≡ caller.old.front }
-        ensures onlooker { result ≡ record { seen = caller.old.front.seen; made = []; parts = 0 } }
+        ensures onlooker { result ≡ record {
+          seen = caller.old.front.seen;
+          made = [];
+          parts = 0;
+          seat = result.seat;
+          looks = 0;
+        } }
     {
         caller.front.onlooker(&self.table)
     }

@@ -3,7 +3,7 @@
 //! Each call is made on the Book. If it was accepted, an entry is added to the history, and the caller's
 //! front sees all of it; if it was refused, the front sees what there is.
 
-ghost use Rattle.std.specs.Prelude.{◌≡◌, ◌↔◌, ◌++◌, ◌∷◌, IsTrue, OnOk, OnErr, IfOk, None, [], length, map};
+ghost use Rattle.std.specs.Prelude.{◌≡◌, ◌↔◌, ◌+◌, ◌++◌, ◌∷◌, IsTrue, OnOk, OnErr, IfOk, None, [], length, map};
 ghost use Rattle.std.specs.List.{All};
 ghost use mathlib.Core.List.{IsPrefix};
 ghost use Rattle.am_history.specs.Fronts.{made_at};
@@ -372,6 +372,8 @@ fn record<N: Recorded>(
     ensures seen { caller.new.front.seen ≡ history.new }
     ensures made { caller.new.front.made ≡ caller.old.front.made
         ++ made_at (length history.old) (Accepted call.now cut ended) ∷ [] }
+    ensures looked { (caller.new.front.seat ≡ caller.old.front.seat)
+        × (caller.new.front.looks ≡ caller.old.front.looks + 1) }
     ensures pass { caller.new.pass ≡ caller.old.pass }
 {
     let entry = Entry::accepted(call, cut, ended);

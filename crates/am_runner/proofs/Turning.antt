@@ -71,7 +71,10 @@ ends_more true at saw sees was is ended =
 pub looked : (was is saw sees : FrontView EntryView) → SeesWhole was is saw sees → SeesMore was is
 looked was is saw sees whole = (
   subst (λ (f : FrontView EntryView). IsPrefix was.seen f.seen) (sym whole.caller) whole.known.0,
-  whole.caller ∙ ap (λ (l : List EntryView). record was { seen = l }) (sym (ap (λ (f : FrontView EntryView). f.seen) whole.caller)),
+  whole.caller ∙ (λ i. record was {
+    seen = sym (ap (λ (f : FrontView EntryView). f.seen) whole.caller) i;
+    looks = sym (ap (λ (f : FrontView EntryView). f.looks) whole.caller) i;
+  }),
 )
 
 front_of_take : {A : Type 0} (xs ys : List A) → take (length xs) ys ≡ xs → IsPrefix xs ys

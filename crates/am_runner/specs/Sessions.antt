@@ -66,11 +66,11 @@ pub record SessionView : Type 0 where
   pub front : FrontView EntryView
   pub opened : List OpenView
 
--- a session that nothing was done in
-abbrev pub new_session : SessionView
-new_session = record {
+-- a session that nothing was done in, of the caller with this front
+abbrev pub new_session : ℕ → SessionView
+new_session seat = record {
   pass = record { noted = []; own = [] };
-  front = record { seen = []; made = []; parts = 1 };
+  front = record { seen = []; made = []; parts = 1; seat = seat; looks = 0 };
   opened = [];
 }
 

@@ -25,7 +25,7 @@ IsTurn (Some turns) at began ended = (slice_get turns at ≡ Some ended)
 
 -- a caller sees more of the history, and makes no call
 abbrev pub SeesMore : FrontView EntryView → FrontView EntryView → Type 0
-SeesMore was is = IsPrefix was.seen is.seen × (is ≡ record was { seen = is.seen })
+SeesMore was is = IsPrefix was.seen is.seen × (is ≡ record was { seen = is.seen; looks = is.looks })
 
 -- the turn of a number begins: as many were taken, and its caller has seen what the callers of these had
 pub record IsBegun (at : ℕ) (saw sees : List (FrontView EntryView)) (was is : FrontView EntryView)

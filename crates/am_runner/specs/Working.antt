@@ -51,8 +51,8 @@ pub record LeavesLast (order : Order) (number : ℕ) (old : SessionView) (pass :
 -- and then left what it still had open
 abbrev pub IsWork : {E : Type 0} → Config → Setting → Order → List Line → ℕ → Result (Vec (Vec Answer)) E
     → PassView Alert Call → FrontView EntryView → Type 0
-IsWork config setting order lines thread answers pass front = IfOk answers (λ all. (end : SessionView)
-    × Works config setting order thread 0 new_session lines all.items end
+IsWork config setting order lines thread answers pass front = IfOk answers (λ all. (seat : ℕ)
+    × (end : SessionView) × Works config setting order thread 0 (new_session seat) lines all.items end
     × LeavesLast order (length lines + thread) end pass front)
 
 -- a list has an item more at its end, the one of the result

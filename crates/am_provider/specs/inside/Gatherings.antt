@@ -16,5 +16,5 @@ abbrev pub IsGathered : List EntryView → List (PassView Alert Call) → List (
 IsGathered entries passes fronts None = (passes ≡ []) × (fronts ≡ [])
 IsGathered entries passes fronts (Some all) =
     (all.0 ≡ record { parts = length passes; own = own_of passes })
-    × (all.1 ≡ record { seen = entries; made = made_of fronts; parts = length fronts })
+    × (all.1 ≡ record all.1 { seen = entries; made = made_of fronts; parts = length fronts })
     × All (λ (front : FrontView EntryView). IsPrefix front.seen entries) fronts

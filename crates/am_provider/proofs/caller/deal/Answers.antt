@@ -1,4 +1,4 @@
-use Rattle.std.proofs.Common.{◌≡◌, ◌∙◌, ℕ, ◌+◌, ◌-◌, ◌∷◌, [], length, ap, rules, arith}
+use Rattle.std.proofs.Common.{◌≡◌, ◌∙◌, ℕ, ◌+◌, ◌-◌, ◌∷◌, [], length, sym, ap, rules, arith}
 use Rattle.std.specs.Vec.Iter.{into_iter_items}
 use Rattle.am_history.specs.Fronts.{FrontView}
 use Rattle.am_provider.specs.Callers.{IsNewCaller}
@@ -22,9 +22,11 @@ loop-pass-preserved g c =
     let front = c.loop-pass.invariant.front in
     let split = c.split_off-front.ensures in
     let fewer : length (into_iter_items c.loop-pass.pass-iterator) - 1 ≡ length rest = omega (arith, ap length step) in
-    let left : c.split_off-front.new.self ≡ record { seen = []; made = []; parts = length rest } =
-    split.left ∙ (ap (λ (f : FrontView EntryView). record f { parts = f.parts - 1 }) front ∙ ap (λ (n : ℕ). record { seen = []; made = []; parts = n }) fewer) in
-    let new : c.split_off-front.result ≡ record { seen = []; made = []; parts = 1 } = split.new ∙ ap (λ (f : FrontView EntryView). record { seen = f.seen; made = []; parts = 1 }) front in
+    let seat : c.loop-pass.front.seat ≡ c.split_off-front.new.self.seat = sym (ap (λ (f : FrontView EntryView). f.seat) split.left) in
+    let left : c.split_off-front.new.self ≡ record { seen = []; made = []; parts = length rest; seat = c.split_off-front.new.self.seat; looks = 0 } =
+    split.left ∙ (ap (λ (f : FrontView EntryView). record f { parts = f.parts - 1 }) front ∙ (λ i. record { seen = []; made = []; parts = fewer i; seat = seat i; looks = 0 })) in
+    let new : c.split_off-front.result ≡ record { seen = []; made = []; parts = 1; seat = c.split_off-front.result.seat; looks = 0 } =
+    split.new ∙ ap (λ (f : FrontView EntryView). record { seen = f.seen; made = []; parts = 1; seat = c.split_off-front.result.seat; looks = 0 }) front in
     let long : length c.push_reserved.new.self.items ≡ length c.loop-pass.dealt.items + 1 = length_last _ _ _ c.push_reserved.ensures.items in
     record {
       front = left;

@@ -24,7 +24,7 @@ loop-next-init g c =
     let first = c.in-Some.first in
     let last : c.args.callers.items ≡ left ++ first ∷ [] = c.in-Some.ensures.items in
     let long : length c.args.callers.items ≡ length left + 1 = length_last first left c.args.callers.items last in
-    let shown : c.show.new.to ≡ record first.front { seen = c.args.history.now } = c.show.ensures.to in
+    let shown : c.show.new.to ≡ record first.front { seen = c.args.history.now; looks = first.front.looks + 1 } = c.show.ensures.to in
     let joined : c.of-passes.result ≡ record { parts = 1; own = first.pass.own } = c.of-passes.ensures.joined in
     let one = first.one in
     record {
@@ -45,7 +45,7 @@ loop-next-preserved g c =
     let last : c.loop-next.left.items ≡ left ++ next ∷ [] = c.in-Some-pop.ensures.items in
     let long : length c.loop-next.left.items ≡ length left + 1 = length_last next left c.loop-next.left.items last in
     let so_far = c.loop-next.invariant in
-    let shown : c.show-in-Some-pop.new.to ≡ record next.front { seen = c.loop-next.history } = c.show-in-Some-pop.ensures.to in
+    let shown : c.show-in-Some-pop.new.to ≡ record next.front { seen = c.loop-next.history; looks = next.front.looks + 1 } = c.show-in-Some-pop.ensures.to in
     let merged = c.merge.ensures in
     let joined = c.take_in.ensures.joined in
     let one = next.one in
@@ -81,6 +81,6 @@ returns-clause-gathered g c =
     let parts : c.loop-next.front.parts ≡ length (map (λ caller. caller.front) callers) = omega (arith, so_far.parts, ap length none, length-map callers (λ caller. caller.front)) in
     let nobody : All (λ caller. IsPrefix caller.front.seen c.args.history.now) left = subst (All (λ caller. IsPrefix caller.front.seen c.args.history.now)) (sym none) (λ k d h. absurd (omega arith)) in (
       λ i. record { parts = passes i; own = own i },
-      λ i. record { seen = so_far.seen i; made = made i; parts = parts i },
+      λ i. record c.loop-next.front { seen = so_far.seen i; made = made i; parts = parts i },
       all_map (λ (f : FrontView EntryView). IsPrefix f.seen c.args.history.now) (λ caller. caller.front) callers (so_far.prefixes nobody),
     )

@@ -17,10 +17,12 @@ returns g c = λ turns longer.
     let ends = ends_more ordered _ _ _ _ _ ended.2 in
     let turn = turn_of ordered _ _ _ _ turns _ _ _ _ c.begin_turn.ensures.begun ended.2 longer in
     let ran = c.run_lines-answers.ensures turns (prefix_then _ _ turns begins.0 (prefix_then _ _ turns ends.0 longer)) in
-    let new : c.begin-session.result ≡ new_session = c.begin-session.ensures
+    let seat = c.args.caller.front.seat in
+    let new : c.begin-session.result ≡ new_session seat = c.begin-session.ensures
     ∙ (ap (λ p. record { pass = p; front = c.args.caller.front; opened = [] }) c.requires.new.0
-    ∙ ap (λ f. record { pass = new_session.pass; front = f; opened = [] }) c.requires.new.1) in
+    ∙ ap (λ f. record { pass = (new_session seat).pass; front = f; opened = [] }) c.requires.new.1) in
     if_ok_map c.run_lines-answers.result ran (λ answers works. (
+      seat,
       c.run_lines-answers.new.session,
       subst (λ (begun : SessionView). Works config setting order c.args.thread 0 begun c.args.lines.now answers.items c.run_lines-answers.new.session) new works,
       record {

@@ -22,7 +22,7 @@ invariant_of-self-2 g c =
 pub returns-clause-sees : goal.returns-clause-sees
 returns-clause-sees g c =
     sees_added c.args.caller.now.front c.record.new.caller.front c.self.inside.history c.record.new.history (Accepted Closed 0 None) _
-    c.record.ensures.longer c.record.ensures.known c.record.ensures.seen c.record.ensures.made
+    c.record.ensures.longer c.record.ensures.known c.record.ensures.seen c.record.ensures.made c.record.ensures.looked
     (may_whole c.self.inside.book c.close.new.self c.self.inside.history Closed c.self.invariant.0 c.kept-2.ensures c.in-Ok.ensures.journal, refl)
 
 pub returns-in_default-clause-sees : goal.returns-in_default-clause-sees

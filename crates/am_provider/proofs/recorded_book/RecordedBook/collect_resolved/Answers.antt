@@ -23,7 +23,7 @@ invariant_of-self-2 g c =
 pub returns-clause-sees : goal.returns-clause-sees
 returns-clause-sees g c =
     sees_added c.args.caller.now.front c.record.new.caller.front c.self.inside.history c.record.new.history (Accepted (Collected c.args.now) 0 None) _
-    c.record.ensures.longer c.record.ensures.known c.record.ensures.seen c.record.ensures.made
+    c.record.ensures.longer c.record.ensures.known c.record.ensures.seen c.record.ensures.made c.record.ensures.looked
     (c.in-Ok.ensures.removed ∙ ap (count_by (is_resolved_at c.args.now)) (stored_whole c.self.inside.book c.self.inside.history c.self.invariant.0 c.kept.ensures), refl)
 
 pub returns-in-Err-clause-sees : goal.returns-in-Err-clause-sees

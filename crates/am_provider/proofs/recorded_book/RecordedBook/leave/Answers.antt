@@ -47,7 +47,7 @@ returns-clause-sees g c =
     let owed = (same old entries c.self.invariant.0).due s.at begun in
     let tells = tells_of old entries c.self.invariant.0 number (lane_low old.journal number s.at c.kept.ensures.journal.legal left.open) in
     sees_called c.args.caller.now.front c.record.new.caller.front entries c.record.new.history (Left c.lane.result) (Left number) 0 (Some c.leave-ended.result) _
-    (ap Left c.lane.ensures) c.record.ensures.longer c.record.ensures.known c.record.ensures.seen c.record.ensures.made
+    (ap Left c.lane.ensures) c.record.ensures.longer c.record.ensures.known c.record.ensures.seen c.record.ensures.made c.record.ensures.looked
     (record {
       lane = lane;
       at = left.at;

@@ -34,7 +34,7 @@ returns-clause-sees g c =
     let bits = c.in-Ok.posted.cut in
     let last : c.last_call.result.now ≡ call = last_is old.journal new.journal call c.last_call.result.now posted.journal c.last_call.ensures in
     sees_called c.args.caller.now.front c.record.new.caller.front entries c.record.new.history c.last_call.result.now call bits None _
-    last c.record.ensures.longer c.record.ensures.known c.record.ensures.seen c.record.ensures.made
+    last c.record.ensures.longer c.record.ensures.known c.record.ensures.seen c.record.ensures.made c.record.ensures.looked
     (record {
       still_open = may_whole old new entries call c.self.invariant.0 c.kept-2.ensures posted.journal;
       valid = posted.valid;

@@ -31,7 +31,7 @@ returns-clause-sees g c =
     let number = c.in-Ok.made.cursor.lane.number in
     let may = may_whole old c.subscribe.new.self entries (Subscribed number) c.self.invariant.0 c.kept-2.ensures made.journal in
     sees_called c.args.caller.now.front c.record.new.caller.front entries c.record.new.history (Subscribed c.lane.result) (Subscribed number) 0 None _
-    (ap Subscribed c.lane.ensures) c.record.ensures.longer c.record.ensures.known c.record.ensures.seen c.record.ensures.made
+    (ap Subscribed c.lane.ensures) c.record.ensures.longer c.record.ensures.known c.record.ensures.seen c.record.ensures.made c.record.ensures.looked
     (record {
       still_open = may.0;
       at = made.at ∙ call_number old entries c.self.invariant.0;
