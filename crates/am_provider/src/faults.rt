@@ -8,7 +8,7 @@ use std::alloc::AllocError;
 use std::fmt;
 use thiserror::Error;
 
-/// Why a post was refused. The provider is as it was.
+/// Why a post was refused. What is stored, the journal and the log are as they were.
 #[derive(Clone, Copy, Debug, PartialEq, Eq, Error)]
 pub enum PutFault {
     NoMemory,
@@ -16,7 +16,8 @@ pub enum PutFault {
     Closed,
     /// The log has every place that it can have.
     LogEnd,
-    /// This lane, the lowest such, lags by as many batches as the log has places.
+    /// This lane's subscriber, who has passed so many batches, lags by as many as the log has places. No lower lane
+    /// does. The contracts of am_cast say so; those of the provider say that the lane is open and isn't cut.
     Full { lane: u32, passed: u64 },
 }
 
@@ -31,7 +32,7 @@ impl From<AllocError> for PutFault {
     }
 }
 
-/// Why a provider's post was refused. The provider is as it was.
+/// Why a provider's post was refused. What is stored, the journal and the log are as they were.
 #[derive(Clone, Copy, Debug, PartialEq, Eq, Error)]
 pub enum PostRefused {
     /// The body can't be read.
@@ -51,7 +52,7 @@ impl fmt::Display for PostRefused {
     }
 }
 
-/// Why a subscription was refused. The provider is as it was.
+/// Why a subscription was refused. What is stored, the journal and the log are as they were.
 #[derive(Clone, Copy, Debug, PartialEq, Eq, Error)]
 pub enum SubFault {
     NoMemory,

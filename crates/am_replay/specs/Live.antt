@@ -1,4 +1,4 @@
--- A live run: each line is answered before the next one is read.
+-- A live run: what the lines so far answer is written, whatever comes later.
 use Rattle.std.specs.Prelude.{◌≡◌, ℕ, true, List, [], ◌∷◌, ◌++◌, Option, Some, None, Result, Ok, Err, String}
 use Rattle.std.specs.Prelude.{string_bytes}
 use Rattle.std.specs.declared.alloc.Global.{Global}
@@ -35,14 +35,16 @@ IsRefusedAs form first_line.TooLong text = text ≡ refused_script form first_li
 IsRefusedAs form (first_line.Refused fault) text = text ≡ refused_config form fault
 IsRefusedAs form (first_line.Read config) text = ⊥
 
--- all lines after the first were served on one provider; then its subscriptions were left, and it ended:
--- its one history has what the lines and these leaves added, and nothing else
+-- all lines after the first were served on one provider, in a session of its one caller; then its subscriptions
+-- were left, and it ended: its one history has what the lines, the trims between them and these leaves added, and
+-- nothing else
 pub record IsLived (config : Config) (setting : Setting) (form : Form)
     (input rest out written : Option (List ℕ)) (counts : Counts) : Type 0 where
+  pub seat : ℕ
   pub end : SessionView
   pub left : SessionView
   pub settled : Settled
-  pub served : IsServed config setting form 2 new_session input rest out written end
+  pub served : IsServed config setting form 2 (new_session seat) input rest out written end
   pub leaves : LeavesAll end left
   pub ended : IsSettledFrom (left.pass ∷ []) (left.front ∷ []) settled
   pub complete : settled.complete ≡ true
@@ -67,8 +69,8 @@ pub data LivesUnder (setting : Setting) (form : Form) (config : Config) (input o
       → IsLived config setting form input rest old mid counts
       → IsFailure status → AppendsBeginning mid new (counts_line form counts)
       → LivesUnder setting form config input old status new
-  cut_short : {new : Option (List ℕ)} {status : Status} → IsFailure status
-      → IsServedInPart config setting form 2 new_session input old new
+  cut_short : {new : Option (List ℕ)} {status : Status} {seat : ℕ} → IsFailure status
+      → IsServedInPart config setting form 2 (new_session seat) input old new
       → LivesUnder setting form config input old status new
 
 -- what comes of printing the counts

@@ -1,4 +1,4 @@
--- One line after another, each answered before the next is read.
+-- One line after another: what lines print, and what they do to a session.
 use Rattle.std.specs.Prelude.{◌≡◌, ◌⊎◌, ℕ, ◌+◌, List, [], ◌∷◌, ◌++◌, length, Option, Some, IfSome}
 use Rattle.std.specs.Io.KnownBytes.{Appends}
 use Rattle.am_config.specs.declared.config.Config.{Config}

@@ -24,7 +24,7 @@ same_setting places other policy another timeout given p q r =
     ap (λ (n : ℕ). setting_of n another given) (sym p) ∙ (ap (λ (x : Policy). setting_of places x given) (sym q) ∙ ap (setting_of places policy) r)
 
 -- a new caller's session
-fresh : (session : SessionView) (pass : PassView Alert Call) (front : FrontView EntryView) → session ≡ record { pass = pass; front = front; opened = [] } → IsNewCaller pass front → session ≡ new_session
+fresh : (session : SessionView) (pass : PassView Alert Call) (front : FrontView EntryView) → session ≡ record { pass = pass; front = front; opened = [] } → IsNewCaller pass front → session ≡ new_session front.seat
 fresh session pass front is new = is ∙ (ap (λ (p : PassView Alert Call). record { pass = p; front = front; opened = [] }) new.0 ∙ ap (λ (f : FrontView EntryView). record { pass = record { noted = []; own = [] }; front = f; opened = [] }) new.1)
 
 pub returns-in-Ok-served : goal.returns-in-Ok-served
@@ -35,13 +35,14 @@ returns-in-Ok-served g c =
     let count : length c.in-Ok.callers.items ≡ 1 = c.in-Ok.ensures.callers.0 ∙ c.requires.posters.0 in
     let none : left ≡ [] = none_before left caller c.in-Ok.callers.items last count in
     let new : IsNewCaller caller.pass caller.front = last_holds (λ one. IsNewCaller one.pass one.front) left caller c.in-Ok.callers.items last none c.in-Ok.ensures.callers.1 in
-    let begun : c.begin-session.result ≡ new_session = fresh c.begin-session.result caller.pass caller.front c.begin-session.ensures new in
+    let begun : c.begin-session.result ≡ new_session caller.front.seat = fresh c.begin-session.result caller.pass caller.front c.begin-session.ensures new in
     let setting : Setting = setting_of c.args.arguments.places c.args.arguments.full c.args.config.now.resolve_timeout in
     let same : setting_of g.N.Recorded.places g.N.Recorded.policy c.in-Ok.provider.resolve_timeout ≡ setting =
     same_setting c.args.arguments.places g.N.Recorded.places c.args.arguments.full g.N.Recorded.policy c.args.config.now.resolve_timeout c.in-Ok.provider.resolve_timeout c.requires.limits.1 c.requires.limits.2 c.in-Ok.ensures.timeout in
     let all : c.push_reserved.new.self.items ≡ c.end.result ∷ [] = c.push_reserved.ensures.items ∙ ap (λ l. l ++ c.end.result ∷ []) none in
     counts_told setting c.args.arguments.form c.args.config.now (g.I.Read.remaining c.args.input.now) (g.I.Read.remaining c.serve-served.new.input) (g.O.Write.contents c.args.out.now) (g.O.Write.contents c.serve-served.new.out) (g.O.Write.contents c.print_counts.new.out) c.counts.result c.print_counts.result
     (record {
+      seat = caller.front.seat;
       end = c.serve-served.new.session;
       left = record { pass = c.end.result.pass; front = c.end.result.front; opened = [] };
       settled = c.settle-settled.result;
@@ -61,7 +62,7 @@ returns g c =
     let count : length c.in-Ok.callers.items ≡ 1 = c.in-Ok.ensures.callers.0 ∙ c.requires.posters.0 in
     let none : left ≡ [] = none_before left caller c.in-Ok.callers.items last count in
     let new : IsNewCaller caller.pass caller.front = last_holds (λ one. IsNewCaller one.pass one.front) left caller c.in-Ok.callers.items last none c.in-Ok.ensures.callers.1 in
-    let begun : c.begin-session.result ≡ new_session = fresh c.begin-session.result caller.pass caller.front c.begin-session.ensures new in
+    let begun : c.begin-session.result ≡ new_session caller.front.seat = fresh c.begin-session.result caller.pass caller.front c.begin-session.ensures new in
     let setting : Setting = setting_of c.args.arguments.places c.args.arguments.full c.args.config.now.resolve_timeout in
     let same : setting_of g.N.Recorded.places g.N.Recorded.policy c.in-Ok.provider.resolve_timeout ≡ setting =
     same_setting c.args.arguments.places g.N.Recorded.places c.args.arguments.full g.N.Recorded.policy c.args.config.now.resolve_timeout c.in-Ok.provider.resolve_timeout c.requires.limits.1 c.requires.limits.2 c.in-Ok.ensures.timeout in
