@@ -45,10 +45,10 @@ pub record IsPosted (policy : Policy) (now : ℕ) (post : Post) (posted : answer
   pub refuses : policy ≡ Refuse → posted.cut ≡ 0
   pub entry : added ≡ Accepted (Posted now post.valid) posted.cut None ∷ []
 
--- why a post of so many valid alerts is refused: a closed log before its end, and that before the others. A full
--- log names an open lane that isn't cut, and how many batches a lane has passed that lags by as many as there are
--- places. That the named lane has passed as many, that it is the lowest such, and that a full log isn't answered
--- as a lack of memory, is said of the log's own calls (am_cast) and not here
+-- why a post of so many valid alerts is refused: a closed log before its end, and that before the others. A
+-- full log names an open lane that isn't cut, and how many batches a lane has passed that lags by as many as
+-- there are places. That the named lane has passed as many, that it is the lowest such, and that a full log
+-- isn't answered as a lack of memory, is said of the log's own calls (am_cast) and not here
 abbrev pub IsPutRefusal : Policy → ℕ → ℕ → List EntryView → PutFault → Type 0
 IsPutRefusal policy places count before put.Closed = is_closed (whole before) ≡ true
 IsPutRefusal policy places count before put.LogEnd =

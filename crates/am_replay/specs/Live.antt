@@ -35,9 +35,9 @@ IsRefusedAs form first_line.TooLong text = text ≡ refused_script form first_li
 IsRefusedAs form (first_line.Refused fault) text = text ≡ refused_config form fault
 IsRefusedAs form (first_line.Read config) text = ⊥
 
--- all lines after the first were served on one provider, in a session of its one caller; then its subscriptions
--- were left, and it ended: its one history has what the lines, the trims between them and these leaves added, and
--- nothing else
+-- all lines after the first were served on one provider, in a session of its one caller; then its
+-- subscriptions were left, and it ended: its one history has what the lines, the trims between them and these
+-- leaves added, and nothing else
 pub record IsLived (config : Config) (setting : Setting) (form : Form)
     (input rest out written : Option (List ℕ)) (counts : Counts) : Type 0 where
   pub seat : ℕ
