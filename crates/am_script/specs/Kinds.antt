@@ -28,6 +28,11 @@ abbrev pub is_some_inhibit : Option Kind → Bool
 is_some_inhibit None = false
 is_some_inhibit (Some kind) = is_inhibit kind
 
+-- whether there is one, and a dispatcher and an inhibitor both consume its alerts
+abbrev pub is_some_notify : Option Kind → Bool
+is_some_notify (Some Notify) = true
+is_some_notify other = false
+
 -- the kind of a word
 abbrev pub kind_named : List ℕ → Option Kind
 kind_named word =

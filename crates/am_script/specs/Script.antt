@@ -3,7 +3,7 @@
 use Rattle.std.specs.Prelude.{◌≡◌, ◌⊎◌, ◌<◌, ◌≤◌, ◌+◌, ℕ, ◌&&◌, ◌==◌, Bool, true, false, not, if◌then◌else◌}
 use Rattle.std.specs.Prelude.{List, [], ◌∷◌, ◌++◌, length, fold, Option, Some, None, is_some, is_none, Result}
 use Rattle.std.specs.Prelude.{Ok, Err, ⊤}
-use Rattle.am_script.specs.Kinds.{is_some_dispatch, is_some_inhibit}
+use Rattle.am_script.specs.Kinds.{is_some_dispatch, is_some_inhibit, is_some_notify}
 use Rattle.am_script.specs.declared.kind.Kind.{Kind}
 use Rattle.am_script.specs.declared.limits.TheConstants.{LONGEST_LINE, MOST_LINES}
 use Rattle.std.specs.List.{onto_first}
@@ -83,9 +83,9 @@ is_named_well subscribed (Route labels) = true
 abbrev pub is_well_named : List Line → Line → Bool
 is_well_named earlier line = is_named_well (subscribed_as earlier line.thread) line.command
 
--- whether the `at` of `groups` is a moment where it is a member: if the name is subscribed with an inhibitor
+-- whether the `at` of `groups` is a moment where it is a member: if the subscription has both consumers
 abbrev pub is_moment_read : (List ℕ → Option Kind) → Command → Bool
-is_moment_read subscribed (Groups name Unread) = not (is_some_inhibit (subscribed name))
+is_moment_read subscribed (Groups name Unread) = not (is_some_notify (subscribed name))
 is_moment_read subscribed other = true
 
 -- whether it is for a line after the lines before it

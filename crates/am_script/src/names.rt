@@ -5,7 +5,7 @@ ghost use Rattle.std.specs.Prelude.{IfOk, OnErr};
 ghost use Rattle.std.specs.Bool.{OnFalse, OnTrue};
 ghost use Rattle.std.specs.BTreeMap.{get, IsUnchanged, Updates};
 ghost use Rattle.am_script.specs.Names.{name_cmp, HoldsNames};
-ghost use Rattle.am_script.specs.Kinds.{is_some_dispatch, is_some_inhibit};
+ghost use Rattle.am_script.specs.Kinds.{is_some_dispatch, is_some_inhibit, is_some_notify};
 ghost use Rattle.am_script.specs.Script.{has_its_moment, is_well_named};
 
 use crate::command::{Command, GivenMoment, Line};
@@ -63,7 +63,7 @@ fn subscribe(names: &mut Names, name: (Thread, Text), kind: Kind) -> Result<bool
     Ok(true)
 }
 
-// Whether the `at` of `groups` is a moment where it is a member: if the name is subscribed with an inhibitor.
+// Whether the `at` of `groups` is a moment where it is a member: if the name is subscribed with both consumers.
 pub(crate) fn has_its_moment(names: &Names, line: &Line) -> Result<bool, AllocError>
     ensures { IfOk result (λ has. (earlier : List Line) → HoldsNames names.now earlier
         → has ≡ has_its_moment earlier line.now) }
@@ -72,7 +72,7 @@ pub(crate) fn has_its_moment(names: &Names, line: &Line) -> Result<bool, AllocEr
         Command::Groups {
             name,
             at: GivenMoment::Unread,
-        } => Ok(!has_inhibitor(names, &(line.thread, name.copy()?))),
+        } => Ok(!has_notifier(names, &(line.thread, name.copy()?))),
         _ => Ok(true),
     }
 }
@@ -83,6 +83,16 @@ fn has_dispatcher(names: &Names, name: &(Thread, Text)) -> bool
 {
     match names.get(name) {
         Some(kind) => kind.is_dispatch(),
+        None => false,
+    }
+}
+
+// Whether the name is subscribed with a dispatcher and an inhibitor.
+fn has_notifier(names: &Names, name: &(Thread, Text)) -> bool
+    ensures { result ≡ is_some_notify (get name_cmp names.now name.now) }
+{
+    match names.get(name) {
+        Some(kind) => kind.is_dispatch() && kind.is_inhibit(),
         None => false,
     }
 }
