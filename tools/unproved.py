@@ -2,11 +2,14 @@
 """Runs the replay program without its proofs, by `rt try`, which compiles it anew at each call and keeps nothing.
 
     tools/unproved.py N [SCRIPT ..] [OPTIONS]
+    tools/unproved.py --name SCRIPT [OPTIONS]
 
 With N scripts it runs these one after another over one compilation, and with none it runs standard input. ./replay
-calls it. What the program prints comes when it has ended, at most a mebibyte of it.
+calls it. What the program prints comes when it has ended, at most a mebibyte of it. With --name it prints the line that
+comes before a script's output if there are several scripts.
 """
 import collections
+import json
 import pathlib
 import re
 import subprocess
@@ -90,7 +93,15 @@ def run_cases(cases, seconds=MOST):
     return found
 
 
+def name_of(script, arguments):
+    """The line before a script's output, if there are several scripts."""
+    return json.dumps({"script": script}, separators=(",", ":")) if "--json" in arguments else f"== {script}"
+
+
 def main():
+    if sys.argv[1] == "--name":
+        print(name_of(sys.argv[2], sys.argv[3:]))
+        return
     count = int(sys.argv[1])
     scripts, arguments = sys.argv[2 : 2 + count], sys.argv[2 + count :]
     if count == 0:
@@ -104,7 +115,7 @@ def main():
             shown = {"": Ended(None, b"", str(refused).encode())}
     for name, ended in shown.items():
         if name and count > 1:
-            print(f"== {scripts[int(name)]}", flush=True)
+            print(name_of(scripts[int(name)], arguments), flush=True)
         sys.stdout.buffer.write(ended.printed)
         sys.stdout.flush()
         sys.stderr.buffer.write(ended.told)
