@@ -366,6 +366,20 @@ SCALARS = {
 }
 
 
+# The kinds that Alertmanager reads by a method of their type. Its YAML calls none for `~` and `null`, also between quotes.
+OWN_KINDS = SCALARS.keys() - {"text", "go_duration"}
+
+
+class Loader(yaml.SafeLoader):
+    """Reads YAML, and notes which single values have their tag from the file."""
+
+    def compose_scalar_node(self, anchor):
+        has_tag = self.peek_event().tag is not None
+        node = super().compose_scalar_node(anchor)
+        node.has_tag = has_tag
+        return node
+
+
 def tag_of(node):
     return node.tag.removeprefix("tag:yaml.org,2002:")
 
@@ -411,12 +425,20 @@ class Reading:
             self.note(path, "this contains itself")
             return None
         if isinstance(node, yaml.ScalarNode) and tag_of(node) == "null":
-            return None
+            return self.null(kind, node, path)
         self.inside.append(node)
         try:
             return self.present(kind, node, path)
         finally:
             self.inside.pop()
+
+    def null(self, kind, node, path):
+        """The value of that kind, of a node that is null. `Null` and `NULL` are an empty value of the type."""
+        if node.value not in ("Null", "NULL") or node.has_tag:
+            return None
+        if kind in OWN_KINDS:
+            return self.checked(kind, "", path)
+        return {} if kind in STRUCTS else None
 
     def present(self, kind, node, path):
         """The value of that kind, of a node that isn't null."""
@@ -461,6 +483,15 @@ class Reading:
                 return self.note(path, f"{text!r} is no number")
             # What matters of it is whether it is zero.
             return bool(re.search("[1-9]", text))
+        if kind in OWN_KINDS and text in ("~", "null") and node.style and not node.has_tag:
+            # A label name is a text for all that, and any text will do.
+            if kind != "label_name":
+                self.note(path, f"{text!r} between quotes is no value here")
+            return text
+        return self.checked(kind, text, path)
+
+    def checked(self, kind, text, path):
+        """The text, with a note if it is none of that kind."""
         try:
             SCALARS[kind](text)
         except ValueError as wrong:
@@ -481,4 +512,4 @@ class Reading:
 
 def document_of(text):
     """The first document of a YAML file."""
-    return next(yaml.compose_all(text, yaml.SafeLoader), None)
+    return next(yaml.compose_all(text, Loader), None)
