@@ -9,7 +9,7 @@
 // stored once more; the counter sinnoraku_subscriptions_cut_total and a warning say so. With Options.Refuse the Put is
 // refused instead, and its error names the reader.
 //
-// If the program ends by itself, every call returns an error, each iterator's channel is closed and its Err says why, and
+// A program that answers nothing for Options.Patience is killed. If it ends so or by itself, every call returns an error, each iterator's channel is closed and its Err says why, and
 // Done is closed. An owner should then stop, since the inhibitor of Alertmanager reads a closed channel again and again.
 //
 // Moments keep their nanoseconds. An end that is Go's zero time never comes: the program has its last moment,
@@ -43,17 +43,32 @@ type Options struct {
 	Places int
 	// Refuse has a Put refused if the log is full. Without it the readers that hold it up are cut off.
 	Refuse bool
+	// Interval is how often the program is asked whether it still answers; 0 is 5 s.
+	Interval time.Duration
+	// Patience is how long it may print nothing while it is asked something. Then it is killed. 0 is 30 s.
+	Patience time.Duration
+}
+
+// withDefaults are the options with what is 0 replaced.
+func (o Options) withDefaults() Options {
+	if o.Places == 0 {
+		o.Places = 256
+	}
+	if o.Interval == 0 {
+		o.Interval = 5 * time.Second
+	}
+	if o.Patience == 0 {
+		o.Patience = 30 * time.Second
+	}
+	return o
 }
 
 func (o Options) arguments() []string {
-	full, places := "cut", o.Places
+	full := "cut"
 	if o.Refuse {
 		full = "refuse"
 	}
-	if places == 0 {
-		places = 256
-	}
-	return []string{"--json", "--mode", "live", "--places", fmt.Sprint(places), "--full", full}
+	return []string{"--json", "--mode", "live", "--places", fmt.Sprint(o.Places), "--full", full}
 }
 
 // The program's routes aren't asked: Alertmanager's own dispatcher reads its own configuration.
@@ -108,11 +123,13 @@ func NewAlerts(
 		closing: make(chan struct{}),
 	}
 	a.readers.init(a)
-	running, err := start(options.Program, options.arguments(), configuration, startPatience, a.readers.wake)
-	if err != nil {
+	options = options.withDefaults()
+	a.program = start(options.Program, options.arguments(), configuration, a.readers.wake)
+	if err := a.program.check(options.Patience); err != nil {
+		<-a.program.ended
 		return nil, err
 	}
-	a.program = running
+	go a.program.watch(options.Interval, options.Patience)
 	if r != nil {
 		r.MustRegister(a.cuts, stateCollector{a})
 	}

@@ -115,6 +115,33 @@ func TestTheProgramDiesWhileCallsWait(t *testing.T) {
 	everythingFails(t, a)
 }
 
+// The program stands still. Calls wait, and fail once that is found.
+func TestAProgramThatStops(t *testing.T) {
+	a := startWith(t, time.Hour, nil, log.NewNopLogger(), Options{Interval: 200 * time.Millisecond, Patience: 2 * time.Second})
+	put(t, a, firing(0))
+	a.program.signal(t, syscall.SIGSTOP)
+	failures := make(chan error, 3)
+	go func() { failures <- a.Put(firing(1)) }()
+	go func() { failures <- a.Put(firings(0, 10*mostAlerts)...) }()
+	go func() { _, err := a.Get(firing(0).Fingerprint()); failures <- err }()
+	for at := 0; at < cap(failures); at++ {
+		if err := <-failures; err == nil || !strings.Contains(err.Error(), "answered nothing for 2s") {
+			t.Errorf("%v", err)
+		}
+	}
+}
+
+// A program that works for longer than the patience isn't killed while it prints something.
+func TestAProgramThatIsSlowIsNotKilled(t *testing.T) {
+	t.Parallel()
+	p := start(writeProgram(t, `read a; read b; for at in 1 2 3 4 5; do sleep 0.4; echo '{"line":2,"answer":"pending"}'; done
+		echo '{"line":2,"answers":5}'; read c`), nil, configuration, func() {})
+	defer p.close()
+	if err := p.check(1500 * time.Millisecond); err != nil {
+		t.Error(err)
+	}
+}
+
 func TestTheProgramDiesInACollection(t *testing.T) {
 	callback := &recorder{}
 	a := startWith(t, time.Hour, callback, log.NewNopLogger(), Options{})
@@ -260,7 +287,9 @@ func TestAPutWithoutAnAnswer(t *testing.T) {
 func TestAProgramThatDoesNotAnswer(t *testing.T) {
 	path := writeProgram(t, "echo sleeping >&2; sleep 60; sleep 60")
 	begun := time.Now()
-	_, err := start(path, nil, configuration, 300*time.Millisecond, func() {})
+	p := start(path, nil, configuration, func() {})
+	err := p.check(300 * time.Millisecond)
+	<-p.ended
 	if err == nil || !strings.Contains(err.Error(), "sleeping") || time.Since(begun) > 20*time.Second {
 		t.Errorf("after %v: %v", time.Since(begun), err)
 	}

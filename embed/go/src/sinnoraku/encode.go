@@ -14,7 +14,10 @@ import (
 )
 
 // The lines that have no members but names and numbers.
-var getStored = []byte(`{"do":"stored"}` + "\n")
+var (
+	getStored = []byte(`{"do":"stored"}` + "\n")
+	getRoutes = []byte(`{"do":"routes"}` + "\n")
+)
 
 func subscribeLine(name string) []byte {
 	return []byte(`{"do":"subscribe","sub":"` + name + `"}` + "\n")

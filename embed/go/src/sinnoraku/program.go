@@ -8,18 +8,16 @@ import (
 	"io"
 	"os/exec"
 	"sync"
+	"sync/atomic"
 	"syscall"
 	"time"
 )
 
-// ErrClosed is what calls and iterators end with after Close.
+// ErrClosed is what calls end with after Close.
 var ErrClosed = errors.New("sinnoraku: the provider is closed")
 
-// How long the program may take to answer its first line, and to end once its input has ended.
-const (
-	startPatience = 30 * time.Second
-	endPatience   = 10 * time.Second
-)
+// How long the program may take to end once its input has ended.
+const endPatience = 10 * time.Second
 
 // A program is one running replay program. It runs the lines that it is given in their order, so many callers can wait
 // for their answers at once. One goroutine reads the answers and hands each to its call.
@@ -30,13 +28,13 @@ type program struct {
 	told    tail          // the end of its error stream
 	onPut   func()        // called by the reading goroutine after each answered put
 	ended   chan struct{} // closed once the program has ended and each call has its answer or an error
+	printed atomic.Int64  // how many lines it has printed
 
 	writing sync.Mutex // held while lines are numbered and written, so that numbers are in the order of the lines
 	last    int        // the number of the last line
 
 	mutex   sync.Mutex // guards what follows
 	waiting map[int]*call
-	closing bool
 	err     error // why no more calls are taken
 }
 
@@ -49,38 +47,80 @@ type call struct {
 	done    chan struct{}
 }
 
-// start starts the program with these arguments and gives it its first line. It returns once the program has answered,
-// which has to be within the patience.
-func start(path string, arguments []string, configuration string, patience time.Duration, onPut func()) (*program, error) {
+// start starts the program with these arguments and gives it its first line. If it can't be started, it has ended already.
+func start(path string, arguments []string, configuration string, onPut func()) *program {
 	p := &program{path: path, onPut: onPut, ended: make(chan struct{}), waiting: map[int]*call{}, last: 1}
 	p.command = exec.Command(path, arguments...)
 	p.command.Stderr = &p.told
 	// A signal of the terminal is for this process, which then ends the program in order.
 	p.command.SysProcAttr = &syscall.SysProcAttr{Setpgid: true}
-	input, err := p.command.StdinPipe()
+	output, err := p.launch()
 	if err != nil {
-		return nil, err
+		p.kill(fmt.Errorf("sinnoraku: %w", err))
+		p.end(nil)
+		return p
 	}
-	output, err := p.command.StdoutPipe()
-	if err != nil {
-		return nil, err
+	if _, err := io.WriteString(p.input, configuration+"\n"); err != nil {
+		p.kill(nil)
 	}
-	if err := p.command.Start(); err != nil {
-		return nil, fmt.Errorf("sinnoraku: %w", err)
-	}
-	p.input = input
 	go p.read(bufio.NewReaderSize(output, 1<<16))
-	late := time.AfterFunc(patience, p.kill)
-	defer late.Stop()
-	if _, err := io.WriteString(input, configuration+"\n"); err != nil {
-		p.kill()
-	}
-	if _, err := p.ask(getStored); err != nil {
-		p.kill()
-		<-p.ended
+	return p
+}
+
+// launch runs the command with pipes as its input and its output.
+func (p *program) launch() (output io.Reader, err error) {
+	if p.input, err = p.command.StdinPipe(); err != nil {
 		return nil, err
 	}
-	return p, nil
+	if output, err = p.command.StdoutPipe(); err != nil {
+		return nil, err
+	}
+	return output, p.command.Start()
+}
+
+// watch checks each interval whether the program still answers, until it ends.
+func (p *program) watch(interval, patience time.Duration) {
+	ticker := time.NewTicker(interval)
+	defer ticker.Stop()
+	for {
+		select {
+		case <-ticker.C:
+			_ = p.check(patience)
+		case <-p.ended:
+			return
+		}
+	}
+}
+
+// check asks the program what it answers at once, however much is stored. A program that prints nothing for that long
+// while it is asked is killed.
+func (p *program) check(patience time.Duration) error {
+	answered := make(chan struct{})
+	defer close(answered)
+	go p.killIfSilent(patience, answered)
+	_, err := p.ask(getRoutes)
+	return err
+}
+
+// killIfSilent kills the program if it prints nothing for that long. What it prints for other calls counts, since the
+// answer comes after theirs. The time is counted in parts: one in which this process was stopped too is one part.
+func (p *program) killIfSilent(patience time.Duration, answered <-chan struct{}) {
+	const parts = 10
+	ticker := time.NewTicker(patience / parts)
+	defer ticker.Stop()
+	printed := p.printed.Load()
+	for silent := 0; silent < parts; silent++ {
+		select {
+		case <-ticker.C:
+		case <-answered:
+			return
+		}
+		if now := p.printed.Load(); now != printed {
+			printed, silent = now, -1
+		}
+	}
+	text := fmt.Sprintf("it answered nothing for %v", patience)
+	p.kill(fmt.Errorf("sinnoraku: the program %s was killed: %s", p.path, withTold(text, p.told.String())))
 }
 
 // ask writes a line and waits for its answers.
@@ -108,7 +148,7 @@ func (p *program) send(arePuts bool, lines ...[]byte) []*call {
 	}
 	if _, err := p.input.Write(text); err != nil {
 		// The reading goroutine finds the end of the answers, and then ends each call.
-		p.kill()
+		p.kill(nil)
 	}
 	return calls
 }
@@ -131,11 +171,10 @@ func (p *program) expect(calls []*call, arePuts bool) error {
 
 // read hands each answer to its call, until the program ends.
 func (p *program) read(output *bufio.Reader) {
-	err := p.readAnswers(output)
-	if err != nil {
-		p.kill()
+	if err := p.readAnswers(output); err != nil {
+		p.kill(err)
 	}
-	p.end(err, p.command.Wait())
+	p.end(p.command.Wait())
 }
 
 // readAnswers reads answers to the end of the output. What can't be an answer is an error.
@@ -147,6 +186,7 @@ func (p *program) readAnswers(output *bufio.Reader) error {
 		if err != nil {
 			return nil
 		}
+		p.printed.Add(1)
 		at, kind := headOf(line)
 		switch {
 		case kind == isFirst || kind == isLast:
@@ -210,34 +250,34 @@ func (p *program) note(line []byte) {
 }
 
 // end says that the program has ended, and ends each call that still waits.
-func (p *program) end(reading, exit error) {
+func (p *program) end(exit error) {
 	p.mutex.Lock()
-	if reading == nil && p.closing {
-		reading = ErrClosed
+	if p.err == nil {
+		p.err = fmt.Errorf("sinnoraku: the program %s ended by itself: %s", p.path, withTold(endText(exit), p.told.String()))
 	}
-	if reading == nil {
-		reading = fmt.Errorf("sinnoraku: the program %s ended by itself: %s", p.path, endText(exit, p.told.String()))
-	}
-	p.err = reading
-	left := p.waiting
+	err, left := p.err, p.waiting
 	p.waiting = nil
 	p.mutex.Unlock()
 	for _, it := range left {
-		it.err = reading
+		it.err = err
 		close(it.done)
 	}
 	close(p.ended)
 }
 
-func endText(exit error, told string) string {
-	text := "exit status 0"
-	if exit != nil {
-		text = exit.Error()
+func endText(exit error) string {
+	if exit == nil {
+		return "exit status 0"
 	}
-	if told != "" {
-		text += ": " + told
+	return exit.Error()
+}
+
+// withTold is a text followed by what the program told on its error stream.
+func withTold(text, told string) string {
+	if told == "" {
+		return text
 	}
-	return text
+	return text + ": " + told
 }
 
 // why says why the program takes no more calls; nil while it does.
@@ -249,22 +289,34 @@ func (p *program) why() error {
 
 // close ends the program's input, and waits until the program has answered what was asked before and has ended.
 func (p *program) close() {
-	p.mutex.Lock()
-	if p.err == nil {
-		p.closing, p.err = true, ErrClosed
-	}
-	p.mutex.Unlock()
+	p.refuse(ErrClosed)
 	// A writer that is stuck is freed by the program's end.
-	late := time.AfterFunc(endPatience, p.kill)
+	late := time.AfterFunc(endPatience, func() { p.kill(nil) })
 	defer late.Stop()
 	p.writing.Lock()
-	_ = p.input.Close()
+	if p.input != nil {
+		_ = p.input.Close()
+	}
 	p.writing.Unlock()
 	<-p.ended
 }
 
-// kill kills the program with what it has started.
-func (p *program) kill() { _ = syscall.Kill(-p.command.Process.Pid, syscall.SIGKILL) }
+// kill kills the program with what it has started. Without a reason calls end with how it ended.
+func (p *program) kill(reason error) {
+	p.refuse(reason)
+	if p.command.Process != nil {
+		_ = syscall.Kill(-p.command.Process.Pid, syscall.SIGKILL)
+	}
+}
+
+// refuse takes no more calls. The first reason counts.
+func (p *program) refuse(reason error) {
+	p.mutex.Lock()
+	defer p.mutex.Unlock()
+	if p.err == nil {
+		p.err = reason
+	}
+}
 
 // A tail keeps the last bytes that are written to it.
 type tail struct {
