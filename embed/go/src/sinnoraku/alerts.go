@@ -5,9 +5,10 @@
 // all calls; many goroutines can wait for their answers at once. Merging, the store, the order of alerts and who gets
 // what are the program's. Here are the encoding of alerts, their fingerprints, the waiting of readers, and the callbacks.
 //
-// A subscriber that is too slow is cut off by the program, and blocks nobody. It then subscribes again and gets what is
-// stored once more; the counter sinnoraku_subscriptions_cut_total and a warning say so. With Options.Refuse the Put is
-// refused instead, and its error names the reader.
+// What comes is read ahead for each subscriber, so that one that is slow for a while is served all the same. One that is
+// too slow is cut off, and blocks nobody. It then subscribes again and gets what is stored once more; the counter
+// sinnoraku_subscriptions_cut_total and a warning say so. With Options.Refuse the Put is refused instead, and its error
+// names the reader.
 //
 // A program that answers nothing for Options.Patience is killed. If it ends so or by itself, every call returns an error, each iterator's channel is closed and its Err says why, and
 // Done is closed. An owner should then stop, since the inhibitor of Alertmanager reads a closed channel again and again.
@@ -122,9 +123,10 @@ func NewAlerts(
 		known:   labelTexts{texts: map[model.Fingerprint]string{}},
 		closing: make(chan struct{}),
 	}
-	a.readers.init(a)
+	a.readers.init()
 	options = options.withDefaults()
 	a.program = start(options.Program, options.arguments(), configuration, a.readers.wake)
+	a.readers.program = a.program
 	if err := a.program.check(options.Patience); err != nil {
 		<-a.program.ended
 		return nil, err
@@ -193,7 +195,7 @@ func (a *Alerts) Get(fingerprint model.Fingerprint) (*types.Alert, error) {
 
 // get asks for the stored alert of these labels, and is nil if there is none.
 func (a *Alerts) get(labels string) (*types.Alert, error) {
-	alerts, err := a.alertsOf(getLine(labels))
+	alerts, err := alertsIn(a.program.send(false, getLine(labels))[0])
 	if err != nil || len(alerts) == 0 {
 		return nil, err
 	}
@@ -201,18 +203,15 @@ func (a *Alerts) get(labels string) (*types.Alert, error) {
 }
 
 // stored asks for all stored alerts.
-func (a *Alerts) stored() ([]*types.Alert, error) { return a.alertsOf(getStored) }
-
-func (a *Alerts) alertsOf(line []byte) ([]*types.Alert, error) {
-	asked, err := a.program.ask(line)
-	if err != nil {
-		return nil, err
-	}
-	return alertsIn(asked)
+func (a *Alerts) stored() ([]*types.Alert, error) {
+	return alertsIn(a.program.send(false, getStored)[0])
 }
 
-// alertsIn reads the alerts of an answered call.
+// alertsIn waits for a call's answers and reads the alerts in them. If they end with a cut, that is errCut.
 func alertsIn(asked *call) ([]*types.Alert, error) {
+	if err := asked.wait(); err != nil {
+		return nil, err
+	}
 	answers, err := answersOf(asked)
 	if err != nil {
 		return nil, err
@@ -220,9 +219,11 @@ func alertsIn(asked *call) ([]*types.Alert, error) {
 	alerts := make([]*types.Alert, 0, len(answers))
 	for _, it := range answers {
 		switch it.word {
-		case "alert":
+		case "alert", "item":
 			alerts = append(alerts, it.alert)
-		case "stored", "no_alert":
+		case "stored", "no_alert", "pending":
+		case "cut":
+			return alerts, errCut
 		case "refused":
 			return nil, errors.New("sinnoraku: refused: " + it.fault)
 		default:

@@ -7,6 +7,7 @@ import (
 	"reflect"
 	"strings"
 	"sync"
+	"sync/atomic"
 	"testing"
 	"time"
 
@@ -396,30 +397,117 @@ func (l *logCounter) seen() int {
 	return l.count
 }
 
-func TestASlowReaderIsCutAndGetsWhatIsStoredAgain(t *testing.T) {
-	logged := &logCounter{text: "TestASlowReaderIsCut"}
+// A reader that takes nothing is cut off once what is read ahead for it and the log's places are full. Meanwhile another
+// one gets all.
+func TestAReaderThatTakesNothingIsCutAlone(t *testing.T) {
+	logged := &logCounter{text: "TestAReaderThatTakesNothing"}
 	a := startWith(t, time.Hour, nil, logged, Options{Places: 2})
-	it := a.Subscribe()
-	defer it.Close()
-	// The reader stands still: its channel and one read fill up, then the log's places, and then it is cut.
-	const count = 64 * 60
-	for at := 0; at < count; at += 64 {
-		put(t, a, firings(at, at+64)...)
+	slow, quick := a.Subscribe(), a.Subscribe()
+	defer slow.Close()
+	defer quick.Close()
+	const count = 2*mostWaiting + 8*mostRead
+	for at := 0; at < count; at += mostRead {
+		put(t, a, firings(at, at+mostRead)...)
+		take(t, quick, mostRead)
+	}
+	for _, it := range a.readers.members() {
+		if room := mostWaiting + mostRead; len(it.waiting) > room {
+			t.Errorf("%d alerts wait where %d have room", len(it.waiting), room)
+		}
 	}
 	put(t, a, firing(count))
-	seen := timesUntil(t, it, count)
-	if len(seen) != count+1 {
-		t.Errorf("%d of %d alerts came", len(seen), count+1)
+	takes := timesUntil(t, slow, count)
+	if len(takes) != count+1 {
+		t.Errorf("%d of %d alerts came", len(takes), count+1)
 	}
-	if testutil.ToFloat64(a.cuts) == 0 || logged.seen() == 0 {
-		t.Errorf("%v cuts were counted and %d logged", testutil.ToFloat64(a.cuts), logged.seen())
+	if cuts := testutil.ToFloat64(a.cuts); cuts != 1 || logged.seen() != 1 {
+		t.Errorf("%v cuts were counted and %d logged", cuts, logged.seen())
 	}
-	if seen["0"] < 2 {
+	if takes["0"] != 2 {
 		t.Error("what it had got didn't come again with what is stored")
 	}
 	put(t, a, firing(count+1))
-	if got := numbers(take(t, it, 1)); got[0] != fmt.Sprint(count+1) {
+	if got := numbers(take(t, slow, 1)); got[0] != fmt.Sprint(count+1) {
 		t.Errorf("%v came", got)
+	}
+	if got := numbers(take(t, quick, 2)); got[1] != fmt.Sprint(count+1) {
+		t.Errorf("%v came", got)
+	}
+}
+
+// members are those of all open lanes.
+func (r *readers) members() (members []*member) {
+	r.mutex.Lock()
+	defer r.mutex.Unlock()
+	for l := range r.open {
+		l.mutex.Lock()
+		for it := range l.members {
+			members = append(members, it)
+		}
+		l.mutex.Unlock()
+	}
+	return members
+}
+
+// Readers come while a lot is stored and four goroutines put: each gets what is stored and all that comes, and none is cut.
+func TestReadersThatJoinUnderLoadAreNotCut(t *testing.T) {
+	const stored, joins, putters = 20_000, 6, 4
+	a := startPlain(t)
+	put(t, a, firings(0, stored)...)
+	var all, stops atomic.Int64
+	all.Store(stored)
+	var putting sync.WaitGroup
+	for putter := 0; putter < putters; putter++ {
+		putting.Add(1)
+		go func() {
+			defer putting.Done()
+			for stops.Load() == 0 {
+				if err := a.Put(firing(int(all.Add(1)))); err != nil {
+					t.Error(err)
+				}
+			}
+		}()
+	}
+	var came [joins]atomic.Int64
+	begun := time.Now()
+	for join := range came {
+		it, count := a.Subscribe(), &came[join]
+		defer it.Close()
+		go func() {
+			for range it.Next() {
+				count.Add(1)
+			}
+		}()
+		waitUntil(t, "a reader has what is stored", func() bool { return count.Load() >= stored })
+	}
+	stops.Store(1)
+	putting.Wait()
+	t.Logf("%d puts in %v", all.Load()-stored, time.Since(begun))
+	for join := range came {
+		count := &came[join]
+		waitUntil(t, "a reader has all", func() bool { return count.Load() == all.Load() })
+	}
+	if cuts := testutil.ToFloat64(a.cuts); cuts != 0 {
+		t.Errorf("%v cuts were counted", cuts)
+	}
+}
+
+// What is stored is printed once for each that joins the shared lane.
+func TestTheSharedLaneIsJoinedInOneTurn(t *testing.T) {
+	const stored = 40_000
+	a := startPlain(t)
+	for lane := 0; lane < ownLanes; lane++ {
+		a.readers.own <- struct{}{}
+	}
+	put(t, a, firings(0, stored)...)
+	for join := 0; join < 2; join++ {
+		begun := time.Now()
+		it := a.Subscribe()
+		defer it.Close()
+		take(t, it, stored)
+		if taken := time.Since(begun); taken > 10*time.Second {
+			t.Errorf("join %d took %v", join, taken)
+		}
 	}
 }
 
@@ -465,8 +553,8 @@ func TestAFullLogNamesItsReader(t *testing.T) {
 	it := a.Subscribe()
 	defer it.Close()
 	var err error
-	for at := 0; err == nil && at < 100*mostRead; at += 64 {
-		err = a.Put(firings(at, at+64)...)
+	for at := 0; err == nil && at < 100*mostRead; at += mostRead {
+		err = a.Put(firings(at, at+mostRead)...)
 	}
 	if err == nil || !strings.Contains(err.Error(), "E13 Full lane 0") || !strings.Contains(err.Error(), "TestAFullLogNamesItsReader") {
 		t.Errorf("%v", err)
@@ -480,7 +568,9 @@ func TestClosedIteratorsFreeTheirLanes(t *testing.T) {
 		it.Close()
 		it.Close()
 	}
-	waitUntil(t, "no lane is open", func() bool { return len(a.readers.openNames()) == 0 && len(a.readers.own) == 0 })
+	waitUntil(t, "no lane is open", func() bool {
+		return len(a.readers.openNames()) == 0 && len(a.readers.own) == 0
+	})
 }
 
 // Subscriptions that share a lane come and go while alerts are put, each of its own label set and with the numbers of its

@@ -1,0 +1,283 @@
+package sinnoraku
+
+import (
+	"bytes"
+	"fmt"
+	"strconv"
+	"sync"
+
+	"github.com/prometheus/alertmanager/types"
+)
+
+const (
+	// How many alerts one line reads at most, of what is stored and of what comes.
+	mostOfOpening = 65_536
+	mostRead      = 1024
+	// So many reads of what is stored also reach the end of a full log, whose places hold 1,024 alerts each.
+	readsOfFullLog = 256 * mostAlerts / mostOfOpening
+	// How many alerts wait for a reader before no more are read ahead for it.
+	mostWaiting = 16 * mostRead
+)
+
+// A lane is one subscription of the program. Its goroutine reads it ahead as things come, and deals them to its members:
+// the reader that has it alone, or all that share it. If one that has it alone is full, the lane isn't read, and the
+// program judges who is too slow. One that shares it is cut off here, and holds up no other.
+type lane struct {
+	readers  *readers
+	reader   string
+	name     string
+	number   int
+	isShared bool
+	woken    chan struct{} // has a token if something came since, or if there is room again
+	left     chan struct{} // closed once no member is left
+
+	mutex   sync.Mutex // held while the lane is read and what was read is dealt out
+	members map[*member]struct{}
+}
+
+// A member is one who has a lane or shares it.
+type member struct {
+	lane    *lane
+	opening []*call       // answers with what was stored when it came; it takes them first
+	filled  chan struct{} // has a token if something came since
+
+	mutex   sync.Mutex
+	waiting []*types.Alert
+	err     error // why no more come
+}
+
+// openLane subscribes, for a first member. What is stored is read before another line can come, since the log goes on
+// meanwhile; more than one read holds is read before the first one is answered.
+func (r *readers) openLane(reader string, isShared bool) (*lane, *member, error) {
+	l := r.newLane(reader, isShared)
+	calls := r.program.send(false, subscribeLine(l.name), readLineOf(l.name, mostOfOpening))
+	stored, err := l.begin(calls[0])
+	if err != nil {
+		r.forget(l)
+		return nil, nil, err
+	}
+	opening := calls[1:]
+	for left := stored - mostOfOpening; left > 0; left -= mostOfOpening {
+		opening = append(opening, r.program.send(false, readLineOf(l.name, mostOfOpening))...)
+	}
+	first := l.add(opening)
+	go l.run()
+	return l, first, nil
+}
+
+func (r *readers) newLane(reader string, isShared bool) *lane {
+	r.mutex.Lock()
+	defer r.mutex.Unlock()
+	r.count++
+	l := &lane{
+		readers: r, reader: reader, name: "s" + strconv.Itoa(r.count), number: -1, isShared: isShared,
+		woken: make(chan struct{}, 1), left: make(chan struct{}), members: map[*member]struct{}{},
+	}
+	r.open[l] = struct{}{}
+	return l
+}
+
+func (r *readers) forget(it *lane) {
+	r.mutex.Lock()
+	defer r.mutex.Unlock()
+	delete(r.open, it)
+}
+
+// begin notes the lane's number, and says how much is stored.
+func (l *lane) begin(asked *call) (stored int, _ error) {
+	if err := asked.wait(); err != nil {
+		return 0, err
+	}
+	answers, err := answersOf(asked)
+	if err != nil {
+		return 0, err
+	}
+	if len(answers) != 1 || answers[0].word != "subscribe" {
+		return 0, fmt.Errorf("sinnoraku: a subscribe was answered by %q", asked.answers)
+	}
+	l.readers.mutex.Lock()
+	defer l.readers.mutex.Unlock()
+	l.number = answers[0].lane
+	return answers[0].opening, nil
+}
+
+// add adds a member that has this opening.
+func (l *lane) add(opening []*call) *member {
+	it := &member{lane: l, opening: opening, filled: make(chan struct{}, 1)}
+	l.members[it] = struct{}{}
+	return it
+}
+
+// join adds a member. It gets what is stored when the lane has been read to its end, and then what the lane has. If the
+// lane is left or cut off, that is errCut.
+func (l *lane) join() (*member, error) {
+	l.mutex.Lock()
+	defer l.mutex.Unlock()
+	if l.isLeft() {
+		return nil, errCut
+	}
+	var lines [][]byte
+	for len(lines) < readsOfFullLog {
+		lines = append(lines, readLineOf(l.name, mostOfOpening))
+	}
+	calls := l.readers.program.send(false, append(lines, getStored)...)
+	for _, read := range calls[:readsOfFullLog] {
+		if err := l.deal(read); err != nil {
+			l.end(err)
+			return nil, err
+		}
+	}
+	return l.add(calls[readsOfFullLog:]), nil
+}
+
+func (l *lane) isLeft() bool {
+	select {
+	case <-l.left:
+		return true
+	default:
+		return false
+	}
+}
+
+// run reads the lane as things come, until it is left.
+func (l *lane) run() {
+	for {
+		select {
+		case <-l.woken:
+			for l.readOn() {
+			}
+		case <-l.left:
+			return
+		case <-l.readers.program.ended:
+			l.mutex.Lock()
+			l.end(l.readers.program.why())
+			l.mutex.Unlock()
+			return
+		}
+	}
+}
+
+// readOn reads once, and says whether there may be more.
+func (l *lane) readOn() bool {
+	l.mutex.Lock()
+	defer l.mutex.Unlock()
+	if l.isLeft() || !l.hasRoom() {
+		return false
+	}
+	read := l.readers.program.send(false, readLineOf(l.name, mostRead))[0]
+	if err := l.deal(read); err != nil {
+		l.end(err)
+		return false
+	}
+	l.leaveIfAlone()
+	return !isPending(read)
+}
+
+// hasRoom says whether the lane is to be read.
+func (l *lane) hasRoom() bool {
+	for it := range l.members {
+		if !l.isShared && it.isFull() {
+			return false
+		}
+	}
+	return true
+}
+
+// isPending says whether an answered read found the lane's end.
+func isPending(read *call) bool {
+	return bytes.HasSuffix(read.answers, []byte(`"answer":"pending"}`+"\n"))
+}
+
+// deal gives what a read is answered by to each member. Of those that share a lane it cuts off who is full.
+func (l *lane) deal(read *call) error {
+	alerts, err := alertsIn(read)
+	if len(alerts) == 0 {
+		return err
+	}
+	for it := range l.members {
+		if l.isShared && it.isFull() {
+			it.end(errCut)
+			delete(l.members, it)
+			continue
+		}
+		it.give(alerts)
+	}
+	return err
+}
+
+// end ends each member, and leaves the lane.
+func (l *lane) end(err error) {
+	for it := range l.members {
+		it.end(err)
+		delete(l.members, it)
+	}
+	l.leaveIfAlone()
+}
+
+// leaveIfAlone leaves the lane if no member is left.
+func (l *lane) leaveIfAlone() {
+	if len(l.members) > 0 || l.isLeft() {
+		return
+	}
+	close(l.left)
+	l.readers.forget(l)
+	l.readers.program.send(false, leaveLine(l.name))
+	if !l.isShared {
+		<-l.readers.own
+	}
+}
+
+func (m *member) isFull() bool {
+	m.mutex.Lock()
+	defer m.mutex.Unlock()
+	return len(m.waiting) >= mostWaiting
+}
+
+func (m *member) give(alerts []*types.Alert) {
+	m.mutex.Lock()
+	defer m.mutex.Unlock()
+	m.waiting = append(m.waiting, alerts...)
+	poke(m.filled)
+}
+
+// end ends the member once it has taken what waits.
+func (m *member) end(err error) {
+	m.mutex.Lock()
+	defer m.mutex.Unlock()
+	m.err = err
+	poke(m.filled)
+}
+
+// next waits until there are alerts, or until the iterator is closed. With an error no more come.
+func (m *member) next(closed <-chan struct{}) ([]*types.Alert, error) {
+	if len(m.opening) > 0 {
+		first := m.opening[0]
+		m.opening = m.opening[1:]
+		return alertsIn(first)
+	}
+	select {
+	case <-m.filled:
+		return m.take()
+	case <-closed:
+		return nil, errClosed
+	}
+}
+
+// take takes all that waits.
+func (m *member) take() ([]*types.Alert, error) {
+	m.mutex.Lock()
+	defer m.mutex.Unlock()
+	alerts := m.waiting
+	m.waiting = nil
+	if len(alerts) >= mostWaiting {
+		poke(m.lane.woken)
+	}
+	return alerts, m.err
+}
+
+func (m *member) leave() {
+	m.lane.mutex.Lock()
+	defer m.lane.mutex.Unlock()
+	delete(m.lane.members, m)
+	m.lane.leaveIfAlone()
+}
