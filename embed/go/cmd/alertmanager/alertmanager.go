@@ -208,7 +208,7 @@ func (a *alertmanager) handler() http.Handler {
 	return a.api.Register(router, "/")
 }
 
-// stop stops the readers first, since the inhibitor takes no end of its iterator.
+// stop stops the readers, and then what they read.
 func (a *alertmanager) stop() {
 	a.mutex.Lock()
 	a.stopReaders()

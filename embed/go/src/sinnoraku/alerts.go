@@ -10,8 +10,10 @@
 // sinnoraku_subscriptions_cut_total and a warning say so. With Options.Refuse the Put is refused instead, and its error
 // names the reader.
 //
-// A program that answers nothing for Options.Patience is killed. If it ends so or by itself, every call returns an error, each iterator's channel is closed and its Err says why, and
-// Done is closed. An owner should then stop, since the inhibitor of Alertmanager reads a closed channel again and again.
+// A program that dies, or that answers nothing for Options.Patience and is killed then, is replaced by another one, whose
+// store is empty. The calls that wait return an error, subscriptions go on with the new program, and the counter
+// sinnoraku_program_restarts_total says how often it happened. When three have died within a minute, the provider ends:
+// every call returns an error, and Done is closed. Iterators stay open then, as after Close.
 //
 // Moments keep their nanoseconds. An end that is Go's zero time never comes: the program has its last moment,
 // 9999-12-30T22:00:00.999999999Z, for it, and the zero time comes back. (At a merge provider/mem takes such an end as the
@@ -21,9 +23,9 @@ package sinnoraku
 
 import (
 	"context"
-	"errors"
 	"fmt"
 	"sync"
+	"sync/atomic"
 	"time"
 
 	"github.com/go-kit/log"
@@ -89,19 +91,20 @@ type AlertStoreCallback interface {
 // Alerts is a provider.Alerts whose store and broadcast are the replay program's. All methods may be called from any
 // goroutine.
 type Alerts struct {
-	program  *program
-	readers  readers
+	options  Options
+	current  atomic.Pointer[history] // the last one that has begun
 	marker   types.Marker
 	callback AlertStoreCallback // nil if nobody has to be asked
 	logger   log.Logger
 	cuts     prometheus.Counter
+	restarts prometheus.Counter
 
-	gate  sync.RWMutex // puts share it, and a collection has it alone; with a callback so has a put
-	known labelTexts   // of all stored alerts
+	gate sync.RWMutex // puts share it, and a collection has it alone; with a callback so has a put
 
-	closing chan struct{}
+	closing chan struct{} // closed by Close
 	once    sync.Once
-	work    sync.WaitGroup // the collecting goroutine
+	done    chan struct{}  // closed once no program runs any more
+	work    sync.WaitGroup // the goroutines that collect and that replace programs
 }
 
 var _ provider.Alerts = (*Alerts)(nil)
@@ -113,6 +116,7 @@ func NewAlerts(
 	r prometheus.Registerer, options Options,
 ) (*Alerts, error) {
 	a := &Alerts{
+		options:  options.withDefaults(),
 		marker:   m,
 		callback: cb,
 		logger:   log.With(l, "component", "provider"),
@@ -120,27 +124,29 @@ func NewAlerts(
 			Name: "sinnoraku_subscriptions_cut_total",
 			Help: "How many subscriptions were cut off because their reader was too slow.",
 		}),
-		known:   labelTexts{texts: map[model.Fingerprint]string{}},
+		restarts: prometheus.NewCounter(prometheus.CounterOpts{
+			Name: "sinnoraku_program_restarts_total",
+			Help: "How many programs were started because the one before had died.",
+		}),
 		closing: make(chan struct{}),
+		done:    make(chan struct{}),
 	}
-	a.readers.init()
-	options = options.withDefaults()
-	a.program = start(options.Program, options.arguments(), configuration, a.readers.wake)
-	a.readers.program = a.program
-	if err := a.program.check(options.Patience); err != nil {
-		<-a.program.ended
+	first := a.begin()
+	if err := first.check(a.options.Patience); err != nil {
+		<-first.ended
 		return nil, err
 	}
-	go a.program.watch(options.Interval, options.Patience)
+	a.current.Store(first)
 	if r != nil {
-		r.MustRegister(a.cuts, stateCollector{a})
+		r.MustRegister(a.cuts, a.restarts, stateCollector{a})
 	}
-	a.work.Add(1)
+	a.work.Add(2)
+	go a.keep()
 	go a.run(ctx, intervalGC)
 	return a, nil
 }
 
-// run collects each interval, until the provider is closed or the program has ended.
+// run collects each interval, until the provider is closed or has ended.
 func (a *Alerts) run(ctx context.Context, interval time.Duration) {
 	defer a.work.Done()
 	ticker := time.NewTicker(interval)
@@ -156,101 +162,51 @@ func (a *Alerts) run(ctx context.Context, interval time.Duration) {
 			return
 		case <-a.closing:
 			return
-		case <-a.program.ended:
-			level.Error(a.logger).Log("msg", "the provider has ended", "err", a.Err())
+		case <-a.done:
 			return
 		}
 	}
 }
 
-// Close ends the program once it has answered what was asked before, and waits for its end. Readers are ended with
-// ErrClosed.
+// Close ends the program once it has answered what was asked before, and waits for its end. Iterators of subscriptions
+// stay open.
 func (a *Alerts) Close() {
 	a.once.Do(func() { close(a.closing) })
-	a.program.close()
+	a.current.Load().close()
 	a.work.Wait()
 }
 
-// Done is closed once the program has ended, by Close or by itself.
-func (a *Alerts) Done() <-chan struct{} { return a.program.ended }
+// Done is closed once no program runs any more, by Close or because too many have died.
+func (a *Alerts) Done() <-chan struct{} { return a.done }
 
-// Err says why no more calls are taken, and is nil while they are.
-func (a *Alerts) Err() error { return a.program.why() }
+// Err says why no calls are taken, and is nil while they are. Until Done is closed another program may take some.
+func (a *Alerts) Err() error { return a.current.Load().why() }
 
 // Get returns the stored alert of a fingerprint.
 func (a *Alerts) Get(fingerprint model.Fingerprint) (*types.Alert, error) {
-	if err := a.Err(); err != nil {
+	h := a.current.Load()
+	if err := h.why(); err != nil {
 		return nil, err
 	}
-	labels, found := a.known.get(fingerprint)
+	labels, found := h.known.get(fingerprint)
 	if !found {
 		return nil, store.ErrNotFound
 	}
-	alert, err := a.get(labels)
+	alert, err := h.get(labels)
 	if alert == nil && err == nil {
 		err = store.ErrNotFound
 	}
 	return alert, err
 }
 
-// get asks for the stored alert of these labels, and is nil if there is none.
-func (a *Alerts) get(labels string) (*types.Alert, error) {
-	alerts, err := alertsIn(a.program.send(false, getLine(labels))[0])
-	if err != nil || len(alerts) == 0 {
-		return nil, err
-	}
-	return alerts[0], nil
-}
-
-// stored asks for all stored alerts.
-func (a *Alerts) stored() ([]*types.Alert, error) {
-	return alertsIn(a.program.send(false, getStored)[0])
-}
-
-// alertsIn waits for a call's answers and reads the alerts in them. If they end with a cut, that is errCut.
-func alertsIn(asked *call) ([]*types.Alert, error) {
-	if err := asked.wait(); err != nil {
-		return nil, err
-	}
-	answers, err := answersOf(asked)
-	if err != nil {
-		return nil, err
-	}
-	alerts := make([]*types.Alert, 0, len(answers))
-	for _, it := range answers {
-		switch it.word {
-		case "alert", "item":
-			alerts = append(alerts, it.alert)
-		case "stored", "no_alert", "pending":
-		case "cut":
-			return alerts, errCut
-		case "refused":
-			return nil, errors.New("sinnoraku: refused: " + it.fault)
-		default:
-			return nil, fmt.Errorf("sinnoraku: a question was answered by %q", it.word)
-		}
-	}
-	return alerts, nil
-}
-
 // GetPending returns an iterator over what is stored. If the program fails, one empty alert comes while Err says why:
 // Alertmanager's API looks for an error only when it gets an alert.
 func (a *Alerts) GetPending() provider.AlertIterator {
-	it := newIterator()
-	go func() {
-		alerts, err := a.stored()
-		if err != nil {
-			it.fail(err)
-			it.hand(&types.Alert{})
-		}
-		for _, alert := range alerts {
-			if !it.hand(alert) {
-				break
-			}
-		}
-		it.end(err)
-	}()
-	return it
+	alerts, err := a.current.Load().stored()
+	if err != nil {
+		alerts = []*types.Alert{{}}
+	}
+	return filled(alerts, err)
 }
 
 // collect removes what is resolved, and says so to the marker and the callback. What is stored is read just before, so
@@ -258,7 +214,8 @@ func (a *Alerts) GetPending() provider.AlertIterator {
 func (a *Alerts) collect(now time.Time) error {
 	a.gate.Lock()
 	defer a.gate.Unlock()
-	calls := a.program.send(false, getStored, collectLine(now))
+	h := a.current.Load()
+	calls := h.send(false, getStored, collectLine(now))
 	if err := calls[1].wait(); err != nil {
 		return err
 	}
@@ -280,7 +237,7 @@ func (a *Alerts) collect(now time.Time) error {
 		}
 		gone++
 		fingerprint := alert.Fingerprint()
-		a.known.remove(fingerprint)
+		h.known.remove(fingerprint)
 		a.marker.Delete(fingerprint)
 		if a.callback != nil {
 			a.callback.PostDelete(alert)
@@ -290,29 +247,4 @@ func (a *Alerts) collect(now time.Time) error {
 		return fmt.Errorf("sinnoraku: %d alerts were removed where %d were resolved", collected[0].removed, gone)
 	}
 	return nil
-}
-
-// labelTexts has the labels of each fingerprint, as they are written in a line.
-type labelTexts struct {
-	mutex sync.RWMutex
-	texts map[model.Fingerprint]string
-}
-
-func (l *labelTexts) get(fingerprint model.Fingerprint) (string, bool) {
-	l.mutex.RLock()
-	defer l.mutex.RUnlock()
-	text, found := l.texts[fingerprint]
-	return text, found
-}
-
-func (l *labelTexts) add(fingerprint model.Fingerprint, text string) {
-	l.mutex.Lock()
-	defer l.mutex.Unlock()
-	l.texts[fingerprint] = text
-}
-
-func (l *labelTexts) remove(fingerprint model.Fingerprint) {
-	l.mutex.Lock()
-	defer l.mutex.Unlock()
-	delete(l.texts, fingerprint)
 }

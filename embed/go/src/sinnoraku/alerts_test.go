@@ -351,7 +351,7 @@ func TestAHundredSubscriptions(t *testing.T) {
 		}
 		it.Close()
 	}
-	waitUntil(t, "no lane is open", func() bool { return len(a.readers.openNames()) == 0 })
+	waitUntil(t, "no lane is open", func() bool { return len(a.current.Load().readers.openNames()) == 0 })
 	again := a.Subscribe()
 	defer again.Close()
 	take(t, again, 10+readers+1)
@@ -410,7 +410,7 @@ func TestAReaderThatTakesNothingIsCutAlone(t *testing.T) {
 		put(t, a, firings(at, at+mostRead)...)
 		take(t, quick, mostRead)
 	}
-	for _, it := range a.readers.members() {
+	for _, it := range a.current.Load().readers.members() {
 		if room := mostWaiting + mostRead; len(it.waiting) > room {
 			t.Errorf("%d alerts wait where %d have room", len(it.waiting), room)
 		}
@@ -496,8 +496,9 @@ func TestReadersThatJoinUnderLoadAreNotCut(t *testing.T) {
 func TestTheSharedLaneIsJoinedInOneTurn(t *testing.T) {
 	const stored = 40_000
 	a := startPlain(t)
+	h := a.current.Load()
 	for lane := 0; lane < ownLanes; lane++ {
-		a.readers.own <- struct{}{}
+		h.readers.own <- struct{}{}
 	}
 	put(t, a, firings(0, stored)...)
 	for join := 0; join < 2; join++ {
@@ -569,7 +570,7 @@ func TestClosedIteratorsFreeTheirLanes(t *testing.T) {
 		it.Close()
 	}
 	waitUntil(t, "no lane is open", func() bool {
-		return len(a.readers.openNames()) == 0 && len(a.readers.own) == 0
+		return len(a.current.Load().readers.openNames()) == 0 && len(a.current.Load().readers.own) == 0
 	})
 }
 

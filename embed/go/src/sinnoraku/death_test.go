@@ -5,6 +5,8 @@ import (
 	"fmt"
 	"os"
 	"path/filepath"
+	"reflect"
+	"runtime"
 	"strings"
 	"syscall"
 	"testing"
@@ -12,7 +14,9 @@ import (
 
 	"github.com/go-kit/log"
 	"github.com/prometheus/client_golang/prometheus"
+	"github.com/prometheus/client_golang/prometheus/testutil"
 
+	"github.com/prometheus/alertmanager/provider"
 	"github.com/prometheus/alertmanager/store"
 	"github.com/prometheus/alertmanager/types"
 )
@@ -24,7 +28,20 @@ func (p *program) signal(t *testing.T, it syscall.Signal) {
 	}
 }
 
-// everythingFails fails if a call of a provider whose program has died doesn't say so.
+// kill kills the program, and waits until another one has been started or the provider has ended.
+func kill(t *testing.T, a *Alerts) {
+	t.Helper()
+	h := a.current.Load()
+	h.signal(t, syscall.SIGKILL)
+	select {
+	case <-h.replaced:
+	case <-a.Done():
+	case <-time.After(20 * time.Second):
+		t.Fatal("the program wasn't replaced")
+	}
+}
+
+// everythingFails fails if a call of a provider that has ended doesn't say why.
 func everythingFails(t *testing.T, a *Alerts) {
 	t.Helper()
 	select {
@@ -43,12 +60,8 @@ func everythingFails(t *testing.T, a *Alerts) {
 	_, err := a.Get(firing(0).Fingerprint())
 	says("Get", err)
 	says("collect", a.collect(time.Now()))
-	it := a.Subscribe()
-	if alert, isOpen := <-it.Next(); isOpen {
-		t.Errorf("Subscribe: %v came", alert)
-	}
-	says("Subscribe", it.Err())
-	it = a.GetPending()
+	takesNothing(t, a.Subscribe())
+	it := a.GetPending()
 	if alert, isOpen := <-it.Next(); !isOpen || len(alert.Labels) != 0 {
 		t.Errorf("GetPending: %v came", alert)
 	}
@@ -62,72 +75,83 @@ func everythingFails(t *testing.T, a *Alerts) {
 	says("Err after Close", a.Err())
 }
 
-func TestTheProgramDiesWhileNothingHappens(t *testing.T) {
-	a := startPlain(t)
-	put(t, a, firing(0))
-	a.program.signal(t, syscall.SIGKILL)
-	everythingFails(t, a)
+// putAgain puts an alert until that succeeds, as Prometheus does.
+func putAgain(t *testing.T, a *Alerts, alert *types.Alert) {
+	t.Helper()
+	waitUntil(t, "a put succeeds", func() bool { return a.Put(alert) == nil })
 }
 
-// The program is stopped, so that calls wait for their answers, and then killed.
-func TestTheProgramDiesWhileCallsWait(t *testing.T) {
-	a := startPlain(t)
-	put(t, a, firing(0))
-	own := a.Subscribe()
-	take(t, own, 1)
-	var others []interface {
-		Err() error
-		Next() <-chan *types.Alert
-	}
+// subscribeAll subscribes so often that some share a lane, and has each take what is stored.
+func subscribeAll(t *testing.T, a *Alerts, stored int) (iterators []provider.AlertIterator) {
+	t.Helper()
 	for reader := 0; reader < ownLanes+3; reader++ {
 		it := a.Subscribe()
-		take(t, it, 1)
-		others = append(others, it)
+		take(t, it, stored)
+		iterators = append(iterators, it)
 	}
-	a.program.signal(t, syscall.SIGSTOP)
-	failures := make(chan error, 5)
-	go func() { failures <- a.Put(firing(1)) }()
-	go func() { failures <- a.Put(firings(0, 10*mostAlerts)...) }()
-	go func() { _, err := a.Get(firing(0).Fingerprint()); failures <- err }()
-	go func() { _, err := a.stored(); failures <- err }()
-	go func() { it := a.Subscribe(); <-it.Next(); failures <- it.Err() }()
-	time.Sleep(100 * time.Millisecond)
-	select {
-	case err := <-failures:
-		t.Fatalf("a call ended early: %v", err)
-	default:
-	}
-	a.program.signal(t, syscall.SIGKILL)
-	for at := 0; at < cap(failures); at++ {
-		if err := <-failures; err == nil || !strings.Contains(err.Error(), "ended by itself") {
-			t.Errorf("%v", err)
-		}
-	}
-	for range own.Next() {
-	}
-	for _, it := range append(others, own) {
-		for range it.Next() {
-		}
-		if err := it.Err(); err == nil || !strings.Contains(err.Error(), "killed") {
-			t.Errorf("a reader ended with %v", err)
-		}
-	}
-	everythingFails(t, a)
+	return iterators
 }
 
-// The program stands still. Calls wait, and fail once that is found.
-func TestAProgramThatStops(t *testing.T) {
+// eachGets fails if a reader doesn't get just the alert of a number.
+func eachGets(t *testing.T, iterators []provider.AlertIterator, number int) {
+	t.Helper()
+	for _, it := range iterators {
+		if got := numbers(take(t, it, 1)); got[0] != fmt.Sprint(number) {
+			t.Errorf("%v came where %d is wanted", got, number)
+		}
+		takesNothing(t, it)
+	}
+}
+
+func TestAProgramThatDiesIsReplaced(t *testing.T) {
+	a := startPlain(t)
+	lost := firing(0)
+	put(t, a, lost)
+	a.marker.SetActiveOrSilenced(lost.Fingerprint(), 1, []string{"1"}, nil)
+	iterators := subscribeAll(t, a, 1)
+	for at := 1; at < mostDeaths; at++ {
+		kill(t, a)
+		if _, err := a.Get(lost.Fingerprint()); err != store.ErrNotFound {
+			t.Errorf("what was stored before: %v", err)
+		}
+		put(t, a, firing(at))
+		eachGets(t, iterators, at)
+		if stored := numbers(pending(t, a)); len(stored) != 1 {
+			t.Errorf("%v are stored", stored)
+		}
+	}
+	if restarts := testutil.ToFloat64(a.restarts); restarts != mostDeaths-1 {
+		t.Errorf("%v restarts were counted", restarts)
+	}
+	if state := a.marker.Status(lost.Fingerprint()).State; state != types.AlertStateUnprocessed {
+		t.Errorf("the mark of what was lost is %v", state)
+	}
+	put(t, a, lost)
+	eachGets(t, iterators, 0)
+}
+
+// The program stands still. Calls wait, and fail once that is found; then all goes on with another program.
+func TestAProgramThatStopsIsReplaced(t *testing.T) {
 	a := startWith(t, time.Hour, nil, log.NewNopLogger(), Options{Interval: 200 * time.Millisecond, Patience: 2 * time.Second})
 	put(t, a, firing(0))
-	a.program.signal(t, syscall.SIGSTOP)
-	failures := make(chan error, 3)
+	iterators := subscribeAll(t, a, 1)
+	a.current.Load().signal(t, syscall.SIGSTOP)
+	failures, subscribed := make(chan error, 4), make(chan provider.AlertIterator)
 	go func() { failures <- a.Put(firing(1)) }()
 	go func() { failures <- a.Put(firings(0, 10*mostAlerts)...) }()
 	go func() { _, err := a.Get(firing(0).Fingerprint()); failures <- err }()
+	go func() { failures <- a.GetPending().Err() }()
+	go func() { subscribed <- a.Subscribe() }()
 	for at := 0; at < cap(failures); at++ {
 		if err := <-failures; err == nil || !strings.Contains(err.Error(), "answered nothing for 2s") {
 			t.Errorf("%v", err)
 		}
+	}
+	iterators = append(iterators, <-subscribed)
+	putAgain(t, a, firing(1))
+	eachGets(t, iterators, 1)
+	if restarts := testutil.ToFloat64(a.restarts); restarts != 1 {
+		t.Errorf("%v restarts were counted", restarts)
 	}
 }
 
@@ -142,17 +166,90 @@ func TestAProgramThatIsSlowIsNotKilled(t *testing.T) {
 	}
 }
 
+func TestThreeDeathsInAMinuteEndTheProvider(t *testing.T) {
+	before := runtime.NumGoroutine()
+	a := startPlain(t)
+	put(t, a, firing(0))
+	iterators := subscribeAll(t, a, 1)
+	for at := 0; at < mostDeaths; at++ {
+		select {
+		case <-a.Done():
+			t.Fatalf("it ended after %d deaths", at)
+		default:
+		}
+		kill(t, a)
+	}
+	everythingFails(t, a)
+	for _, it := range iterators {
+		takesNothing(t, it)
+		if err := it.Err(); err != nil {
+			t.Errorf("an iterator's Err is %v", err)
+		}
+	}
+	noMoreGoroutinesThan(t, before)
+}
+
+func noMoreGoroutinesThan(t *testing.T, before int) {
+	t.Helper()
+	waitUntil(t, "each goroutine has ended", func() bool { return runtime.NumGoroutine() <= before })
+}
+
+func TestOnlyDeathsWithinAMinuteCount(t *testing.T) {
+	now := time.Now()
+	for _, c := range []struct {
+		after []time.Duration
+		want  bool
+	}{
+		{[]time.Duration{0}, false},
+		{[]time.Duration{0, 0}, false},
+		{[]time.Duration{0, 0, 59 * time.Second}, true},
+		{[]time.Duration{0, 0, time.Minute}, false},
+		{[]time.Duration{0, 2 * time.Minute, 150 * time.Second, 170 * time.Second}, true},
+		{[]time.Duration{0, time.Second, 2 * time.Minute, 150 * time.Second}, false},
+	} {
+		var deaths []time.Time
+		for _, it := range c.after {
+			deaths = append(deaths, now.Add(it))
+		}
+		if areTooMany(deaths) != c.want {
+			t.Errorf("%v", c.after)
+		}
+	}
+}
+
+// What waits for a reader when the program dies still comes, and so it does when the provider ends.
+func TestWhatWaitsComesAfterADeath(t *testing.T) {
+	const count = mostRead // one read has them all
+	a := startPlain(t)
+	it := a.Subscribe()
+	put(t, a, firings(0, count)...)
+	waitUntil(t, "the channel is full", func() bool { return len(it.Next()) == alertChannelLength })
+	kill(t, a)
+	put(t, a, firing(count))
+	if got := take(t, it, count+1); !reflect.DeepEqual(numbers(got), numbers(firings(0, count+1))) {
+		t.Error("they came in another order")
+	}
+	put(t, a, firing(0))
+	waitUntil(t, "the alert waits", func() bool { return len(it.Next()) == 1 })
+	kill(t, a)
+	waitUntil(t, "it subscribed again", func() bool { return len(a.current.Load().readers.openNames()) == 1 })
+	kill(t, a)
+	<-a.Done()
+	take(t, it, 1)
+	takesNothing(t, it)
+}
+
 func TestTheProgramDiesInACollection(t *testing.T) {
 	callback := &recorder{}
 	a := startWith(t, time.Hour, callback, log.NewNopLogger(), Options{})
 	gone := firing(0)
 	gone.EndsAt = gone.StartsAt
 	put(t, a, gone)
-	a.program.signal(t, syscall.SIGSTOP)
+	a.current.Load().signal(t, syscall.SIGSTOP)
 	failed := make(chan error)
 	go func() { failed <- a.collect(time.Now()) }()
 	time.Sleep(50 * time.Millisecond)
-	a.program.signal(t, syscall.SIGKILL)
+	kill(t, a)
 	if err := <-failed; err == nil {
 		t.Error("the collection didn't fail")
 	}
@@ -161,21 +258,33 @@ func TestTheProgramDiesInACollection(t *testing.T) {
 			t.Error("an alert was said to be removed")
 		}
 	}
-	everythingFails(t, a)
+	if err := a.collect(time.Now()); err != nil {
+		t.Error(err)
+	}
 }
 
+// Iterators stay open, since Alertmanager's inhibitor reads a closed one again and again.
 func TestClose(t *testing.T) {
+	before := runtime.NumGoroutine()
 	a := startPlain(t)
-	it := a.Subscribe()
 	put(t, a, firing(0))
-	take(t, it, 1)
-	a.Close()
-	a.Close()
-	if a.program.command.ProcessState == nil || !a.program.command.ProcessState.Success() {
-		t.Errorf("the program is %v", a.program.command.ProcessState)
+	iterators := subscribeAll(t, a, 1)
+	put(t, a, firings(1, 151)...)
+	for _, it := range iterators {
+		it := it
+		waitUntil(t, "the alerts wait", func() bool { return len(it.Next()) == 150 })
 	}
-	if _, isOpen := <-it.Next(); isOpen || it.Err() != ErrClosed {
-		t.Errorf("the reader ended with %v", it.Err())
+	a.Close()
+	a.Close()
+	if state := a.current.Load().command.ProcessState; state == nil || !state.Success() {
+		t.Errorf("the program is %v", state)
+	}
+	for _, it := range iterators {
+		take(t, it, 150)
+		takesNothing(t, it)
+		if err := it.Err(); err != nil {
+			t.Errorf("an iterator's Err is %v", err)
+		}
 	}
 	if err := a.Put(firing(0)); err != ErrClosed {
 		t.Errorf("Put: %v", err)
@@ -183,6 +292,25 @@ func TestClose(t *testing.T) {
 	if _, err := a.Get(firing(0).Fingerprint()); err != ErrClosed {
 		t.Errorf("Get: %v", err)
 	}
+	noMoreGoroutinesThan(t, before)
+}
+
+// Close doesn't leave a program that was started just then.
+func TestCloseWhileAProgramIsReplaced(t *testing.T) {
+	before := runtime.NumGoroutine()
+	for turn := 0; turn < 20; turn++ {
+		a := startPlain(t)
+		a.current.Load().signal(t, syscall.SIGKILL)
+		time.Sleep(time.Duration(turn) * 100 * time.Microsecond)
+		a.Close()
+		if err := a.Put(firing(0)); err == nil {
+			t.Error("a put succeeded")
+		}
+		if state := a.current.Load().command.ProcessState; state == nil {
+			t.Error("a program is left")
+		}
+	}
+	noMoreGoroutinesThan(t, before)
 }
 
 func TestTheContextCloses(t *testing.T) {
@@ -252,7 +380,7 @@ func TestOtherPrograms(t *testing.T) {
 				t.Fatalf("it started with %v", err)
 			}
 			if err == nil {
-				_, err = a.stored()
+				_, err = a.current.Load().stored()
 				a.Close()
 			}
 			if err == nil || !strings.Contains(err.Error(), c.fault) {

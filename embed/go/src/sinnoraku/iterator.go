@@ -6,53 +6,45 @@ import (
 	"github.com/prometheus/alertmanager/types"
 )
 
-// How many alerts an iterator's channel holds, as in provider/mem.
+// How many alerts the channel of a subscription holds, as in provider/mem.
 const alertChannelLength = 200
 
-// An iterator is a provider.AlertIterator that one goroutine feeds.
+// An iterator is a provider.AlertIterator.
 type iterator struct {
 	alerts chan *types.Alert
-	done   chan struct{} // closed by Close
+	closed chan struct{} // closed by Close
 	once   sync.Once
-
-	mutex sync.Mutex
-	err   error
+	err    error // never changes
 }
 
-func newIterator() *iterator {
-	return &iterator{alerts: make(chan *types.Alert, alertChannelLength), done: make(chan struct{})}
+func newIterator(room int) *iterator {
+	return &iterator{alerts: make(chan *types.Alert, room), closed: make(chan struct{})}
+}
+
+// filled is an iterator over these alerts.
+func filled(alerts []*types.Alert, err error) *iterator {
+	it := newIterator(len(alerts))
+	it.err = err
+	for _, alert := range alerts {
+		it.alerts <- alert
+	}
+	close(it.alerts)
+	return it
 }
 
 func (it *iterator) Next() <-chan *types.Alert { return it.alerts }
 
-// Err says why the channel was closed, if it wasn't because all was delivered. Any goroutine may call it.
-func (it *iterator) Err() error {
-	it.mutex.Lock()
-	defer it.mutex.Unlock()
-	return it.err
-}
+// Err is nil for a subscription. Of GetPending it says why not all came.
+func (it *iterator) Err() error { return it.err }
 
 // Close may be called more than once.
-func (it *iterator) Close() { it.once.Do(func() { close(it.done) }) }
+func (it *iterator) Close() { it.once.Do(func() { close(it.closed) }) }
 
-// hand waits until there is room for an alert. It is false once the iterator is closed.
-func (it *iterator) hand(alert *types.Alert) bool {
+// endIfClosed closes the channel if Close was called. What it holds can still be taken.
+func (it *iterator) endIfClosed() {
 	select {
-	case it.alerts <- alert:
-		return true
-	case <-it.done:
-		return false
+	case <-it.closed:
+		close(it.alerts)
+	default:
 	}
-}
-
-func (it *iterator) fail(err error) {
-	it.mutex.Lock()
-	defer it.mutex.Unlock()
-	it.err = err
-}
-
-// end closes the channel. What it holds can still be taken.
-func (it *iterator) end(err error) {
-	it.fail(err)
-	close(it.alerts)
 }

@@ -45,19 +45,19 @@ func (a *Alerts) Put(alerts ...*types.Alert) error {
 	if a.callback != nil {
 		a.gate.Lock()
 		defer a.gate.Unlock()
-		return a.putOneByOne(alerts)
+		return a.putOneByOne(a.current.Load(), alerts)
 	}
 	a.gate.RLock()
 	defer a.gate.RUnlock()
-	return a.put(alerts)
+	return a.current.Load().put(alerts)
 }
 
 // putOneByOne asks the callback about each alert, and notifies it before the next one. It has the gate alone, so that
 // nothing changes between the question and the put.
-func (a *Alerts) putOneByOne(alerts []*types.Alert) error {
+func (a *Alerts) putOneByOne(h *history, alerts []*types.Alert) error {
 	var failed PutError
 	for _, alert := range alerts {
-		merged, existing, err := a.merged(alert)
+		merged, existing, err := h.merged(alert)
 		if err != nil {
 			return err
 		}
@@ -65,8 +65,8 @@ func (a *Alerts) putOneByOne(alerts []*types.Alert) error {
 			level.Error(a.logger).Log("msg", "pre-store callback returned error on set alert", "err", err)
 			continue
 		}
-		if err := a.put([]*types.Alert{merged}); err != nil {
-			if a.Err() != nil {
+		if err := h.put([]*types.Alert{merged}); err != nil {
+			if h.why() != nil {
 				return err
 			}
 			failed.Faults = append(failed.Faults, err.Error())
@@ -78,12 +78,12 @@ func (a *Alerts) putOneByOne(alerts []*types.Alert) error {
 }
 
 // merged is the alert as it would be stored, and whether one of its labels is.
-func (a *Alerts) merged(alert *types.Alert) (_ *types.Alert, existing bool, _ error) {
-	labels, found := a.known.get(fingerprintOf(alert.Labels))
+func (h *history) merged(alert *types.Alert) (_ *types.Alert, existing bool, _ error) {
+	labels, found := h.known.get(fingerprintOf(alert.Labels))
 	if !found {
-		return alert, false, a.Err()
+		return alert, false, h.why()
 	}
-	stored, err := a.get(labels)
+	stored, err := h.get(labels)
 	if stored == nil || err != nil {
 		return alert, false, err
 	}
@@ -103,7 +103,7 @@ func overlap(old, new *types.Alert) bool {
 }
 
 // put writes the lines of all alerts, and then waits for the answers.
-func (a *Alerts) put(alerts []*types.Alert) error {
+func (h *history) put(alerts []*types.Alert) error {
 	var failed PutError
 	room := rooms.Get().(*[]byte)
 	w := writer{text: (*room)[:0], now: time.Now()}
@@ -116,15 +116,15 @@ func (a *Alerts) put(alerts []*types.Alert) error {
 	if len(lines) == 0 {
 		return failed.orNil()
 	}
-	calls := a.program.send(true, lines...)
+	calls := h.send(true, lines...)
 	// The program works on them meanwhile.
 	for _, it := range w.lines {
-		w.identify(it, &a.known)
+		w.identify(it, &h.known)
 	}
 	*room = w.text
 	rooms.Put(room)
 	for at, it := range w.lines {
-		if err := a.take(calls[at], it, &failed); err != nil {
+		if err := h.take(calls[at], it, &failed); err != nil {
 			return err
 		}
 	}
@@ -249,7 +249,7 @@ func withValues(labels model.LabelSet) model.LabelSet {
 }
 
 // take waits for a line's answers, and notes what was stored and what wasn't.
-func (a *Alerts) take(asked *call, l *line, failed *PutError) error {
+func (h *history) take(asked *call, l *line, failed *PutError) error {
 	if err := asked.wait(); err != nil {
 		return err
 	}
@@ -263,7 +263,7 @@ func (a *Alerts) take(asked *call, l *line, failed *PutError) error {
 		case it.word == "post":
 			isPosted = true
 		case it.word == "refused":
-			failed.Faults = append(failed.Faults, a.readers.named(it.fault))
+			failed.Faults = append(failed.Faults, h.readers.named(it.fault))
 			return nil
 		case it.word == "invalid" && it.index < len(l.alerts):
 			failed.add(l.alerts[it.index].alert, it.fault)
@@ -275,7 +275,7 @@ func (a *Alerts) take(asked *call, l *line, failed *PutError) error {
 	}
 	for _, it := range l.alerts {
 		if it.labels != "" {
-			a.known.add(it.fingerprint, it.labels)
+			h.known.add(it.fingerprint, it.labels)
 		}
 	}
 	return nil

@@ -8,14 +8,19 @@ import (
 	"strconv"
 	"strings"
 	"sync"
+	"time"
 
 	"github.com/go-kit/log/level"
 
 	"github.com/prometheus/alertmanager/provider"
+	"github.com/prometheus/alertmanager/types"
 )
 
 // The program has eight lanes. Seven are for one subscription each, and further ones share the last.
 const ownLanes = 7
+
+// How long a subscription that the program refused waits before it is tried again.
+const refusedPause = time.Second
 
 // Why no more comes of a lane, if it isn't by the program's end, and why a subscription ends.
 var (
@@ -105,11 +110,12 @@ func (r *readers) share() (*member, error) {
 	return first, err
 }
 
-// Subscribe returns an iterator over what is stored and over every alert that is stored from now on. If it is cut off, it
-// subscribes again.
+// Subscribe returns an iterator over what is stored and over every alert that is stored from now on. If it is cut off or
+// the program dies, it subscribes again. Its channel isn't closed when the provider ends, as that of provider/mem isn't,
+// and what it holds can still be taken.
 func (a *Alerts) Subscribe() provider.AlertIterator {
-	s := &subscription{iterator: newIterator(), alerts: a, reader: callerName()}
-	from, err := a.readers.subscribe(s.reader)
+	s := &subscription{iterator: newIterator(alertChannelLength), alerts: a, reader: callerName()}
+	from, err := s.subscribe()
 	go s.feed(from, err)
 	return s.iterator
 }
@@ -124,46 +130,84 @@ func callerName() string {
 	return name[strings.LastIndexByte(name, '/')+1:]
 }
 
-// A subscription feeds an iterator.
+// A subscription feeds an iterator, in one history after another.
 type subscription struct {
 	iterator *iterator
 	alerts   *Alerts
 	reader   string
+	history  *history
 }
 
-// feed hands on what comes, until the iterator is closed or the program ends.
+func (s *subscription) subscribe() (*member, error) {
+	s.history = s.alerts.current.Load()
+	return s.history.readers.subscribe(s.reader)
+}
+
+// feed hands on what comes, until the iterator is closed or the provider ends.
 func (s *subscription) feed(from *member, err error) {
-	for err == nil {
-		err = s.pass(from)
-		from.leave()
-		if err == errCut {
-			s.noteCut()
-			from, err = s.alerts.readers.subscribe(s.reader)
+	for {
+		if err == nil {
+			err = s.pass(from)
+			from.leave()
 		}
+		if !s.goesOn(err) {
+			s.iterator.endIfClosed()
+			return
+		}
+		from, err = s.subscribe()
 	}
-	if err == errClosed {
-		err = nil
-	}
-	s.iterator.end(err)
-}
-
-func (s *subscription) noteCut() {
-	s.alerts.cuts.Inc()
-	level.Warn(s.alerts.logger).Log(
-		"msg", "a reader was too slow and was cut off; it gets what is stored again", "reader", s.reader)
 }
 
 // pass hands on what comes to a member, and says how that ended.
 func (s *subscription) pass(from *member) error {
 	for {
-		alerts, err := from.next(s.iterator.done)
+		alerts, err := from.next(s.iterator.closed)
 		for _, alert := range alerts {
-			if !s.iterator.hand(alert) {
+			if !s.hand(alert) {
 				return errClosed
 			}
 		}
 		if err != nil {
 			return err
 		}
+	}
+}
+
+// hand waits until there is room for an alert. It is false once the iterator is closed or the provider has ended.
+func (s *subscription) hand(alert *types.Alert) bool {
+	select {
+	case s.iterator.alerts <- alert:
+		return true
+	case <-s.iterator.closed:
+		return false
+	case <-s.alerts.done:
+		return false
+	}
+}
+
+// goesOn says whether to subscribe again after an error, and waits until that can be done.
+func (s *subscription) goesOn(err error) bool {
+	var later <-chan time.Time
+	switch {
+	case err == errClosed:
+		return false
+	case err == errCut:
+		s.alerts.cuts.Inc()
+		level.Warn(s.alerts.logger).Log(
+			"msg", "a reader was too slow and was cut off; it gets what is stored again", "reader", s.reader)
+		return true
+	case s.history.why() == nil:
+		level.Error(s.alerts.logger).Log("msg", "a reader can't be served now", "reader", s.reader, "err", err)
+		later = time.After(refusedPause)
+	}
+	select {
+	case <-s.history.replaced:
+		return true
+	case <-later:
+		return true
+	case <-s.iterator.closed:
+		return false
+	case <-s.alerts.done:
+		return false
 	}
 }

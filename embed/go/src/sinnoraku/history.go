@@ -1,0 +1,154 @@
+package sinnoraku
+
+import (
+	"errors"
+	"fmt"
+	"sync"
+	"time"
+
+	"github.com/go-kit/log/level"
+	"github.com/prometheus/common/model"
+
+	"github.com/prometheus/alertmanager/types"
+)
+
+// So many programs may die in that time. Then the provider ends.
+const (
+	mostDeaths  = 3
+	deathWindow = time.Minute
+)
+
+// A history is what one program stores and broadcasts. If the program dies, the next one begins a history with an empty
+// store.
+type history struct {
+	*program
+	known    labelTexts // of all stored alerts
+	readers  readers
+	replaced chan struct{} // closed once the next history has begun
+}
+
+// begin starts a program.
+func (a *Alerts) begin() *history {
+	h := &history{replaced: make(chan struct{})}
+	h.known.texts = map[model.Fingerprint]string{}
+	h.readers.init()
+	h.program = start(a.options.Program, a.options.arguments(), configuration, h.readers.wake)
+	h.readers.program = h.program
+	go h.watch(a.options.Interval, a.options.Patience)
+	return h
+}
+
+// keep starts another program when one has died, until the provider is closed or too many have died.
+func (a *Alerts) keep() {
+	defer a.work.Done()
+	defer close(a.done)
+	var deaths []time.Time
+	for {
+		h := a.current.Load()
+		<-h.ended
+		err := h.why()
+		if err == ErrClosed {
+			return
+		}
+		if deaths = append(deaths, time.Now()); areTooMany(deaths) {
+			level.Error(a.logger).Log("msg", "the provider has ended, since too many programs have died", "err", err)
+			return
+		}
+		level.Error(a.logger).Log("msg", "the program has died; another one starts with an empty store", "err", err)
+		a.replace(h)
+	}
+}
+
+// areTooMany says whether the last of the deaths are within the window.
+func areTooMany(deaths []time.Time) bool {
+	last := len(deaths) - 1
+	return last >= mostDeaths-1 && deaths[last].Sub(deaths[last-mostDeaths+1]) < deathWindow
+}
+
+// replace begins the next history. The marks of what is lost are deleted, as a collection deletes those of what it removes.
+func (a *Alerts) replace(dead *history) {
+	for _, fingerprint := range dead.known.all() {
+		a.marker.Delete(fingerprint)
+	}
+	a.restarts.Inc()
+	next := a.begin()
+	a.current.Store(next)
+	close(dead.replaced)
+	select {
+	case <-a.closing: // Close may have seen the dead one only
+		next.close()
+	default:
+	}
+}
+
+// get asks for the stored alert of these labels, and is nil if there is none.
+func (h *history) get(labels string) (*types.Alert, error) {
+	alerts, err := alertsIn(h.send(false, getLine(labels))[0])
+	if err != nil || len(alerts) == 0 {
+		return nil, err
+	}
+	return alerts[0], nil
+}
+
+// stored asks for all stored alerts.
+func (h *history) stored() ([]*types.Alert, error) { return alertsIn(h.send(false, getStored)[0]) }
+
+// alertsIn waits for a call's answers and reads the alerts in them. If they end with a cut, that is errCut.
+func alertsIn(asked *call) ([]*types.Alert, error) {
+	if err := asked.wait(); err != nil {
+		return nil, err
+	}
+	answers, err := answersOf(asked)
+	if err != nil {
+		return nil, err
+	}
+	alerts := make([]*types.Alert, 0, len(answers))
+	for _, it := range answers {
+		switch it.word {
+		case "alert", "item":
+			alerts = append(alerts, it.alert)
+		case "stored", "no_alert", "pending":
+		case "cut":
+			return alerts, errCut
+		case "refused":
+			return nil, errors.New("sinnoraku: refused: " + it.fault)
+		default:
+			return nil, fmt.Errorf("sinnoraku: a question was answered by %q", it.word)
+		}
+	}
+	return alerts, nil
+}
+
+// labelTexts has the labels of each fingerprint, as they are written in a line.
+type labelTexts struct {
+	mutex sync.RWMutex
+	texts map[model.Fingerprint]string
+}
+
+func (l *labelTexts) all() (fingerprints []model.Fingerprint) {
+	l.mutex.RLock()
+	defer l.mutex.RUnlock()
+	for it := range l.texts {
+		fingerprints = append(fingerprints, it)
+	}
+	return fingerprints
+}
+
+func (l *labelTexts) get(fingerprint model.Fingerprint) (string, bool) {
+	l.mutex.RLock()
+	defer l.mutex.RUnlock()
+	text, found := l.texts[fingerprint]
+	return text, found
+}
+
+func (l *labelTexts) add(fingerprint model.Fingerprint, text string) {
+	l.mutex.Lock()
+	defer l.mutex.Unlock()
+	l.texts[fingerprint] = text
+}
+
+func (l *labelTexts) remove(fingerprint model.Fingerprint) {
+	l.mutex.Lock()
+	defer l.mutex.Unlock()
+	delete(l.texts, fingerprint)
+}
