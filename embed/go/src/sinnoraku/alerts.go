@@ -5,10 +5,10 @@
 // all calls; many goroutines can wait for their answers at once. Merging, the store, the order of alerts and who gets
 // what are the program's. Here are the encoding of alerts, their fingerprints, the waiting of readers, and the callbacks.
 //
-// What comes is read ahead for each subscriber, so that one that is slow for a while is served all the same. One that is
-// too slow is cut off, and blocks nobody. It then subscribes again and gets what is stored once more; the counter
-// sinnoraku_subscriptions_cut_total and a warning say so. With Options.Refuse the Put is refused instead, and its error
-// names the reader.
+// What comes is read ahead for each subscriber, so that one that is slow for a while is served all the same. A Put may wait
+// for that reading, but for no subscriber. One that is too slow is cut off. It then subscribes again and gets what is stored
+// once more; the counter sinnoraku_subscriptions_cut_total and a warning say so. With Options.Refuse the Put is refused
+// instead, and its error names the reader.
 //
 // A program that dies, or that answers nothing for Options.Patience and is killed then, is replaced by another one, whose
 // store is empty. The calls that wait return an error, subscriptions go on with the new program, and the counter

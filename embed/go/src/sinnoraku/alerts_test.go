@@ -351,19 +351,10 @@ func TestAHundredSubscriptions(t *testing.T) {
 		}
 		it.Close()
 	}
-	waitUntil(t, "no lane is open", func() bool { return len(a.current.Load().readers.openNames()) == 0 })
+	waitUntil(t, "no lane is open", func() bool { return len(a.current.Load().readers.lanes()) == 0 })
 	again := a.Subscribe()
 	defer again.Close()
 	take(t, again, 10+readers+1)
-}
-
-func (r *readers) openNames() (names []string) {
-	r.mutex.Lock()
-	defer r.mutex.Unlock()
-	for it := range r.open {
-		names = append(names, it.name)
-	}
-	return names
 }
 
 func waitUntil(t testing.TB, what string, holds func() bool) {
@@ -405,15 +396,18 @@ func TestAReaderThatTakesNothingIsCutAlone(t *testing.T) {
 	slow, quick := a.Subscribe(), a.Subscribe()
 	defer slow.Close()
 	defer quick.Close()
-	const count = 2*mostWaiting + 8*mostRead
+	const count = mostWaiting + 5*mostRead
 	for at := 0; at < count; at += mostRead {
 		put(t, a, firings(at, at+mostRead)...)
 		take(t, quick, mostRead)
+		waitUntil(t, "the channel is full", func() bool { return len(slow.Next()) == alertChannelLength })
 	}
 	for _, it := range a.current.Load().readers.members() {
+		it.mutex.Lock()
 		if room := mostWaiting + mostRead; len(it.waiting) > room {
 			t.Errorf("%d alerts wait where %d have room", len(it.waiting), room)
 		}
+		it.mutex.Unlock()
 	}
 	put(t, a, firing(count))
 	takes := timesUntil(t, slow, count)
@@ -437,9 +431,7 @@ func TestAReaderThatTakesNothingIsCutAlone(t *testing.T) {
 
 // members are those of all open lanes.
 func (r *readers) members() (members []*member) {
-	r.mutex.Lock()
-	defer r.mutex.Unlock()
-	for l := range r.open {
+	for _, l := range r.lanes() {
 		l.mutex.Lock()
 		for it := range l.members {
 			members = append(members, it)
@@ -449,9 +441,18 @@ func (r *readers) members() (members []*member) {
 	return members
 }
 
+func (r *readers) lanes() (lanes []*lane) {
+	r.mutex.Lock()
+	defer r.mutex.Unlock()
+	for it := range r.open {
+		lanes = append(lanes, it)
+	}
+	return lanes
+}
+
 // Readers come while a lot is stored and four goroutines put: each gets what is stored and all that comes, and none is cut.
 func TestReadersThatJoinUnderLoadAreNotCut(t *testing.T) {
-	const stored, joins, putters = 20_000, 6, 4
+	const stored, joins, putters = 20_000, 3, 4
 	a := startPlain(t)
 	put(t, a, firings(0, stored)...)
 	var all, stops atomic.Int64
@@ -486,6 +487,30 @@ func TestReadersThatJoinUnderLoadAreNotCut(t *testing.T) {
 	for join := range came {
 		count := &came[join]
 		waitUntil(t, "a reader has all", func() bool { return count.Load() == all.Load() })
+	}
+	if cuts := testutil.ToFloat64(a.cuts); cuts != 0 {
+		t.Errorf("%v cuts were counted", cuts)
+	}
+}
+
+// Puts come as fast as they can, one at a time, and the log holds two batches only: what the readers take is read in time.
+func TestAPutWaitsUntilTheLogIsRead(t *testing.T) {
+	const count = 2000
+	a := startWith(t, time.Hour, nil, log.NewNopLogger(), Options{Places: 2})
+	var iterators []provider.AlertIterator
+	for reader := 0; reader < 3; reader++ {
+		it := a.Subscribe()
+		defer it.Close()
+		iterators = append(iterators, it)
+	}
+	for at := 0; at < count; at++ {
+		put(t, a, firing(at))
+	}
+	for _, it := range iterators {
+		if got := take(t, it, count); !reflect.DeepEqual(numbers(got), numbers(firings(0, count))) {
+			t.Error("they came in another order")
+		}
+		takesNothing(t, it)
 	}
 	if cuts := testutil.ToFloat64(a.cuts); cuts != 0 {
 		t.Errorf("%v cuts were counted", cuts)
@@ -570,7 +595,7 @@ func TestClosedIteratorsFreeTheirLanes(t *testing.T) {
 		it.Close()
 	}
 	waitUntil(t, "no lane is open", func() bool {
-		return len(a.current.Load().readers.openNames()) == 0 && len(a.current.Load().readers.own) == 0
+		return len(a.current.Load().readers.lanes()) == 0 && len(a.current.Load().readers.own) == 0
 	})
 }
 

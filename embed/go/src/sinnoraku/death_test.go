@@ -232,7 +232,7 @@ func TestWhatWaitsComesAfterADeath(t *testing.T) {
 	put(t, a, firing(0))
 	waitUntil(t, "the alert waits", func() bool { return len(it.Next()) == 1 })
 	kill(t, a)
-	waitUntil(t, "it subscribed again", func() bool { return len(a.current.Load().readers.openNames()) == 1 })
+	waitUntil(t, "it subscribed again", func() bool { return len(a.current.Load().readers.lanes()) == 1 })
 	kill(t, a)
 	<-a.Done()
 	take(t, it, 1)

@@ -31,7 +31,7 @@ type history struct {
 func (a *Alerts) begin() *history {
 	h := &history{replaced: make(chan struct{})}
 	h.known.texts = map[model.Fingerprint]string{}
-	h.readers.init()
+	h.readers.init(a.options.Places)
 	h.program = start(a.options.Program, a.options.arguments(), configuration, h.readers.wake)
 	h.readers.program = h.program
 	go h.watch(a.options.Interval, a.options.Patience)

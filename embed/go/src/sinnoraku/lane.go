@@ -5,6 +5,7 @@ import (
 	"fmt"
 	"strconv"
 	"sync"
+	"sync/atomic"
 
 	"github.com/prometheus/alertmanager/types"
 )
@@ -30,6 +31,7 @@ type lane struct {
 	isShared bool
 	woken    chan struct{} // has a token if something came since, or if there is room again
 	left     chan struct{} // closed once no member is left
+	lag      atomic.Int64  // about how many batches have come since it was last read to its end
 
 	mutex   sync.Mutex // held while the lane is read and what was read is dealt out
 	members map[*member]struct{}
@@ -50,9 +52,12 @@ type member struct {
 // meanwhile; more than one read holds is read before the first one is answered.
 func (r *readers) openLane(reader string, isShared bool) (*lane, *member, error) {
 	l := r.newLane(reader, isShared)
+	l.mutex.Lock()
+	defer l.mutex.Unlock()
 	calls := r.program.send(false, subscribeLine(l.name), readLineOf(l.name, mostOfOpening))
 	stored, err := l.begin(calls[0])
 	if err != nil {
+		close(l.left)
 		r.forget(l)
 		return nil, nil, err
 	}
@@ -164,13 +169,19 @@ func (l *lane) readOn() bool {
 	if l.isLeft() || !l.hasRoom() {
 		return false
 	}
+	lag := l.lag.Load()
 	read := l.readers.program.send(false, readLineOf(l.name, mostRead))[0]
 	if err := l.deal(read); err != nil {
 		l.end(err)
 		return false
 	}
 	l.leaveIfAlone()
-	return !isPending(read)
+	if !isPending(read) {
+		return true
+	}
+	// What came before the read has been read. Until here it counts, so that puts wait if the read is late.
+	l.lag.Add(-lag)
+	return false
 }
 
 // hasRoom says whether the lane is to be read.

@@ -116,6 +116,7 @@ func (h *history) put(alerts []*types.Alert) error {
 	if len(lines) == 0 {
 		return failed.orNil()
 	}
+	h.readers.makeWay(len(lines))
 	calls := h.send(true, lines...)
 	// The program works on them meanwhile.
 	for _, it := range w.lines {

@@ -31,6 +31,7 @@ var (
 // readers are all lanes of a program that are open.
 type readers struct {
 	program *program
+	mostLag int64         // how many batches of the log may be unread before a put waits until they are read
 	own     chan struct{} // has an element for each own lane that is open
 
 	sharing sync.Mutex // held while one joins the shared lane
@@ -41,7 +42,9 @@ type readers struct {
 	open  map[*lane]struct{}
 }
 
-func (r *readers) init() {
+// init is called with how many batches the log holds. A half is left to puts that come at the same time.
+func (r *readers) init(places int) {
+	r.mostLag = int64(places / 2)
 	r.own = make(chan struct{}, ownLanes)
 	r.open = map[*lane]struct{}{}
 }
@@ -53,6 +56,27 @@ func (r *readers) wake() {
 	for it := range r.open {
 		poke(it.woken)
 	}
+}
+
+// makeWay is called before batches are put. It reads the lanes whose readers might be cut off by them. So no reader is cut
+// off while there is room for it in memory, however fast others put.
+func (r *readers) makeWay(batches int) {
+	for _, it := range r.lagging(batches) {
+		for it.readOn() {
+		}
+	}
+}
+
+// lagging counts batches that are put, and returns the lanes that have too many then.
+func (r *readers) lagging(batches int) (lanes []*lane) {
+	r.mutex.Lock()
+	defer r.mutex.Unlock()
+	for it := range r.open {
+		if it.lag.Add(int64(batches)) > r.mostLag {
+			lanes = append(lanes, it)
+		}
+	}
+	return lanes
 }
 
 // poke leaves a token, unless one is there.
