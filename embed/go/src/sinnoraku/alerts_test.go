@@ -506,8 +506,10 @@ func TestAPutWaitsUntilTheLogIsRead(t *testing.T) {
 	for at := 0; at < count; at++ {
 		put(t, a, firing(at))
 	}
+	const all = count + 8*mostAlerts
+	put(t, a, firings(count, all)...)
 	for _, it := range iterators {
-		if got := take(t, it, count); !reflect.DeepEqual(numbers(got), numbers(firings(0, count))) {
+		if got := take(t, it, all); !reflect.DeepEqual(numbers(got), numbers(firings(0, all))) {
 			t.Error("they came in another order")
 		}
 		takesNothing(t, it)

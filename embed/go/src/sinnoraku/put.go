@@ -116,8 +116,7 @@ func (h *history) put(alerts []*types.Alert) error {
 	if len(lines) == 0 {
 		return failed.orNil()
 	}
-	h.readers.makeWay(len(lines))
-	calls := h.send(true, lines...)
+	calls := h.sendPuts(lines)
 	// The program works on them meanwhile.
 	for _, it := range w.lines {
 		w.identify(it, &h.known)
@@ -130,6 +129,16 @@ func (h *history) put(alerts []*types.Alert) error {
 		}
 	}
 	return failed.orNil()
+}
+
+// sendPuts writes the lines of a put, at once as many as the readers' part of the log has room for.
+func (h *history) sendPuts(lines [][]byte) (calls []*call) {
+	for len(lines) > 0 {
+		count := h.readers.makeWay(len(lines))
+		calls = append(calls, h.send(true, lines[:count]...)...)
+		lines = lines[count:]
+	}
+	return calls
 }
 
 // rooms are texts that lines are written into.

@@ -31,7 +31,7 @@ var (
 // readers are all lanes of a program that are open.
 type readers struct {
 	program *program
-	mostLag int64         // how many batches of the log may be unread before a put waits until they are read
+	mostLag int           // how many batches of the log may be unread before a put waits until they are read
 	own     chan struct{} // has an element for each own lane that is open
 
 	sharing sync.Mutex // held while one joins the shared lane
@@ -44,7 +44,7 @@ type readers struct {
 
 // init is called with how many batches the log holds. A half is left to puts that come at the same time.
 func (r *readers) init(places int) {
-	r.mostLag = int64(places / 2)
+	r.mostLag = (places + 1) / 2
 	r.own = make(chan struct{}, ownLanes)
 	r.open = map[*lane]struct{}{}
 }
@@ -58,13 +58,17 @@ func (r *readers) wake() {
 	}
 }
 
-// makeWay is called before batches are put. It reads the lanes whose readers might be cut off by them. So no reader is cut
-// off while there is room for it in memory, however fast others put.
-func (r *readers) makeWay(batches int) {
+// makeWay is called before batches are put, and says how many can be put at once. It reads the lanes whose readers might
+// be cut off by them. So no reader is cut off while there is room for it in memory, however fast others put.
+func (r *readers) makeWay(batches int) int {
+	if batches > r.mostLag {
+		batches = r.mostLag
+	}
 	for _, it := range r.lagging(batches) {
 		for it.readOn() {
 		}
 	}
+	return batches
 }
 
 // lagging counts batches that are put, and returns the lanes that have too many then.
@@ -72,7 +76,7 @@ func (r *readers) lagging(batches int) (lanes []*lane) {
 	r.mutex.Lock()
 	defer r.mutex.Unlock()
 	for it := range r.open {
-		if it.lag.Add(int64(batches)) > r.mostLag {
+		if it.lag.Add(int64(batches)) > int64(r.mostLag) {
 			lanes = append(lanes, it)
 		}
 	}
