@@ -33,9 +33,9 @@ has_free_name (Subscribe name kind) opened = is_none (index_named name opened)
 has_free_name _ opened = true
 
 -- whether the `at` of `groups` is a moment where it is a member: if the subscription has an inhibitor too
-abbrev pub has_its_moment : Command → List OpenView → Bool
-has_its_moment (Groups name Unread) opened = not (has_notifier name opened)
-has_its_moment _ opened = true
+abbrev pub has_moment_if_needed : Command → List OpenView → Bool
+has_moment_if_needed (Groups name Unread) opened = not (has_notifier name opened)
+has_moment_if_needed _ opened = true
 
 -- what a command of the line of this number prints, and what it does to a session: nothing, if it
 -- subscribes a name that is open or its moment isn't one; else what it answers
@@ -43,10 +43,10 @@ pub data Obeys (config : Config) (setting : Setting) (form : Form) (number : ℕ
     (old : SessionView) : List ℕ → SessionView → Type 0 where
   bad_name : has_free_name command old.opened ≡ false
       → Obeys config setting form number command old (refused_text form number BadName) old
-  bad_moment : has_its_moment command old.opened ≡ false
+  bad_moment : has_moment_if_needed command old.opened ≡ false
       → Obeys config setting form number command old (refused_text form number BadLine) old
   ran : {given : List Answer} {new : SessionView} → has_free_name command old.opened ≡ true
-      → has_its_moment command old.opened ≡ true → Does config setting old command given new
+      → has_moment_if_needed command old.opened ≡ true → Does config setting old command given new
       → Obeys config setting form number command old (answers_printed form number given) new
 
 -- What the line of this number prints, and what it does to a session: nothing, if it is empty; a refusal,

@@ -2,7 +2,7 @@
 
 ghost use Rattle.std.specs.Prelude.{◌≡◌, IfOk, string_bytes};
 ghost use Rattle.am_runner.specs.Sessions.{setting_of};
-ghost use Rattle.am_serve.specs.Answering.{Answers, Obeys, has_free_name, has_its_moment, refused_text};
+ghost use Rattle.am_serve.specs.Answering.{Answers, Obeys, has_free_name, has_moment_if_needed, refused_text};
 
 use am_provider::{Gate, Recorded};
 use am_runner::{Context, Form, Session, write_answers, write_count};
@@ -53,7 +53,7 @@ fn obey<'p, 'c, N: Recorded, R: Wait, G: Gate>(
     if !has_free_name(session, command) {
         return refused(context.alloc, form, number, Fault::BadName);
     }
-    if !has_its_moment(session, command) {
+    if !has_moment_if_needed(session, command) {
         return refused(context.alloc, form, number, Fault::BadLine);
     }
     let given = session.run(context, command)?;
@@ -73,8 +73,8 @@ fn has_free_name<N: Recorded>(session: &Session<'_, '_, N>, command: &Command) -
 }
 
 // Whether the `at` of `groups` is a moment where it is a member: if the subscription has an inhibitor too.
-fn has_its_moment<N: Recorded>(session: &Session<'_, '_, N>, command: &Command) -> bool
-    ensures { result ≡ has_its_moment command.now session.now.opened }
+fn has_moment_if_needed<N: Recorded>(session: &Session<'_, '_, N>, command: &Command) -> bool
+    ensures { result ≡ has_moment_if_needed command.now session.now.opened }
 {
     match command {
         Command::Groups {
