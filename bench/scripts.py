@@ -15,7 +15,6 @@ import json
 import sys
 
 BEGIN = datetime.datetime(2024, 1, 1)
-THREADS = int(sys.argv[3]) if len(sys.argv) > 3 else 1
 
 
 def moment(seconds):
@@ -46,29 +45,30 @@ def alert(number, start):
     }
 
 
-def post(second, alerts):
-    return {"do": "post", "thread": second % THREADS, "at": moment(second), "body": alerts}
+def post(second, alerts, threads):
+    return {"do": "post", "thread": second % threads, "at": moment(second), "body": alerts}
 
 
-def commands(name, lines):
+def commands(name, lines, threads=1):
     """So many lines of that kind."""
     if name == "followed":
         yield {"do": "subscribe", "thread": 0, "sub": "reader"}
     for line in range(lines // 2 if name == "followed" else lines):
         if name in ("repeated", "replaced"):
-            yield post(line, [alert(line % 1000, line // 1000 * (60 if name == "repeated" else 600))])
+            yield post(line, [alert(line % 1000, line // 1000 * (60 if name == "repeated" else 600))], threads)
         elif name == "batches":
-            yield post(line, [alert(line * 100 + place, line) for place in range(100)])
+            yield post(line, [alert(line * 100 + place, line) for place in range(100)], threads)
         else:
-            yield post(line, [alert(line, line)])
+            yield post(line, [alert(line, line)], threads)
         if name == "followed":
             yield {"do": "read", "thread": 0, "sub": "reader"}
 
 
 def main():
     name, lines = sys.argv[1], int(sys.argv[2])
+    threads = int(sys.argv[3]) if len(sys.argv) > 3 else 1
     print('{"route":{"receiver":"ops"}}')
-    for command in commands(name, lines):
+    for command in commands(name, lines, threads):
         print(json.dumps(command, separators=(",", ":")))
 
 

@@ -43,12 +43,24 @@ def collect(minutes):
     return {"do": "collect", "thread": 0, "at": at(minutes)}
 
 
+def take(minutes):
+    return {"do": "take", "thread": 0, "at": at(minutes)}
+
+
+def page(start, most, thread=0):
+    return {"do": "stored", "thread": thread, "from": start, "max": most}
+
+
 def close():
     return {"do": "close", "thread": 0}
 
 
 def trim(thread=0):
     return {"do": "trim", "thread": thread}
+
+
+def compact(thread=0):
+    return {"do": "compact", "thread": thread}
 
 
 def alert(labels, start=None, end=None, **annotations):
@@ -361,6 +373,19 @@ def every_call():
     yield leave("a")
 
 
+def with_compactions():
+    """The short script of every call with a compaction before each of its commands and a trim before some, and a page
+    after each."""
+    for number, command in enumerate(every_call()):
+        yield compact(number % 8)
+        if number % 3 == 0:
+            yield trim()
+        yield command
+        yield page(number % 3, 2, number % 8)
+    yield compact()
+    yield trim()
+
+
 def with_trims(points):
     """The short script of every call with a trim before each of these of its commands."""
     for number, command in enumerate(every_call()):
@@ -388,6 +413,43 @@ def trims_between_posts():
             name = str(turn)
     yield leave(name)
     yield trim()
+
+
+def compactions_between_posts():
+    """The same with compactions, and in between a trim and pages; who lags leaves with the right count."""
+    name = "0"
+    yield subscribe(name)
+    for turn in range(5_000):
+        yield post(turn % 50, numbered([turn % 100], turn % 50, 60))
+        if turn % 100 == 99:
+            yield read(name, 95)
+            yield compact()
+            yield page(turn // 100, 3)
+        if turn % 500 == 499:
+            yield subscribe(str(turn))
+            yield read(name, 1_000)
+            yield leave(name)
+            yield trim()
+            name = str(turn)
+    yield leave(name)
+    yield take(60)
+    yield compact()
+
+
+def pages_of_thousands():
+    """Thousands of stored alerts in pages of several sizes, the largest and one past the end among them, while a collection
+    answers what it removed."""
+    for turn in range(5):
+        yield post(turn, numbered(range(1_000 * turn, 1_000 * turn + 1_000), turn, 10 + turn))
+    for most in (1, 999, 1_000, 65_536):
+        for start in range(0, 5_001, max(most, 500)):
+            yield page(start, most)
+    yield page(4_294_967_295, 65_536)
+    yield take(11)
+    yield page(0, 1)
+    yield page(2_999, 2)
+    yield take(20)
+    yield page(0, 65_536)
 
 
 def most_lines():
@@ -422,6 +484,9 @@ SCRIPTS = {
         drawn_calls,
         most_lines,
         trims_between_posts,
+        compactions_between_posts,
+        with_compactions,
+        pages_of_thousands,
     )
 } | {f"bench_{name}": lambda name=name: of_bench(name) for name in BENCH}
 CALLS = len(list(every_call()))

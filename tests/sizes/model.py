@@ -11,7 +11,7 @@ import functools
 import json
 import re
 
-COMMANDS = ("post", "subscribe", "read", "leave", "collect", "close", "trim", "stored", "get")
+COMMANDS = ("post", "subscribe", "read", "leave", "collect", "take", "close", "trim", "compact", "stored", "get")
 SECOND = 1_000_000_000
 RESOLVE_TIMEOUT = 300 * SECOND
 LANES = 8
@@ -236,9 +236,10 @@ class Provider:
         self.posts = 0
         self.closed = False
         self.open = []
-        # How many calls were accepted, and how many of them trims dropped.
+        # How many calls were accepted, how many of them trims dropped, and how many aren't in memory any more.
         self.calls = 0
         self.dropped = 0
+        self.gone = 0
 
     def post(self, alerts, now):
         """The number of the batch, None where there is nothing to send out."""
@@ -282,14 +283,19 @@ class Provider:
         """How many calls were dropped: those before the earliest open subscription."""
         end = min((subscription.at for subscription in self.open), default=self.calls)
         count, self.dropped = end - self.dropped, end
+        self.gone = max(self.gone, end)
+        return count
+
+    def compact(self):
+        """How many calls were taken out of memory: all that are there."""
+        count, self.gone = self.calls - self.gone, self.calls
         return count
 
     def collect(self, now):
+        """What was removed, in the order of the store."""
         gone = [key for key, alert in self.stored.items() if alert.resolved_at(now)]
-        for key in gone:
-            del self.stored[key]
         self.calls += 1
-        return len(gone)
+        return [self.stored.pop(key) for key in gone]
 
 
 class Run:
@@ -350,7 +356,13 @@ class Run:
         yield f"leave taken {subscription.taken}" + (" closed" if subscription.told_closed else "")
 
     def collect(self, command):
-        yield f"collect removed {self.provider.collect(moment(command['at']))}"
+        yield f"collect removed {len(self.provider.collect(moment(command['at'])))}"
+
+    def take(self, command):
+        removed = self.provider.collect(moment(command["at"]))
+        yield f"take removed {len(removed)}"
+        for alert in removed:
+            yield "alert " + alert.text
 
     def close(self, _command):
         self.provider.close()
@@ -359,9 +371,18 @@ class Run:
     def trim(self, _command):
         yield f"trim dropped {self.provider.trim()}"
 
-    def stored(self, _command):
-        yield f"stored {len(self.provider.stored)}"
-        for alert in self.provider.stored.values():
+    def compact(self, _command):
+        yield f"compact dropped {self.provider.compact()}"
+
+    def stored(self, command):
+        alerts = list(self.provider.stored.values())
+        if "max" in command:
+            start, count = command.get("from", 0), len(alerts)
+            alerts = alerts[start : start + command["max"]]
+            yield f"page {len(alerts)} from {start} of {count} after {self.provider.calls}"
+        else:
+            yield f"stored {len(alerts)}"
+        for alert in alerts:
             yield "alert " + alert.text
 
     def get(self, command):

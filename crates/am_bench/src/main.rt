@@ -1,19 +1,21 @@
-//! Times the parts of the provider: the log, the provider for threads, routes and groups, and the
-//! inhibitor. The scripts of `bench/` run it.
+//! Times the parts of the provider: the log, the provider for threads and each of its calls, routes and groups,
+//! and the inhibitor. The scripts of `bench/` run it.
 //!
 //!     am_bench log READERS BATCHES ITEMS PLACES YIELDS
-//!     am_bench provider bytes|full|ready POSTERS READERS POSTS ALERTS LABELS TRIM
+//!     am_bench provider bytes|full|ready POSTERS READERS POSTS ALERTS LABELS COMPACT
+//!     am_bench calls STORED
 //!     am_bench routes matches|matches-into|takes ALERTS ROUNDS [WIDTH]
 //!     am_bench inhibitor VALUES ROUNDS FIRST RESOLVED FIRING SWEEPS
 //!     am_bench each
 //!
 //! The first word says what to time; `each` runs a small load of each. What is printed is a count that
-//! the script checks, and the time is that of the whole run. `log` and `provider` measure for
+//! the script checks, and the time is that of the whole run. `log`, `provider` and `calls` measure for
 //! themselves: they print nanoseconds to standard error.
 //!
 //! The exit status is 1 for arguments that aren't of this form, and 3 if memory runs out.
 #![tactic(auto)]
 
+mod calls;
 mod failure;
 mod inhibitor;
 mod log;
@@ -37,6 +39,7 @@ use std::time::Clock;
 enum Work {
     Log(log::Load),
     Provider(provider::Load),
+    Calls(calls::Load),
     Routes(routes::Load),
     Inhibitor(inhibitor::Load),
     /// A small load of each.
@@ -49,6 +52,7 @@ impl Work {
         match first.as_str() {
             "log" => Some(Work::Log(log::Load::read(others)?)),
             "provider" => Some(Work::Provider(provider::Load::read(others)?)),
+            "calls" => Some(Work::Calls(calls::Load::read(others)?)),
             "routes" => Some(Work::Routes(routes::Load::read(others)?)),
             "inhibitor" => Some(Work::Inhibitor(inhibitor::Load::read(others)?)),
             "each" => Some(Work::Each),
@@ -76,6 +80,7 @@ fn time_each<R: Threads + Wait + Clock + Sync>(
 ) -> Result<(), Failure> {
     log::time(rt, alloc, log::Load::small(), printed)?;
     provider::time(rt, alloc, provider::Load::small(), printed)?;
+    calls::time(rt, alloc, calls::Load::small(), printed)?;
     routes::time(alloc, routes::Load::small(), printed)?;
     inhibitor::time(alloc, inhibitor::Load::small(), printed)
 }
@@ -89,6 +94,7 @@ fn time<R: Threads + Wait + Clock + Sync>(
     match work {
         Work::Log(load) => log::time(rt, alloc, load, printed),
         Work::Provider(load) => provider::time(rt, alloc, load, printed),
+        Work::Calls(load) => calls::time(rt, alloc, load, printed),
         Work::Routes(load) => routes::time(alloc, load, printed),
         Work::Inhibitor(load) => inhibitor::time(alloc, load, printed),
         Work::Each => time_each(rt, alloc, printed),

@@ -1,7 +1,7 @@
 //! The provider for threads, with posters and readers. `bench/provider` runs it with many loads.
 //!
 //! Each poster posts POSTS bodies of ALERTS alerts, with LABELS label sets in turn, and has the journal
-//! trimmed after each TRIM posts, or never if that is 0. The readers read meanwhile. With `ready` there
+//! compacted after each COMPACT posts, or never if that is 0. The readers read meanwhile. With `ready` there
 //! is one poster, and its posts were read before. With `full` the alerts of the bodies are such as
 //! Prometheus posts: ten labels, an annotation, a start and a generator, where the others have four labels.
 
@@ -62,7 +62,7 @@ pub(crate) struct Load {
     posts: u64,
     alerts: u64,
     labels: u64,
-    trim: u64,
+    compact: u64,
     ghost some: { (1 ≤ posters) × (posters + readers ≤ 64) × (1 ≤ labels) },
 }
 
@@ -74,7 +74,7 @@ impl Load {
         let posts = number(words, 3)?;
         let alerts = number(words, 4)?;
         let labels = number(words, 5)?;
-        let trim = number(words, 6)?;
+        let compact = number(words, 6)?;
         if readers > LANES as u32 || posters == 0 || posters > 64 - readers {
             return None;
         }
@@ -88,11 +88,11 @@ impl Load {
             posts,
             alerts,
             labels,
-            trim,
+            compact,
         })
     }
 
-    /// Two posters and two readers of a few posts, with trims.
+    /// Two posters and two readers of a few posts, with compactions.
     pub(crate) fn small() -> Load {
         Load {
             kind: Kind::Bytes,
@@ -101,7 +101,7 @@ impl Load {
             posts: 100,
             alerts: 3,
             labels: 10,
-            trim: 50,
+            compact: 50,
         }
     }
 }
@@ -130,8 +130,8 @@ struct Measured {
     stored: u64,
 }
 
-// A moment that many nanoseconds after the beginning of 2024.
-fn moment(nanoseconds: u64) -> Moment {
+/// A moment that many nanoseconds after the beginning of 2024.
+pub(crate) fn moment(nanoseconds: u64) -> Moment {
     Moment::try_new(NEW_YEAR + u128::from(nanoseconds)).unwrap_or(Moment::MAX)
 }
 
@@ -143,14 +143,19 @@ fn body_of(alloc: Global, first: u64, load: Load) -> Result<String, AllocError> 
         let host = first.wrapping_add(at) % load.labels;
         match load.kind {
             Kind::Full => write_full(&mut body, begin, host)?,
-            Kind::Ready | Kind::Bytes => write!(
-                body,
-                "{begin}{{\"labels\":{{\"alertname\":\"DiskFull\",\"instance\":\"host-{host}\",\"job\":\"node\",\"severity\":\"page\"}}}}"
-            )?,
+            Kind::Ready | Kind::Bytes => write_four(&mut body, begin, host)?,
         }
     }
     body.push(']')?;
     Ok(body)
+}
+
+/// Writes an alert of four labels, behind a character.
+pub(crate) fn write_four(body: &mut String, begin: char, host: u64) -> Result<(), AllocError> {
+    write!(
+        body,
+        "{begin}{{\"labels\":{{\"alertname\":\"DiskFull\",\"instance\":\"host-{host}\",\"job\":\"node\",\"severity\":\"page\"}}}}"
+    )
 }
 
 // An alert as Prometheus posts it, behind a character.
@@ -277,8 +282,8 @@ fn post<N: Recorded, R: Wait>(
             }
             wait(&mut turns);
         }
-        if load.trim > 0 && at % load.trim == 0 {
-            let _dropped = provider.trim(rt, caller);
+        if load.compact > 0 && at % load.compact == 0 {
+            let _dropped = provider.compact(rt, caller);
         }
     }
     accepted

@@ -6,6 +6,7 @@ pub mod Counting
 pub mod Indexes
 pub mod Searching
 pub mod Places
+pub mod LeadingTargets
 pub mod Muting
 pub mod RuleSearch
 pub mod Sweeping

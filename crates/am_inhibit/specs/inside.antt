@@ -2,4 +2,5 @@
 pub mod Sources
 pub mod Indexes
 pub mod Places
+pub mod LeadingTargets
 pub mod Searches

@@ -1,7 +1,8 @@
 //! The sources of a rule that have the same values.
 
-ghost use Rattle.std.specs.Prelude.{◌≡◌, [], ◌∷◌, ◌++◌, ◌-◌, IfOk, OnOk, OnErr, length, take};
+ghost use Rattle.std.specs.Prelude.{◌≡◌, [], ◌∷◌, ◌++◌, ◌-◌, ◌≤◌, IfOk, OnOk, OnErr, length, take};
 ghost use Rattle.am_inhibit.specs.inside.Places.{moved, moved_sources};
+ghost use Rattle.am_inhibit.specs.inside.LeadingTargets.{leading_targets};
 
 use std::alloc::{AllocError, Global};
 use std::marker::Model;
@@ -19,6 +20,8 @@ pub(crate) struct Source {
 #[derive(Debug, Drop)]
 pub(crate) struct Sources {
     sources: Vec<Source>,
+    // How many there are before the first one that doesn't match the target side.
+    leading: usize,
 }
 
 impl Model for Sources {
@@ -27,7 +30,12 @@ impl Model for Sources {
 
     ghost Value = { List Source };
 
+    ghost use Rattle.std.specs.Prelude.{◌≡◌};
+    ghost use Rattle.am_inhibit.specs.inside.LeadingTargets.{leading_targets};
+
     ghost view = { λ a. a.sources.items };
+
+    ghost invariant = { λ a. a.leading ≡ leading_targets a.sources.items };
 }
 
 impl Sources {
@@ -37,7 +45,10 @@ impl Sources {
     {
         let mut sources = Vec::with_capacity(alloc, 1)?;
         sources.push(source)?;
-        Ok(Sources { sources })
+        Ok(Sources {
+            sources,
+            leading: usize::from(source.is_target),
+        })
     }
 
     pub(crate) fn as_slice(&self) -> &[Source]
@@ -46,11 +57,23 @@ impl Sources {
         &self.sources
     }
 
+    /// How many there are before the first one that doesn't match the target side.
+    pub(crate) fn leading(&self) -> usize
+        ensures leading { result ≡ leading_targets self.now }
+        ensures within { result ≤ length self.now }
+    {
+        self.leading
+    }
+
     pub(crate) fn push(&mut self, source: Source) -> Result<(), AllocError>
         ensures pushed { OnOk result (self.new ≡ self.old ++ source ∷ []) }
         ensures err { OnErr result (self.new ≡ self.old) }
     {
+        let all_lead = self.leading == self.sources.len();
         self.sources.push(source)?;
+        if all_lead && source.is_target {
+            self.leading += 1;
+        }
         Ok(())
     }
 
@@ -59,6 +82,7 @@ impl Sources {
         ensures { self.new ≡ take (length self.old - 1) self.old }
     {
         let _last = self.sources.pop();
+        self.leading = self.leading.min(self.sources.len());
     }
 
     /// Moves each source to the new index of its alert, and drops those whose alert is dropped.
@@ -72,7 +96,15 @@ impl Sources {
             }
             None => false,
         });
+        self.leading = count_leading(&self.sources);
     }
+}
+
+// How many sources there are before the first one that doesn't match the target side.
+fn count_leading(sources: &[Source]) -> usize
+    ensures { result ≡ leading_targets sources.now }
+{
+    sources.iter().take_while(|source| source.is_target).count()
 }
 
 // A source at the new index of its alert, unless that is dropped.

@@ -141,7 +141,7 @@ impl<'r> SourceIndex<'r> {
         let alloc = *self.sources.allocator();
         let values = EqualValues::of(alloc, self.equal.as_slice(), labels)?;
         match self.sources.get(&values) {
-            Some(sources) => Ok(first_muting(sources.as_slice(), is_source, alerts, now)),
+            Some(sources) => Ok(first_muting(sources, is_source, alerts, now)),
             None => Ok(none),
         }
     }
@@ -187,8 +187,29 @@ fn leave_out(sources: &mut SourceMap, change: SourceChange)
     }
 }
 
-// The first source that mutes a target, which may match the source side too.
-fn first_muting(sources: &[Source], is_source: bool, alerts: &[Alert], now: Moment) -> Found
+// The first source that mutes a target, which may match the source side too. None of the leading sources that
+// match both sides mutes such a target, so they are counted without a walk over them.
+fn first_muting(sources: &Sources, is_source: bool, alerts: &[Alert], now: Moment) -> Found
+    requires { All (λ source. source.at < length alerts.now) sources.now }
+    ensures at { result.at ≡ option_map (λ source. source.at)
+        (find (source_inhibits is_source now alerts.now) sources.now) }
+    ensures within { IfSome result.at (λ at. at < length alerts.now) }
+    ensures looked { result.looked
+        ≡ count_to (source_inhibits is_source now alerts.now) sources.now }
+{
+    if !is_source {
+        return first_walked(sources.as_slice(), is_source, alerts, now);
+    }
+    let leading = sources.leading();
+    let found = first_walked(&sources.as_slice()[leading..], is_source, alerts, now);
+    Found {
+        at: found.at,
+        looked: leading + found.looked,
+    }
+}
+
+// The same, found by a walk over the sources.
+fn first_walked(sources: &[Source], is_source: bool, alerts: &[Alert], now: Moment) -> Found
     requires { All (λ source. source.at < length alerts.now) sources.now }
     ensures at { result.at ≡ option_map (λ source. source.at)
         (find (source_inhibits is_source now alerts.now) sources.now) }

@@ -56,6 +56,8 @@ enum Turn {
     // At a minute a target is muted by the rule of this number and the alert of these labels, or not
     // at all, and the answer came to so many sources.
     Ask(Pairs, u32, Option<(u64, Pairs)>, u64),
+    // The same for this many of the label sets that TakeMany takes, from the first on.
+    AskMany(u32, u32, Option<(u64, Pairs)>, u64),
 }
 
 // So many minutes after the beginning of 2024.
@@ -189,6 +191,26 @@ fn is_answer(
     }
 }
 
+// Whether this is the answer for each of the first label sets that `take_many` takes, and how many
+// sources it examined.
+fn are_answers(
+    alloc: Global,
+    inhibitor: &mut Inhibitor<'_>,
+    count: u32,
+    now: Moment,
+    want: Option<(u64, Pairs)>,
+    looked: u64,
+) -> Result<bool, AllocError> {
+    for number in 0..count {
+        let name = number_of(alloc, number)?;
+        let target = [("alertname", name.as_str()), ("dc", "1"), ("sev", "down")];
+        if !is_answer(alloc, inhibitor, &target, now, want)? || inhibitor.looked() != looked {
+            return Ok(false);
+        }
+    }
+    Ok(true)
+}
+
 // Whether a turn goes as it is to.
 fn goes(alloc: Global, inhibitor: &mut Inhibitor<'_>, turn: Turn) -> Result<bool, AllocError> {
     match turn {
@@ -211,6 +233,9 @@ fn goes(alloc: Global, inhibitor: &mut Inhibitor<'_>, turn: Turn) -> Result<bool
         Turn::Ask(target, minute, want, looked) => {
             let is_so = is_answer(alloc, inhibitor, target, moment(minute), want)?;
             Ok(is_so && inhibitor.looked() == looked)
+        }
+        Turn::AskMany(count, minute, want, looked) => {
+            are_answers(alloc, inhibitor, count, moment(minute), want, looked)
         }
     }
 }
@@ -490,5 +515,32 @@ fn fifty_thousand_resolved(rt: HostRuntime) -> Result<(), Fail> {
         Turn::Ask(W, AT_10_20, None, 0),
     ];
     assert_eq!(rt; wrong(rt.alloc(), ONE_RULE, &turns)?, None);
+    Ok(())
+}
+
+// Label sets that match both sides of a rule don't mute each other, and each answer counts them all. A
+// sweep makes the run of them at the beginning of the sources shorter, and a later one makes it longer.
+#[test]
+fn sixteen_thousand_on_both_sides(rt: HostRuntime) -> Result<(), Fail> {
+    let rule = "{\"source_matchers\":[\"dc=1\"],\"target_matchers\":[\"sev=down\"]}";
+    let turns = [
+        Turn::TakeMany(16_000, AT_10_00, AT_10_20),
+        Turn::AskMany(16_000, AT_10_01, None, 16_000),
+        Turn::Take(T, AT_10_02, AT_10_05),
+        Turn::AskMany(3, AT_10_03, Some((0, T)), 16_001),
+        Turn::AskMany(3, AT_10_05, None, 16_001),
+        Turn::TakeMany(1_000, AT_10_00, AT_10_03),
+        Turn::Sweep(AT_10_03, 1_000),
+        Turn::AskMany(3, AT_10_03, Some((0, T)), 15_001),
+        Turn::Sweep(AT_10_05, 1),
+        Turn::AskMany(3, AT_10_05, None, 15_000),
+        Turn::Sweep(AT_10_20, 15_000),
+        Turn::Take(T, AT_10_02, AT_10_05),
+        Turn::TakeMany(16_000, AT_10_00, AT_10_20),
+        Turn::AskMany(3, AT_10_03, Some((0, T)), 1),
+        Turn::Sweep(AT_10_05, 1),
+        Turn::AskMany(16_000, AT_10_05, None, 16_000),
+    ];
+    assert_eq!(rt; wrong(rt.alloc(), rule, &turns)?, None);
     Ok(())
 }

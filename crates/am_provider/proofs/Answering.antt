@@ -1,9 +1,9 @@
 -- What the Book answers is what the history of its calls says.
-use Rattle.std.proofs.Common.{◌≡◌, ◌↔◌, ◌⊎◌, inr, ℕ, suc, ◌+◌, ◌-◌, ◌<◌, Bool, true, false, IsTrue, List, [], ◌∷◌, ◌++◌, length, filter, Option, None, Ok, Err, refl, sym, ap, subst, ◌∙◌, arith, slice_index_or, length-append}
+use Rattle.std.proofs.Common.{◌≡◌, ◌↔◌, ◌⊎◌, inr, ℕ, suc, ◌+◌, ◌-◌, ◌<◌, Bool, true, false, IsTrue, List, [], ◌∷◌, ◌++◌, length, filter, take, drop, Option, None, Result, Ok, Err, refl, sym, ap, subst, ◌∙◌, arith, slice_index_or, length-append}
 use mathlib.Core.List.{IsPrefix}
 use mathlib.Core.Logic.{dite}
 use native.Mathlib.Decide.{ℕ_discrete}
-use Rattle.std.specs.Result.{IsErrOf}
+use Rattle.std.specs.Result.{IfOk, IsErrOf}
 use Rattle.std.proofs.lemmas.List.{append-nil, append_cancel_right}
 use Rattle.am_alert.specs.Merging.{is_resolved_at}
 use Rattle.am_alert.specs.declared.alert.Alert.{Alert}
@@ -21,6 +21,7 @@ use Rattle.am_store.specs.declared.lanes.OpenLane.{OpenLane}
 use Rattle.am_store.specs.Judging.{Filter, AreJudged}
 use Rattle.am_store.specs.Journal.{JournalView, with_call, is_closed, is_open, AreAllOpen}
 use Rattle.am_provider.specs.declared.answers.Ended.{Ended}
+use Rattle.am_provider.specs.declared.answers.Page.{Page}
 use Rattle.am_provider.specs.declared.answers.Policy.{Policy}
 use Rattle.am_provider.specs.declared.answers.PostedIf.{PostedIf}
 use Rattle.am_provider.specs.declared.faults.PutFault.{PutFault}
@@ -28,10 +29,10 @@ use Rattle.am_provider.specs.declared.faults.PutFault.TheVariants as put
 use Rattle.am_provider.specs.Batches.{Batch}
 use Rattle.am_provider.specs.BookView.{BookView, IsFaithful}
 use Rattle.am_provider.specs.Callers.{SeesCall}
-use Rattle.am_provider.specs.Headline.{AnswersCollect, AnswersPost, AnswersTake, IsPutRefusal, IsSubRefusal}
+use Rattle.am_provider.specs.Headline.{AnswersCollect, AnswersPost, AnswersTake, IsPage, IsPutRefusal, IsSubRefusal}
 use Rattle.am_provider.specs.declared.faults.SubFault.{SubFault}
 use Rattle.am_provider.specs.declared.faults.SubFault.TheVariants as sub
-use Rattle.am_provider.specs.Histories.{EntryView, Accepted, whole, stored_after, is_cut}
+use Rattle.am_provider.specs.Histories.{EntryView, Accepted, calls_of, whole, stored_after, is_cut}
 use Rattle.am_provider.specs.Posts.{IsAsBefore, IsPutCause}
 use Rattle.am_provider.specs.inside.Records.{IsRecorded}
 use Rattle.am_provider.proofs.Recording.{same_closed, same_open, same_places, tells_of}
@@ -81,6 +82,16 @@ sees_taken E now removed resolved was is entries olds whole all seen sees =
       looked = sees.looked;
       answers = (all ∙ ap (filter (is_resolved_at now)) (whole ∙ ap stored_after (sym same)), sees.answers.1);
     }
+
+-- a page of what the Book stores is a page of what the history gives
+pub page_whole : {E : Type 0} (from most number : ℕ) (olds : List Alert) (entries : List EntryView) (result : Result Page E) → IfOk result (λ page. page.alerts ≡ take most (drop from olds)) → IfOk result (λ page. page.stored ≡ length olds)
+    → IfOk result (λ page. page.calls ≡ number) → olds ≡ stored_after entries → number ≡ length (calls_of entries) → IfOk result (IsPage from most entries)
+page_whole from most number olds entries (Ok page) alerts stored calls same all = record {
+  alerts = alerts ∙ ap (λ stored. take most (drop from stored)) same;
+  stored = stored ∙ ap length same;
+  calls = calls ∙ all;
+}
+page_whole from most number olds entries (Err fault) alerts stored calls same all = tt
 
 -- a post of those alerts that a filter accepts
 pub sees_put_if : {F : Type 0} (judges : Filter F) (accepts last : F) (policy : Policy) (places now : ℕ) (post kept : Post) (done : PostedIf) (was is : FrontView EntryView) (entries : List EntryView) (olds : List Alert)

@@ -2,7 +2,6 @@
 use Rattle.std.proofs.Common.{◌≡◌, ◌≢◌, ℕ, zero, suc, ◌+◌, ◌-◌, ◌*◌, ◌%◌, ◌^◌, ◌<◌, ◌≤◌, Bool, true, false, cond, nat_eq, ◌||◌, ◌⊎◌, List, [], ◌∷◌, ◌++◌, length, take, drop, map, filter, set, Option, None, Some, All, refl, sym, ap, subst, ◌∙◌, arith, length-append, length-drop, inl, inr, ⊎_elim}
 use mathlib.Core.List.{IsPrefix}
 use Rattle.std.specs.Option.{is_some, IfSome, IsSome}
-use Rattle.std.specs.VecDeque.{deque_len, deque_capacity}
 use Rattle.std.proofs.lemmas.List.{length-map, append-nil, append_assoc, map-append, drop-map, take_all, take-append-drop}
 use Rattle.std.proofs.lemmas.List.Elements.{All-append}
 use Rattle.std.proofs.lemmas.Bool.Decides.{eqb_tells}
@@ -24,9 +23,8 @@ use Rattle.am_store.specs.declared.call.Call.TheVariants.{Posted, Subscribed, Le
 use Rattle.am_store.specs.declared.lanes.OpenLane.{OpenLane}
 use Rattle.am_store.specs.AlertList.{with_alerts, batch_by_list}
 use Rattle.am_store.specs.Journal.{JournalView, with_call, call_count, until, lefts_of, MayFollow}
-use Rattle.am_store.specs.Stored.{stored}
+use Rattle.am_store.specs.Stored.{updates, stored}
 use Rattle.am_store.specs.Broadcast.{broadcast, items_of, due, IsFront}
-use Rattle.am_store.specs.Journal.{journal_of}
 use Rattle.am_store.specs.Lanes.{lane_at, open_count, IsLowestFree, IsItsOpening}
 use Rattle.am_store.specs.Pages.{book_of}
 use Rattle.am_store.proofs.Opens.{until_end, until_stays, open_within}
@@ -45,12 +43,12 @@ use Rattle.am_provider.proofs.Shelves.{kept_grown, GoesOnAs, same_account, lane_
 
 -- ---- the end of the log
 
-pub kept_closed : (a b : Shelf) (counted places : ℕ) → IsKeptBook a counted places → a.log.tail.closed ≡ false → journal_of b.journal ≡ with_call (journal_of a.journal) Closed
+pub kept_closed : (a b : Shelf) (counted places : ℕ) → IsKeptBook a counted places → a.log.tail.closed ≡ false → b.journal.journal ≡ with_call a.journal.journal Closed
     → b.stored ≡ a.stored → b.log ≡ record a.log { tail = shut_tail a.log.tail } → b.lanes ≡ a.lanes → b.posts ≡ a.posts → b.endings ≡ a.endings → b.early ≡ a.early
-    → (deque_len b.journal.calls ≡ deque_len a.journal.calls + 1) × (deque_capacity a.journal.calls ≤ deque_capacity b.journal.calls) → IsKeptBook b counted places
-kept_closed a b counted places kept still journal stored log lanes posts endings early room =
+    → b.journal.gone ≡ a.journal.gone → a.journal.room ≤ b.journal.room + 1 → IsKeptBook b counted places
+kept_closed a b counted places kept still journal stored log lanes posts endings early gone room =
     kept_grown a b counted counted places places Closed kept
-    (sound_closed (pages_of a) (pages_of b) kept.pages still journal stored (ap (λ (q : LogView). sent_in q.tail.log) log) lanes posts (ap (λ (q : LogView). q.tail.closed) log) room)
+    (sound_closed (pages_of a) (pages_of b) kept.pages still journal stored (ap (λ (q : LogView). sent_in q.tail.log) log) lanes posts (ap (λ (q : LogView). q.tail.closed) log) gone room)
     (sym kept.pages.closed ∙ still) (λ came. refl) journal (ap (λ (q : LogView). posts_in q.tail.log) log ∙ sym (append-nil (posts_in a.log.tail.log))) lanes
     (λ lane small. same_account (account_of a.log lane) (account_of b.log lane) (ap (λ (q : LogView). account_of q lane) log))
     endings early (kept.total ∙ ap (λ (q : LogView). length q.tail.log) (sym log)) (omega arith)
@@ -66,12 +64,12 @@ none_zero [] some = absurd (omega arith)
 none_zero (x ∷ xs) some = Rattle.std.proofs.Math.Dec.eqb-suc-zero (length xs)
 
 pub kept_posted : (a b : Shelf) (counted more places now : ℕ) (news batch : List Alert) (x : Batch) → IsKeptBook a counted places → a.log.tail.closed ≡ false
-    → journal_of b.journal ≡ with_call (journal_of a.journal) (Posted now news) → b.stored ≡ with_alerts batch a.stored → batch ≡ batch_by_list now news a.stored
+    → b.journal.journal ≡ with_call a.journal.journal (Posted now news) → b.stored ≡ with_alerts batch a.stored → batch ≡ batch_by_list now news a.stored
     → length batch ≡ length news → length news ≤ MAX_ALERTS → 0 < length news → length a.log.tail.log < LONGEST_LOG
     → x.post ≡ Posted now news → keys.batch_items x ≡ batch → b.log.tail ≡ longer_tail x a.log.tail
     → ((lane : ℕ) → lane < 8 → GoesOnAs (account_of a.log lane) (account_of b.log lane))
-    → b.lanes ≡ a.lanes → b.posts ≡ a.posts + 1 → b.endings ≡ a.endings → b.early ≡ a.early → more ≡ counted + 1 → deque_len b.journal.calls + 9 ≤ deque_capacity b.journal.calls → IsKeptBook b more places
-kept_posted a b counted more places now news batch x kept still journal stored sent long few some fits post items tail on lanes posts endings early counts room =
+    → b.lanes ≡ a.lanes → b.posts ≡ a.posts + 1 → b.endings ≡ a.endings → b.early ≡ a.early → more ≡ counted + 1 → b.journal.gone ≡ a.journal.gone → 9 ≤ b.journal.room → IsKeptBook b more places
+kept_posted a b counted more places now news batch x kept still journal stored sent long few some fits post items tail on lanes posts endings early counts gone room =
     let log : b.log.tail.log ≡ a.log.tail.log ++ x ∷ [] = ap (λ (t : Tail Batch). t.log) tail in
     let none : nat_eq (length batch) 0 ≡ false = none_zero batch (omega arith) in
     let all : sent_in b.log.tail.log ≡ cond (nat_eq (length batch) 0) (sent_in a.log.tail.log) (sent_in a.log.tail.log ++ batch ∷ []) =
@@ -79,18 +77,18 @@ kept_posted a b counted more places now news batch x kept still journal stored s
     ∙ sym (ap (λ (c : Bool). cond c (sent_in a.log.tail.log) (sent_in a.log.tail.log ++ batch ∷ [])) none))) in
     let short : length (sent_in a.log.tail.log) ≡ length a.log.tail.log = length-map a.log.tail.log (λ (y : Batch). keys.batch_items y) in
     kept_grown a b counted more places places (Posted now news) kept
-    (sound_posted (pages_of a) (pages_of b) now news batch kept.pages still journal stored all sent long few (λ h. omega arith) (ap (λ (t : Tail Batch). t.closed) tail) lanes posts room)
+    (sound_posted (pages_of a) (pages_of b) now news batch kept.pages still journal stored all sent long few (λ h. omega arith) (ap (λ (t : Tail Batch). t.closed) tail) lanes posts gone room)
     (sym kept.pages.closed ∙ still) (λ came. refl) journal
     (ap posts_in log ∙ (map-append (λ (y : Batch). y.post) a.log.tail.log (x ∷ []) ∙ (ap (λ one. posts_in a.log.tail.log ++ one ∷ []) post ∙ ap (λ xs. posts_in a.log.tail.log ++ xs) (sym (sends_some now news some)))))
     lanes on endings early
     (counts ∙ (ap (λ n. n + 1) kept.total ∙ sym (ap length log ∙ length-append a.log.tail.log (x ∷ [])))) (omega arith)
 
 pub kept_empty : (a b : Shelf) (counted places now : ℕ) → IsKeptBook a counted places → a.log.tail.closed ≡ false
-    → journal_of b.journal ≡ with_call (journal_of a.journal) (Posted now []) → b.stored ≡ a.stored → b.log ≡ a.log → b.lanes ≡ a.lanes → b.posts ≡ a.posts + 1 → b.endings ≡ a.endings → b.early ≡ a.early
-    → deque_len b.journal.calls + 9 ≤ deque_capacity b.journal.calls → IsKeptBook b counted places
-kept_empty a b counted places now kept still journal stored log lanes posts endings early room =
+    → b.journal.journal ≡ with_call a.journal.journal (Posted now []) → b.stored ≡ a.stored → b.log ≡ a.log → b.lanes ≡ a.lanes → b.posts ≡ a.posts + 1 → b.endings ≡ a.endings → b.early ≡ a.early
+    → b.journal.gone ≡ a.journal.gone → 9 ≤ b.journal.room → IsKeptBook b counted places
+kept_empty a b counted places now kept still journal stored log lanes posts endings early gone room =
     kept_grown a b counted counted places places (Posted now []) kept
-    (sound_posted (pages_of a) (pages_of b) now [] [] kept.pages still journal stored (ap (λ (q : LogView). sent_in q.tail.log) log) refl refl (omega arith) (λ h. absurd (omega arith)) (ap (λ (q : LogView). q.tail.closed) log) lanes posts room)
+    (sound_posted (pages_of a) (pages_of b) now [] [] kept.pages still journal stored (ap (λ (q : LogView). sent_in q.tail.log) log) refl refl (omega arith) (λ h. absurd (omega arith)) (ap (λ (q : LogView). q.tail.closed) log) lanes posts gone room)
     (sym kept.pages.closed ∙ still) (λ came. refl) journal (ap (λ (q : LogView). posts_in q.tail.log) log ∙ sym (append-nil (posts_in a.log.tail.log))) lanes
     (λ lane small. same_account (account_of a.log lane) (account_of b.log lane) (ap (λ (q : LogView). account_of q lane) log))
     endings early (kept.total ∙ ap (λ (q : LogView). length q.tail.log) (sym log)) (omega arith)
@@ -110,36 +108,39 @@ pub lowest_free : (a : Shelf) (counted places lane : ℕ) → IsKeptBook a count
     → ((other : ℕ) → other < lane → (account_of a.log other).stand ≢ idle) → IsLowestFree a.lanes lane
 lowest_free a counted places lane kept small free low = record {
   within = small;
-  idle = free_lane (journal_of a.journal) (account_of a.log lane) (lane_at a.lanes lane) (kept.lanes lane small) free;
-  lowest = λ other h. let inside : other < 8 = omega arith in taken_lane (journal_of a.journal) (account_of a.log other) (lane_at a.lanes other) (kept.lanes other inside) (low other h);
+  idle = free_lane a.journal.journal (account_of a.log lane) (lane_at a.lanes lane) (kept.lanes lane small) free;
+  lowest = λ other h. let inside : other < 8 = omega arith in taken_lane a.journal.journal (account_of a.log other) (lane_at a.lanes other) (kept.lanes other inside) (low other h);
 }
 
-lane_begins : (journal : JournalView) (lane other start : ℕ) (one : OpenLane) (o : Option OpenLane) (was is : Account (KeyView Alert) OpenLane)
-    → one.at ≡ call_count journal → start ≡ journal.places + length (broadcast journal)
+lane_begins : (gone : ℕ) (journal : JournalView) (lane other start : ℕ) (one : OpenLane) (o : Option OpenLane) (was is : Account (KeyView Alert) OpenLane)
+    → one.at ≡ call_count journal → one.opening ≡ stored (updates journal) → start ≡ journal.places + length (broadcast journal)
     → (lane ≡ other → (is.stand ≡ live) × (is.note ≡ Some one) × (is.start ≡ start)) → ((lane ≢ other) → is ≡ was)
-    → IfSome o (IsItsOpening journal other) → IsKeptLane journal was o → IsKeptLane (with_call journal (Subscribed lane)) is (cond (nat_eq lane other) (Some one) o)
-lane_begins journal lane other start one o was is at starts new same its kept =
+    → IfSome o (IsItsOpening gone journal other) → IsKeptLane journal was o → IsKeptLane (with_call journal (Subscribed lane)) is (cond (nat_eq lane other) (Some one) o)
+lane_begins gone journal lane other start one o was is at opening starts new same its kept =
     elim (eqb_tells lane other) [
       | inl e ↦
           let own = new e.1 in
           let before : until (with_call journal (Subscribed lane)) one.at ≡ journal = ap (until (with_call journal (Subscribed lane))) at ∙ until_end journal (Subscribed lane) in
-          subst (λ t. IsKeptLane (with_call journal (Subscribed lane)) is (cond t (Some one) o)) (sym e.0)
-          (λ (no : is.stand ≡ idle). let lives = own.0 in omega arith, own.1, own.2 ∙ (starts ∙ ap (λ j. journal.places + length (broadcast j)) (sym before)))
+          subst (λ t. IsKeptLane (with_call journal (Subscribed lane)) is (cond t (Some one) o)) (sym e.0) (
+            λ (no : is.stand ≡ idle). let lives = own.0 in omega arith,
+            own.1 ∙ ap (λ o. Some (record { at = one.at; opening = o })) (opening ∙ ap (λ j. stored (updates j)) (sym before)),
+            own.2 ∙ (starts ∙ ap (λ j. journal.places + length (broadcast j)) (sym before)),
+          )
       | inr e ↦
           subst (λ t. IsKeptLane (with_call journal (Subscribed lane)) is (cond t (Some one) o)) (sym e.0)
-          (lane_stays journal (Subscribed lane) other o was is (same_account was is (same e.1)) its kept)
+          (lane_stays gone journal (Subscribed lane) other o was is (same_account was is (same e.1)) its kept)
     ]
 
 pub kept_subscribed : (a b : Shelf) (counted places room lane : ℕ) (one : OpenLane) → IsKeptBook a counted places → a.log.tail.closed ≡ false → IsLowestFree a.lanes lane
-    → journal_of b.journal ≡ with_call (journal_of a.journal) (Subscribed lane) → one.at ≡ call_count (journal_of a.journal) → one.opening ≡ a.stored
+    → b.journal.journal ≡ with_call a.journal.journal (Subscribed lane) → one.at ≡ call_count a.journal.journal → one.opening ≡ a.stored
     → b.stored ≡ a.stored → b.log.tail ≡ a.log.tail → (account_of b.log lane).stand ≡ live → (account_of b.log lane).note ≡ Some one → (account_of b.log lane).start ≡ length a.log.tail.log
     → ((other : ℕ) → other ≢ lane → account_of b.log other ≡ account_of a.log other)
-    → b.lanes ≡ set a.lanes lane (Some one) → b.posts ≡ a.posts → b.endings ≡ a.endings → b.early ≡ a.early → deque_len b.journal.calls + 9 ≤ deque_capacity b.journal.calls
+    → b.lanes ≡ set a.lanes lane (Some one) → b.posts ≡ a.posts → b.endings ≡ a.endings → b.early ≡ a.early → b.journal.gone ≡ a.journal.gone → 9 ≤ b.journal.room
     → length b.endings + 8 ≤ room → IsKeptBook b counted room
-kept_subscribed a b counted places room lane one kept still low journal at opening stored tail stand note start others lanes posts endings early deque roomy =
-    let old = journal_of a.journal in
+kept_subscribed a b counted places room lane one kept still low journal at opening stored tail stand note start others lanes posts endings early gone deque roomy =
+    let old = a.journal.journal in
     let within : lane < length a.lanes = omega (arith, low.within, kept.pages.eight) in
-    let pages = sound_subscribed (pages_of a) (pages_of b) lane one kept.pages still low journal at opening stored (ap (λ (t : Tail Batch). sent_in t.log) tail) lanes (ap (λ (t : Tail Batch). t.closed) tail) posts deque in
+    let pages = sound_subscribed (pages_of a) (pages_of b) lane one kept.pages still low journal at opening stored (ap (λ (t : Tail Batch). sent_in t.log) tail) lanes (ap (λ (t : Tail Batch). t.closed) tail) posts gone deque in
     let sent : length (sent_in a.log.tail.log) ≡ length a.log.tail.log = length-map a.log.tail.log (λ (y : Batch). keys.batch_items y) in
     let all : length (broadcast old) ≡ length (sent_in a.log.tail.log) - old.places = sym (ap length kept.pages.kept.log) ∙ length-drop old.places (sent_in a.log.tail.log) in
     let starts : length a.log.tail.log ≡ old.places + length (broadcast old) = omega (arith, kept.pages.kept.places) in
@@ -151,13 +152,13 @@ kept_subscribed a b counted places room lane one kept still low journal at openi
       posts = subst (λ (j : JournalView). drop j.places (posts_in b.log.tail.log) ≡ filter sends j.calls) (sym journal)
           (posts_grown old a.log.tail.log b.log.tail.log (Subscribed lane) kept.posts low_places (ap (λ (t : Tail Batch). posts_in t.log) tail ∙ sym (append-nil (posts_in a.log.tail.log))));
       lanes = λ other small.
-          subst (λ ls. IsKeptLane (journal_of b.journal) (account_of b.log other) (lane_at ls other)) (sym lanes)
+          subst (λ ls. IsKeptLane b.journal.journal (account_of b.log other) (lane_at ls other)) (sym lanes)
           (subst (λ j. IsKeptLane j (account_of b.log other) (lane_at (set a.lanes lane (Some one)) other)) (sym journal)
           (subst (IsKeptLane (with_call old (Subscribed lane)) (account_of b.log other)) (sym (lane_set a.lanes lane other (Some one) within))
-          (lane_begins old lane other (length a.log.tail.log) one (lane_at a.lanes other) (account_of a.log other) (account_of b.log other) at starts
+          (lane_begins a.journal.gone old lane other (length a.log.tail.log) one (lane_at a.lanes other) (account_of a.log other) (account_of b.log other) at (opening ∙ kept.pages.kept.stored) starts
           (λ e. subst (λ n. ((account_of b.log n).stand ≡ live) × ((account_of b.log n).note ≡ Some one) × ((account_of b.log n).start ≡ length a.log.tail.log)) e (stand, note, start))
           (λ ne. others other (λ e. ne (sym e))) (kept.pages.openings other) (kept.lanes other small))));
-      endings = subst (All (IsEndingOf (journal_of b.journal))) (sym endings) (subst (λ j. All (IsEndingOf j) a.endings) (sym journal) (endings_grown old (Subscribed lane) a.endings (
+      endings = subst (All (IsEndingOf b.journal.journal)) (sym endings) (subst (λ j. All (IsEndingOf j) a.endings) (sym journal) (endings_grown old (Subscribed lane) a.endings (
         sym kept.pages.closed ∙ still,
         record {
           within = low.within;
@@ -185,13 +186,15 @@ fresh_items log = append-nil (all_items (drop (length log) (take (length log) lo
 
 -- what a lane has, where it isn't idle
 pub lane_given : (a : Shelf) (counted places lane : ℕ) → IsKeptBook a counted places → lane < 8 → (account_of a.log lane).stand ≢ idle
-    → (one : OpenLane) × (lane_at a.lanes lane ≡ Some one) × IsItsOpening (journal_of a.journal) lane one × ((account_of a.log lane).note ≡ Some one)
-    × ((account_of a.log lane).start ≡ a.journal.places + length (broadcast (until (journal_of a.journal) one.at)))
+    → (one : OpenLane) × (lane_at a.lanes lane ≡ Some one) × IsItsOpening a.journal.gone a.journal.journal lane one
+    × ((account_of a.log lane).note ≡ Some (record { at = one.at; opening = stored (updates (until a.journal.journal one.at)) }))
+    × ((account_of a.log lane).start ≡ a.journal.journal.places + length (broadcast (until a.journal.journal one.at)))
 lane_given a counted places lane kept small ne = given (lane_at a.lanes lane) refl (kept.pages.openings lane) (kept.lanes lane small)
   where
-    given : (o : Option OpenLane) → lane_at a.lanes lane ≡ o → IfSome o (IsItsOpening (journal_of a.journal) lane) → IsKeptLane (journal_of a.journal) (account_of a.log lane) o
-        → (one : OpenLane) × (lane_at a.lanes lane ≡ Some one) × IsItsOpening (journal_of a.journal) lane one × ((account_of a.log lane).note ≡ Some one)
-        × ((account_of a.log lane).start ≡ a.journal.places + length (broadcast (until (journal_of a.journal) one.at)))
+    given : (o : Option OpenLane) → lane_at a.lanes lane ≡ o → IfSome o (IsItsOpening a.journal.gone a.journal.journal lane) → IsKeptLane a.journal.journal (account_of a.log lane) o
+        → (one : OpenLane) × (lane_at a.lanes lane ≡ Some one) × IsItsOpening a.journal.gone a.journal.journal lane one
+        × ((account_of a.log lane).note ≡ Some (record { at = one.at; opening = stored (updates (until a.journal.journal one.at)) }))
+        × ((account_of a.log lane).start ≡ a.journal.journal.places + length (broadcast (until a.journal.journal one.at)))
     given None here its own = absurd (ne own)
     given (Some one) here its own = (one, here, its, own.1, own.2)
 
@@ -200,12 +203,12 @@ items_alike [] = refl
 items_alike (x ∷ xs) = ap (λ rest. keys.batch_items x ++ rest) (items_alike xs)
 
 -- what is due is the opening, and then what the log has from the subscription's start on
-pub due_is : (a : Shelf) (counted places lane start : ℕ) (one : OpenLane) → IsKeptBook a counted places → IsItsOpening (journal_of a.journal) lane one
-    → start ≡ a.journal.places + length (broadcast (until (journal_of a.journal) one.at))
-    → one.opening ++ all_items (drop start a.log.tail.log) ≡ due (journal_of a.journal) one.at
-due_is a counted places lane start one kept its starts =
+pub due_is : (a : Shelf) (counted places lane start : ℕ) (one : OpenLane) → IsKeptBook a counted places → one.opening ≡ stored (updates (until a.journal.journal one.at))
+    → start ≡ a.journal.journal.places + length (broadcast (until a.journal.journal one.at))
+    → one.opening ++ all_items (drop start a.log.tail.log) ≡ due a.journal.journal one.at
+due_is a counted places lane start one kept opening starts =
     ap (λ xs. one.opening ++ xs) (items_alike (drop start a.log.tail.log) ∙ ap items_of (sym (drop-map (λ (y : Batch). keys.batch_items y) start a.log.tail.log)))
-    ∙ due_of (book_of (pages_of a)) start one kept.pages.kept its.opening starts
+    ∙ due_of (book_of (pages_of a)) start one kept.pages.kept opening starts
 
 -- what was taken begins all that there is
 taken_begins : (s : SubscriptionView) (count : ℕ) (rest : List Alert) → IsSubscription s count → IsPrefix (cast.shown_items s.cursor) rest → IsFront (taken s) (s.opening ++ rest)
@@ -238,12 +241,12 @@ taken_complete s count rest of told ended =
 -- all that a left subscription says, of the Book that it leaves
 pub record Leaving (a : Shelf) (s : SubscriptionView) (one : OpenLane) : Type 0 where
   pub here : lane_at a.lanes s.cursor.lane.number ≡ Some one
-  pub its : IsItsOpening (journal_of a.journal) s.cursor.lane.number one
-  pub start : s.cursor.lane.start ≡ a.journal.places + length (broadcast (until (journal_of a.journal) one.at))
+  pub its : IsItsOpening a.journal.gone a.journal.journal s.cursor.lane.number one
+  pub start : s.cursor.lane.start ≡ a.journal.journal.places + length (broadcast (until a.journal.journal one.at))
   pub at : s.at ≡ one.at
-  pub opening : s.opening ≡ one.opening
-  pub front : IsFront (taken s) (due (journal_of a.journal) s.at)
-  pub complete : s.closed_told ≡ true → taken s ≡ due (journal_of a.journal) s.at
+  pub opening : s.opening ≡ stored (updates (until a.journal.journal one.at))
+  pub front : IsFront (taken s) (due a.journal.journal s.at)
+  pub complete : s.closed_told ≡ true → taken s ≡ due a.journal.journal s.at
   pub closed : s.closed_told ≡ true → a.log.tail.closed ≡ true
 
 pub leaving : (a : Shelf) (counted places count : ℕ) (s : SubscriptionView) → IsKeptBook a counted places → IsSubscription s count → s.cursor.lane.number < 8
@@ -255,13 +258,14 @@ leaving a counted places count s kept of small ne sound began ended =
     let lane = s.cursor.lane.number in
     let given = lane_given a counted places lane kept small ne in
     let one = given.0 in
-    let same : Some (record { at = s.at; opening = s.opening }) ≡ Some one = sym of.note ∙ (sound.note ∙ given.3) in
-    let note : (record { at = s.at; opening = s.opening }) ≡ one = some_same _ one same in
+    let then : OpenLane = record { at = one.at; opening = stored (updates (until a.journal.journal one.at)) } in
+    let same : Some (record { at = s.at; opening = s.opening }) ≡ Some then = sym of.note ∙ (sound.note ∙ given.3) in
+    let note : (record { at = s.at; opening = s.opening }) ≡ then = some_same _ then same in
     let at : s.at ≡ one.at = ap (λ (o : OpenLane). o.at) note in
-    let opening : s.opening ≡ one.opening = ap (λ (o : OpenLane). o.opening) note in
-    let start : s.cursor.lane.start ≡ a.journal.places + length (broadcast (until (journal_of a.journal) one.at)) = sound.start ∙ given.4 in
-    let all : s.opening ++ all_items (drop s.cursor.lane.start a.log.tail.log) ≡ due (journal_of a.journal) s.at =
-    ap (λ xs. xs ++ all_items (drop s.cursor.lane.start a.log.tail.log)) opening ∙ (due_is a counted places lane s.cursor.lane.start one kept given.2 start ∙ ap (due (journal_of a.journal)) (sym at)) in (
+    let opening : s.opening ≡ then.opening = ap (λ (o : OpenLane). o.opening) note in
+    let start : s.cursor.lane.start ≡ a.journal.journal.places + length (broadcast (until a.journal.journal one.at)) = sound.start ∙ given.4 in
+    let all : s.opening ++ all_items (drop s.cursor.lane.start a.log.tail.log) ≡ due a.journal.journal s.at =
+    ap (λ xs. xs ++ all_items (drop s.cursor.lane.start a.log.tail.log)) opening ∙ (due_is a counted places lane s.cursor.lane.start then kept refl start ∙ ap (due a.journal.journal) (sym at)) in (
       one,
       record {
         here = given.1;
@@ -284,10 +288,11 @@ pub all_counted : (a : Shelf) (counted places count : ℕ) (s : SubscriptionView
 all_counted a counted places count s one kept of by short =
     let start = s.cursor.lane.start in
     let sent = sent_in a.log.tail.log in
-    let small = all_small sent start one.opening kept.pages.limits (omega (arith, ap length by.opening)) in
-    let whole : length (one.opening ++ items_of (drop start sent)) ≡ length (due (journal_of a.journal) s.at) =
-    ap length (due_of (book_of (pages_of a)) start one kept.pages.kept by.its.opening by.start ∙ ap (due (journal_of a.journal)) (sym by.at)) in
-    let parts : length (taken s) + length by.front.0 ≡ length (due (journal_of a.journal) s.at) = sym (length-append (taken s) by.front.0) ∙ ap length by.front.1 in
+    let then : OpenLane = record { at = one.at; opening = stored (updates (until a.journal.journal one.at)) } in
+    let small = all_small sent start then.opening kept.pages.limits (omega (arith, ap length by.opening)) in
+    let whole : length (then.opening ++ items_of (drop start sent)) ≡ length (due a.journal.journal s.at) =
+    ap length (due_of (book_of (pages_of a)) start then kept.pages.kept refl by.start ∙ ap (due a.journal.journal) (sym by.at)) in
+    let parts : length (taken s) + length by.front.0 ≡ length (due a.journal.journal s.at) = sym (length-append (taken s) by.front.0) ∙ ap length by.front.1 in
     let l = length (taken s) in
     let c = of.counted in
     omega arith
@@ -309,7 +314,7 @@ leaving_by a counted places count s cursor kept of same small ne sound began end
 is_given : (a : Shelf) (s : SubscriptionView) (one : OpenLane) → Leaving a s one → is_some (lane_at a.lanes s.cursor.lane.number) ≡ true
 is_given a s one by = ap is_some by.here
 
-pub room_for_left : (a : Shelf) (counted places : ℕ) (s : SubscriptionView) (one : OpenLane) → IsKeptBook a counted places → Leaving a s one → deque_len a.journal.calls < deque_capacity a.journal.calls
+pub room_for_left : (a : Shelf) (counted places : ℕ) (s : SubscriptionView) (one : OpenLane) → IsKeptBook a counted places → Leaving a s one → 0 < a.journal.room
 room_for_left a counted places s one kept by =
     room_to_leave (pages_of a) s.cursor.lane.number one.at kept.pages by.its.given
 
@@ -320,9 +325,9 @@ room_for_ending a counted places s one kept by small =
     omega (arith, kept.room)
 
 ending_of : (a : Shelf) (s : SubscriptionView) (one : OpenLane) (ended : Ended) (counted places : ℕ) → IsKeptBook a counted places → Leaving a s one → ended.at ≡ s.at → ended.taken ≡ length (taken s) → ended.closed ≡ s.closed_told
-    → IsEndingOf (journal_of a.journal) ended
+    → IsEndingOf a.journal.journal ended
 ending_of a s one ended counted places kept by at count closed =
-    let journal = journal_of a.journal in
+    let journal = a.journal.journal in
     let inside = open_within journal s.cursor.lane.number one.at by.its.given in
     let low = by.its.given.begun in
     let parts : length (taken s) + length by.front.0 ≡ length (due journal s.at) = sym (length-append (taken s) by.front.0) ∙ ap length by.front.1 in
@@ -335,33 +340,34 @@ ending_of a s one ended counted places kept by at count closed =
       high = omega (arith, by.at);
     }
 
-lane_leaves : (journal : JournalView) (lane other : ℕ) (o : Option OpenLane) (was is : Account (KeyView Alert) OpenLane) → (lane ≡ other → is.stand ≡ idle) → (lane ≢ other → is ≡ was)
-    → IfSome o (IsItsOpening journal other) → IsKeptLane journal was o → IsKeptLane (with_call journal (Left lane)) is (cond (nat_eq lane other) None o)
-lane_leaves journal lane other o was is free same its kept =
+lane_leaves : (gone : ℕ) (journal : JournalView) (lane other : ℕ) (o : Option OpenLane) (was is : Account (KeyView Alert) OpenLane) → (lane ≡ other → is.stand ≡ idle) → (lane ≢ other → is ≡ was)
+    → IfSome o (IsItsOpening gone journal other) → IsKeptLane journal was o → IsKeptLane (with_call journal (Left lane)) is (cond (nat_eq lane other) None o)
+lane_leaves gone journal lane other o was is free same its kept =
     elim (eqb_tells lane other) [
       | inl e ↦ subst (λ t. IsKeptLane (with_call journal (Left lane)) is (cond t None o)) (sym e.0) (free e.1)
       | inr e ↦ subst (λ t. IsKeptLane (with_call journal (Left lane)) is (cond t None o)) (sym e.0) (stays o (same e.1) its kept)
     ]
   where
-    stays : (o : Option OpenLane) → is ≡ was → IfSome o (IsItsOpening journal other) → IsKeptLane journal was o → IsKeptLane (with_call journal (Left lane)) is o
+    stays : (o : Option OpenLane) → is ≡ was → IfSome o (IsItsOpening gone journal other) → IsKeptLane journal was o → IsKeptLane (with_call journal (Left lane)) is o
     stays None e its kept = ap (λ (x : Account (KeyView Alert) OpenLane). x.stand) e ∙ kept
     stays (Some one) e its kept = (
       (λ (no : is.stand ≡ idle). kept.0 (sym (ap (λ (x : Account (KeyView Alert) OpenLane). x.stand) e) ∙ no)),
-      ap (λ (x : Account (KeyView Alert) OpenLane). x.note) e ∙ kept.1,
+      ap (λ (x : Account (KeyView Alert) OpenLane). x.note) e
+          ∙ (kept.1 ∙ ap (λ j. Some (record { at = one.at; opening = stored (updates j) })) (sym (until_stays journal (Left lane) other one.at its.given))),
       ap (λ (x : Account (KeyView Alert) OpenLane). x.start) e ∙ (kept.2 ∙ ap (λ j. journal.places + length (broadcast j)) (sym (until_stays journal (Left lane) other one.at its.given))),
     )
 
 pub kept_left : (a b : Shelf) (counted places room : ℕ) (s : SubscriptionView) (one : OpenLane) (ended : Ended) → IsKeptBook a counted places → Leaving a s one → s.cursor.lane.number < 8
-    → journal_of b.journal ≡ with_call (journal_of a.journal) (Left s.cursor.lane.number) → b.stored ≡ a.stored → b.log.tail ≡ a.log.tail → (account_of b.log s.cursor.lane.number).stand ≡ idle
+    → b.journal.journal ≡ with_call a.journal.journal (Left s.cursor.lane.number) → b.stored ≡ a.stored → b.log.tail ≡ a.log.tail → (account_of b.log s.cursor.lane.number).stand ≡ idle
     → ((other : ℕ) → other ≢ s.cursor.lane.number → account_of b.log other ≡ account_of a.log other)
     → b.lanes ≡ set a.lanes s.cursor.lane.number None → b.posts ≡ a.posts → b.endings ≡ a.endings ++ ended ∷ [] → b.early ≡ a.early
     → ended.at ≡ s.at → ended.taken ≡ length (taken s) → ended.closed ≡ s.closed_told
-    → (deque_len b.journal.calls ≡ deque_len a.journal.calls + 1) × (deque_capacity a.journal.calls ≤ deque_capacity b.journal.calls) → places ≤ room → IsKeptBook b counted room
-kept_left a b counted places room s one ended kept by small journal stored tail free others lanes posts endings early at count closed deque roomy =
+    → b.journal.gone ≡ a.journal.gone → a.journal.room ≤ b.journal.room + 1 → places ≤ room → IsKeptBook b counted room
+kept_left a b counted places room s one ended kept by small journal stored tail free others lanes posts endings early at count closed gone deque roomy =
     let lane = s.cursor.lane.number in
-    let old = journal_of a.journal in
+    let old = a.journal.journal in
     let within : lane < length a.lanes = omega (arith, kept.pages.eight) in
-    let pages = sound_left (pages_of a) (pages_of b) lane one.at kept.pages by.its.given journal stored (ap (λ (t : Tail Batch). sent_in t.log) tail) lanes (ap (λ (t : Tail Batch). t.closed) tail) posts deque in
+    let pages = sound_left (pages_of a) (pages_of b) lane one.at kept.pages by.its.given journal stored (ap (λ (t : Tail Batch). sent_in t.log) tail) lanes (ap (λ (t : Tail Batch). t.closed) tail) posts gone deque in
     let sent : length (sent_in a.log.tail.log) ≡ length a.log.tail.log = length-map a.log.tail.log (λ (y : Batch). keys.batch_items y) in
     let low_places : old.places ≤ length a.log.tail.log = omega (arith, kept.pages.kept.places) in
     let is_open : MayFollow old (Left lane) = sym (kept.pages.lanes lane small) ∙ is_given a s one by in
@@ -376,12 +382,12 @@ kept_left a b counted places room s one ended kept by small journal stored tail 
       posts = subst (λ (j : JournalView). drop j.places (posts_in b.log.tail.log) ≡ filter sends j.calls) (sym journal)
           (posts_grown old a.log.tail.log b.log.tail.log (Left lane) kept.posts low_places (ap (λ (t : Tail Batch). posts_in t.log) tail ∙ sym (append-nil (posts_in a.log.tail.log))));
       lanes = λ other inside.
-          subst (λ ls. IsKeptLane (journal_of b.journal) (account_of b.log other) (lane_at ls other)) (sym lanes)
+          subst (λ ls. IsKeptLane b.journal.journal (account_of b.log other) (lane_at ls other)) (sym lanes)
           (subst (λ j. IsKeptLane j (account_of b.log other) (lane_at (set a.lanes lane None) other)) (sym journal)
           (subst (IsKeptLane (with_call old (Left lane)) (account_of b.log other)) (sym (lane_set a.lanes lane other None within))
-          (lane_leaves old lane other (lane_at a.lanes other) (account_of a.log other) (account_of b.log other)
+          (lane_leaves a.journal.gone old lane other (lane_at a.lanes other) (account_of a.log other) (account_of b.log other)
           (λ e. subst (λ n. (account_of b.log n).stand ≡ idle) e free) (λ ne. others other (λ e. ne (sym e))) (kept.pages.openings other) (kept.lanes other inside))));
-      endings = subst (All (IsEndingOf (journal_of b.journal))) (sym endings) (subst (λ j. All (IsEndingOf j) (a.endings ++ ended ∷ [])) (sym journal)
+      endings = subst (All (IsEndingOf b.journal.journal)) (sym endings) (subst (λ j. All (IsEndingOf j) (a.endings ++ ended ∷ [])) (sym journal)
           (All-append (IsEndingOf (with_call old (Left lane))) a.endings (ended ∷ []) (endings_grown old (Left lane) a.endings is_open kept.endings)
           (λ k d h. only (IsEndingOf (with_call old (Left lane))) k d h (ending_grown old (Left lane) ended is_open mine))));
       total = kept.total ∙ ap (λ (t : Tail Batch). length t.log) (sym tail);

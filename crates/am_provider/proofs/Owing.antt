@@ -10,9 +10,9 @@ use Rattle.am_store.specs.Broadcast.{due, IsFront}
 use Rattle.am_store.proofs.Growing.{stays_front, ended_owes_no_more}
 use Rattle.am_store.proofs.Journals.{closed_last}
 use Rattle.am_provider.specs.declared.answers.Ended.{Ended}
-use Rattle.am_provider.specs.Histories.{EntryView, Accepted, Trimmed, calls_of, whole}
+use Rattle.am_provider.specs.Histories.{EntryView, Accepted, Trimmed, Compacted, calls_of, whole}
 use Rattle.am_provider.specs.Owing.{BeginningIsKnown, ClosedOwesNoMore, StaysFrontOfDue}
-use Rattle.am_provider.proofs.Recording.{calls_more, whole_more, whole_trimmed}
+use Rattle.am_provider.proofs.Recording.{calls_more, whole_more, whole_trimmed, whole_compacted}
 
 one_longer : (first : List EntryView) (call : Call) (cut : ℕ) (ended : Option Ended) → length (calls_of (first ++ Accepted call cut ended ∷ [])) ≡ length (calls_of first) + 1
 one_longer first call cut ended = ap length (calls_more first (Accepted call cut ended ∷ [])) ∙ length-append (calls_of first) (call ∷ [])
@@ -27,6 +27,10 @@ grows (Trimmed count ∷ rest) first at front low owed =
     subst (λ (l : List EntryView). IsFront front (due (whole l) at)) (append_assoc first (Trimmed count ∷ []) rest)
     (grows rest (first ++ Trimmed count ∷ []) at front (omega (arith, low, ap (λ (j : JournalView). length j.calls) (whole_trimmed first count)))
     (subst (λ (j : JournalView). IsFront front (due j at)) (sym (whole_trimmed first count)) owed))
+grows (Compacted count ∷ rest) first at front low owed =
+    subst (λ (l : List EntryView). IsFront front (due (whole l) at)) (append_assoc first (Compacted count ∷ []) rest)
+    (grows rest (first ++ Compacted count ∷ []) at front (omega (arith, low, ap (λ (j : JournalView). length j.calls) (whole_compacted first count)))
+    (subst (λ (j : JournalView). IsFront front (due j at)) (sym (whole_compacted first count)) owed))
 
 pub stays_front_of_due : StaysFrontOfDue
 stays_front_of_due first later at front longer low owed = subst (λ (l : List EntryView). IsFront front (due (whole l) at)) longer.1 (grows longer.0 first at front low owed)
@@ -59,6 +63,13 @@ owes (Trimmed count ∷ rest) first at legal low ended =
     let next = first ++ Trimmed count ∷ [] in
     let assoc : next ++ rest ≡ first ++ Trimmed count ∷ rest = append_assoc first (Trimmed count ∷ []) rest in
     let same = whole_trimmed first count in
+    ap (λ (l : List EntryView). due (whole l) at) (sym assoc)
+    ∙ (owes rest next at (subst (λ (l : List EntryView). IsLegal (whole l)) (sym assoc) legal) (omega (arith, low, ap (λ (j : JournalView). length j.calls) same)) (ap is_closed same ∙ ended)
+    ∙ ap (λ (j : JournalView). due j at) same)
+owes (Compacted count ∷ rest) first at legal low ended =
+    let next = first ++ Compacted count ∷ [] in
+    let assoc : next ++ rest ≡ first ++ Compacted count ∷ rest = append_assoc first (Compacted count ∷ []) rest in
+    let same = whole_compacted first count in
     ap (λ (l : List EntryView). due (whole l) at) (sym assoc)
     ∙ (owes rest next at (subst (λ (l : List EntryView). IsLegal (whole l)) (sym assoc) legal) (omega (arith, low, ap (λ (j : JournalView). length j.calls) same)) (ap is_closed same ∙ ended)
     ∙ ap (λ (j : JournalView). due j at) same)

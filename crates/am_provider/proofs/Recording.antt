@@ -1,11 +1,11 @@
 -- A history grows as the journal does.
-use Rattle.std.proofs.Common.{◌≡◌, ◌≢◌, ℕ, ◌+◌, ◌-◌, ◌≤◌, ◌<◌, Bool, true, false, ◌||◌, cond, nat_eq, nat_le, List, [], ◌∷◌, ◌++◌, Option, Some, None, length, get_or, take, drop, filter, refl, sym, ap, subst, ◌∙◌, arith, length-append, length-drop, inl, inr}
+use Rattle.std.proofs.Common.{◌≡◌, ◌≢◌, ℕ, ◌+◌, ◌-◌, ◌≤◌, ◌<◌, max, add_assoc, add-zero, Bool, true, false, ◌||◌, cond, nat_eq, nat_le, List, [], ◌∷◌, ◌++◌, Option, Some, None, length, get_or, take, drop, filter, refl, sym, ap, subst, ◌∙◌, arith, length-append, length-drop, inl, inr}
 use mathlib.Core.List.{IsPrefix}
 use mathlib.Core.Logic.{dite}
 use native.Mathlib.Decide.{ℕ_discrete}
 use Rattle.std.specs.List.{All, slice_get, flat_map}
 use Rattle.std.proofs.lemmas.List.{append_assoc, append-nil, take-append-drop, length-map, map-append, take-append-le}
-use Rattle.std.proofs.lemmas.Bool.{le-leb, leb-true}
+use Rattle.std.proofs.lemmas.Bool.{le-leb}
 use Rattle.std.proofs.lemmas.Bool.Decides.{eqb_tells}
 use Rattle.std.proofs.lemmas.List.Elements.{filter-append}
 use Rattle.am_alert.specs.declared.alert.Alert.{Alert}
@@ -29,10 +29,12 @@ use Rattle.am_provider.specs.declared.answers.Policy.{Policy}
 use Rattle.am_provider.specs.Batches.{Batch, LogView, sent_in}
 use Rattle.am_provider.specs.BookView.{BookView, batches, IsEndingOf, IsFaithful}
 use Rattle.am_provider.specs.declared.answers.Ended.{Ended}
-use Rattle.am_provider.specs.Histories.{EntryView, call_of, calls_of, whole, trimmed_by, stored_after, sent_by, cut_after, cut_from, is_cut, ending_of, endings_of, kept_endings, Accepted, Trimmed}
+use Rattle.am_provider.specs.Histories.{EntryView, call_of, calls_of, whole, trimmed_by, gone_from, gone_by, stored_after, sent_by, cut_after, cut_from, is_cut, ending_of, endings_of, endings_since, Accepted, Trimmed, Compacted}
 use Rattle.am_provider.specs.Ending.{IsOwed}
 use Rattle.am_provider.specs.Posts.{HasSameLimits, IsCutBy}
+use Rattle.am_provider.specs.inside.Endings.{is_since}
 use Rattle.am_provider.specs.inside.Records.{IsRecorded}
+use Rattle.am_provider.proofs.Endings.{kept_twice}
 
 -- ---- one entry more
 
@@ -46,25 +48,61 @@ whole_more entries call bits ended = ap (λ (calls : List Call). record new_jour
 pub whole_trimmed : (entries : List EntryView) (count : ℕ) → whole (entries ++ Trimmed count ∷ []) ≡ whole entries
 whole_trimmed entries count = ap (λ (calls : List Call). record new_journal { calls = calls }) (calls_more entries (Trimmed count ∷ []) ∙ append-nil (calls_of entries))
 
+pub whole_compacted : (entries : List EntryView) (count : ℕ) → whole (entries ++ Compacted count ∷ []) ≡ whole entries
+whole_compacted entries count = ap (λ (calls : List Call). record new_journal { calls = calls }) (calls_more entries (Compacted count ∷ []) ∙ append-nil (calls_of entries))
+
 pub trimmed_more : (entries : List EntryView) (call : Call) (bits : ℕ) (ended : Option Ended) → trimmed_by (entries ++ Accepted call bits ended ∷ []) ≡ trimmed_by entries
 trimmed_more [] call bits ended = refl
 trimmed_more (Accepted first lanes other ∷ entries) call bits ended = trimmed_more entries call bits ended
 trimmed_more (Trimmed count ∷ entries) call bits ended = ap (λ n. count + n) (trimmed_more entries call bits ended)
+trimmed_more (Compacted count ∷ entries) call bits ended = trimmed_more entries call bits ended
 
 pub trimmed_again : (entries : List EntryView) (count : ℕ) → trimmed_by (entries ++ Trimmed count ∷ []) ≡ trimmed_by entries + count
 trimmed_again [] count = omega arith
 trimmed_again (Accepted first lanes other ∷ entries) count = trimmed_again entries count
 trimmed_again (Trimmed first ∷ entries) count = omega (arith, trimmed_again entries count)
+trimmed_again (Compacted first ∷ entries) count = trimmed_again entries count
+
+pub trimmed_compacted : (entries : List EntryView) (count : ℕ) → trimmed_by (entries ++ Compacted count ∷ []) ≡ trimmed_by entries
+trimmed_compacted [] count = refl
+trimmed_compacted (Accepted first lanes other ∷ entries) count = trimmed_compacted entries count
+trimmed_compacted (Trimmed first ∷ entries) count = ap (λ n. first + n) (trimmed_compacted entries count)
+trimmed_compacted (Compacted first ∷ entries) count = trimmed_compacted entries count
+
+gone_more : (trimmed gone : ℕ) (entries : List EntryView) (entry : EntryView) → gone_from trimmed gone (entries ++ entry ∷ []) ≡ gone_from (trimmed + trimmed_by entries) (gone_from trimmed gone entries) (entry ∷ [])
+gone_more trimmed gone [] entry = ap (λ n. gone_from n gone (entry ∷ [])) (sym (add-zero trimmed))
+gone_more trimmed gone (Accepted first lanes other ∷ entries) entry = gone_more trimmed gone entries entry
+gone_more trimmed gone (Trimmed first ∷ entries) entry =
+    gone_more (trimmed + first) (max gone (trimmed + first)) entries entry
+    ∙ ap (λ n. gone_from n (gone_from (trimmed + first) (max gone (trimmed + first)) entries) (entry ∷ [])) (add_assoc trimmed first (trimmed_by entries))
+gone_more trimmed gone (Compacted first ∷ entries) entry = gone_more trimmed (gone + first) entries entry
+
+pub gone_called : (entries : List EntryView) (call : Call) (bits : ℕ) (ended : Option Ended) → gone_by (entries ++ Accepted call bits ended ∷ []) ≡ gone_by entries
+gone_called entries call bits ended = gone_more 0 0 entries (Accepted call bits ended)
+
+pub gone_trimmed : (entries : List EntryView) (count : ℕ) → gone_by (entries ++ Trimmed count ∷ []) ≡ max (gone_by entries) (0 + trimmed_by entries + count)
+gone_trimmed entries count = gone_more 0 0 entries (Trimmed count)
+
+pub gone_compacted : (entries : List EntryView) (count : ℕ) → gone_by (entries ++ Compacted count ∷ []) ≡ gone_by entries + count
+gone_compacted entries count = gone_more 0 0 entries (Compacted count)
 
 cut_more : (lane : ℕ) (was : Bool) (entries : List EntryView) (call : Call) (bits : ℕ) (ended : Option Ended) → cut_from lane was (entries ++ Accepted call bits ended ∷ []) ≡ cut_after lane (cut_from lane was entries) call bits
 cut_more lane was [] call bits ended = refl
 cut_more lane was (Accepted first lanes other ∷ entries) call bits ended = cut_more lane (cut_after lane was first lanes) entries call bits ended
 cut_more lane was (Trimmed count ∷ entries) call bits ended = cut_more lane was entries call bits ended
+cut_more lane was (Compacted count ∷ entries) call bits ended = cut_more lane was entries call bits ended
 
 cut_trimmed : (lane : ℕ) (was : Bool) (entries : List EntryView) (count : ℕ) → cut_from lane was (entries ++ Trimmed count ∷ []) ≡ cut_from lane was entries
 cut_trimmed lane was [] count = refl
 cut_trimmed lane was (Accepted first lanes other ∷ entries) count = cut_trimmed lane (cut_after lane was first lanes) entries count
 cut_trimmed lane was (Trimmed first ∷ entries) count = cut_trimmed lane was entries count
+cut_trimmed lane was (Compacted first ∷ entries) count = cut_trimmed lane was entries count
+
+cut_compacted : (lane : ℕ) (was : Bool) (entries : List EntryView) (count : ℕ) → cut_from lane was (entries ++ Compacted count ∷ []) ≡ cut_from lane was entries
+cut_compacted lane was [] count = refl
+cut_compacted lane was (Accepted first lanes other ∷ entries) count = cut_compacted lane (cut_after lane was first lanes) entries count
+cut_compacted lane was (Trimmed first ∷ entries) count = cut_compacted lane was entries count
+cut_compacted lane was (Compacted first ∷ entries) count = cut_compacted lane was entries count
 
 -- ---- what a recorded Book and its history have in common
 
@@ -184,16 +222,12 @@ endings_more : (entries more : List EntryView) → endings_of (entries ++ more) 
 endings_more [] more = refl
 endings_more (entry ∷ entries) more = ap (λ endings. ending_of entry ++ endings) (endings_more entries more) ∙ sym (append_assoc (ending_of entry) (endings_of entries) (endings_of more))
 
--- which endings are kept after so many trimmed calls
-abbrev pub is_kept_at : ℕ → Ended → Bool
-is_kept_at count ended = nat_le count ended.at
-
 ends_more : {policy : Policy} {places : ℕ} (a b : BookView) (entries : List EntryView) (call : Call) (bits : ℕ) (ended : Option Ended) → IsRecorded policy places a entries → EndsAs a b ended
-    → (b.endings ≡ kept_endings (entries ++ Accepted call bits ended ∷ [])) × (b.early + length b.endings ≡ length (endings_of (entries ++ Accepted call bits ended ∷ [])))
+    → (b.endings ≡ endings_since (trimmed_by (entries ++ Accepted call bits ended ∷ [])) (entries ++ Accepted call bits ended ∷ [])) × (b.early + length b.endings ≡ length (endings_of (entries ++ Accepted call bits ended ∷ [])))
 ends_more a b entries call bits None of ends =
     let all : endings_of (entries ++ Accepted call bits None ∷ []) ≡ endings_of entries = endings_more entries (Accepted call bits None ∷ []) ∙ append-nil (endings_of entries) in
     let same = ap length ends.0 in (
-      ends.0 ∙ (of.endings ∙ (ap (λ n. filter (is_kept_at n) (endings_of entries)) (sym (trimmed_more entries call bits None)) ∙ ap (filter (is_kept_at (trimmed_by (entries ++ Accepted call bits None ∷ [])))) (sym all))),
+      ends.0 ∙ (of.endings ∙ (ap (λ n. filter (is_since n) (endings_of entries)) (sym (trimmed_more entries call bits None)) ∙ ap (filter (is_since (trimmed_by (entries ++ Accepted call bits None ∷ [])))) (sym all))),
       omega (arith, of.early, ends.1, same, ap length all),
     )
 ends_more a b entries call bits (Some ended) of ends =
@@ -202,10 +236,10 @@ ends_more a b entries call bits (Some ended) of ends =
     let long = length-append a.endings (ended ∷ []) in
     let more = length-append (endings_of entries) (ended ∷ []) in
     let low : trimmed_by entries ≤ ended.at = omega (arith, of.journal.before, ends.2) in
-    let one : filter (is_kept_at (trimmed_by entries)) (ended ∷ []) ≡ ended ∷ [] = ap (λ (b : Bool). cond b (ended ∷ []) []) (le-leb (trimmed_by entries) ended.at low) in
-    let kept : filter (is_kept_at (trimmed_by entries)) (endings_of entries ++ ended ∷ []) ≡ a.endings ++ ended ∷ [] =
-    filter-append (is_kept_at (trimmed_by entries)) (endings_of entries) (ended ∷ []) ∙ (ap (λ xs. xs ++ filter (is_kept_at (trimmed_by entries)) (ended ∷ [])) (sym of.endings) ∙ ap (λ xs. a.endings ++ xs) one) in (
-      ends.0 ∙ (sym kept ∙ (ap (λ n. filter (is_kept_at n) (endings_of entries ++ ended ∷ [])) (sym (trimmed_more entries call bits (Some ended))) ∙ ap (filter (is_kept_at (trimmed_by (entries ++ Accepted call bits (Some ended) ∷ [])))) (sym all))),
+    let one : filter (is_since (trimmed_by entries)) (ended ∷ []) ≡ ended ∷ [] = ap (λ (b : Bool). cond b (ended ∷ []) []) (le-leb (trimmed_by entries) ended.at low) in
+    let kept : filter (is_since (trimmed_by entries)) (endings_of entries ++ ended ∷ []) ≡ a.endings ++ ended ∷ [] =
+    filter-append (is_since (trimmed_by entries)) (endings_of entries) (ended ∷ []) ∙ (ap (λ xs. xs ++ filter (is_since (trimmed_by entries)) (ended ∷ [])) (sym of.endings) ∙ ap (λ xs. a.endings ++ xs) one) in (
+      ends.0 ∙ (sym kept ∙ (ap (λ n. filter (is_since n) (endings_of entries ++ ended ∷ [])) (sym (trimmed_more entries call bits (Some ended))) ∙ ap (filter (is_since (trimmed_by (entries ++ Accepted call bits (Some ended) ∷ [])))) (sym all))),
       omega (arith, of.early, ends.1, same, long, more, ap length all),
     )
 
@@ -219,8 +253,8 @@ may_whole a b entries call of new journal =
     may a entries of call (subst (λ j. MayFollow j call) (first_stays a.journal call (length a.journal.calls) (omega arith) ∙ first_all a.journal) (legal (length a.journal.calls) call (get_end a.journal.calls call)))
 
 pub recorded_more : {policy : Policy} {places : ℕ} (a b : BookView) (entries : List EntryView) (call : Call) (bits : ℕ) (ended : Option Ended) → IsRecorded policy places a entries → IsFaithful a → IsFaithful b
-    → b.journal ≡ with_call a.journal call → IsPrefix (batches a) (batches b) → HasSameLimits a b → CutsAs a b call bits → EndsAs a b ended → IsRecorded policy places b (entries ++ Accepted call bits ended ∷ [])
-recorded_more {policy} {places} a b entries call bits ended of old new journal longer limits cuts ends =
+    → b.journal ≡ with_call a.journal call → IsPrefix (batches a) (batches b) → HasSameLimits a b → CutsAs a b call bits → EndsAs a b ended → b.gone ≡ a.gone → IsRecorded policy places b (entries ++ Accepted call bits ended ∷ [])
+recorded_more {policy} {places} a b entries call bits ended of old new journal longer limits cuts ends gone =
     let is = whole_more entries call bits ended in
     let count = trimmed_by entries in
     let trimmed : IsTrimmed (with_call (whole entries) call) count (with_call a.journal call) = trimmed_grows (whole entries) a.journal count call of.few of.journal in
@@ -234,6 +268,7 @@ recorded_more {policy} {places} a b entries call bits ended of old new journal l
       few = omega (arith, of.few, long, trimmed_more entries call bits ended);
       journal = subst (λ n. IsTrimmed (whole (entries ++ Accepted call bits ended ∷ [])) n b.journal) (sym (trimmed_more entries call bits ended))
           (subst (λ j. IsTrimmed j count b.journal) (sym is) (subst (IsTrimmed (with_call (whole entries) call) count) (sym journal) trimmed));
+      gone = gone ∙ (of.gone ∙ sym (gone_called entries call bits ended));
       sent = sent_more a b entries call count of.sent old new journal longer grown ∙ ap broadcast (sym is);
       cuts = λ lane small. (tells lane small).yes;
       spares = λ lane small. (tells lane small).no;
@@ -272,25 +307,10 @@ cuts_one a b call bits number tells_so uncut others lane small was tells =
 
 -- ---- a trim
 
--- of what was kept after some trims, what is kept after more
-kept_twice : (few many : ℕ) → few ≤ many → (endings : List Ended) → filter (is_kept_at many) (filter (is_kept_at few) endings) ≡ filter (is_kept_at many) endings
-kept_twice few many low [] = refl
-kept_twice few many low (ended ∷ endings) = by_test (kept_twice few many low endings) (is_kept_at few ended) (is_kept_at many ended) refl refl
-  where
-    by_test : filter (is_kept_at many) (filter (is_kept_at few) endings) ≡ filter (is_kept_at many) endings → (first other : Bool) → is_kept_at few ended ≡ first → is_kept_at many ended ≡ other
-        → filter (is_kept_at many) (filter (is_kept_at few) (ended ∷ endings)) ≡ filter (is_kept_at many) (ended ∷ endings)
-    by_test rest true other e d =
-        ap (λ (b : Bool). filter (is_kept_at many) (cond b (ended ∷ filter (is_kept_at few) endings) (filter (is_kept_at few) endings))) e
-        ∙ ap (λ xs. cond (is_kept_at many ended) (ended ∷ xs) xs) rest
-    by_test rest false false e d =
-        ap (λ (b : Bool). filter (is_kept_at many) (cond b (ended ∷ filter (is_kept_at few) endings) (filter (is_kept_at few) endings))) e
-        ∙ (rest ∙ ap (λ (b : Bool). cond b (ended ∷ filter (is_kept_at many) endings) (filter (is_kept_at many) endings)) (sym d))
-    by_test rest false true e d = absurd (let above = leb-true many ended.at d in let fails : is_kept_at few ended ≡ true = le-leb few ended.at (omega (arith, low, above)) in let no : false ≡ true = sym e ∙ fails in cc)
-
 pub recorded_trimmed : {policy : Policy} {places : ℕ} (a b : BookView) (entries : List EntryView) (count : ℕ) → IsRecorded policy places a entries
-    → Drops a.journal count → IsTrimmed a.journal count b.journal → b.log ≡ a.log → HasSameLimits a b → b.endings ≡ filter (is_kept_at b.journal.before) a.endings → b.early + length b.endings ≡ a.early + length a.endings
-    → IsRecorded policy places b (entries ++ Trimmed count ∷ [])
-recorded_trimmed {policy} {places} a b entries count of drops trimmed log limits kept gone =
+    → Drops a.journal count → IsTrimmed a.journal count b.journal → b.log ≡ a.log → HasSameLimits a b → b.endings ≡ filter (is_since b.journal.before) a.endings → b.early + length b.endings ≡ a.early + length a.endings
+    → b.gone ≡ max a.gone b.journal.before → IsRecorded policy places b (entries ++ Trimmed count ∷ [])
+recorded_trimmed {policy} {places} a b entries count of drops trimmed log limits kept early gone =
     let is = whole_trimmed entries count in
     let within : count ≤ length a.journal.calls = at_most (nat_le (a.journal.before + drops.0) _) drops.2 drops.1.within in
     let long = length-drop (trimmed_by entries) (calls_of entries) in
@@ -304,15 +324,40 @@ recorded_trimmed {policy} {places} a b entries count of drops trimmed log limits
       journal = subst (λ n. IsTrimmed (whole (entries ++ Trimmed count ∷ [])) n b.journal) (sym (trimmed_again entries count))
           (subst (λ j. IsTrimmed j (trimmed_by entries + count) b.journal) (sym is)
           (trimmed_twice (whole entries) a.journal b.journal (trimmed_by entries) count of.few within of.journal trimmed));
+      gone = gone ∙ (ap (λ n. max n b.journal.before) of.gone
+          ∙ (ap (max (gone_by entries)) (let all : b.journal.before ≡ 0 + trimmed_by entries + count = omega (arith, trimmed.before, of.journal.before) in all) ∙ sym (gone_trimmed entries count)));
       sent = ap (λ (q : LogView). sent_in q.tail.log) log ∙ (of.sent ∙ ap broadcast (sym is));
       cuts = λ lane small yes. ap (λ (q : LogView). (account_of q lane).stand) log ∙ of.cuts lane small (sym (cut_trimmed lane false entries count) ∙ yes);
       spares = λ lane small no c. of.spares lane small (sym (cut_trimmed lane false entries count) ∙ no) (ap (λ (q : LogView). (account_of q lane).stand) (sym log) ∙ c);
-      endings = kept ∙ (ap (filter (is_kept_at b.journal.before)) of.endings ∙ (kept_twice (trimmed_by entries) b.journal.before further (endings_of entries)
-          ∙ (ap (λ n. filter (is_kept_at n) (endings_of entries)) now ∙ ap (filter (is_kept_at (trimmed_by (entries ++ Trimmed count ∷ [])))) (sym ends))));
-      early = omega (arith, gone, of.early, ap length ends);
+      endings = kept ∙ (ap (filter (is_since b.journal.before)) of.endings ∙ (kept_twice (trimmed_by entries) b.journal.before further (endings_of entries)
+          ∙ (ap (λ n. filter (is_since n) (endings_of entries)) now ∙ ap (filter (is_since (trimmed_by (entries ++ Trimmed count ∷ [])))) (sym ends))));
+      early = omega (arith, early, of.early, ap length ends);
       limits = (limits.0 ∙ of.limits.0, limits.1 ∙ of.limits.1);
     }
   where
     at_most : (fits : Bool) {count given most : ℕ} → given ≡ cond fits count 0 → count ≤ most → given ≤ most
     at_most true is low = omega (arith, is, low)
     at_most false is low = omega (arith, is)
+
+-- ---- a compaction
+
+pub recorded_compacted : {policy : Policy} {places : ℕ} (a b : BookView) (entries : List EntryView) (count : ℕ) → IsRecorded policy places a entries → b ≡ record a { gone = b.gone } → a.gone + count ≡ b.gone
+    → IsRecorded policy places b (entries ++ Compacted count ∷ [])
+recorded_compacted {policy} {places} a b entries count of same gone =
+    let is = whole_compacted entries count in
+    let trims = trimmed_compacted entries count in
+    let ends : endings_of (entries ++ Compacted count ∷ []) ≡ endings_of entries = endings_more entries (Compacted count ∷ []) ∙ append-nil (endings_of entries) in
+    let now : b.gone ≡ gone_by entries + count = omega (arith, of.gone, gone) in
+    subst (λ (x : BookView). IsRecorded policy places x (entries ++ Compacted count ∷ [])) (sym same) (record {
+      legal = subst IsLegal (sym is) of.legal;
+      few = omega (arith, trims, ap (λ (j : JournalView). length j.calls) is, of.few);
+      journal = subst (λ n. IsTrimmed (whole (entries ++ Compacted count ∷ [])) n a.journal) (sym trims)
+          (subst (λ j. IsTrimmed j (trimmed_by entries) a.journal) (sym is) of.journal);
+      gone = now ∙ sym (gone_compacted entries count);
+      sent = of.sent ∙ ap broadcast (sym is);
+      cuts = λ lane small yes. of.cuts lane small (sym (cut_compacted lane false entries count) ∙ yes);
+      spares = λ lane small no. of.spares lane small (sym (cut_compacted lane false entries count) ∙ no);
+      endings = of.endings ∙ (ap (λ n. filter (is_since n) (endings_of entries)) (sym trims) ∙ ap (filter (is_since (trimmed_by (entries ++ Compacted count ∷ [])))) (sym ends));
+      early = omega (arith, of.early, ap length ends);
+      limits = of.limits;
+    })

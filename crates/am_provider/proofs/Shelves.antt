@@ -17,9 +17,7 @@ use Rattle.am_store.specs.declared.lanes.OpenLane.{OpenLane}
 use Rattle.am_store.specs.Journal.{JournalView, with_call, call_count, until, closes, is_closed, is_open, open_after, lefts_of, IsOpenSubscription, MayFollow}
 use Rattle.am_store.specs.Stored.{Update, updates, updates_of}
 use Rattle.am_store.specs.Broadcast.{broadcast, batches_of, items_of, due}
-use Rattle.std.specs.VecDeque.{deque_len, deque_capacity}
 use Rattle.am_store.specs.LogLimits.{IsWithinLogLimits}
-use Rattle.am_store.specs.Journal.{journal_of}
 use Rattle.am_store.specs.Lanes.{lane_at, open_count, IsItsOpening}
 use Rattle.am_store.specs.Pages.{Pages, book_of, AgreesWithJournal}
 use Rattle.am_store.proofs.Journals.{drop_front, due_last, closed_last}
@@ -44,13 +42,13 @@ some_kept journal account None e kept = absurd (cc)
 some_kept journal account (Some one) e kept = kept.0
 
 this_kept : (journal : JournalView) (account : Account (KeyView Alert) OpenLane) (o : Option OpenLane) (one : OpenLane) → o ≡ Some one → IsKeptLane journal account o
-    → (account.note ≡ Some one) × (account.start ≡ journal.places + length (broadcast (until journal one.at)))
+    → (account.note ≡ Some (record { at = one.at; opening = Rattle.am_store.specs.Stored.stored (updates (until journal one.at)) })) × (account.start ≡ journal.places + length (broadcast (until journal one.at)))
 this_kept journal account o one here kept =
     let own = subst (IsKeptLane journal account) here kept in (own.1, own.2)
 
 lane_of : (shelf : Shelf) (counted places lane : ℕ) → lane < 8 → IsKeptBook shelf counted places → IsLaneOf (view_of shelf) lane
 lane_of shelf counted places lane small kept =
-    let journal = journal_of shelf.journal in
+    let journal = shelf.journal.journal in
     let flag = kept.pages.lanes lane small in
     let own = kept.lanes lane small in
     record {
@@ -62,10 +60,8 @@ lane_of shelf counted places lane small kept =
           ∙ ap (λ n. journal.places + length (broadcast (until journal n))) one.1.1;
       note = λ at of.
           let one = kept_for (pages_of shelf) lane at kept.pages of in
-          let its = subst (λ o. IfSome o (IsItsOpening journal lane)) one.1.0 (kept.pages.openings lane) in
           (this_kept journal (account_of shelf.log lane) (lane_at shelf.lanes lane) one.0 one.1.0 own).0
-          ∙ (ap (λ o. Some (record { at = one.0.at; opening = o })) its.opening
-          ∙ ap (λ n. Some (record { at = n; opening = Rattle.am_store.specs.Stored.stored (updates (until journal n)) })) one.1.1);
+          ∙ ap (λ n. Some (record { at = n; opening = Rattle.am_store.specs.Stored.stored (updates (until journal n)) })) one.1.1;
     }
 
 pub faithful : (shelf : Shelf) (counted places : ℕ) → IsKeptBook shelf counted places → IsFaithful (view_of shelf)
@@ -152,28 +148,28 @@ goes_on_twice was between is first second = record {
   given = λ ne. second.given (first.given ne);
 }
 
-pub lane_stays : (journal : JournalView) (c : Call) (lane : ℕ) (o : Option OpenLane) (was is : Account (KeyView Alert) OpenLane) → GoesOnAs was is → IfSome o (IsItsOpening journal lane)
+pub lane_stays : (gone : ℕ) (journal : JournalView) (c : Call) (lane : ℕ) (o : Option OpenLane) (was is : Account (KeyView Alert) OpenLane) → GoesOnAs was is → IfSome o (IsItsOpening gone journal lane)
     → IsKeptLane journal was o → IsKeptLane (with_call journal c) is o
-lane_stays journal c lane None was is on its kept = on.shut kept
-lane_stays journal c lane (Some one) was is on its kept =
-    (on.given kept.0, on.note ∙ kept.1, on.start ∙ (kept.2 ∙ ap (λ j. journal.places + length (broadcast j)) (sym (until_stays journal c lane one.at its.given))))
+lane_stays gone journal c lane None was is on its kept = on.shut kept
+lane_stays gone journal c lane (Some one) was is on its kept =
+    (on.given kept.0, on.note ∙ (kept.1 ∙ ap (λ j. Some (record { at = one.at; opening = Rattle.am_store.specs.Stored.stored (updates j) })) (sym (until_stays journal c lane one.at its.given))), on.start ∙ (kept.2 ∙ ap (λ j. journal.places + length (broadcast j)) (sym (until_stays journal c lane one.at its.given))))
 
-pub lanes_stay : (a b : Shelf) (counted places : ℕ) (c : Call) → IsKeptBook a counted places → b.lanes ≡ a.lanes → journal_of b.journal ≡ with_call (journal_of a.journal) c
+pub lanes_stay : (a b : Shelf) (counted places : ℕ) (c : Call) → IsKeptBook a counted places → b.lanes ≡ a.lanes → b.journal.journal ≡ with_call a.journal.journal c
     → ((lane : ℕ) → lane < 8 → GoesOnAs (account_of a.log lane) (account_of b.log lane))
-    → (lane : ℕ) → lane < 8 → IsKeptLane (journal_of b.journal) (account_of b.log lane) (lane_at b.lanes lane)
+    → (lane : ℕ) → lane < 8 → IsKeptLane b.journal.journal (account_of b.log lane) (lane_at b.lanes lane)
 lanes_stay a b counted places c kept lanes journal on lane small =
-    subst (λ ls. IsKeptLane (journal_of b.journal) (account_of b.log lane) (lane_at ls lane)) (sym lanes)
+    subst (λ ls. IsKeptLane b.journal.journal (account_of b.log lane) (lane_at ls lane)) (sym lanes)
     (subst (λ j. IsKeptLane j (account_of b.log lane) (lane_at a.lanes lane)) (sym journal)
-    (lane_stays (journal_of a.journal) c lane (lane_at a.lanes lane) (account_of a.log lane) (account_of b.log lane) (on lane small) (kept.pages.openings lane) (kept.lanes lane small)))
+    (lane_stays a.journal.gone a.journal.journal c lane (lane_at a.lanes lane) (account_of a.log lane) (account_of b.log lane) (on lane small) (kept.pages.openings lane) (kept.lanes lane small)))
 
 -- ---- a call that no lane comes or goes by
 
-pub kept_grown : (a b : Shelf) (counted more places room : ℕ) (c : Call) → IsKeptBook a counted places → AgreesWithJournal (pages_of b) → MayFollow (journal_of a.journal) c
-    → ((came : ℕ → Option ℕ) → left_by came c ≡ []) → journal_of b.journal ≡ with_call (journal_of a.journal) c → posts_in b.log.tail.log ≡ posts_in a.log.tail.log ++ filter sends (c ∷ [])
+pub kept_grown : (a b : Shelf) (counted more places room : ℕ) (c : Call) → IsKeptBook a counted places → AgreesWithJournal (pages_of b) → MayFollow a.journal.journal c
+    → ((came : ℕ → Option ℕ) → left_by came c ≡ []) → b.journal.journal ≡ with_call a.journal.journal c → posts_in b.log.tail.log ≡ posts_in a.log.tail.log ++ filter sends (c ∷ [])
     → b.lanes ≡ a.lanes → ((lane : ℕ) → lane < 8 → GoesOnAs (account_of a.log lane) (account_of b.log lane))
     → b.endings ≡ a.endings → b.early ≡ a.early → more ≡ length b.log.tail.log → places ≤ room → IsKeptBook b more room
 kept_grown a b counted more places room c kept pages may quiet journal posts lanes on endings early total roomy =
-    let old = journal_of a.journal in
+    let old = a.journal.journal in
     let low : old.places ≤ length (sent_in a.log.tail.log) = kept.pages.kept.places in
     let few : length (sent_in a.log.tail.log) ≡ length a.log.tail.log = length-map a.log.tail.log (λ (b : Batch). Rattle.am_cast.specs.Keys.batch_items b) in
     let grown = posts_grown old a.log.tail.log b.log.tail.log c kept.posts (omega arith) posts in
@@ -181,7 +177,7 @@ kept_grown a b counted more places room c kept pages may quiet journal posts lan
       pages = pages;
       posts = subst (λ (j : JournalView). drop j.places (posts_in b.log.tail.log) ≡ filter sends j.calls) (sym journal) grown;
       lanes = lanes_stay a b counted places c kept lanes journal on;
-      endings = subst (All (IsEndingOf (journal_of b.journal))) (sym endings) (subst (λ j. All (IsEndingOf j) a.endings) (sym journal) (endings_grown old c a.endings may kept.endings));
+      endings = subst (All (IsEndingOf b.journal.journal)) (sym endings) (subst (λ j. All (IsEndingOf j) a.endings) (sym journal) (endings_grown old c a.endings may kept.endings));
       lefts = ap (map (λ (e : Ended). e.at)) endings ∙ (kept.lefts ∙ (lefts_quiet old c quiet ∙ sym (ap left_ats journal)));
       ends = omega (arith, kept.ends, early, ap length endings, ap lefts_of journal, count_quiet old c quiet);
       total = total;
@@ -190,10 +186,10 @@ kept_grown a b counted more places room c kept pages may quiet journal posts lan
 
 -- ---- nothing but room and what the log knows of its lanes
 
-agrees_alike : (a b : Pages) → AgreesWithJournal a → journal_of b.journal ≡ journal_of a.journal → deque_len b.journal.calls ≡ deque_len a.journal.calls → deque_capacity a.journal.calls ≤ deque_capacity b.journal.calls
+agrees_alike : (a b : Pages) → AgreesWithJournal a → b.journal.journal ≡ a.journal.journal → b.journal.gone ≡ a.journal.gone → a.journal.room ≤ b.journal.room
     → b.stored ≡ a.stored → b.sent ≡ a.sent → b.posts ≡ a.posts → b.lanes ≡ a.lanes → b.closed ≡ a.closed → AgreesWithJournal b
-agrees_alike a b sound journal long roomy stored sent posts lanes closed =
-    let alike : book_of b ≡ book_of a = ap (λ j. record { stored = b.stored; journal = j; log = b.sent }) journal ∙ (ap (λ s. record { stored = s; journal = journal_of a.journal; log = b.sent }) stored ∙ ap (λ l. record { stored = a.stored; journal = journal_of a.journal; log = l }) sent) in
+agrees_alike a b sound journal gone roomy stored sent posts lanes closed =
+    let alike : book_of b ≡ book_of a = ap (λ j. record { stored = b.stored; journal = j; log = b.sent }) journal ∙ (ap (λ s. record { stored = s; journal = a.journal.journal; log = b.sent }) stored ∙ ap (λ l. record { stored = a.stored; journal = a.journal.journal; log = l }) sent) in
     let opens : open_count b.lanes ≡ open_count a.lanes = ap open_count lanes in
     let ends : cond {A = ℕ} b.closed 0 1 ≡ cond {A = ℕ} a.closed 0 1 = ap (λ (c : Bool). cond {A = ℕ} c 0 1) closed in
     record {
@@ -201,30 +197,23 @@ agrees_alike a b sound journal long roomy stored sent posts lanes closed =
       eight = ap length lanes ∙ sound.eight;
       closed = closed ∙ (sound.closed ∙ sym (ap is_closed journal));
       lanes = λ lane small. ap (λ ls. is_some (lane_at ls lane)) lanes ∙ (sound.lanes lane small ∙ sym (ap (λ j. is_open j lane) journal));
-      openings = λ lane. subst (λ ls. IfSome (lane_at ls lane) (IsItsOpening (journal_of b.journal) lane)) (sym lanes) (subst (λ j. IfSome (lane_at a.lanes lane) (IsItsOpening j lane)) (sym journal) (sound.openings lane));
+      openings = λ lane. subst (λ ls. IfSome (lane_at ls lane) (IsItsOpening b.journal.gone b.journal.journal lane)) (sym lanes) (subst (λ j. IfSome (lane_at a.lanes lane) (IsItsOpening b.journal.gone j lane)) (sym journal) (subst (λ n. IfSome (lane_at a.lanes lane) (IsItsOpening n a.journal.journal lane)) (sym gone) (sound.openings lane)));
       posts = posts ∙ (sound.posts ∙ sym (ap Rattle.am_store.specs.Journal.posts_of journal));
-      dropped = record {
-        places = omega (arith, ap (λ (j : JournalView). j.places) journal, ap (λ (j : JournalView). j.posts) journal, sound.dropped.places);
-        posts = omega (arith, ap (λ (j : JournalView). j.posts) journal, ap (λ (j : JournalView). j.before) journal, sound.dropped.posts);
-        lefts = omega (arith, ap (λ (j : JournalView). j.lefts) journal, ap (λ (j : JournalView). j.before) journal, sound.dropped.lefts);
-        before = omega (arith, ap (λ (j : JournalView). j.before) journal, sound.dropped.before);
-        lanes = omega (arith, ap (λ (j : JournalView). j.lanes) journal, sound.dropped.lanes);
-      };
       limits = subst IsWithinLogLimits (sym sent) sound.limits;
       room = omega (arith, sound.room);
     }
 
-pub kept_alike : (a b : Shelf) (counted places : ℕ) → IsKeptBook a counted places → journal_of b.journal ≡ journal_of a.journal → deque_len b.journal.calls ≡ deque_len a.journal.calls
-    → deque_capacity a.journal.calls ≤ deque_capacity b.journal.calls → b.stored ≡ a.stored → b.log.tail ≡ a.log.tail
+pub kept_alike : (a b : Shelf) (counted places : ℕ) → IsKeptBook a counted places → b.journal.journal ≡ a.journal.journal → b.journal.gone ≡ a.journal.gone
+    → a.journal.room ≤ b.journal.room → b.stored ≡ a.stored → b.log.tail ≡ a.log.tail
     → ((lane : ℕ) → lane < 8 → GoesOnAs (account_of a.log lane) (account_of b.log lane)) → b.lanes ≡ a.lanes → b.posts ≡ a.posts → b.endings ≡ a.endings → b.early ≡ a.early → IsKeptBook b counted places
-kept_alike a b counted places kept journal long roomy stored tail on lanes posts endings early = record {
-  pages = agrees_alike (pages_of a) (pages_of b) kept.pages journal long roomy stored (ap (λ (t : Tail Batch). sent_in t.log) tail) posts lanes (ap (λ (t : Tail Batch). t.closed) tail);
-  posts = ap (λ (j : JournalView). drop j.places (posts_in b.log.tail.log)) journal ∙ (ap (λ (t : Tail Batch). drop a.journal.places (posts_in t.log)) tail ∙ (kept.posts ∙ sym (ap (λ (j : JournalView). filter sends j.calls) journal)));
+kept_alike a b counted places kept journal gone roomy stored tail on lanes posts endings early = record {
+  pages = agrees_alike (pages_of a) (pages_of b) kept.pages journal gone roomy stored (ap (λ (t : Tail Batch). sent_in t.log) tail) posts lanes (ap (λ (t : Tail Batch). t.closed) tail);
+  posts = ap (λ (j : JournalView). drop j.places (posts_in b.log.tail.log)) journal ∙ (ap (λ (t : Tail Batch). drop a.journal.journal.places (posts_in t.log)) tail ∙ (kept.posts ∙ sym (ap (λ (j : JournalView). filter sends j.calls) journal)));
   lanes = λ lane small.
-      subst (λ ls. IsKeptLane (journal_of b.journal) (account_of b.log lane) (lane_at ls lane)) (sym lanes)
+      subst (λ ls. IsKeptLane b.journal.journal (account_of b.log lane) (lane_at ls lane)) (sym lanes)
       (subst (λ j. IsKeptLane j (account_of b.log lane) (lane_at a.lanes lane)) (sym journal)
-      (still_kept (journal_of a.journal) (lane_at a.lanes lane) (account_of a.log lane) (account_of b.log lane) (on lane small) (kept.lanes lane small)));
-  endings = subst (All (IsEndingOf (journal_of b.journal))) (sym endings) (subst (λ j. All (IsEndingOf j) a.endings) (sym journal) kept.endings);
+      (still_kept a.journal.journal (lane_at a.lanes lane) (account_of a.log lane) (account_of b.log lane) (on lane small) (kept.lanes lane small)));
+  endings = subst (All (IsEndingOf b.journal.journal)) (sym endings) (subst (λ j. All (IsEndingOf j) a.endings) (sym journal) kept.endings);
   lefts = ap (map (λ (e : Ended). e.at)) endings ∙ (kept.lefts ∙ sym (ap left_ats journal));
   ends = omega (arith, kept.ends, early, ap length endings, ap lefts_of journal);
   total = kept.total ∙ sym (ap (λ (t : Tail Batch). length t.log) tail);

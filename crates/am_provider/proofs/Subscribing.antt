@@ -1,10 +1,13 @@
 -- A subscription as it moves on.
 use Rattle.std.proofs.Common.{◌≡◌, ℕ, Bool, ◌+◌, ◌-◌, ◌%◌, ◌^◌, ◌≤◌, true, false, List, [], ◌∷◌, ◌++◌, length, take, Some, refl, sym, ap, subst, ◌∙◌, arith, length-append}
 use Rattle.std.specs.List.{slice_get}
+use Rattle.std.specs.Prelude.{Option}
 use Rattle.std.proofs.lemmas.Bool.{false≢true}
 use Rattle.std.proofs.lemmas.List.{append_assoc, append-nil}
 use Rattle.am_alert.specs.declared.alert.Alert.{Alert}
-use Rattle.am_cast.specs.Cursors.{GoesOn, HasCut, HasEnded}
+use Rattle.am_store.specs.declared.call.Call.{Call}
+use Rattle.am_store.specs.declared.lanes.OpenLane.{OpenLane}
+use Rattle.am_cast.specs.Cursors.{CursorView, GoesOn, HasCut, HasEnded}
 use Rattle.am_cast.specs.Cursors as cast
 use Rattle.am_cast.specs.Lent.{IsInHand, Moves}
 use Rattle.am_cast.specs.declared.lends.Moved.{Moved}
@@ -17,8 +20,8 @@ use Rattle.am_provider.specs.declared.subscription.Advance.{Advance}
 use Rattle.am_provider.specs.declared.subscription.Advance.TheVariants as advance
 use Rattle.am_provider.specs.Batches.{Batch}
 use Rattle.am_provider.specs.Showings.{Shows, ShowsItem, ShowsNone, ShowsPast}
-use Rattle.am_provider.specs.inside.Advances.{Advances, AdvancesPast, IsShown, Notes}
-use Rattle.am_provider.specs.inside.Subscribed.{IsFresh, IsSubscription}
+use Rattle.am_provider.specs.inside.Advances.{Advances, AdvancesPast, IsShown, LetsGo, Notes}
+use Rattle.am_provider.specs.inside.Subscribed.{IsFresh, IsHeld, IsSubscription}
 
 -- so many alerts more, as far as a u64 counts
 pub some_more : (count next more : ℕ) (xs ys : List Alert) → count ≡ length xs % 2 ^ 64 → next ≡ (count + more) % 2 ^ 64 → length ys ≡ length xs + more → next ≡ length ys % 2 ^ 64
@@ -137,6 +140,25 @@ module _ (old new : SubscriptionView) (count next : ℕ) where
       let told = still_untold was cut.was_open in
       let none : ShowsNone old old.closed_told new = record { shown = shown; rest = same ∙ ap (λ (t : Bool). record old { cursor = new.cursor; closed_told = t }) notes.2; on = on } in
       (none_counted was old.closed_told none cut.taken notes.1 (λ yes. absurd (false≢true (sym told ∙ yes))), subst (λ (a : Advance). Advances old a new) (sym notes.0) (none, cut))
+
+module _ (opening : List Alert) (old new : CursorView Alert Call OpenLane) (was is : Option (List Alert)) (stored : ℕ) (held : IsHeld opening old was stored) where
+  -- where the log has shown an alert, memory needn't have the opening
+  pub may_go : (alerts : List Alert) → cast.shown_items new ≡ cast.shown_items old ++ alerts → 1 ≤ length alerts → IsHeld opening new is stored
+  may_go alerts took some = record {
+    there = λ none. absurd (let no : length (cast.shown_items old ++ alerts) ≡ 0 = ap length (sym took ∙ none) in let sum = length-append (cast.shown_items old) alerts in omega arith);
+    counted = held.counted;
+    few = held.few;
+  }
+
+  still_held : is ≡ was → cast.shown_items new ≡ cast.shown_items old → IsHeld opening new is stored
+  still_held same took = record { there = λ none. same ∙ held.there (sym took ∙ none); counted = held.counted; few = held.few }
+
+  -- the opening goes only with a move that shows an alert of the log
+  pub held_after : (moved : Moved) → Moves old new moved → LetsGo moved was is → IsHeld opening new is stored
+  held_after moved.One item lets = may_go (item.there.0 ∷ []) (item.taken item.there.0 item.there.1) (omega arith)
+  held_after moved.Pending pending lets = still_held lets pending.taken
+  held_after moved.Closed closed lets = still_held lets closed.taken
+  held_after moved.Cut cut lets = still_held lets cut.taken
 
 -- what is lent after an advance is what the call shows
 pub shows : (old new : SubscriptionView) (given : Advance) (answer : Step) → Advances old given new → IsShown new given answer → Shows old answer new

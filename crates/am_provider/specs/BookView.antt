@@ -17,12 +17,13 @@ use Rattle.am_provider.specs.declared.answers.Ended.{Ended}
 use Rattle.am_provider.specs.Batches.{Batch, LogView, sent_in, posts_in}
 use Rattle.am_provider.specs.Lefts.{left_ats}
 
--- a Book: its stored alerts in order, its journal of accepted calls, the log as its writer knows it,
--- what each subscription that was given back came to and how many of these were dropped, and what it
--- does where the log is full
+-- a Book: its stored alerts in order, its journal of accepted calls, how many calls memory has no more, the
+-- log as its writer knows it, what each subscription that was given back came to and how many of these were
+-- dropped, and what it does where the log is full
 pub record BookView : Type 0 where
   pub stored : List Alert
   pub journal : JournalView
+  pub gone : ℕ
   pub log : LogView
   pub endings : List Ended
   pub early : ℕ

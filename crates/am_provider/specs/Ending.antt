@@ -15,7 +15,7 @@ use Rattle.am_store.specs.declared.call.Call.{Call}
 use Rattle.am_provider.specs.Batches.{Batch, posts_in, sent_in}
 use Rattle.am_provider.specs.BookView.{sends}
 use Rattle.am_provider.specs.Histories.{EntryView, calls_of, endings_of, kept_endings, sent_by}
-use Rattle.am_provider.specs.Histories.{stored_after, trimmed_by, whole}
+use Rattle.am_provider.specs.Histories.{gone_by, stored_after, whole}
 use Rattle.am_provider.specs.Settling.{IsOwn, made_of, own_of}
 use Rattle.am_provider.specs.declared.answers.Ended.{Ended}
 use Rattle.am_provider.specs.declared.settled.Settled.{Settled}
@@ -28,11 +28,11 @@ pub record IsOwed (entries : List EntryView) (ended : Ended) : Type 0 where
   pub complete : ended.closed ≡ true → ended.taken ≡ length (due (whole entries) ended.at)
   pub closed : ended.closed ≡ true → is_closed (whole entries) ≡ true
 
--- what the calls of a history that trims left came to: the store, and what each subscription came to that was
--- given back, but for those whose Subscribed was discarded, which are counted
+-- what the calls of a history came to that memory has, as trims and compactions left it: the store, and what
+-- each subscription came to that was given back, but for those whose Subscribed is gone, which are counted
 pub record IsLeftOf (entries : List EntryView) (end : Settled) : Type 0 where
   pub legal : IsLegal (whole entries)
-  pub journal : IsTrimmed (whole entries) (trimmed_by entries) (journal_of end.journal)
+  pub journal : IsTrimmed (whole entries) (gone_by entries) (journal_of end.journal)
   pub stored : stored_in end.store.entries ≡ stored_after entries
   pub endings : end.ended.items ≡ kept_endings entries
   pub early : end.early + length end.ended.items ≡ length (endings_of entries)
@@ -60,7 +60,7 @@ pub record IsMadeBy (entries : List EntryView) (fronts : List (FrontView EntryVi
   pub once : AreMadeOnce (made_of fronts)
   pub all : end.complete ≡ true → (index : ℕ) → index < length entries → IsMade (made_of fronts) index
 
--- a provider ended: there is one history of its calls and trims
+-- a provider ended: there is one history of its calls, trims and compactions
 pub record IsSettledFrom (passes : List (PassView Alert Call)) (fronts : List (FrontView EntryView))
     (end : Settled) : Type 0 where
   pub entries : List EntryView

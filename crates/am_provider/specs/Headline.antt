@@ -1,6 +1,7 @@
 -- What each call of a provider answers: by the history before it, and the entries that it added.
 use Rattle.std.specs.Prelude.{◌≡◌, ℕ, ◌+◌, ◌≤◌, ◌<◌, true, false, if◌then◌else◌, nat_eq}
-use Rattle.std.specs.Prelude.{List, [], ◌∷◌, length, filter, Option, None, Some, Result, Ok, Err, IfOk}
+use Rattle.std.specs.Prelude.{List, [], ◌∷◌, length, filter, take, drop, Option, None, Some}
+use Rattle.std.specs.Prelude.{Result, Ok, Err, IfOk}
 use Rattle.std.specs.Arc.{arc_value}
 use Rattle.std.specs.List.{count_by}
 use Rattle.std.specs.Option.{option_map}
@@ -24,12 +25,13 @@ use Rattle.am_provider.specs.declared.answers.Policy.{Policy}
 use Rattle.am_provider.specs.declared.answers.Policy.TheVariants.{Refuse}
 use Rattle.am_provider.specs.declared.answers.Posted as answers
 use Rattle.am_provider.specs.declared.answers.Ended.{Ended}
+use Rattle.am_provider.specs.declared.answers.Page.{Page}
 use Rattle.am_provider.specs.declared.faults.PutFault.{PutFault}
 use Rattle.am_provider.specs.declared.faults.PutFault.TheVariants as put
 use Rattle.am_provider.specs.declared.faults.SubFault.{SubFault}
 use Rattle.am_provider.specs.declared.faults.SubFault.TheVariants as sub
-use Rattle.am_provider.specs.Histories.{EntryView, Accepted, Trimmed, only_call, calls_of, whole, trimmed_by}
-use Rattle.am_provider.specs.Histories.{stored_after, sent_by, is_cut}
+use Rattle.am_provider.specs.Histories.{EntryView, Accepted, Trimmed, Compacted, only_call, calls_of, whole}
+use Rattle.am_provider.specs.Histories.{trimmed_by, gone_by, stored_after, sent_by, is_cut}
 use Rattle.am_provider.specs.Subscriptions.{SubscriptionView, taken}
 
 -- an accepted post: its alerts are stored, and are sent out as the log's next batch if there is one. It cut
@@ -132,10 +134,28 @@ AnswersTrim (Ok dropped) before added =
     × (added ≡ Trimmed dropped ∷ [])
 AnswersTrim (Err fault) before added = added ≡ []
 
+-- a compaction takes all calls of the journal out of memory, and answers how many those were. Nothing else
+-- changes: every subscription is owed what it was owed
+abbrev pub AnswersCompact : {E : Type 0} → Result ℕ E → List EntryView → List EntryView → Type 0
+AnswersCompact (Ok count) before added =
+    (gone_by before + count ≡ length (calls_of before)) × (added ≡ Compacted count ∷ [])
+AnswersCompact (Err fault) before added = added ≡ []
+
 -- a read of the store answers what is stored after the history, in its order, and adds no entry
 -- (`provider/mem`'s GetPending)
 abbrev pub AnswersStored : {E : Type 0} → Result (List Alert) E → List EntryView → List EntryView → Type 0
 AnswersStored result before added = IfOk result (λ alerts. alerts ≡ stored_after before) × (added ≡ [])
+
+-- a page of the store: of what is stored after the history, in its order, the alerts from an index on, and at
+-- most so many. It says what it is a page of: how many alerts are stored then, and after how many calls
+pub record IsPage (from most : ℕ) (before : List EntryView) (page : Page) : Type 0 where
+  pub alerts : page.alerts ≡ take most (drop from (stored_after before))
+  pub stored : page.stored ≡ length (stored_after before)
+  pub calls : page.calls ≡ length (calls_of before)
+
+-- a read of a page answers it, and adds no entry
+abbrev pub AnswersPage : {E : Type 0} → ℕ → ℕ → Result Page E → List EntryView → List EntryView → Type 0
+AnswersPage from most result before added = IfOk result (IsPage from most before) × (added ≡ [])
 
 -- the same of the one alert of a label set, if there is one (`provider/mem`'s Get)
 abbrev pub AnswersGet : {E : Type 0} → Labels → Result (Option (Arc Alert Global)) E → List EntryView

@@ -1,5 +1,5 @@
--- The history of a provider: its accepted calls and its trims, in one order.
-use Rattle.std.specs.Prelude.{ℕ, ◌+◌, Bool, false, ◌||◌, if◌then◌else◌, nat_eq, nat_le, List, [], ◌∷◌}
+-- The history of a provider: its accepted calls, its trims and its compactions, in one order.
+use Rattle.std.specs.Prelude.{ℕ, ◌+◌, max, Bool, false, ◌||◌, if◌then◌else◌, nat_eq, nat_le, List, [], ◌∷◌}
 use Rattle.std.specs.Prelude.{Option, None, Some, filter}
 use Rattle.std.specs.List.{flat_map}
 use Rattle.am_alert.specs.declared.alert.Alert.{Alert}
@@ -11,16 +11,13 @@ use Rattle.am_store.specs.Stored.{updates, stored}
 use Rattle.am_store.specs.Broadcast.{broadcast}
 use Rattle.am_provider.specs.declared.answers.Ended.{Ended}
 
--- an entry of the history: an accepted call, the lanes that it cut (lane l in bit l), and what it answered of
--- a subscription that it took back; or a trim that discarded so many calls of the journal
+-- an entry of the history: an accepted call, the lanes that it cut (lane l in bit l), and what it answered
+-- of a subscription that it took back; a trim that discarded so many calls of the journal; or a compaction,
+-- which took so many out of memory
 pub data EntryView : Type 0 where
   Accepted : (call : Call) (cut : ℕ) (ended : Option Ended) → EntryView
   Trimmed : (count : ℕ) → EntryView
-
--- an entry with a call, or without one
-abbrev pub entry_of : Option Call → ℕ → Option Ended → ℕ → EntryView
-entry_of (Some call) cut ended count = Accepted call cut ended
-entry_of None cut ended count = Trimmed count
+  Compacted : (count : ℕ) → EntryView
 
 -- the entry of a call that cut no lane and took no subscription back
 abbrev pub only_call : Call → EntryView
@@ -30,6 +27,7 @@ only_call call = Accepted call 0 None
 abbrev pub call_of : EntryView → List Call
 call_of (Accepted call cut ended) = call ∷ []
 call_of (Trimmed count) = []
+call_of (Compacted count) = []
 
 -- the calls of a history, in order
 abbrev pub calls_of : List EntryView → List Call
@@ -44,6 +42,20 @@ abbrev pub trimmed_by : List EntryView → ℕ
 trimmed_by [] = 0
 trimmed_by (Accepted call cut ended ∷ entries) = trimmed_by entries
 trimmed_by (Trimmed count ∷ entries) = count + trimmed_by entries
+trimmed_by (Compacted count ∷ entries) = trimmed_by entries
+
+-- how many calls memory has no more after some entries more, where trims had discarded so many and so many
+-- were gone: a trim leaves no call in memory that it discarded, and a compaction takes so many more
+abbrev pub gone_from : ℕ → ℕ → List EntryView → ℕ
+gone_from trimmed gone [] = gone
+gone_from trimmed gone (Accepted call cut ended ∷ entries) = gone_from trimmed gone entries
+gone_from trimmed gone (Trimmed count ∷ entries) =
+    gone_from (trimmed + count) (max gone (trimmed + count)) entries
+gone_from trimmed gone (Compacted count ∷ entries) = gone_from trimmed (gone + count) entries
+
+-- how many calls of a history memory has no more
+abbrev pub gone_by : List EntryView → ℕ
+gone_by entries = gone_from 0 0 entries
 
 -- what is stored after a history
 abbrev pub stored_after : List EntryView → List Alert
@@ -66,6 +78,7 @@ abbrev pub cut_from : ℕ → Bool → List EntryView → Bool
 cut_from lane was [] = was
 cut_from lane was (Accepted call cut ended ∷ entries) = cut_from lane (cut_after lane was call cut) entries
 cut_from lane was (Trimmed count ∷ entries) = cut_from lane was entries
+cut_from lane was (Compacted count ∷ entries) = cut_from lane was entries
 
 -- whether a post cut the lane since it was given out
 abbrev pub is_cut : List EntryView → ℕ → Bool
@@ -76,11 +89,16 @@ abbrev pub ending_of : EntryView → List Ended
 ending_of (Accepted call cut None) = []
 ending_of (Accepted call cut (Some ended)) = ended ∷ []
 ending_of (Trimmed count) = []
+ending_of (Compacted count) = []
 
 -- what was answered of each subscription that was taken back, in order
 abbrev pub endings_of : List EntryView → List Ended
 endings_of entries = flat_map ending_of entries
 
--- those of them whose Subscribed no trim discarded
+-- those of them whose subscription came when at least so many calls had been made
+abbrev pub endings_since : ℕ → List EntryView → List Ended
+endings_since count entries = filter (λ (ended : Ended). nat_le count ended.at) (endings_of entries)
+
+-- those of them whose Subscribed memory has: no trim discarded it, and no compaction came after it
 abbrev pub kept_endings : List EntryView → List Ended
-kept_endings entries = filter (λ (ended : Ended). nat_le (trimmed_by entries) ended.at) (endings_of entries)
+kept_endings entries = endings_since (gone_by entries) entries

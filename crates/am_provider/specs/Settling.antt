@@ -1,17 +1,20 @@
 -- What the end of a Book shows.
-use Rattle.std.specs.Prelude.{◌≡◌, ℕ, ◌+◌, ◌<◌, true, List, [], ◌∷◌, ◌++◌, length, Option, None, Some}
+use Rattle.std.specs.Prelude.{◌≡◌, ℕ, ◌+◌, ◌-◌, ◌<◌, ◌≤◌, nat_le, true, List, [], ◌∷◌, ◌++◌, length}
+use Rattle.std.specs.Prelude.{filter, Option, None, Some}
 use mathlib.Core.Option.{some}
 use lib.ListN.{get_elem?}
 use Rattle.am_alert.specs.declared.alert.Alert.{Alert}
 use Rattle.am_store.specs.declared.call.Call.{Call}
 use Rattle.am_history.specs.Fronts.{FrontView}
 use Rattle.am_history.specs.declared.views.Made.{Made}
-use Rattle.am_store.specs.Journal.{lefts_of, journal_of}
+use Rattle.am_store.specs.Journal.{call_count, lefts_of, journal_of}
 use Rattle.am_store.specs.AlertMaps.{stored_in}
+use Rattle.am_store.specs.Trims.{IsTrimmed}
 use Rattle.am_cast.specs.declared.views.Own.{Own}
 use Rattle.am_cast.specs.Rule.{Once}
 use Rattle.am_cast.specs.Changes.{AreInLog}
 use Rattle.am_cast.specs.Posters.{PassView}
+use Rattle.am_provider.specs.declared.answers.Ended.{Ended}
 use Rattle.am_provider.specs.declared.settled.Settled.{Settled}
 use Rattle.am_provider.specs.Batches.{Batch}
 use Rattle.am_provider.specs.BookView.{BookView, batches, IsFaithful}
@@ -40,15 +43,17 @@ abbrev pub parts_in : Option JoinedView → ℕ
 parts_in None = 0
 parts_in (Some all) = all.parts
 
--- the journal, the store and the endings are those of the Book, which its journal explains. Each own post
--- is in its log at its place with what was posted, none twice; if all passes were given, these are all
--- places. The endings, with those that trims discarded, are as many as the journal's Lefts
+-- the journal and the endings are what memory has of those of the Book, and the store is the Book's, which
+-- its journal explains. Each own post is in its log at its place with what was posted, none twice; if all
+-- passes were given, these are all places. The endings, with the number of the others, are as many as the
+-- journal's Lefts
 pub record IsSettled (book : BookView) (own : List (Own Batch)) (settled : Settled) : Type 0 where
   pub faithful : IsFaithful book
-  pub journal : journal_of settled.journal ≡ book.journal
+  pub gone : (book.journal.before ≤ book.gone) × (book.gone ≤ call_count book.journal)
+  pub journal : IsTrimmed book.journal (book.gone - book.journal.before) (journal_of settled.journal)
   pub store : stored_in settled.store.entries ≡ book.stored
-  pub ended : settled.ended.items ≡ book.endings
-  pub early : settled.early ≡ book.early
+  pub ended : settled.ended.items ≡ filter (λ (ended : Ended). nat_le book.gone ended.at) book.endings
+  pub early : settled.early + length settled.ended.items ≡ book.early + length book.endings
   pub ends : settled.early + length settled.ended.items ≡ lefts_of (journal_of settled.journal)
   pub posts : AreInLog own (batches book)
   pub once : Once own

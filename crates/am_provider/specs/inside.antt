@@ -4,4 +4,6 @@ pub mod Advances
 pub mod Slices
 pub mod Shelves
 pub mod Records
+pub mod Entries
+pub mod Endings
 pub mod Gatherings

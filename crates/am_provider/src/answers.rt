@@ -2,7 +2,7 @@
 
 use crate::item::Item;
 use am_alert::{Alert, Faults};
-use am_store::{LaneSet, SharedAlert};
+use am_store::{LaneSet, SharedAlert, StoredAlerts};
 
 /// What a post does if the log is full: a subscriber lags by as many batches as the log has places.
 #[derive(Clone, Copy, Debug, PartialEq, Eq, Drop)]
@@ -85,4 +85,15 @@ pub struct Counts {
     pub posts: u64,
     /// How many alerts are stored.
     pub stored: u64,
+}
+
+/// A page of what is stored.
+#[derive(Debug, Drop)]
+pub struct Page {
+    /// The alerts of the page, in the order of the store.
+    pub alerts: StoredAlerts,
+    /// How many alerts were stored.
+    pub stored: u64,
+    /// How many calls had been accepted by then.
+    pub calls: u64,
 }

@@ -7,14 +7,13 @@
 //! changes nothing but how far the writer knows its readers.
 
 ghost use Rattle.std.specs.Prelude.{◌≡◌, ◌≢◌, ◌↔◌, ◌≤◌, ◌<◌, ◌+◌, ◌++◌, ◌∷◌, IsTrue, IfOk, IfErr, OnOk, OnErr, IsErr, IsErrOf};
-ghost use Rattle.std.specs.Prelude.{ℕ, ◌-◌, None, Some, true, false, [], length, nat_eq, if◌then◌else◌, not, filter, count_by, nat_le, slice_index_or, vec_capacity};
+ghost use Rattle.std.specs.Prelude.{ℕ, ◌-◌, None, Some, true, false, [], length, nat_eq, if◌then◌else◌, not, filter, count_by, drop, max, nat_le, slice_index_or, take};
 ghost use Rattle.std.specs.Arc.{arc_value};
 ghost use Rattle.std.specs.List.{All};
 ghost use Rattle.std.specs.Option.{option_map};
 ghost use mathlib.Core.List.{IsPrefix};
 ghost use Rattle.am_alert.specs.Merging.{is_resolved_at};
 ghost use Rattle.am_alert.specs.declared.post.TheConstants.{MAX_ALERTS};
-ghost use Rattle.std.specs.VecDeque.{deque_capacity};
 ghost use Rattle.am_cast.specs.Rule.{Once, cut, idle, live};
 ghost use Rattle.am_cast.specs.Changes.{AreInLog, shut_tail};
 ghost use Rattle.am_cast.specs.Cursors.{HasCut};
@@ -36,10 +35,11 @@ ghost use Rattle.am_provider.specs.Posts.{AddsOwn, IsCutBy, IsCutTo, PutsIf, IsP
 ghost use Rattle.am_provider.specs.Posts.{IsAsBefore, Loads};
 ghost use Rattle.am_provider.specs.Posts.{HasSameLimits};
 
-use crate::answers::{Counts, Ended, Policy, Posted, PostedIf};
+use crate::answers::{Counts, Ended, Page, Policy, Posted, PostedIf};
 use crate::faults::{PutFault, SubFault};
 use crate::feed::{Cast, Origin, Writer};
 use crate::item::Item;
+use crate::kept_endings::KeptEndings;
 use crate::parts::{Begun, Parts};
 use crate::pass::{Joined, Pass, deal, join_all};
 use crate::sending::send_batch;
@@ -48,11 +48,11 @@ use crate::subscription::Subscription;
 use am_alert::{Alert, Alerts, Moment, Post};
 use am_cast::{AlreadyClosed, LONGEST_LOG, Published};
 use am_labels::LabelSet;
-use am_store::lanes::{LANES, Lanes, OpenLane, earliest, idle_lane};
+use am_store::lanes::{LANES, Lanes, OpenLane, earliest, idle_lane, let_openings_go};
 use am_store::store::absorb::{Absorbed, absorb_each, take_back};
 use am_store::store::judge::{Judged, judge_each};
-use am_store::store::{AlertMap, remove_resolved, share_all, share_of, share_resolved};
-use am_store::{Call, Journal, LaneSet, MAX_BEFORE, SharedAlert, StoredAlerts};
+use am_store::store::{AlertMap, remove_resolved, share_all, share_of, share_page, share_resolved};
+use am_store::{Call, Journal, KeptJournal, LaneSet, MAX_BEFORE, SharedAlert, StoredAlerts};
 use std::alloc::{AllocError, Global};
 use std::marker::Model;
 use std::snapshot::Snapshot;
@@ -64,16 +64,14 @@ const ENTRIES: usize = LANES + 2;
 /// What lies under the lock: the stored alerts, the journal, and the writer of the log.
 pub struct Book<N: Origin> {
     stored: AlertMap,
-    // Its calls have room for a Left of each open lane and, until the log is ended, for a Closed.
-    journal: Journal,
+    // It has room for a Left of each open lane and, until the log is ended, for a Closed.
+    journal: KeptJournal,
     log: Writer<N>,
     // How many posts the journal has.
     posts: u64,
     lanes: Lanes,
     // It has room for the ending of each open lane.
-    endings: Vec<Ended>,
-    // How many endings were discarded.
-    early: u64,
+    endings: KeptEndings,
     policy: Policy,
     // How many passes there are.
     posters: u32,
@@ -83,12 +81,13 @@ pub struct Book<N: Origin> {
 
 impl<N: Origin> Model for Book<N> {
     ghost use Rattle.std.specs.Coded.{codes};
-    ghost use Rattle.std.specs.Prelude.{◌≡◌, ◌≤◌, vec_capacity};
+    ghost use Rattle.std.specs.Prelude.{◌≡◌, ◌≤◌, ◌+◌, length};
     ghost use Rattle.am_alert.specs.Alerts.{coded_alert};
     ghost use Rattle.am_store.specs.contracts.call.Call as call;
     ghost use Rattle.am_store.specs.contracts.lanes.OpenLane as lane;
     ghost use Rattle.am_store.specs.AlertMaps.{stored_in, AreKeptByLabels};
     ghost use Rattle.am_provider.specs.BookView.{BookView};
+    ghost use Rattle.am_provider.specs.inside.Endings.{AreEndingsOf};
     ghost use Rattle.am_provider.specs.inside.Shelves.{view_of, IsKeptBook};
 
     ghost Value = { BookView };
@@ -101,8 +100,8 @@ impl<N: Origin> Model for Book<N> {
       log = b.log;
       posts = b.posts;
       lanes = b.lanes;
-      endings = b.endings.items;
-      early = b.early;
+      endings = b.endings.endings;
+      early = b.endings.early;
       policy = b.policy;
     }) };
 
@@ -112,10 +111,10 @@ impl<N: Origin> Model for Book<N> {
       log = b.log;
       posts = b.posts;
       lanes = b.lanes;
-      endings = b.endings.items;
-      early = b.early;
+      endings = b.endings.endings;
+      early = b.endings.early;
       policy = b.policy;
-    }) b.tally.total (vec_capacity b.endings) × (b.posters ≡ N.parts) × (1 ≤ b.posters) };
+    }) b.tally.total (length b.endings.endings + b.endings.room) × (b.posters ≡ N.parts) × (1 ≤ b.posters) × AreEndingsOf b.endings b.journal };
 }
 
 impl<N: Origin> Book<N> {
@@ -129,6 +128,7 @@ impl<N: Origin> Book<N> {
             ≡ record { places = parts.log.places; log = []; closed = false }) }
         ensures endings { IfOk result (λ begun.
             (begun.book.endings ≡ []) × (begun.book.early ≡ 0) × (begun.book.policy ≡ policy)) }
+        ensures gone { IfOk result (λ begun. begun.book.gone ≡ 0) }
         ensures passes { IfOk result (λ begun. (length begun.passes.items ≡ parts.posters)
             × All (λ pass. pass ≡ record { noted = []; own = [] }) begun.passes.items) }
     {
@@ -160,6 +160,7 @@ impl<N: Origin> Book<N> {
             → (account_of begun.book.log lane).stand ≡ idle) }
         ensures endings { IfOk result (λ begun.
             (begun.book.endings ≡ []) × (begun.book.early ≡ 0) × (begun.book.policy ≡ policy)) }
+        ensures gone { IfOk result (λ begun. begun.book.gone ≡ 0) }
         ensures passes { IfOk result (λ begun. (length begun.passes.items ≡ posters)
             × All (λ pass. pass ≡ record { noted = []; own = [] }) begun.passes.items) }
     {
@@ -201,10 +202,11 @@ impl<N: Origin> Book<N> {
         ensures log { IfOk result (λ book. book.log ≡ log) }
         ensures endings { IfOk result (λ book.
             (book.endings ≡ []) × (book.early ≡ 0) × (book.policy ≡ policy)) }
+        ensures gone { IfOk result (λ book. book.gone ≡ 0) }
         ensures err { IfErr result (λ back. back ≡ log) }
     {
-        let (journal, endings) = match room_for_calls(alloc) {
-            Ok(room) => room,
+        let journal = match room_for_calls(alloc) {
+            Ok(journal) => journal,
             Err(_) => return Err(log),
         };
         Ok(Book {
@@ -213,8 +215,7 @@ impl<N: Origin> Book<N> {
             log,
             posts: 0,
             lanes: [None, None, None, None, None, None, None, None],
-            endings,
-            early: 0,
+            endings: KeptEndings::new(alloc),
             policy,
             posters,
             tally,
@@ -229,8 +230,8 @@ impl<N: Origin> Book<N> {
         am_cast::end(cast, writer);
     }
 
-    // The journal, the stored alerts, the endings, how many endings were dropped, how many passes there
-    // are, the writer and the ledger.
+    // What memory has of the journal, the stored alerts, what it has of the endings, how many others there
+    // were, how many passes there are, the writer and the ledger.
     pub(crate) fn into_parts(
         self,
     ) -> (
@@ -242,8 +243,11 @@ impl<N: Origin> Book<N> {
         Writer<N>,
         ledger::Book<N>,
     )
-        ensures journal { (journal_of result.0 ≡ self.journal) × (stored_in result.1.entries ≡ self.stored) }
-        ensures endings { (result.2.items ≡ self.endings) × (result.3 ≡ self.early) }
+        ensures gone { (self.journal.before ≤ self.gone) × (self.gone ≤ call_count self.journal) }
+        ensures journal { IsTrimmed self.journal (self.gone - self.journal.before) (journal_of result.0) }
+        ensures stored { stored_in result.1.entries ≡ self.stored }
+        ensures endings { result.2.items ≡ filter (λ ended. nat_le self.gone ended.at) self.endings }
+        ensures early { result.3 + length result.2.items ≡ self.early + length self.endings }
         ensures posters { (result.4 ≡ N.parts) × (1 ≤ result.4) }
         ensures log { (result.5 ≡ self.log) × (result.6.total ≡ length (batches self)) }
         ensures faithful { IsFaithful self }
@@ -255,12 +259,20 @@ impl<N: Origin> Book<N> {
             posts: _,
             lanes: _,
             endings,
-            early,
             policy: _,
             posters,
             tally,
         } = self;
-        (journal, stored, endings, early, posters, log, tally)
+        let (endings, early) = endings.into_held();
+        (
+            journal.into_held(),
+            stored,
+            endings,
+            early,
+            posters,
+            log,
+            tally,
+        )
     }
 
     /// Stores the valid alerts of a post, each into what those before it left, and sends out what
@@ -275,6 +287,7 @@ impl<N: Origin> Book<N> {
     ) -> Result<Posted, PutFault>
         ensures journal { OnOk result
             (self.new.journal ≡ with_call self.old.journal (Call.Posted now post.valid)) }
+        ensures last { OnOk result (self.new.gone < call_count self.new.journal) }
         ensures valid { IfOk result (λ posted. posted.valid ≡ length post.valid) }
         ensures faults { IfOk result (λ posted. posted.faults ≡ post.faults) }
         ensures place { IfOk result (λ posted. posted.place
@@ -287,6 +300,7 @@ impl<N: Origin> Book<N> {
         ensures loads { 0 < length post.valid → is_closed self.old.journal ≡ false
             → Loads self.old.log self.new.log }
         ensures endings { (self.new.endings ≡ self.old.endings) × (self.new.early ≡ self.old.early) }
+        ensures gone { self.new.gone ≡ self.old.gone }
         ensures limits { HasSameLimits self.old self.new }
 
         ensures closed { IsErrOf result PutFault.Closed ↔ IsTrue (is_closed self.old.journal) }
@@ -333,6 +347,7 @@ impl<N: Origin> Book<N> {
             (PutsIf F.FnMut accepts self.old self.new pass.old pass.new now post) }
         ensures log { IsPrefix (batches self.old) (batches self.new) }
         ensures endings { (self.new.endings ≡ self.old.endings) × (self.new.early ≡ self.old.early) }
+        ensures gone { self.new.gone ≡ self.old.gone }
         ensures limits { HasSameLimits self.old self.new }
 
         ensures closed { IsErrOf result PutFault.Closed ↔ IsTrue (is_closed self.old.journal) }
@@ -380,15 +395,15 @@ impl<N: Origin> Book<N> {
         requires none { none ≡ [] }
         ensures journal { OnOk result
             (self.new.journal ≡ with_call self.old.journal (Call.Posted now [])) }
+        ensures last { OnOk result (self.new.gone < call_count self.new.journal) }
         ensures log { self.new.log ≡ self.old.log }
         ensures endings { (self.new.endings ≡ self.old.endings) × (self.new.early ≡ self.old.early)
             × (self.new.policy ≡ self.old.policy) }
+        ensures gone { self.new.gone ≡ self.old.gone }
         ensures err { OnErr result (self.new ≡ self.old) }
     {
-        self.journal.calls.reserve(ENTRIES)?;
-        self.journal
-            .calls
-            .push_back_reserved(Call::Posted { now, alerts: none });
+        self.journal.reserve(ENTRIES)?;
+        self.journal.push(Call::Posted { now, alerts: none });
         self.posts += 1;
         Ok(())
     }
@@ -407,12 +422,14 @@ impl<N: Origin> Book<N> {
         requires few { length valid ≤ MAX_ALERTS }
         ensures journal { OnOk result
             (self.new.journal ≡ with_call self.old.journal (Call.Posted now valid)) }
+        ensures last { OnOk result (self.new.gone < call_count self.new.journal) }
         ensures own { IfOk result (λ sent. (sent.place ≡ length (batches self.old))
             × AddsOwn pass.old now valid (Some sent.place) pass.new) }
         ensures log { IsPrefix (batches self.old) (batches self.new) }
         ensures cut { IfOk result (λ sent. IsCutTo self.old self.new sent.cut) }
         ensures loads { Loads self.old.log self.new.log }
         ensures endings { (self.new.endings ≡ self.old.endings) × (self.new.early ≡ self.old.early) }
+        ensures gone { self.new.gone ≡ self.old.gone }
         ensures limits { HasSameLimits self.old self.new }
 
         ensures refused { IfErr result (IsPutCause self.old self.new (length valid)) }
@@ -428,7 +445,7 @@ impl<N: Origin> Book<N> {
                 passed,
             });
         }
-        self.journal.calls.reserve(ENTRIES)?;
+        self.journal.reserve(ENTRIES)?;
         let Absorbed { batch, undo } = absorb_each(&mut self.stored, valid.as_slice(), now)?;
         let call = Call::Posted { now, alerts: valid };
         match send_batch(
@@ -441,7 +458,7 @@ impl<N: Origin> Book<N> {
         ) {
             Ok(sent) => {
                 self.tally.add(&mut pass.share, 1);
-                self.journal.calls.push_back_reserved(call);
+                self.journal.push(call);
                 self.posts += 1;
                 Ok(sent)
             }
@@ -469,6 +486,7 @@ impl<N: Origin> Book<N> {
             → account_of self.new.log lane ≡ account_of self.old.log lane) }
         ensures stored { self.new.stored ≡ self.old.stored }
         ensures endings { (self.new.endings ≡ self.old.endings) × (self.new.early ≡ self.old.early) }
+        ensures gone { self.new.gone ≡ self.old.gone }
         ensures limits { HasSameLimits self.old self.new }
 
         ensures closed { IsErrOf result SubFault.Closed ↔ IsTrue (is_closed self.old.journal) }
@@ -484,7 +502,7 @@ impl<N: Origin> Book<N> {
         }
         let opening = share_all(&self.stored)?;
         let kept = opening.share()?;
-        self.journal.calls.reserve(ENTRIES)?;
+        self.journal.reserve(ENTRIES)?;
         self.endings.reserve(LANES)?;
         let at = self.journal.call_count();
         let open = OpenLane { at, opening: kept };
@@ -493,9 +511,7 @@ impl<N: Origin> Book<N> {
         };
         let lane = cursor.lane();
         self.lanes[lane] = Some(open);
-        self.journal
-            .calls
-            .push_back_reserved(Call::Subscribed(lane as u32));
+        self.journal.push(Call::Subscribed(lane as u32));
         Ok(Subscription::begin(at, opening, cursor))
     }
 
@@ -520,6 +536,7 @@ impl<N: Origin> Book<N> {
 
         ensures endings { (self.new.endings ≡ self.old.endings ++ result ∷ [])
             × (self.new.early ≡ self.old.early) }
+        ensures gone { self.new.gone ≡ self.old.gone }
         ensures log { self.new.log.tail ≡ self.old.log.tail }
         ensures lane { (account_of self.new.log subscription.entry.cursor.lane.number).stand ≡ idle }
         ensures others { (lane : ℕ) → lane ≢ subscription.entry.cursor.lane.number
@@ -537,10 +554,8 @@ impl<N: Origin> Book<N> {
         };
         self.log.retire(cast, cursor);
         self.lanes[lane] = None;
-        self.journal
-            .calls
-            .push_back_reserved(Call::Left(lane as u32));
-        self.endings.push_reserved(ended);
+        self.journal.push(Call::Left(lane as u32));
+        self.endings.push(ended);
         ended
     }
 
@@ -551,6 +566,7 @@ impl<N: Origin> Book<N> {
         ensures log { OnOk result
             (self.new.log ≡ record self.old.log { tail = shut_tail self.old.log.tail }) }
         ensures endings { (self.new.endings ≡ self.old.endings) × (self.new.early ≡ self.old.early) }
+        ensures gone { self.new.gone ≡ self.old.gone }
         ensures limits { HasSameLimits self.old self.new }
 
         ensures closed { IsErr result ↔ IsTrue (is_closed self.old.journal) }
@@ -558,7 +574,7 @@ impl<N: Origin> Book<N> {
     {
         match self.log.close(cast) {
             Ok(()) => {
-                self.journal.calls.push_back_reserved(Call::Closed);
+                self.journal.push(Call::Closed);
                 Ok(())
             }
             Err(AlreadyClosed) => Err(AlreadyClosed),
@@ -576,12 +592,13 @@ impl<N: Origin> Book<N> {
             (self.new.stored ≡ filter (λ alert. not (is_resolved_at now alert)) self.old.stored) }
         ensures log { self.new.log ≡ self.old.log }
         ensures endings { (self.new.endings ≡ self.old.endings) × (self.new.early ≡ self.old.early) }
+        ensures gone { self.new.gone ≡ self.old.gone }
         ensures limits { HasSameLimits self.old self.new }
         ensures err { OnErr result (self.new ≡ self.old) }
     {
-        self.journal.calls.reserve(ENTRIES)?;
+        self.journal.reserve(ENTRIES)?;
         let removed = remove_resolved(&mut self.stored, now);
-        self.journal.calls.push_back_reserved(Call::Collected(now));
+        self.journal.push(Call::Collected(now));
         Ok(removed)
     }
 
@@ -596,6 +613,7 @@ impl<N: Origin> Book<N> {
             (self.new.stored ≡ filter (λ alert. not (is_resolved_at now alert)) self.old.stored) }
         ensures log { self.new.log ≡ self.old.log }
         ensures endings { (self.new.endings ≡ self.old.endings) × (self.new.early ≡ self.old.early) }
+        ensures gone { self.new.gone ≡ self.old.gone }
         ensures limits { HasSameLimits self.old self.new }
         ensures err { OnErr result (self.new ≡ self.old) }
     {
@@ -623,20 +641,21 @@ impl<N: Origin> Book<N> {
             ≡ filter (λ ended. nat_le self.new.journal.before ended.at) self.old.endings }
         ensures early { self.new.early + length self.new.endings
             ≡ self.old.early + length self.old.endings }
+        ensures gone { OnOk result (self.new.gone ≡ max self.old.gone self.new.journal.before) }
         ensures stored { self.new.stored ≡ self.old.stored }
         ensures log { self.new.log ≡ self.old.log }
         ensures limits { HasSameLimits self.old self.new }
 
         ensures err { OnErr result (self.new ≡ self.old) }
     {
-        let count = self.owed_from() - self.journal.before;
-        if count == 0 || count > MAX_BEFORE - self.journal.before {
+        let before = self.journal.discarded();
+        let count = self.owed_from() - before;
+        if count == 0 || count > MAX_BEFORE - before {
             return Ok(0);
         }
         let store = self.stored_then()?;
-        self.journal.drop_first(count as usize, store);
-        let gone = drop_before(&mut self.endings, self.journal.before);
-        self.early += gone as u64;
+        self.journal.trim(count, store);
+        self.endings.trim(before + count, self.journal.gone());
         Ok(count)
     }
 
@@ -655,6 +674,7 @@ impl<N: Origin> Book<N> {
     // What was stored then.
     fn stored_then(&self) -> Result<StoredAlerts, AllocError>
         ensures { IfOk result (λ store. (count : ℕ) → AreBeforeOpen self.now.journal count
+            → self.now.gone < self.now.journal.before + count
             → store ≡ stored (updates (first_calls count self.now.journal))) }
     {
         match earliest(&self.lanes) {
@@ -663,12 +683,45 @@ impl<N: Origin> Book<N> {
         }
     }
 
+    /// Takes the calls of the journal out of memory, also while subscriptions are open, and answers how many
+    /// those were. The endings of the subscriptions among them go too. The journal stays, and so does what is
+    /// owed to each subscription: nobody can tell. It is no call of the journal, and is allowed after the log's
+    /// end.
+    pub fn compact(&mut self) -> Result<u64, AllocError>
+        ensures same { self.new ≡ record self.old { gone = self.new.gone } }
+        ensures gone { OnOk result (self.new.gone ≡ call_count self.old.journal) }
+        ensures count { IfOk result (λ count. self.old.gone + count ≡ self.new.gone) }
+        ensures err { OnErr result (self.new ≡ self.old) }
+    {
+        let store = share_all(&self.stored)?;
+        let others = store.share()?;
+        let count = self.journal.compact(store);
+        self.endings.let_go(self.journal.gone());
+        let_openings_go(&mut self.lanes, &others);
+        Ok(count)
+    }
+
     /// What is stored, in order (`provider.Alerts`' GetPending). It is no call of the journal and takes
     /// no lane.
     pub fn stored(&self) -> Result<StoredAlerts, AllocError>
         ensures { IfOk result (λ alerts. alerts ≡ self.now.stored) }
     {
         share_all(&self.stored)
+    }
+
+    /// What is stored, in order, from an index on, and at most so many alerts of it. It is no call of the
+    /// journal and takes no lane.
+    pub fn stored_page(&self, from: u64, most: u64) -> Result<Page, AllocError>
+        ensures alerts { IfOk result (λ page. page.alerts ≡ take most (drop from self.now.stored)) }
+        ensures stored { IfOk result (λ page. page.stored ≡ length self.now.stored) }
+        ensures calls { IfOk result (λ page. page.calls ≡ call_count self.now.journal) }
+    {
+        let alerts = share_page(&self.stored, from as usize, most as usize)?;
+        Ok(Page {
+            alerts,
+            stored: self.stored.len() as u64,
+            calls: self.journal.call_count(),
+        })
     }
 
     /// The stored alert of a label set (`provider.Alerts`' Get). It is no call of the journal, takes no
@@ -690,14 +743,11 @@ impl<N: Origin> Book<N> {
 
     // The call that came last.
     pub(crate) fn last_call(&self) -> &Call
-        requires { 0 < length self.now.journal.calls }
+        requires { self.now.gone < call_count self.now.journal }
         ensures { result.now ≡ slice_index_or self.now.journal.calls
             (length self.now.journal.calls - 1) result.now }
     {
-        match self.journal.calls.back() {
-            Some(call) => call,
-            None => unreachable!(),
-        }
+        self.journal.last_call()
     }
 
     /// How many places, posts and stored alerts there are. Whatever Book it is asked of, what is
@@ -818,27 +868,13 @@ fn audit<N: Origin>(
     count == posters as usize
 }
 
-// A journal without a call, and no endings, with room for what may come.
-fn room_for_calls(alloc: Global) -> Result<(Journal, Vec<Ended>), AllocError>
-    ensures journal { IfOk result (λ made. (journal_of made.0 ≡ new_journal)
-        × (1 ≤ deque_capacity made.0.calls)) }
-    ensures endings { IfOk result (λ made. made.1.items ≡ []) }
+// A journal without a call, with room for what may come.
+fn room_for_calls(alloc: Global) -> Result<KeptJournal, AllocError>
+    ensures journal { IfOk result (λ made. made.journal ≡ new_journal) }
+    ensures gone { IfOk result (λ made. made.gone ≡ 0) }
+    ensures room { IfOk result (λ made. 1 ≤ made.room) }
 {
-    let mut journal = Journal::new(alloc)?;
-    journal.calls.reserve(ENTRIES)?;
-    let endings = Vec::with_capacity(alloc, LANES)?;
-    Ok((journal, endings))
-}
-
-// Drops the endings of subscriptions before a call, and answers how many.
-fn drop_before(endings: &mut Vec<Ended>, before: u64) -> usize
-    ensures kept { endings.new.items
-        ≡ filter (λ ended. nat_le before ended.at) endings.old.items }
-    ensures dropped { result ≡ length endings.old.items - length endings.new.items }
-    ensures fewer { length endings.new.items ≤ length endings.old.items }
-    ensures capacity { vec_capacity endings.new ≡ vec_capacity endings.old }
-{
-    let had = endings.len();
-    endings.retain(|ended| before <= ended.at);
-    had - endings.len()
+    let mut journal = KeptJournal::new(alloc)?;
+    journal.reserve(ENTRIES)?;
+    Ok(journal)
 }

@@ -52,6 +52,7 @@ mod faults;
 mod feed;
 mod gate;
 mod item;
+mod kept_endings;
 mod laws;
 mod parts;
 mod pass;
@@ -63,7 +64,7 @@ mod subscription;
 mod waiters;
 
 pub use am_cast::{AlreadyClosed, MAX_PLACES};
-pub use answers::{Counts, Ended, Policy, Posted, PostedIf, Slice, Step};
+pub use answers::{Counts, Ended, Page, Policy, Posted, PostedIf, Slice, Step};
 pub use book::Book;
 pub use caller::Caller;
 pub use entry::Entry;

@@ -1,9 +1,10 @@
 //! The provider: a Book under a lock, with subscriptions that read without it.
 //!
 //! What each call holds the lock for: a post, for the merge of its alerts and their batch (its body is
-//! read before); a subscription or a read of the store, for a share of each stored alert; a collection,
-//! for a look at each; a trim, for the calls that it drops; a leave, for its places. Nothing is printed,
-//! parsed or waited for under it.
+//! read before); a subscription or a read of the store, for a share of each stored alert, or of each alert of
+//! a page; a collection, for a look at each; a trim, for the calls that it drops; a compaction, for a share of
+//! each stored alert and the calls in memory; a leave, for its places. Nothing is printed, parsed or waited
+//! for under it.
 
 ghost use Rattle.std.specs.Prelude.{◌≡◌, ◌↔◌, IsTrue, IfOk, OnErr, [], length, map};
 ghost use Rattle.std.specs.List.{All};
@@ -11,11 +12,12 @@ ghost use Rattle.std.specs.Duration.{as_nanos};
 ghost use Rattle.am_provider.specs.Callers.{AnswersBody, AnswersPostIf, IsNewCaller, SeesCall, SeesWhole};
 ghost use Rattle.am_provider.specs.Headline.{AnswersPost, AnswersSubscribe, AnswersLeave, AnswersCollect};
 ghost use Rattle.am_provider.specs.Headline.{AnswersClose, AnswersTrim, AnswersStored, AnswersGet, AnswersTake};
+ghost use Rattle.am_provider.specs.Headline.{AnswersCompact, AnswersPage};
 ghost use Rattle.am_provider.specs.Posts.{AddsOwn, HasMet};
 ghost use Rattle.am_provider.specs.Rising.{IsRising};
 ghost use Rattle.am_provider.specs.Ending.{IsSettledFrom};
 
-use crate::answers::{Ended, Policy, Posted, PostedIf};
+use crate::answers::{Ended, Page, Policy, Posted, PostedIf};
 use crate::book::Book;
 use crate::caller::{Caller, deal};
 use crate::entry::Entry;
@@ -256,6 +258,16 @@ impl<N: Recorded> Provider<N> {
         self.lock(rt).trim(&self.table, caller)
     }
 
+    /// Takes the calls of the journal out of memory, also while subscriptions are open, and answers how many
+    /// those were. Then memory depends on what is stored, and on nothing else that was called before. Every
+    /// subscription is owed what it was owed: nobody can tell.
+    pub fn compact<R: Wait>(&self, rt: &R, caller: &mut Caller<N>) -> Result<u64, AllocError>
+        ensures sees { SeesCall caller.old.front caller.new.front (AnswersCompact result) }
+        ensures pass { caller.new.pass ≡ caller.old.pass }
+    {
+        self.lock(rt).compact(&self.table, caller)
+    }
+
     /// What is stored, in order (`provider.Alerts`' GetPending). It adds nothing to the history and
     /// takes no lane.
     pub fn stored<R: Wait>(
@@ -267,6 +279,22 @@ impl<N: Recorded> Provider<N> {
         ensures pass { caller.new.pass ≡ caller.old.pass }
     {
         self.lock(rt).stored(&self.table, caller)
+    }
+
+    /// What is stored, in order, from an index on, and at most so many alerts of it. The lock is held for those
+    /// alone, so other calls can come between two pages: posts change alerts and add some at the end, and a
+    /// collection moves those that stay to lower indices.
+    pub fn stored_page<R: Wait>(
+        &self,
+        rt: &R,
+        caller: &mut Caller<N>,
+        from: u64,
+        most: u64,
+    ) -> Result<Page, AllocError>
+        ensures sees { SeesCall caller.old.front caller.new.front (AnswersPage from most result) }
+        ensures pass { caller.new.pass ≡ caller.old.pass }
+    {
+        self.lock(rt).stored_page(&self.table, caller, from, most)
     }
 
     /// The stored alert of a label set (`provider.Alerts`' Get). It adds nothing to the history, takes

@@ -1,4 +1,4 @@
-//! What lies under a provider's lock: the Book, and the history of its accepted calls and trims.
+//! What lies under a provider's lock: the Book, and the history of its accepted calls, trims and compactions.
 //!
 //! Each call is made on the Book. If it was accepted, an entry is added to the history, and the caller's
 //! front sees all of it; if it was refused, the front sees what there is.
@@ -10,12 +10,13 @@ ghost use Rattle.am_history.specs.Fronts.{made_at};
 ghost use Rattle.am_provider.specs.Callers.{AnswersPostIf, SeesCall, SeesWhole};
 ghost use Rattle.am_provider.specs.Headline.{AnswersPost, AnswersSubscribe, AnswersLeave, AnswersCollect};
 ghost use Rattle.am_provider.specs.Headline.{AnswersClose, AnswersTrim, AnswersStored, AnswersGet, AnswersTake};
+ghost use Rattle.am_provider.specs.Headline.{AnswersCompact, AnswersPage};
 ghost use Rattle.am_provider.specs.Histories.{Accepted};
 ghost use Rattle.am_provider.specs.Posts.{AddsOwn};
 ghost use Rattle.am_provider.specs.Rising.{IsRising};
 ghost use Rattle.am_provider.specs.Ending.{IsSettledFrom};
 
-use crate::answers::{Ended, Posted, PostedIf};
+use crate::answers::{Ended, Page, Posted, PostedIf};
 use crate::book::Book;
 use crate::caller::{Caller, gather};
 use crate::entry::Entry;
@@ -288,6 +289,28 @@ impl<N: Recorded> RecordedBook<N> {
         Ok(count)
     }
 
+    /// Takes calls of the journal out of memory, and none of the history.
+    pub(crate) fn compact(
+        &mut self,
+        table: &HistoryTable<Entry, N>,
+        caller: &mut Caller<N>,
+    ) -> Result<u64, AllocError>
+        ensures sees { SeesCall caller.old.front caller.new.front (AnswersCompact result) }
+        ensures pass { caller.new.pass ≡ caller.old.pass }
+    {
+        let count = match self.book.compact() {
+            Ok(count) => count,
+            Err(error) => {
+                self.history.show(table, &mut caller.front);
+                return Err(error);
+            }
+        };
+        let entry = Entry::compacted(count);
+        self.history
+            .push(table, &Snapshot::of(&entry), &mut caller.front);
+        Ok(count)
+    }
+
     /// What is stored.
     pub(crate) fn stored(
         &mut self,
@@ -300,6 +323,22 @@ impl<N: Recorded> RecordedBook<N> {
         self.book.kept();
         self.history.show(table, &mut caller.front);
         self.book.stored()
+    }
+
+    /// A page of what is stored.
+    pub(crate) fn stored_page(
+        &mut self,
+        table: &HistoryTable<Entry, N>,
+        caller: &mut Caller<N>,
+        from: u64,
+        most: u64,
+    ) -> Result<Page, AllocError>
+        ensures sees { SeesCall caller.old.front caller.new.front (AnswersPage from most result) }
+        ensures pass { caller.new.pass ≡ caller.old.pass }
+    {
+        self.book.kept();
+        self.history.show(table, &mut caller.front);
+        self.book.stored_page(from, most)
     }
 
     /// The stored alert of a label set.

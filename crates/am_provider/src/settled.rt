@@ -12,13 +12,13 @@ use am_store::store::AlertMap;
 /// What a provider came to.
 #[derive(Drop)]
 pub struct Settled {
-    /// Its accepted calls, in order.
+    /// Its accepted calls, in order, as far as trims and compactions left them in memory.
     pub journal: Journal,
     /// What is stored.
     pub store: AlertMap,
-    /// What each subscription that was given back came to, in order.
+    /// What each subscription came to that was given back and whose Subscribed is among these calls, in order.
     pub ended: Vec<Ended>,
-    /// How many endings were dropped with the calls of the journal that a trim dropped.
+    /// How many other subscriptions were given back.
     pub early: u64,
     /// Whether all passes were given. Then their own posts are all places of the log.
     pub complete: bool,

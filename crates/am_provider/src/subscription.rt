@@ -1,8 +1,10 @@
 //! A subscriber's place. It reads without the provider: no lock, no memory, no waiting.
 
-ghost use Rattle.std.specs.Prelude.{◌≡◌, ◌+◌, ◌<◌, ◌^◌, IfNone, IfSome, Some, false, true, length};
+ghost use Rattle.std.specs.Prelude.{◌≡◌, ◌+◌, ◌<◌, ◌^◌, IfNone, IfSome, Some, false, true, [], length};
+ghost use Rattle.am_store.specs.Shared.{alerts_in};
+ghost use Rattle.am_cast.specs.Cursors.{shown_items};
 ghost use Rattle.am_provider.specs.Subscriptions.{taken, HasNoNews};
-ghost use Rattle.am_provider.specs.inside.Advances.{Advances, AdvancesPast, Notes};
+ghost use Rattle.am_provider.specs.inside.Advances.{Advances, AdvancesPast, LetsGo, Notes};
 ghost use Rattle.am_provider.specs.inside.Slices.{AdvancesSlice, ShowsOpening};
 ghost use Rattle.am_provider.specs.Posts.{HasMet};
 ghost use Rattle.am_provider.specs.inside.Subscribed.{IsFresh, IsSubscription};
@@ -11,7 +13,7 @@ use crate::answers::{Slice, Step};
 use crate::feed::{Cast, Cursor, Origin};
 use crate::pass::Pass;
 use am_cast::Moved;
-use am_store::StoredAlerts;
+use am_store::{Past, SharedAlert, StoredAlerts};
 use std::marker::Model;
 
 /// One subscriber's place. It must be given back by `leave`. Contracts see it as what was stored when
@@ -19,8 +21,12 @@ use std::marker::Model;
 /// own thread's memory: two threads' subscriptions on one cache line slow each other down.
 pub struct Subscription<'a, N: Origin> {
     at: u64,
-    opening: StoredAlerts,
-    // How many alerts of the opening it has shown.
+    // What was stored when it came, for contracts alone: a past value takes no memory.
+    opening: Past<StoredAlerts>,
+    // What memory has of it: all, until an alert of the log was shown.
+    held: Option<StoredAlerts>,
+    // How many alerts were stored when it came, and how many of them it has shown.
+    stored: usize,
     shown: usize,
     cursor: Cursor<'a, N>,
     closed_told: bool,
@@ -34,7 +40,7 @@ impl<'a, N: Origin> Model for Subscription<'a, N> {
     ghost use Rattle.am_store.specs.contracts.call.Call as call;
     ghost use Rattle.am_store.specs.contracts.lanes.OpenLane as lane;
     ghost use Rattle.am_provider.specs.Subscriptions.{SubscriptionView};
-    ghost use Rattle.am_provider.specs.inside.Subscribed.{IsSubscription};
+    ghost use Rattle.am_provider.specs.inside.Subscribed.{IsSubscription, IsHeld};
 
     ghost Value = { SubscriptionView };
 
@@ -42,7 +48,7 @@ impl<'a, N: Origin> Model for Subscription<'a, N> {
 
     ghost view = { λ s. record {
       at = s.at;
-      opening = s.opening;
+      opening = s.opening.value;
       shown = s.shown;
       cursor = s.cursor;
       closed_told = s.closed_told;
@@ -50,11 +56,11 @@ impl<'a, N: Origin> Model for Subscription<'a, N> {
 
     ghost invariant = { λ s. IsSubscription (record {
       at = s.at;
-      opening = s.opening;
+      opening = s.opening.value;
       shown = s.shown;
       cursor = s.cursor;
       closed_told = s.closed_told;
-    }) s.count };
+    }) s.count × IsHeld s.opening.value s.cursor s.held s.stored };
 }
 
 /// What an advance came to, before the alert itself is lent.
@@ -88,7 +94,9 @@ impl<'a, N: Origin> Subscription<'a, N> {
     {
         Subscription {
             at,
-            opening,
+            opening: Past::of(&opening),
+            stored: opening.as_slice().len(),
+            held: Some(opening),
             shown: 0,
             cursor,
             closed_told: false,
@@ -105,13 +113,14 @@ impl<'a, N: Origin> Subscription<'a, N> {
     {
         let Subscription {
             at,
-            opening,
+            opening: _,
+            held: _,
+            stored: _,
             shown: _,
             cursor,
             closed_told,
             count,
         } = self;
-        let _opening = opening.as_slice();
         (at, count, closed_told, cursor)
     }
 
@@ -127,14 +136,25 @@ impl<'a, N: Origin> Subscription<'a, N> {
     pub fn has_news(&self) -> bool
         ensures { result ≡ false → HasNoNews self.now }
     {
-        self.shown < self.opening.as_slice().len() || self.cursor.has_news()
+        self.shown < self.stored || self.cursor.has_news()
     }
 
     /// How many alerts were stored at the subscription.
     pub fn opening(&self) -> u64
         ensures { result ≡ length self.now.opening }
     {
-        self.opening.as_slice().len() as u64
+        self.stored as u64
+    }
+
+    // The opening, which memory has until an alert of the log was shown.
+    fn held_opening(&self) -> &[SharedAlert]
+        requires { shown_items self.now.cursor ≡ [] }
+        ensures { alerts_in result.now ≡ self.now.opening }
+    {
+        match &self.held {
+            Some(opening) => opening.as_slice(),
+            None => unreachable!(),
+        }
     }
 
     // One alert more of the opening is shown, if there is one.
@@ -145,7 +165,7 @@ impl<'a, N: Origin> Subscription<'a, N> {
         ensures no { result ≡ false
             → (self.old.shown ≡ length self.old.opening) × (self.new ≡ self.old) }
     {
-        if self.shown >= self.opening.as_slice().len() {
+        if self.shown >= self.stored {
             return false;
         }
         self.shown += 1;
@@ -161,6 +181,7 @@ impl<'a, N: Origin> Subscription<'a, N> {
             return Advance::Opened;
         }
         let moved = self.cursor.advance();
+        let_go_after(moved, &mut self.held);
         note(moved, &mut self.count, &mut self.closed_told)
     }
 
@@ -174,6 +195,7 @@ impl<'a, N: Origin> Subscription<'a, N> {
             return Advance::Opened;
         }
         let moved = self.cursor.advance_past(&mut pass.pass);
+        let_go_after(moved, &mut self.held);
         note(moved, &mut self.count, &mut self.closed_told)
     }
 
@@ -183,13 +205,12 @@ impl<'a, N: Origin> Subscription<'a, N> {
         ensures none { IfNone result
             ((self.old.shown ≡ length self.old.opening) × (self.new ≡ self.old)) }
     {
-        let all = self.opening.as_slice().len();
         let from = self.shown;
-        if from >= all {
+        if from >= self.stored {
             return None;
         }
-        self.shown = all;
-        self.count = self.count.wrapping_add((all - from) as u64);
+        self.shown = self.stored;
+        self.count = self.count.wrapping_add((self.stored - from) as u64);
         Some(from)
     }
 
@@ -203,6 +224,7 @@ impl<'a, N: Origin> Subscription<'a, N> {
         }
         match self.cursor.advance_slice() {
             (Moved::One, from) => {
+                let_go_after(Moved::One, &mut self.held);
                 let shown = self.cursor.in_hand_from(from).len();
                 self.count = self.count.wrapping_add(shown as u64);
                 (Advance::Logged, from)
@@ -239,7 +261,10 @@ impl<'a, N: Origin> Subscription<'a, N> {
         ensures shown { IsShown self.old advance result }
     {
         match advance {
-            Advance::Opened => Step::Item(&self.opening.as_slice()[self.shown - 1]),
+            Advance::Opened => {
+                let last = self.shown - 1;
+                Step::Item(&self.held_opening()[last])
+            }
             Advance::Logged => Step::Item(self.cursor.in_hand().alert()),
             Advance::Pending => Step::Pending,
             Advance::Closed => Step::Closed,
@@ -285,7 +310,7 @@ impl<'a, N: Origin> Subscription<'a, N> {
         ensures shown { IsSliceShown self.old advance from result }
     {
         match advance {
-            Advance::Opened => Slice::Stored(&self.opening.as_slice()[from..]),
+            Advance::Opened => Slice::Stored(&self.held_opening()[from..]),
             Advance::Logged => Slice::Posted(self.cursor.in_hand_from(from)),
             Advance::Pending => Slice::Pending,
             Advance::Closed => Slice::Closed,
@@ -301,6 +326,15 @@ impl<'a, N: Origin> Subscription<'a, N> {
     {
         let (advance, from) = self.advance_slice();
         self.shown_from(advance, from)
+    }
+}
+
+// Lets go of the opening once an alert of the log was shown, which is read after it.
+fn let_go_after(moved: Moved, held: &mut Option<StoredAlerts>)
+    ensures { LetsGo moved held.old held.new }
+{
+    if moved == Moved::One {
+        *held = None;
     }
 }
 

@@ -9,6 +9,8 @@ mod books;
 #[cfg(test)]
 mod call_numbers;
 #[cfg(test)]
+mod compactions;
+#[cfg(test)]
 mod comparison;
 #[cfg(test)]
 mod cut_races;

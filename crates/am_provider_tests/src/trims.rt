@@ -7,8 +7,8 @@ use am_provider::{Caller, Counts, Ended, Recorded};
 use std::sync::Wait;
 use std::test::Fail;
 
-// Posts one report at its start. The number names its label set.
-fn post_one<N: Recorded, R: Wait>(
+/// Posts one report at its start. The number names its label set.
+pub fn post_one<N: Recorded, R: Wait>(
     stage: &Stage<'_, N, R>,
     caller: &mut Caller<N>,
     number: u32,

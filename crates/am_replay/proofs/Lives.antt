@@ -1,6 +1,7 @@
 -- What a live run comes to.
-use Rattle.std.proofs.Common.{◌≡◌, ◌≢◌, ◌∙◌, ◌+◌, ℕ, List, [], ◌∷◌, ◌++◌, length, Option, Some, None, Result, Ok, Err, IfOk, String, string_bytes, refl, sym, ap, subst, arith, length-append, append-nil}
-use Rattle.std.specs.List.{All}
+use Rattle.std.proofs.Common.{◌≡◌, ◌≢◌, ◌<◌, ◌∙◌, ℕ, cond, ne_eqb, List, [], ◌∷◌, ◌++◌, length, Option, Some, None, Result, Ok, Err, IfOk, String, string_bytes, refl, sym, ap, subst, arith, length-append, append-nil}
+use Rattle.std.specs.List.{All, onto_first}
+use Rattle.std.proofs.lemmas.List.Elements.{All-head, All-tail}
 use Rattle.std.specs.declared.alloc.Global.{Global}
 use Rattle.std.specs.Io.KnownBytes.{Appends, Keeps}
 use Rattle.am_config.specs.declared.config.Config.{Config}
@@ -8,18 +9,43 @@ use Rattle.json.specs.Json.{object}
 use Rattle.json.specs.Print.{print}
 use Rattle.json.specs.Tree.{json_tokens}
 use Rattle.am_script.specs.Outputs.{AppendsBeginning}
+use Rattle.am_script.specs.Script.{config_line, first_of, lines_of}
+use Rattle.am_script.specs.declared.limits.TheConstants.{LONGEST_LINE}
 use Rattle.am_provider.specs.declared.answers.Counts.{Counts}
 use Rattle.am_runner.specs.Sessions.{Setting}
 use Rattle.am_runner.specs.declared.form.Form.{Form}
 use Rattle.am_runner.specs.declared.form.Form.TheVariants as forms
-use Rattle.am_serve.specs.Reading.{IsNext}
+use Rattle.am_serve.specs.Reading.{IsNext, IsNextAs}
+use Rattle.am_serve.specs.declared.reading.InputLine.{InputLine}
+use Rattle.am_serve.specs.declared.reading.InputLine.TheVariants as input_line
 use Rattle.am_replay.specs.FirstLines.{IsFirstLine}
-use Rattle.am_replay.specs.Live.{IsEnd, IsLive, IsLived, IsRefusedAs, IsTold, LivesUnder, line_or_empty, lived, last_line_cut_short, no_memory, not_begun, not_written, refused, refusal_cut_short}
+use Rattle.am_replay.specs.declared.first_line.FirstLine.TheVariants as first_line
+use Rattle.am_replay.specs.Live.{IsEnd, IsFirstAs, IsLive, IsLived, IsRefusedAs, IsTold, LivesUnder, line_or_empty, lived, last_line_cut_short, no_memory, not_written, refused, refusal_cut_short}
 use Rattle.am_replay.specs.Printing.{counts_line, counts_members, counts_text}
 use Rattle.am_replay.specs.declared.arguments.Arguments.{Arguments}
 use Rattle.am_replay.specs.declared.first_line.FirstLine.{FirstLine}
 use Rattle.am_replay.specs.declared.status.Status.{Status}
 use Rattle.am_replay.specs.declared.status.Status.TheVariants.{Done, BadArguments, Refused, CallOutOfMemory, OutOfMemory, NoThread, ReadFailed, WriteFailed}
+
+-- the first line, as it was read
+pub read_as_first : (old new : Option (List ℕ)) (line : Option InputLine) → IsNextAs old line new → (bytes : Option (List ℕ)) × IsFirstAs bytes line × IsNext old bytes new
+read_as_first old new None next = (None, tt, next)
+read_as_first old new (Some line) next = (Some next.0, (next.1, next.2), next.3)
+
+-- a line without a line feed is one line
+plain_line : (byte : ℕ) (bytes : List ℕ) → All (λ x. x ≢ 10) (byte ∷ bytes) → lines_of (byte ∷ bytes) ≡ (byte ∷ bytes) ∷ []
+plain_line byte [] plain = ap (λ b. cond b ([] ∷ []) ((byte ∷ []) ∷ [])) (ne_eqb byte 10 (All-head (λ x. x ≢ 10) byte [] plain))
+plain_line byte (next ∷ bytes) plain =
+    ap (λ b. cond b ([] ∷ lines_of (next ∷ bytes)) (onto_first byte (lines_of (next ∷ bytes)))) (ne_eqb byte 10 (All-head (λ x. x ≢ 10) byte (next ∷ bytes) plain))
+    ∙ ap (onto_first byte) (plain_line next bytes (All-tail (λ x. x ≢ 10) byte (next ∷ bytes) plain))
+
+plain_config : (bytes : List ℕ) → All (λ x. x ≢ 10) bytes → config_line bytes ≡ bytes
+plain_config [] plain = refl
+plain_config (byte ∷ bytes) plain = ap first_of (plain_line byte bytes plain)
+
+pub first_too_long : (bytes : Option (List ℕ)) → IsFirstAs bytes (Some input_line.TooLong) → IsFirstLine (line_or_empty bytes) first_line.TooLong
+first_too_long None is = absurd is
+first_too_long (Some bytes) is = subst (λ (line : List ℕ). LONGEST_LINE < length line) (sym (plain_config bytes is.0)) is.1
 
 -- what is kept grows by nothing
 appends_kept_none : (old new : Option (List ℕ)) → Keeps old new → Appends old new []

@@ -1,7 +1,6 @@
 -- Facts about the words of specs/Replays.antt, and of specs/Runs.antt below it.
 use Rattle.std.proofs.Common.{◌≡◌, ℕ, ◌+◌, Bool, List, [], ◌∷◌, ◌++◌, true, false, length, map, Option, Some, None, Result, Ok, Err, IfOk, ap, sym, subst, refl, ◌∙◌}
 use Rattle.std.proofs.lemmas.List.{map-append, length-append, length-map}
-use Rattle.std.specs.Global.{Vec}
 use Rattle.std.specs.declared.alloc.AllocError.{AllocError}
 use Rattle.std.specs.Io.KnownBytes.{Appends, Keeps}
 use Rattle.am_alert.specs.declared.alert.Alert.{Alert}
@@ -15,7 +14,6 @@ use Rattle.am_runner.specs.Sessions.{Setting, setting_of}
 use Rattle.am_runner.specs.Turning.{Order, order_of}
 use Rattle.am_runner.specs.Working.{AreWork, Outcome, none, one_more_thread}
 use Rattle.am_replay.specs.declared.arguments.Arguments.{Arguments}
-use Rattle.am_runner.specs.declared.answer.Answer.{Answer}
 use Rattle.am_replay.specs.Printing.{transcript_text, ran_out_of_memory}
 use Rattle.am_replay.specs.Replays.{ComesTo, IsPrinted, IsReplay, no_config, ran, refused, runs_in_order, status_of, too_long}
 use Rattle.am_replay.specs.Runs.{AreCountsOf, IsRun}

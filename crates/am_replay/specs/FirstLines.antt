@@ -3,7 +3,6 @@ use Rattle.std.specs.Prelude.{◌≢◌, ◌<◌, ◌≤◌, ℕ, List, length, 
 use Rattle.am_script.specs.Script.{config_line}
 use Rattle.am_script.specs.declared.limits.TheConstants.{LONGEST_LINE}
 use Rattle.am_config.specs.Configs.{IsConfigOf}
-use Rattle.am_config.specs.declared.fault.ConfigFault.{ConfigFault}
 use Rattle.am_config.specs.declared.fault.ConfigFault.TheVariants.{NoMemory}
 use Rattle.am_replay.specs.declared.first_line.FirstLine.{FirstLine}
 use Rattle.am_replay.specs.declared.first_line.FirstLine.TheVariants.{TooLong, Refused, Read}

@@ -1,18 +1,18 @@
 -- A live run: what the lines so far answer is written, whatever comes later.
-use Rattle.std.specs.Prelude.{◌≡◌, ℕ, true, List, [], ◌∷◌, ◌++◌, Option, Some, None, Result, Ok, Err, String}
-use Rattle.std.specs.Prelude.{string_bytes}
+use Rattle.std.specs.Prelude.{◌≡◌, ◌≢◌, ℕ, true, All, List, [], ◌∷◌, Option, Some, None, Result, Ok, Err}
+use Rattle.std.specs.Prelude.{String, string_bytes}
 use Rattle.std.specs.declared.alloc.Global.{Global}
 use Rattle.std.specs.Io.KnownBytes.{Appends, Keeps}
 use Rattle.am_config.specs.declared.config.Config.{Config}
-use Rattle.am_config.specs.declared.fault.ConfigFault.{ConfigFault}
 use Rattle.am_script.specs.Outputs.{AppendsBeginning}
 use Rattle.am_provider.specs.Ending.{IsSettledFrom}
 use Rattle.am_provider.specs.declared.answers.Counts.{Counts}
 use Rattle.am_provider.specs.declared.settled.Settled.{Settled}
 use Rattle.am_runner.specs.Sessions.{Setting, SessionView, LeavesAll, new_session, setting_of}
 use Rattle.am_runner.specs.declared.form.Form.{Form}
-use Rattle.am_serve.specs.Reading.{IsNext}
+use Rattle.am_serve.specs.Reading.{IsNext, IsReadAs}
 use Rattle.am_serve.specs.Serving.{IsServed, IsServedInPart}
+use Rattle.am_serve.specs.declared.reading.InputLine.{InputLine}
 use Rattle.am_replay.specs.FirstLines.{IsFirstLine}
 use Rattle.am_replay.specs.Printing.{counts_line}
 use Rattle.am_replay.specs.Refusals.{first_line_too_large, refused_config, refused_script}
@@ -29,6 +29,12 @@ abbrev pub line_or_empty : Option (List ℕ) → List ℕ
 line_or_empty None = []
 line_or_empty (Some bytes) = bytes
 
+-- what was read as the first line: nothing at the input's end
+abbrev pub IsFirstAs : Option (List ℕ) → Option InputLine → Type 0
+IsFirstAs None None = Unit {0}
+IsFirstAs (Some bytes) (Some line) = All (λ byte. byte ≢ 10) bytes × IsReadAs bytes line
+IsFirstAs bytes line = ⊥
+
 -- what is told of a first line that is no configuration
 abbrev pub IsRefusedAs : Form → FirstLine → List ℕ → Type 0
 IsRefusedAs form first_line.TooLong text = text ≡ refused_script form first_line_too_large
@@ -36,8 +42,8 @@ IsRefusedAs form (first_line.Refused fault) text = text ≡ refused_config form 
 IsRefusedAs form (first_line.Read config) text = ⊥
 
 -- all lines after the first were served on one provider, in a session of its one caller; then its
--- subscriptions were left, and it ended: its one history has what the lines, the trims between them and these
--- leaves added, and nothing else
+-- subscriptions were left, and it ended: its one history has what the lines, the compactions between them and
+-- these leaves added, and nothing else
 pub record IsLived (config : Config) (setting : Setting) (form : Form)
     (input rest out written : Option (List ℕ)) (counts : Counts) : Type 0 where
   pub seat : ℕ

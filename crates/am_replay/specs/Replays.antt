@@ -1,12 +1,11 @@
 -- A whole replay: what it reads, what it prints and how it ends.
-use Rattle.std.specs.Prelude.{ℕ, Bool, true, false, List, [], ◌∷◌, ◌++◌, Option, Ok, Err, if◌then◌else◌}
+use Rattle.std.specs.Prelude.{ℕ, Bool, true, false, List, [], Option, Ok, Err, if◌then◌else◌}
 use Rattle.std.specs.Io.KnownBytes.{Appends, Keeps}
 use Rattle.am_script.specs.Outputs.{AppendsBeginning}
 use Rattle.am_script.specs.Inputs.{IsReadOf}
 use Rattle.am_replay.specs.Printing.{ran_out_of_memory, transcript_text}
 use Rattle.am_runner.specs.Sessions.{setting_of}
 use Rattle.am_replay.specs.Runs.{IsRun}
-use Rattle.am_replay.specs.Arguments.{AreRead, AreRefused}
 use Rattle.am_replay.specs.declared.arguments.Arguments.{Arguments}
 use Rattle.am_replay.specs.declared.arguments.Mode.{Mode}
 use Rattle.am_replay.specs.declared.arguments.Mode.TheVariants.{Ordered}

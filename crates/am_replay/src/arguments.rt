@@ -129,20 +129,23 @@ with a command as `do`, a `thread` from 0 to 7, and the command's own members:
   read       sub, max          prints what the subscription delivers next
   leave      sub               leaves the subscription
   collect    at                removes the alerts that are resolved by then
+  take       at                removes them too, and prints them
   close                        closes the log: no more posts and subscribers
   trim                         discards the calls that no subscription needs any more
+  compact                      takes all calls out of memory; subscriptions don't need them there
   groups     sub, at           prints the dispatcher's groups; of `notify` with `at` also what mutes their alerts
   sweep      sub, at           drops what is resolved from the dispatcher's groups
   forget     sub, at           drops what is resolved from the inhibitor
   mutes      sub, at, labels   asks the inhibitor whether it mutes such an alert
-  stored                       prints all stored alerts
+  stored     from, max         prints all stored alerts; with `max` a page of them
   get        labels            prints the stored alert of these labels
   routes                       prints the routing tree
   route      labels            prints the routes that these labels match
 
 `at` is a moment as 2024-01-01T10:00:00Z, and `groups` needs none; `sub` is the
 subscription's name. `kind` is `plain`, `dispatch`, `inhibit` or `notify`, and `plain`
-if it is missing. `max` is from 1 to 65536, and 1 if it is missing.
+if it is missing. `max` is from 1 to 65536, and 1 if it is missing; `stored` then
+prints all. `from` is the index of a page's first alert, and 0 if it is missing.
 
 With --mode live the lines are answered one by one as they come, `thread` isn't
 needed, and a line that can't be read is answered by its fault.";

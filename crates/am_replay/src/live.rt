@@ -1,8 +1,10 @@
 //! A live run: each line of the input is answered before the next one is read.
 
-ghost use Rattle.std.specs.Prelude.{◌≡◌, ◌++◌, ◌∷◌, [], IfOk, option_map, string_bytes};
-ghost use Rattle.am_replay.specs.Live.{IsEnd, IsFailure, IsLive, IsTold, LivesUnder, line_or_empty};
-ghost use Rattle.am_runner.specs.Sessions.{setting_of};
+ghost use Rattle.std.specs.Prelude.{◌≡◌, ℕ, List, ◌++◌, ◌∷◌, [], Option, IfOk, OnErr, OnOk, string_bytes};
+ghost use Rattle.am_replay.specs.FirstLines.{IsFirstLine};
+ghost use Rattle.am_replay.specs.Live.{IsEnd, IsFailure, IsFirstAs, IsLive, IsTold, LivesUnder, line_or_empty};
+ghost use Rattle.am_runner.specs.Sessions.{LeavesAll, SessionView, setting_of};
+ghost use Rattle.am_serve.specs.Serving.{IsServed, IsServedInPart};
 
 use crate::advice::fault_advice;
 use crate::arguments::Arguments;
@@ -11,10 +13,10 @@ use crate::refusals::{FIRST_LINE_TOO_LARGE, advise, refused_config, refused_scri
 use crate::status::Status;
 use crate::transcript::counts_line;
 use am_config::Config;
-use am_provider::{Counts, Parts, Provider, Recorded};
-use am_runner::{Context, Form, Freely, Session};
+use am_provider::{Caller, Counts, Parts, Provider, Recorded};
+use am_runner::{Context, Form, Freely, PreparedConfig, Session};
 use am_script::{Failure, script_advice, write_text};
-use am_serve::{next_line, serve};
+use am_serve::{InputLine, next_line, serve};
 use std::alloc::{AllocError, Global};
 use std::io::{BufRead, Write};
 use std::marker::Brand;
@@ -35,7 +37,7 @@ pub fn live<R: Wait, I: BufRead, O: Write, E: Write>(
         Ok(line) => line,
         Err(failure) => return status_of(failure),
     };
-    match FirstLine::read(alloc, bytes_of(&line)) {
+    match read_first(alloc, &line) {
         Ok(FirstLine::Read(config)) => live_under(rt, alloc, arguments, &config, input, out),
         Ok(FirstLine::Refused(fault)) => {
             let advice = fault_advice(alloc, bytes_of(&line), &fault).ok();
@@ -59,13 +61,24 @@ pub fn live<R: Wait, I: BufRead, O: Write, E: Write>(
     }
 }
 
-// The bytes of the line that was read; none at the input's end.
-fn bytes_of(line: &Option<Vec<u8>>) -> &[u8]
-    ensures { result.now ≡ line_or_empty (option_map (λ bytes. bytes.items) line.now) }
+// What the first line comes to, as it was read.
+fn read_first(alloc: Global, line: &Option<InputLine>) -> Result<FirstLine, AllocError>
+    ensures { IfOk result (λ first. (bytes : Option (List ℕ)) → IsFirstAs bytes line.now
+        → IsFirstLine (line_or_empty bytes) first) }
 {
     match line {
-        Some(bytes) => bytes.as_slice(),
-        None => &[],
+        Some(InputLine::TooLong) => Ok(FirstLine::TooLong),
+        Some(InputLine::NoMemory) => Err(AllocError),
+        Some(InputLine::Read(bytes)) => FirstLine::read(alloc, bytes),
+        None => FirstLine::read(alloc, &[]),
+    }
+}
+
+// The bytes of the line that were kept; none at the input's end.
+fn bytes_of(line: &Option<InputLine>) -> &[u8] {
+    match line {
+        Some(InputLine::Read(bytes)) => bytes.as_slice(),
+        _ => &[],
     }
 }
 
@@ -139,21 +152,55 @@ fn live_on<N: Recorded, R: Wait, I: BufRead, O: Write>(
     let Some(caller) = callers.pop() else {
         unreachable!()
     };
-    let context = Context {
+    let (served, caller) = serve_all(
         rt,
         alloc,
-        provider: &provider,
+        &provider,
         config,
-        turns: &Freely,
-    };
-    let mut session = Session::begin(alloc, caller);
-    let served = serve(&context, &mut session, arguments.form, 2, input, out);
-    callers.push_reserved(session.end(&context));
+        caller,
+        arguments.form,
+        input,
+        out,
+    );
+    callers.push_reserved(caller);
     let settled = provider.settle(rt, callers);
     match served {
         Ok(()) => print_counts(alloc, arguments.form, settled.counts(), out),
         Err(failure) => status_of(failure),
     }
+}
+
+// Serves all lines after the first, and leaves the subscriptions that are open then. The caller comes back.
+fn serve_all<'p, 'c, N: Recorded, R: Wait, I: BufRead, O: Write>(
+    rt: &'p R,
+    alloc: Global,
+    provider: &'p Provider<N>,
+    config: &'c Config,
+    caller: Caller<N>,
+    form: Form,
+    input: &mut I,
+    out: &mut O,
+) -> (Result<(), Failure>, Caller<N>)
+    ensures served { OnOk result.0 ((end : SessionView) × IsServed config.now
+        (setting_of N.places N.policy provider.now.resolve_timeout) form 2
+        (record { pass = caller.pass; front = caller.front; opened = [] })
+        (I.remaining input.old) (I.remaining input.new) (O.contents out.old) (O.contents out.new) end
+        × LeavesAll end (record { pass = result.1.pass; front = result.1.front; opened = [] })) }
+    ensures err { OnErr result.0 (IsServedInPart config.now
+        (setting_of N.places N.policy provider.now.resolve_timeout) form 2
+        (record { pass = caller.pass; front = caller.front; opened = [] })
+        (I.remaining input.old) (O.contents out.old) (O.contents out.new)) }
+{
+    let mut context = Context {
+        rt,
+        alloc,
+        provider,
+        config: PreparedConfig::new(config),
+        turns: &Freely,
+    };
+    let mut session = Session::begin(alloc, caller);
+    let served = serve(&mut context, &mut session, form, 2, input, out);
+    (served, session.end(&context))
 }
 
 // Prints the last line.

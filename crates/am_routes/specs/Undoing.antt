@@ -1,5 +1,5 @@
 -- What undoing the last alert that a dispatcher took gives, by the changes that it made.
-use Rattle.std.specs.Prelude.{◌≡◌, ℕ, zero, suc, ◌-◌, List, [], ◌∷◌, take, length, if◌then◌else◌}
+use Rattle.std.specs.Prelude.{ℕ, zero, suc, ◌-◌, List, [], ◌∷◌, take, length, if◌then◌else◌}
 use Rattle.am_labels.specs.LabelSets.{same_labels}
 use Rattle.am_alert.specs.declared.alert.Alert.{Alert}
 use Rattle.am_routes.specs.declared.dispatcher.GroupChange.{GroupChange}

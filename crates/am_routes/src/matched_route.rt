@@ -20,7 +20,21 @@ pub struct MatchedRoute {
     pub labels: LabelSet,
 }
 
-/// The routes that a label set matches, in pre-order. It prepares the tree for this one question.
+impl<'t> PreparedTree<'t> {
+    ghost use Rattle.am_routes.specs.Listings.{AreMatchedBy};
+
+    /// As `matches`, with the receiver of each route and the labels of the group there.
+    pub fn matched(&mut self, labels: &LabelSet) -> Result<Vec<MatchedRoute>, AllocError>
+        ensures matched { IfOk result (λ routes. AreMatchedBy labels.now self.old routes.items) }
+        ensures same { self.new ≡ self.old }
+    {
+        let found = self.find(labels)?;
+        matched_each(*found.allocator(), &found, labels)
+    }
+}
+
+/// The routes that a label set matches, as [`PreparedTree::matched`] gives them. It prepares the tree for
+/// this one question.
 pub fn matched_routes(
     alloc: Global,
     tree: &RouteTree,
@@ -28,8 +42,7 @@ pub fn matched_routes(
 ) -> Result<Vec<MatchedRoute>, AllocError>
     ensures { IfOk result (λ routes. AreMatchedBy labels.now (root_of tree.now) routes.items) }
 {
-    let found = PreparedTree::new(alloc, tree)?.find(labels)?;
-    matched_each(alloc, &found, labels)
+    PreparedTree::new(alloc, tree)?.matched(labels)
 }
 
 fn matched_each(

@@ -6,3 +6,4 @@ pub mod Results
 pub mod Taking
 pub mod Turning
 pub mod Putting
+pub mod LostAnswers

@@ -11,9 +11,15 @@ use Rattle.std.proofs.lemmas.List.{length-set}
 use Rattle.std.proofs.lemmas.List.Quantifiers.{position-Some}
 use Rattle.std.proofs.lemmas.Option.{slice_get-get_or}
 use Rattle.std.specs.Str.{bytes_eq}
+use Rattle.am_alert.specs.declared.alert.Alert.{Alert}
+use Rattle.am_store.specs.declared.call.Call.{Call}
+use Rattle.am_cast.specs.Posters.{PassView}
+use Rattle.am_history.specs.Fronts.{FrontView}
+use Rattle.am_provider.specs.Histories.{EntryView}
 use Rattle.am_provider.specs.Callers.{SeesCall}
 use Rattle.am_provider.specs.Headline.{AnswersSubscribe}
 use Rattle.am_config.specs.declared.config.Config.{Config}
+use Rattle.am_script.specs.declared.command.Command.{Command}
 use Rattle.am_script.specs.declared.command.Command.TheVariants.{Subscribe}
 use Rattle.am_script.specs.declared.command.Verb.{Verb}
 use Rattle.am_script.specs.declared.kind.Kind.{Kind}
@@ -85,3 +91,11 @@ swept_so config setting old half.Inhibitor name at answers opened it = forgot it
 pub as_many : (name : List ℕ) (word : Verb) (does : OpenView → List Answer → OpenView → Type 0) (old new : List OpenView) (answers : List Answer) → OnNamed name word does old answers new → length new ≡ length old
 as_many name word does old new answers (one_named {index = index} {after = after} here found done) = length-set old index after
 as_many name word does old new answers (none_named here) = refl
+
+-- a call that the provider answered, of the session as its parts have it
+pub on_front : (config : Config) (setting : Setting) (command : Command) (answers : List Answer) (old inside : SessionView) (pass : PassView Alert Call) (front : FrontView EntryView)
+    → inside ≡ old → pass ≡ inside.pass → Does config setting inside command answers (record inside { front = front })
+    → Does config setting old command answers (record { pass = pass; front = front; opened = inside.opened })
+on_front config setting command answers old inside pass front is passes does =
+    subst (λ (before : SessionView). Does config setting before command answers (record { pass = pass; front = front; opened = inside.opened })) is
+    (subst (λ (p : PassView Alert Call). Does config setting inside command answers (record { pass = p; front = front; opened = inside.opened })) (sym passes) does)

@@ -71,10 +71,12 @@ last_stays old new (answer.SubscribeRefused w) none next = absurd next
 last_stays old new (answer.Left t c u) none next = absurd next
 last_stays old new (answer.Collected n) none next = absurd next
 last_stays old new answer.CollectRefused none next = absurd next
+last_stays old new (answer.Taken n) none next = absurd next
 last_stays old new answer.CloseAccepted none next = absurd next
 last_stays old new answer.CloseRefused none next = absurd next
 last_stays old new (answer.Trimmed n) none next = absurd next
 last_stays old new answer.TrimRefused none next = absurd next
+last_stays old new (answer.Compacted n) none next = absurd next
 last_stays old new answer.TakeRefused none next = absurd next
 last_stays old new (answer.Group r c l a) none next = absurd next
 last_stays old new (answer.Member a) none next = absurd next
@@ -84,6 +86,7 @@ last_stays old new (answer.Muted r b) none next = absurd next
 last_stays old new answer.NotMuted none next = absurd next
 last_stays old new answer.MutesRefused none next = absurd next
 last_stays old new (answer.StoredCount n) none next = absurd next
+last_stays old new (answer.Page a f s c) none next = absurd next
 last_stays old new (answer.StoredAlert a) none next = absurd next
 last_stays old new answer.NotStored none next = absurd next
 last_stays old new (answer.Route r) none next = absurd next
@@ -286,10 +289,14 @@ module _ (law : StaysFrontOfDue) (entries : List EntryView) where
   does_back config setting old new command given (does.nothing_to_leave none) owed = owed
   does_back config setting old new command given (does.collected {front = front} sees) owed = same_opened old (record old { front = front }) _ sees refl owed
   does_back config setting old new command given (does.collect_refused {front = front} sees) owed = same_opened old (record old { front = front }) _ sees refl owed
+  does_back config setting old new command given (does.took {front = front} sees) owed = same_opened old (record old { front = front }) _ sees refl owed
+  does_back config setting old new command given (does.take_refused {front = front} sees) owed = same_opened old (record old { front = front }) _ sees refl owed
   does_back config setting old new command given (does.closed {front = front} sees) owed = same_opened old (record old { front = front }) _ sees refl owed
   does_back config setting old new command given (does.close_refused {front = front} sees) owed = same_opened old (record old { front = front }) _ sees refl owed
   does_back config setting old new command given (does.trimmed {front = front} sees) owed = same_opened old (record old { front = front }) _ sees refl owed
   does_back config setting old new command given (does.trim_refused {front = front} sees) owed = same_opened old (record old { front = front }) _ sees refl owed
+  does_back config setting old new command given (does.compacted {front = front} sees) owed = same_opened old (record old { front = front }) _ sees refl owed
+  does_back config setting old new command given (does.compact_refused {front = front} sees) owed = same_opened old (record old { front = front }) _ sees refl owed
   does_back config setting old new command given (does.groups is) owed = owed
   does_back config setting old new command given (does.swept {name = name} {at = at} {answers = answers} {opened = opened} it) owed = record {
     seen = owed.seen;
@@ -305,6 +312,8 @@ module _ (law : StaysFrontOfDue) (entries : List EntryView) where
   }
   does_back config setting old new command given (does.stored {front = front} sees) owed = same_opened old (record old { front = front }) _ sees refl owed
   does_back config setting old new command given (does.stored_refused {front = front} sees) owed = same_opened old (record old { front = front }) _ sees refl owed
+  does_back config setting old new command given (does.paged {front = front} sees) owed = same_opened old (record old { front = front }) _ sees refl owed
+  does_back config setting old new command given (does.page_refused {front = front} sees) owed = same_opened old (record old { front = front }) _ sees refl owed
   does_back config setting old new command given (does.got {front = front} found sees) owed = same_opened old (record old { front = front }) _ sees refl owed
   does_back config setting old new command given (does.get_refused {front = front} sees) owed = same_opened old (record old { front = front }) _ sees refl owed
   does_back config setting old new command given (does.routes shows) owed = owed

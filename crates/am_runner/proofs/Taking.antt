@@ -1,9 +1,7 @@
 -- A consumer that took what its subscription has taken still does after a call.
-use Rattle.std.proofs.Common.{◌≡◌, ℕ, Bool, true, false, List, [], ◌∷◌, ◌++◌, map, Option, Some, None, IfSome, Result, Ok, Err, IfOk, OnErr, refl, ap, sym, subst, ◌∙◌, append-nil, take}
-use Rattle.std.specs.Global.{Vec}
+use Rattle.std.proofs.Common.{◌≡◌, ℕ, Bool, true, false, List, [], ◌∷◌, ◌++◌, Option, Some, None, IfSome, refl, ap, sym, subst, ◌∙◌, append-nil, take}
 use Rattle.std.specs.List.{filter_map}
 use Rattle.std.proofs.lemmas.Bool.{false≢true}
-use Rattle.std.proofs.lemmas.List.{map-append}
 use Rattle.std.proofs.lemmas.List.Elements.{filter_map-append}
 use Rattle.am_alert.specs.declared.alert.Alert.{Alert}
 use Rattle.am_provider.specs.Subscriptions.{SubscriptionView, taken}
@@ -75,10 +73,12 @@ follows_of now old new answer.SawCut done = absurd done
 follows_of now old new (answer.Left t c u) done = absurd done
 follows_of now old new (answer.Collected n) done = absurd done
 follows_of now old new answer.CollectRefused done = absurd done
+follows_of now old new (answer.Taken n) done = absurd done
 follows_of now old new answer.CloseAccepted done = absurd done
 follows_of now old new answer.CloseRefused done = absurd done
 follows_of now old new (answer.Trimmed n) done = absurd done
 follows_of now old new answer.TrimRefused done = absurd done
+follows_of now old new (answer.Compacted n) done = absurd done
 follows_of now old new answer.TakeRefused done = absurd done
 follows_of now old new (answer.Group r c l a) done = absurd done
 follows_of now old new (answer.Member a) done = absurd done
@@ -88,6 +88,7 @@ follows_of now old new (answer.Muted r b) done = absurd done
 follows_of now old new answer.NotMuted done = absurd done
 follows_of now old new answer.MutesRefused done = absurd done
 follows_of now old new (answer.StoredCount n) done = absurd done
+follows_of now old new (answer.Page a f s c) done = absurd done
 follows_of now old new (answer.StoredAlert a) done = absurd done
 follows_of now old new answer.NotStored done = absurd done
 follows_of now old new (answer.Route r) done = absurd done
@@ -109,10 +110,12 @@ unresolved_of now old new answer.SawCut done = absurd done
 unresolved_of now old new (answer.Left t c u) done = absurd done
 unresolved_of now old new (answer.Collected n) done = absurd done
 unresolved_of now old new answer.CollectRefused done = absurd done
+unresolved_of now old new (answer.Taken n) done = absurd done
 unresolved_of now old new answer.CloseAccepted done = absurd done
 unresolved_of now old new answer.CloseRefused done = absurd done
 unresolved_of now old new (answer.Trimmed n) done = absurd done
 unresolved_of now old new answer.TrimRefused done = absurd done
+unresolved_of now old new (answer.Compacted n) done = absurd done
 unresolved_of now old new answer.TakeRefused done = absurd done
 unresolved_of now old new (answer.Group r c l a) done = absurd done
 unresolved_of now old new (answer.Member a) done = absurd done
@@ -122,6 +125,7 @@ unresolved_of now old new (answer.Muted r b) done = absurd done
 unresolved_of now old new answer.NotMuted done = absurd done
 unresolved_of now old new answer.MutesRefused done = absurd done
 unresolved_of now old new (answer.StoredCount n) done = absurd done
+unresolved_of now old new (answer.Page a f s c) done = absurd done
 unresolved_of now old new (answer.StoredAlert a) done = absurd done
 unresolved_of now old new answer.NotStored done = absurd done
 unresolved_of now old new (answer.Route r) done = absurd done
@@ -198,10 +202,12 @@ module _ (old new : SubscriptionView) (before after : Option Consumer) (missed g
   took_shown law (answer.Left t c u) next kept took = absurd next
   took_shown law (answer.Collected n) next kept took = absurd next
   took_shown law answer.CollectRefused next kept took = absurd next
+  took_shown law (answer.Taken n) next kept took = absurd next
   took_shown law answer.CloseAccepted next kept took = absurd next
   took_shown law answer.CloseRefused next kept took = absurd next
   took_shown law (answer.Trimmed n) next kept took = absurd next
   took_shown law answer.TrimRefused next kept took = absurd next
+  took_shown law (answer.Compacted n) next kept took = absurd next
   took_shown law answer.TakeRefused next kept took = absurd next
   took_shown law (answer.Group r c l a) next kept took = absurd next
   took_shown law (answer.Member a) next kept took = absurd next
@@ -211,6 +217,7 @@ module _ (old new : SubscriptionView) (before after : Option Consumer) (missed g
   took_shown law answer.NotMuted next kept took = absurd next
   took_shown law answer.MutesRefused next kept took = absurd next
   took_shown law (answer.StoredCount n) next kept took = absurd next
+  took_shown law (answer.Page a f s c) next kept took = absurd next
   took_shown law (answer.StoredAlert a) next kept took = absurd next
   took_shown law answer.NotStored next kept took = absurd next
   took_shown law (answer.Route r) next kept took = absurd next
@@ -248,10 +255,12 @@ module _ (old new : SubscriptionView) (before after : Option Consumer) (missed g
   reads_shown name answers (answer.Left t c u) next kept = absurd next
   reads_shown name answers (answer.Collected n) next kept = absurd next
   reads_shown name answers answer.CollectRefused next kept = absurd next
+  reads_shown name answers (answer.Taken n) next kept = absurd next
   reads_shown name answers answer.CloseAccepted next kept = absurd next
   reads_shown name answers answer.CloseRefused next kept = absurd next
   reads_shown name answers (answer.Trimmed n) next kept = absurd next
   reads_shown name answers answer.TrimRefused next kept = absurd next
+  reads_shown name answers (answer.Compacted n) next kept = absurd next
   reads_shown name answers answer.TakeRefused next kept = absurd next
   reads_shown name answers (answer.Group r c l a) next kept = absurd next
   reads_shown name answers (answer.Member a) next kept = absurd next
@@ -261,6 +270,7 @@ module _ (old new : SubscriptionView) (before after : Option Consumer) (missed g
   reads_shown name answers answer.NotMuted next kept = absurd next
   reads_shown name answers answer.MutesRefused next kept = absurd next
   reads_shown name answers (answer.StoredCount n) next kept = absurd next
+  reads_shown name answers (answer.Page a f s c) next kept = absurd next
   reads_shown name answers (answer.StoredAlert a) next kept = absurd next
   reads_shown name answers answer.NotStored next kept = absurd next
   reads_shown name answers (answer.Route r) next kept = absurd next
@@ -284,10 +294,12 @@ module _ (old new : SubscriptionView) (before after : Option Consumer) (missed g
   reads_missed name answers (answer.Left t c u) is next kept = absurd (false≢true is)
   reads_missed name answers (answer.Collected n) is next kept = absurd (false≢true is)
   reads_missed name answers answer.CollectRefused is next kept = absurd (false≢true is)
+  reads_missed name answers (answer.Taken n) is next kept = absurd (false≢true is)
   reads_missed name answers answer.CloseAccepted is next kept = absurd (false≢true is)
   reads_missed name answers answer.CloseRefused is next kept = absurd (false≢true is)
   reads_missed name answers (answer.Trimmed n) is next kept = absurd (false≢true is)
   reads_missed name answers answer.TrimRefused is next kept = absurd (false≢true is)
+  reads_missed name answers (answer.Compacted n) is next kept = absurd (false≢true is)
   reads_missed name answers answer.TakeRefused is next kept = absurd (false≢true is)
   reads_missed name answers (answer.Group r c l a) is next kept = absurd (false≢true is)
   reads_missed name answers (answer.Member a) is next kept = absurd (false≢true is)
@@ -297,6 +309,7 @@ module _ (old new : SubscriptionView) (before after : Option Consumer) (missed g
   reads_missed name answers answer.NotMuted is next kept = absurd (false≢true is)
   reads_missed name answers answer.MutesRefused is next kept = absurd (false≢true is)
   reads_missed name answers (answer.StoredCount n) is next kept = absurd (false≢true is)
+  reads_missed name answers (answer.Page a f s c) is next kept = absurd (false≢true is)
   reads_missed name answers (answer.StoredAlert a) is next kept = absurd (false≢true is)
   reads_missed name answers answer.NotStored is next kept = absurd (false≢true is)
   reads_missed name answers (answer.Route r) is next kept = absurd (false≢true is)

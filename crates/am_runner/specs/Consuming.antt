@@ -10,7 +10,6 @@ use Rattle.am_routes.specs.Groups.{DispatchEvent, DispatcherView, GroupView, Fol
 use Rattle.am_routes.specs.Groups.{removed_alerts, removed_groups}
 use Rattle.am_config.specs.RouteLists.{root_of}
 use Rattle.am_config.specs.declared.config.Config.{Config}
-use Rattle.am_routes.specs.declared.dispatcher.Swept.{Swept}
 use Rattle.am_inhibit.specs.Inhibitors.{InhibitorView, having_looked}
 use Rattle.am_inhibit.specs.KeptAlerts as keeping
 use Rattle.am_inhibit.specs.LastAlerts.{last_alerts}

@@ -9,5 +9,8 @@ pub mod Owed
 pub mod Reading
 pub mod Putting
 pub mod Sessions
+pub mod Unanswered
+pub mod Compacting
 pub mod Turning
 pub mod Working
+pub mod inside

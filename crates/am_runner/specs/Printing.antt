@@ -46,6 +46,13 @@ abbrev pub swept_text : Swept → List ℕ
 swept_text swept =
     codes "sweep alerts " ++ (decimal swept.alerts ++ (codes " groups " ++ decimal swept.groups))
 
+-- a page of what is stored: how many alerts it has, the index of the first, how many are stored in all, and
+-- after how many calls
+abbrev pub page_text : ℕ → ℕ → ℕ → ℕ → List ℕ
+page_text alerts from stored calls =
+    codes "page " ++ (decimal alerts ++ (codes " from " ++ (decimal from ++ (codes " of " ++ (decimal stored
+    ++ (codes " after " ++ decimal calls))))))
+
 -- the rule that mutes a target, and the label set by which it does
 abbrev pub muted_text : ℕ → Labels → List ℕ
 muted_text rule by = codes "muted rule " ++ (decimal rule ++ (codes " by " ++ labels_text by))
@@ -67,10 +74,12 @@ answer_text answer.SawCut = codes "cut"
 answer_text (answer.Left taken closed cut) = left_text taken closed cut
 answer_text (answer.Collected removed) = codes "collect removed " ++ decimal removed
 answer_text answer.CollectRefused = codes "collect refused E0 NoMemory"
+answer_text (answer.Taken removed) = codes "take removed " ++ decimal removed
 answer_text answer.CloseAccepted = codes "close"
 answer_text answer.CloseRefused = codes "close refused " ++ closed_text
 answer_text (answer.Trimmed dropped) = codes "trim dropped " ++ decimal dropped
 answer_text answer.TrimRefused = codes "trim refused E0 NoMemory"
+answer_text (answer.Compacted dropped) = codes "compact dropped " ++ decimal dropped
 answer_text answer.TakeRefused = codes "take refused E0 NoMemory"
 answer_text (answer.Group route receiver labels alerts) = group_text route receiver labels alerts
 answer_text (answer.Member alert) = codes "member " ++ alert_text alert
@@ -79,6 +88,7 @@ answer_text (answer.Forgotten alerts) = codes "forget alerts " ++ decimal alerts
 answer_text (answer.Muted rule by) = muted_text rule by
 answer_text answer.NotMuted = codes "not muted"
 answer_text (answer.StoredCount count) = codes "stored " ++ decimal count
+answer_text (answer.Page alerts from stored calls) = page_text alerts from stored calls
 answer_text (answer.StoredAlert alert) = codes "alert " ++ alert_text alert
 answer_text answer.NotStored = codes "no alert"
 answer_text (answer.Route route) = codes "route " ++ listed_text route

@@ -87,6 +87,15 @@ swept_members swept = worded (codes "sweep")
     (member (codes "alerts") (whole swept.alerts)
     (member (codes "groups") (whole swept.groups) no_members))
 
+-- a page of what is stored: how many alerts it has, the index of the first, how many are stored in all, and
+-- after how many calls
+abbrev pub page_members : ℕ → ℕ → ℕ → ℕ → Members
+page_members alerts from stored calls = worded (codes "page")
+    (member (codes "alerts") (whole alerts)
+    (member (codes "from") (whole from)
+    (member (codes "stored") (whole stored)
+    (member (codes "calls") (whole calls) no_members))))
+
 -- the members of what a call answered
 abbrev pub answer_members : Answer → Members
 answer_members (answer.Posted valid place) = posted_members valid place
@@ -105,10 +114,12 @@ answer_members answer.SawCut = worded (codes "cut") no_members
 answer_members (answer.Left taken closed cut) = left_members taken closed cut
 answer_members (answer.Collected removed) = counting (codes "collect") (codes "removed") removed
 answer_members answer.CollectRefused = out_of_memory (verb_text verb.Collect)
+answer_members (answer.Taken removed) = counting (codes "take") (codes "removed") removed
 answer_members answer.CloseAccepted = worded (codes "close") no_members
 answer_members answer.CloseRefused = refusing (verb_text verb.Close) closed_text
 answer_members (answer.Trimmed dropped) = counting (codes "trim") (codes "dropped") dropped
 answer_members answer.TrimRefused = out_of_memory (verb_text verb.Trim)
+answer_members (answer.Compacted dropped) = counting (codes "compact") (codes "dropped") dropped
 answer_members answer.TakeRefused = out_of_memory (codes "take")
 answer_members (answer.Group route receiver labels alerts) =
     group_members route receiver labels alerts
@@ -119,6 +130,7 @@ answer_members (answer.Muted rule by) = worded (codes "muted")
     (member (codes "rule") (whole rule) (member (codes "by") (labels_json by) no_members))
 answer_members answer.NotMuted = worded (codes "not_muted") no_members
 answer_members (answer.StoredCount count) = counting (codes "stored") (codes "alerts") count
+answer_members (answer.Page alerts from stored calls) = page_members alerts from stored calls
 answer_members (answer.StoredAlert alert) = showing (codes "alert") alert
 answer_members answer.NotStored = worded (codes "no_alert") no_members
 answer_members (answer.Route route) = listed_members route

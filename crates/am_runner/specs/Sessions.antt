@@ -19,10 +19,12 @@ use Rattle.am_history.specs.Fronts.{FrontView}
 use Rattle.am_provider.specs.Posts.{HasMet}
 use Rattle.am_provider.specs.Callers.{SeesCall}
 use Rattle.am_provider.specs.Headline.{AnswersSubscribe, AnswersLeave, AnswersCollect, AnswersClose}
-use Rattle.am_provider.specs.Headline.{AnswersGet, AnswersStored, AnswersTrim}
+use Rattle.am_provider.specs.Headline.{AnswersCompact, AnswersGet, AnswersPage, AnswersStored, AnswersTake}
+use Rattle.am_provider.specs.Headline.{AnswersTrim}
 use Rattle.am_provider.specs.Histories.{EntryView}
 use Rattle.am_provider.specs.declared.answers.Policy.{Policy}
 use Rattle.am_provider.specs.declared.answers.Ended.{Ended}
+use Rattle.am_provider.specs.declared.answers.Page.{Page}
 use Rattle.am_provider.specs.declared.answers.Posted.{Posted}
 use Rattle.am_provider.specs.declared.faults.PostRefused.{PostRefused}
 use Rattle.am_provider.specs.declared.faults.SubFault.{SubFault}
@@ -32,8 +34,9 @@ use Rattle.am_config.specs.RouteLists.{root_of}
 use Rattle.am_config.specs.declared.config.Config.{Config}
 use Rattle.am_script.specs.declared.command.Command.{Command}
 use Rattle.am_script.specs.declared.command.Command.TheVariants.{Post, Put, Subscribe, Read, Leave, Collect}
-use Rattle.am_script.specs.declared.command.Command.TheVariants.{Close, Trim, Groups, Sweep, Forget, Mutes}
-use Rattle.am_script.specs.declared.command.Command.TheVariants.{Stored, Get, Routes, Route}
+use Rattle.am_script.specs.declared.command.Command.TheVariants.{Take, Close, Trim, Compact, Groups, Sweep}
+use Rattle.am_script.specs.declared.command.Command.TheVariants.{Forget, Mutes, Stored, StoredPage, Get}
+use Rattle.am_script.specs.declared.command.Command.TheVariants.{Routes, Route}
 use Rattle.am_script.specs.declared.command.GivenMoment.{GivenMoment}
 use Rattle.am_script.specs.Commands.{moment_in}
 use Rattle.am_script.specs.declared.command.Verb.{Verb}
@@ -94,6 +97,16 @@ posted_answers posted = (answer.Posted posted.valid posted.place
 -- what is answered of the stored alerts: how many there are, and each in their order
 abbrev pub stored_answers : List Alert → List Answer
 stored_answers alerts = answer.StoredCount (length alerts) ∷ map answer.StoredAlert alerts
+
+-- what is answered of the alerts that a collection removed: how many, and each in the order of the store
+abbrev pub taken_answers : List Alert → List Answer
+taken_answers removed = answer.Taken (length removed) ∷ map answer.StoredAlert removed
+
+-- what is answered of a page of the stored alerts from an index on: what it is a page of, and each of its
+-- alerts
+abbrev pub page_answers : ℕ → Page → List Answer
+page_answers from page =
+    answer.Page (length page.alerts) from page.stored page.calls ∷ map answer.StoredAlert page.alerts
 
 -- what is answered of the stored alert of a label set, if there is one
 abbrev pub found_answer : Option Alert → Answer
@@ -222,6 +235,12 @@ pub data Does (config : Config) (setting : Setting) (old : SessionView)
   collect_refused : {at : ℕ} {error : AllocError} {front : FrontView EntryView}
       → SeesCall old.front front (AnswersCollect at (Err error))
       → Does config setting old (Collect at) (answer.CollectRefused ∷ []) (record old { front = front })
+  took : {at : ℕ} {removed : List Alert} {front : FrontView EntryView}
+      → SeesCall old.front front (AnswersTake {E = AllocError} at (Ok removed))
+      → Does config setting old (Take at) (taken_answers removed) (record old { front = front })
+  take_refused : {at : ℕ} {error : AllocError} {front : FrontView EntryView}
+      → SeesCall old.front front (AnswersTake at (Err error))
+      → Does config setting old (Take at) (answer.OutOfMemory verb.Take ∷ []) (record old { front = front })
   closed : {front : FrontView EntryView} → SeesCall old.front front (AnswersClose {U = Unit {0}} (Ok tt))
       → Does config setting old Close (answer.CloseAccepted ∷ []) (record old { front = front })
   close_refused : {fault : AlreadyClosed} {front : FrontView EntryView}
@@ -233,6 +252,12 @@ pub data Does (config : Config) (setting : Setting) (old : SessionView)
   trim_refused : {error : AllocError} {front : FrontView EntryView}
       → SeesCall old.front front (AnswersTrim (Err error))
       → Does config setting old Trim (answer.TrimRefused ∷ []) (record old { front = front })
+  compacted : {dropped : ℕ} {front : FrontView EntryView}
+      → SeesCall old.front front (AnswersCompact {E = AllocError} (Ok dropped))
+      → Does config setting old Compact (answer.Compacted dropped ∷ []) (record old { front = front })
+  compact_refused : {error : AllocError} {front : FrontView EntryView}
+      → SeesCall old.front front (AnswersCompact (Err error))
+      → Does config setting old Compact (answer.OutOfMemory verb.Compact ∷ []) (record old { front = front })
   groups : {name : List ℕ} {at : GivenMoment} {answers : List Answer}
       → answers ≡ groups_told (moment_in at) (named_in name old.opened)
       → Does config setting old (Groups name at) answers old
@@ -251,6 +276,13 @@ pub data Does (config : Config) (setting : Setting) (old : SessionView)
   stored_refused : {error : AllocError} {front : FrontView EntryView}
       → SeesCall old.front front (AnswersStored (Err error))
       → Does config setting old Stored (answer.OutOfMemory verb.Stored ∷ []) (record old { front = front })
+  paged : {from max : ℕ} {page : Page} {front : FrontView EntryView}
+      → SeesCall old.front front (AnswersPage {E = AllocError} from max (Ok page))
+      → Does config setting old (StoredPage from max) (page_answers from page) (record old { front = front })
+  page_refused : {from max : ℕ} {error : AllocError} {front : FrontView EntryView}
+      → SeesCall old.front front (AnswersPage from max (Err error))
+      → Does config setting old (StoredPage from max) (answer.OutOfMemory verb.Stored ∷ [])
+      (record old { front = front })
   got : {labels : Labels} {front : FrontView EntryView} (found : Option (Arc Alert Global))
       → SeesCall old.front front (AnswersGet {E = AllocError} labels (Ok found))
       → Does config setting old (Get labels) (found_answer (option_map arc_value found) ∷ [])

@@ -5,7 +5,7 @@ ghost use Rattle.std.specs.Fmt.{DisplaysOnOk};
 ghost use Rattle.am_runner.specs.Answers.{is_item, is_out_of_memory};
 ghost use Rattle.am_runner.specs.Forms.{answers_printed};
 ghost use Rattle.am_runner.specs.Printing.{answer_text, answers_text, group_text, left_text};
-ghost use Rattle.am_runner.specs.Printing.{matched_text, posted_text, swept_text};
+ghost use Rattle.am_runner.specs.Printing.{matched_text, page_text, posted_text, swept_text};
 
 use crate::answer_json::write_objects;
 use crate::form::Form;
@@ -50,11 +50,15 @@ pub enum Answer {
     },
     Collected(u64),
     CollectRefused,
+    /// A collection removed so many alerts; they follow.
+    Taken(u64),
     CloseAccepted,
     CloseRefused,
     /// So many calls were dropped from the journal.
     Trimmed(u64),
     TrimRefused,
+    /// So many calls of the journal went out of memory.
+    Compacted(u64),
     /// The item before it was not taken by the consumer beside its subscription, which was out of
     /// memory.
     TakeRefused,
@@ -79,7 +83,17 @@ pub enum Answer {
     MutesRefused,
     /// So many alerts are stored; they follow.
     StoredCount(u64),
-    /// A stored alert.
+    /// So many alerts of a page of what is stored; they follow.
+    Page {
+        alerts: u64,
+        /// The index of the first.
+        from: u64,
+        /// How many are stored in all.
+        stored: u64,
+        /// How many calls were accepted by then.
+        calls: u64,
+    },
+    /// An alert that is stored, or that was until a collection removed it.
     StoredAlert(Alert),
     /// No alert of the label set is stored.
     NotStored,
@@ -87,7 +101,7 @@ pub enum Answer {
     Route(ListedRoute),
     /// A route that a label set matches.
     Matched(MatchedRoute),
-    /// A command that asks the store or the routing tree was out of memory.
+    /// This command was out of memory.
     OutOfMemory(Verb),
     /// The command's subscription isn't open, since its subscribe was refused.
     NotOpen(Verb),
@@ -138,10 +152,12 @@ impl fmt::Display for Answer {
             Answer::Left { taken, closed, cut } => write_left(*taken, *closed, *cut, f),
             Answer::Collected(removed) => write!(f, "collect removed {removed}"),
             Answer::CollectRefused => f.write_str("collect refused E0 NoMemory"),
+            Answer::Taken(removed) => write!(f, "take removed {removed}"),
             Answer::CloseAccepted => f.write_str("close"),
             Answer::CloseRefused => f.write_str("close refused E14 Closed"),
             Answer::Trimmed(dropped) => write!(f, "trim dropped {dropped}"),
             Answer::TrimRefused => f.write_str("trim refused E0 NoMemory"),
+            Answer::Compacted(dropped) => write!(f, "compact dropped {dropped}"),
             Answer::TakeRefused => f.write_str("take refused E0 NoMemory"),
             Answer::Group {
                 route,
@@ -155,6 +171,12 @@ impl fmt::Display for Answer {
             Answer::Muted { rule, by } => write!(f, "muted rule {rule} by {by}"),
             Answer::NotMuted => f.write_str("not muted"),
             Answer::StoredCount(count) => write!(f, "stored {count}"),
+            Answer::Page {
+                alerts,
+                from,
+                stored,
+                calls,
+            } => write_page(*alerts, *from, *stored, *calls, f),
             Answer::StoredAlert(alert) => write!(f, "alert {alert}"),
             Answer::NotStored => f.write_str("no alert"),
             Answer::Route(route) => write!(f, "route {route}"),
@@ -231,6 +253,19 @@ fn write_swept<W: fmt::Write>(swept: Swept, f: &mut fmt::Formatter<W>) -> fmt::R
 {
     let Swept { alerts, groups } = swept;
     write!(f, "sweep alerts {alerts} groups {groups}")
+}
+
+fn write_page<W: fmt::Write>(
+    alerts: u64,
+    from: u64,
+    stored: u64,
+    calls: u64,
+    f: &mut fmt::Formatter<W>,
+) -> fmt::Result
+    ensures { DisplaysOnOk W.write_str_gives f.old result
+        (Some (page_text alerts from stored calls)) f.new }
+{
+    write!(f, "page {alerts} from {from} of {stored} after {calls}")
 }
 
 pub(crate) fn one(alloc: Global, answer: Answer) -> Result<Vec<Answer>, AllocError>

@@ -6,10 +6,10 @@ ghost use Rattle.json.specs.Token.{end_object};
 ghost use Rattle.json.specs.Tree.{members_tokens};
 ghost use Rattle.am_script.specs.ScriptTexts.{verb_text};
 ghost use Rattle.am_script.specs.JsonLines.{about_line, named, object_line};
-ghost use Rattle.am_runner.specs.PrintingJson.{answer_members, count_members, group_members};
+ghost use Rattle.am_runner.specs.PrintingJson.{answer_members, count_members, counting, group_members};
 ghost use Rattle.am_runner.specs.PrintingJson.{grouping_json, left_members, listed_members};
 ghost use Rattle.am_runner.specs.PrintingJson.{matched_members, objects_text, out_of_memory};
-ghost use Rattle.am_runner.specs.PrintingJson.{posted_members, swept_members};
+ghost use Rattle.am_runner.specs.PrintingJson.{page_members, posted_members, swept_members};
 
 use crate::answer::Answer;
 use am_config::GroupBy;
@@ -96,6 +96,7 @@ fn write_members(line: &mut JsonLine, answer: &Answer) -> Result<(), AllocError>
             line.number("removed", *removed)
         }
         Answer::CollectRefused => write_no_memory(line, "collect"),
+        Answer::Taken(removed) => write_number(line, "take", "removed", *removed),
         Answer::CloseAccepted => line.text("answer", "close"),
         Answer::CloseRefused => {
             write_refused(line, Verb::Close)?;
@@ -106,6 +107,7 @@ fn write_members(line: &mut JsonLine, answer: &Answer) -> Result<(), AllocError>
             line.number("dropped", *dropped)
         }
         Answer::TrimRefused => write_no_memory(line, "trim"),
+        Answer::Compacted(dropped) => write_number(line, "compact", "dropped", *dropped),
         Answer::TakeRefused => write_no_memory(line, "take"),
         Answer::Group {
             route,
@@ -133,6 +135,12 @@ fn write_members(line: &mut JsonLine, answer: &Answer) -> Result<(), AllocError>
             line.text("answer", "stored")?;
             line.number("alerts", *count)
         }
+        Answer::Page {
+            alerts,
+            from,
+            stored,
+            calls,
+        } => write_page(line, *alerts, *from, *stored, *calls),
         Answer::StoredAlert(alert) => {
             line.text("answer", "alert")?;
             line.alert("alert", alert)
@@ -234,6 +242,32 @@ fn write_swept(line: &mut JsonLine, swept: Swept) -> Result<(), AllocError>
     line.text("answer", "sweep")?;
     line.number("alerts", alerts)?;
     line.number("groups", groups)
+}
+
+fn write_page(
+    line: &mut JsonLine,
+    alerts: u64,
+    from: u64,
+    stored: u64,
+    calls: u64,
+) -> Result<(), AllocError>
+    ensures { OnOk result (line.new ++ end_object ∷ []
+        ≡ line.old ++ members_tokens (page_members alerts from stored calls)) }
+{
+    line.text("answer", "page")?;
+    line.number("alerts", alerts)?;
+    line.number("from", from)?;
+    line.number("stored", stored)?;
+    line.number("calls", calls)
+}
+
+// An answer that has a number.
+fn write_number(line: &mut JsonLine, word: &str, name: &str, number: u64) -> Result<(), AllocError>
+    ensures { OnOk result (line.new ++ end_object ∷ []
+        ≡ line.old ++ members_tokens (counting word.now name.now number)) }
+{
+    line.text("answer", word)?;
+    line.number(name, number)
 }
 
 // That a call was refused; why is still to come.

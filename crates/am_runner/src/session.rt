@@ -1,7 +1,7 @@
 //! What a thread of a script has: its right to call the provider, and the subscriptions that its lines
 //! opened.
 
-ghost use Rattle.std.specs.Prelude.{◌≡◌, ◌<◌, ◌++◌, ◌∷◌, [], IfOk, OnOk, is_some, length, map, option_map};
+ghost use Rattle.std.specs.Prelude.{◌≡◌, ◌<◌, ◌++◌, ◌∷◌, [], IfOk, OnErr, OnOk, true, is_some, length, map, option_map};
 ghost use Rattle.std.specs.Arc.{arc_value};
 ghost use Rattle.am_store.specs.Shared.{alerts_in};
 ghost use Rattle.am_runner.specs.Putting.{AnswersRead};
@@ -13,19 +13,27 @@ ghost use Rattle.am_runner.specs.Sessions.{SweepsNamed, cut_below, groups_told, 
 ghost use Rattle.am_runner.specs.Sessions.{has_notifier, sweep_command};
 ghost use Rattle.am_runner.specs.Turning.{Begins, Ends};
 ghost use Rattle.am_runner.specs.Sessions.{found_answer, index_named, posted_answers, stored_answers};
+ghost use Rattle.am_runner.specs.Sessions.{page_answers, taken_answers};
+ghost use Rattle.am_runner.specs.Compacting.{CompactsIfDue, CountsStored};
+ghost use Rattle.am_runner.specs.Unanswered.{IsDone, IsUnanswered, loses_nothing};
+ghost use Rattle.am_provider.specs.Callers.{SeesCall};
+ghost use Rattle.am_provider.specs.Headline.{AnswersPage};
 
 use crate::answer::{Answer, one};
 use crate::consumer::{Consumer, Half};
 use crate::context::Context;
 use crate::open_subscription::OpenSubscription;
+use crate::pace::Pace;
+use crate::prepared_config::PreparedConfig;
 use crate::register::{Register, TurnsSeen};
+use crate::room::Room;
 use crate::turns::{Turn, Turns};
 use am_alert::{AlertFault, Body, Moment, Post, PostFault};
 use am_config::RouteTree;
 use am_history::Timeline;
 use am_labels::{LabelSet, Text};
-use am_provider::{Caller, Ended, Gate, PostRefused, Posted, Recorded};
-use am_routes::{ListedRoute, MatchedRoute, list_routes, matched_routes};
+use am_provider::{Caller, Ended, Gate, Page, PostRefused, Posted, Recorded};
+use am_routes::{ListedRoute, MatchedRoute, list_routes};
 use am_script::{Command, GivenMoment, Kind, PutAlerts, Verb};
 use am_store::{LaneSet, SharedAlert};
 use std::alloc::{AllocError, Global};
@@ -37,6 +45,7 @@ use std::sync::Wait;
 pub struct Session<'p, 'c, N: Recorded> {
     caller: Caller<N>,
     opened: Vec<OpenSubscription<'p, 'c, N>>,
+    pace: Pace,
 }
 
 impl<'p, 'c, N: Recorded> Model for Session<'p, 'c, N> {
@@ -68,6 +77,7 @@ impl<'p, 'c, N: Recorded> Session<'p, 'c, N> {
         Session {
             caller,
             opened: Vec::new(alloc),
+            pace: Pace::begin(),
         }
     }
 
@@ -99,14 +109,14 @@ impl<'p, 'c, N: Recorded> Session<'p, 'c, N> {
         ensures begun { Begins T.ordered turn.now.at seen.old.seen seen.new.seen self.old.front self.new.front }
         ensures same { self.new ≡ record self.old { front = self.new.front } }
     {
-        let Context {
-            rt,
-            alloc: _,
-            provider,
-            config: _,
-            turns,
-        } = *context;
-        turns.begin(rt, provider, register, turn, seen, &mut self.caller);
+        context.turns.begin(
+            context.rt,
+            context.provider,
+            register,
+            turn,
+            seen,
+            &mut self.caller,
+        );
     }
 
     // Ends it.
@@ -120,45 +130,72 @@ impl<'p, 'c, N: Recorded> Session<'p, 'c, N> {
         ensures ended { Ends T.ordered turn.now.at seen.old.seen seen.new.seen self.old.front self.new.front }
         ensures same { self.new ≡ record self.old { front = self.new.front } }
     {
-        let Context {
-            rt,
-            alloc: _,
-            provider,
-            config: _,
-            turns,
-        } = *context;
-        turns.end(rt, provider, register, turn, seen, &mut self.caller);
+        context.turns.end(
+            context.rt,
+            context.provider,
+            register,
+            turn,
+            seen,
+            &mut self.caller,
+        );
     }
 
-    /// Does what a command asks for, and answers it. If the memory for the answers runs out, the command
-    /// may have been done.
+    /// Does what a command asks for, and answers it. If the memory for the answers runs out, the command may have
+    /// been done, unless it loses nothing with its answer ([`crate::loses_nothing`]).
     pub fn run<R: Wait, G: Gate>(
         &mut self,
-        context: &Context<'p, 'c, N, R, G>,
+        context: &mut Context<'p, 'c, N, R, G>,
         command: &Command,
     ) -> Result<Vec<Answer>, AllocError>
-        ensures { IfOk result (λ answers. Does context.now.config.now
-            (setting_of N.places N.policy context.now.provider.now.resolve_timeout)
+        ensures does { IfOk result (λ answers. Does context.old.config
+            (setting_of N.places N.policy context.old.provider.now.resolve_timeout)
             self.old command.now answers.items self.new) }
+        ensures unanswered { OnErr result (loses_nothing command.now ≡ true → IsUnanswered context.old.config
+            (setting_of N.places N.policy context.old.provider.now.resolve_timeout)
+            self.old command.now self.new) }
+        ensures same { context.new ≡ context.old }
+    {
+        let answers = self.perform(context, command)?;
+        self.pace.note(&answers);
+        Ok(answers)
+    }
+
+    fn perform<R: Wait, G: Gate>(
+        &mut self,
+        context: &mut Context<'p, 'c, N, R, G>,
+        command: &Command,
+    ) -> Result<Vec<Answer>, AllocError>
+        ensures does { IfOk result (λ answers. Does context.old.config
+            (setting_of N.places N.policy context.old.provider.now.resolve_timeout)
+            self.old command.now answers.items self.new) }
+        ensures unanswered { OnErr result (loses_nothing command.now ≡ true → IsUnanswered context.old.config
+            (setting_of N.places N.policy context.old.provider.now.resolve_timeout)
+            self.old command.now self.new) }
+        ensures same { context.new ≡ context.old }
     {
         let alloc = context.alloc;
         match command {
             Command::Post { at, body } => self.post(context, *at, body),
             Command::Put { at, alerts } => self.put(context, *at, alerts),
-            Command::Subscribe { name, kind } => one(alloc, self.subscribe(context, name, *kind)?),
+            Command::Subscribe { name, kind } => {
+                Ok(Room::make(alloc)?.filled(self.subscribe(context, name, *kind)?))
+            }
             Command::Read { name, max } => self.read(alloc, name, *max),
-            Command::Leave { name } => one(alloc, self.leave(context, name)),
-            Command::Collect { at } => one(alloc, self.collect(context, *at)),
-            Command::Close => one(alloc, self.close(context)),
-            Command::Trim => one(alloc, self.trim(context)),
+            Command::Leave { name } => Ok(Room::make(alloc)?.filled(self.leave(context, name))),
+            Command::Collect { at } => Ok(Room::make(alloc)?.filled(self.collect(context, *at))),
+            Command::Take { at } => self.take(context, *at),
+            Command::Close => Ok(Room::make(alloc)?.filled(self.close(context))),
+            Command::Trim => Ok(Room::make(alloc)?.filled(self.trim(context))),
+            Command::Compact => Ok(Room::make(alloc)?.filled(self.compact(context))),
             Command::Groups { name, at } => self.groups(alloc, name, *at),
             Command::Sweep { name, at } => self.sweep(alloc, Half::Dispatcher, name, *at),
             Command::Forget { name, at } => self.sweep(alloc, Half::Inhibitor, name, *at),
             Command::Mutes { name, at, labels } => self.mutes(alloc, name, labels, *at),
             Command::Stored => self.stored(context),
-            Command::Get { labels } => one(alloc, self.get(context, labels)?),
-            Command::Routes => show_tree(alloc, &context.config.tree),
-            Command::Route { labels } => ask_tree(alloc, &context.config.tree, labels),
+            Command::StoredPage { from, max } => self.stored_page(context, *from, *max),
+            Command::Get { labels } => Ok(Room::make(alloc)?.filled(self.get(context, labels)?)),
+            Command::Routes => show_tree(alloc, &context.config.config().tree),
+            Command::Route { labels } => ask_tree(alloc, &mut context.config, labels),
         }
     }
 
@@ -204,11 +241,12 @@ impl<'p, 'c, N: Recorded> Session<'p, 'c, N> {
         name: &Text,
         kind: Kind,
     ) -> Result<Answer, AllocError>
-        ensures { IfOk result (λ answer. (setting : Setting) → Does context.now.config.now setting
+        ensures does { IfOk result (λ answer. (setting : Setting) → Does context.now.config setting
             self.old (Command.Subscribe name.now kind) (answer ∷ []) self.new) }
+        ensures err { OnErr result (self.new ≡ self.old) }
     {
         let name = name.copy()?;
-        let consumer = Consumer::begin(context.alloc, context.config, kind)?;
+        let consumer = Consumer::begin(context.alloc, context.config.config(), kind)?;
         self.opened.reserve(1)?;
         match context.provider.subscribe(context.rt, &mut self.caller) {
             Ok(subscription) => {
@@ -262,8 +300,9 @@ impl<'p, 'c, N: Recorded> Session<'p, 'c, N> {
         name: &Text,
         at: GivenMoment,
     ) -> Result<Vec<Answer>, AllocError>
-        ensures { IfOk result (λ answers. (config : Config) (setting : Setting) → Does config setting
+        ensures does { IfOk result (λ answers. (config : Config) (setting : Setting) → Does config setting
             self.old (Command.Groups name.now at) answers.items self.new) }
+        ensures err { OnErr result (self.new ≡ self.old) }
     {
         groups_named(&mut self.opened, alloc, name, at.moment())
     }
@@ -276,8 +315,9 @@ impl<'p, 'c, N: Recorded> Session<'p, 'c, N> {
         name: &Text,
         at: Moment,
     ) -> Result<Vec<Answer>, AllocError>
-        ensures { IfOk result (λ answers. (config : Config) (setting : Setting) → Does config setting
+        ensures does { IfOk result (λ answers. (config : Config) (setting : Setting) → Does config setting
             self.old (sweep_command half name.now at) answers.items self.new) }
+        ensures err { OnErr result (self.new ≡ self.old) }
     {
         sweep_named(&mut self.opened, alloc, half, name, at)
     }
@@ -307,6 +347,22 @@ impl<'p, 'c, N: Recorded> Session<'p, 'c, N> {
         Answer::Collected(removed)
     }
 
+    fn take<R: Wait, G>(
+        &mut self,
+        context: &Context<'p, 'c, N, R, G>,
+        at: Moment,
+    ) -> Result<Vec<Answer>, AllocError>
+        ensures { IfOk result (λ answers. (config : Config) (setting : Setting) → Does config setting
+            self.old (Command.Take at) answers.items self.new) }
+    {
+        let provider = context.provider;
+        let removed = match provider.take_resolved(context.rt, &mut self.caller, at) {
+            Ok(removed) => removed,
+            Err(_) => return one(context.alloc, Answer::OutOfMemory(Verb::Take)),
+        };
+        taken_answers(context.alloc, removed.as_slice())
+    }
+
     fn close<R: Wait, G>(&mut self, context: &Context<'p, 'c, N, R, G>) -> Answer
         ensures { (config : Config) (setting : Setting) → Does config setting
             self.old Command.Close (result ∷ []) self.new }
@@ -328,12 +384,48 @@ impl<'p, 'c, N: Recorded> Session<'p, 'c, N> {
         Answer::Trimmed(dropped)
     }
 
+    fn compact<R: Wait, G>(&mut self, context: &Context<'p, 'c, N, R, G>) -> Answer
+        ensures { (config : Config) (setting : Setting) → Does config setting
+            self.old Command.Compact (result ∷ []) self.new }
+    {
+        let dropped = match context.provider.compact(context.rt, &mut self.caller) {
+            Ok(dropped) => dropped,
+            Err(_) => return Answer::OutOfMemory(Verb::Compact),
+        };
+        Answer::Compacted(dropped)
+    }
+
+    /// What is done between the lines of a live run: if the journal has become long beside the store, its calls are
+    /// taken out of memory. The same call decides that for every line, so that each pays for its own alerts alone.
+    pub fn compact_if_due<R: Wait, G>(&mut self, context: &Context<'p, 'c, N, R, G>)
+        ensures { (config : Config) (setting : Setting) → CompactsIfDue config setting self.old self.new }
+    {
+        if !self.pace.is_due() {
+            return;
+        }
+        let _dropped = self.compact(context);
+        let stored = self.count_stored(context);
+        self.pace.restart(stored);
+    }
+
+    // How many alerts are stored, which a page of none of them says.
+    fn count_stored<R: Wait, G>(&mut self, context: &Context<'p, 'c, N, R, G>) -> Option<u64>
+        ensures { (config : Config) (setting : Setting) → CountsStored config setting self.old self.new }
+    {
+        match self.page(context, 0, 0) {
+            Ok(page) => Some(page.stored),
+            Err(_) => None,
+        }
+    }
+
     fn stored<R: Wait, G>(
         &mut self,
         context: &Context<'p, 'c, N, R, G>,
     ) -> Result<Vec<Answer>, AllocError>
-        ensures { IfOk result (λ answers. (config : Config) (setting : Setting) → Does config setting
+        ensures does { IfOk result (λ answers. (config : Config) (setting : Setting) → Does config setting
             self.old Command.Stored answers.items self.new) }
+        ensures asked { OnErr result ((config : Config) (setting : Setting)
+            → IsDone config setting self.old Command.Stored self.new) }
     {
         let provider = context.provider;
         let stored = match provider.stored(context.rt, &mut self.caller) {
@@ -343,13 +435,48 @@ impl<'p, 'c, N: Recorded> Session<'p, 'c, N> {
         stored_answers(context.alloc, stored.as_slice())
     }
 
+    fn stored_page<R: Wait, G>(
+        &mut self,
+        context: &Context<'p, 'c, N, R, G>,
+        from: u32,
+        max: u32,
+    ) -> Result<Vec<Answer>, AllocError>
+        ensures does { IfOk result (λ answers. (config : Config) (setting : Setting) → Does config setting
+            self.old (Command.StoredPage from max) answers.items self.new) }
+        ensures asked { OnErr result ((config : Config) (setting : Setting)
+            → IsDone config setting self.old (Command.StoredPage from max) self.new) }
+    {
+        let page = match self.page(context, from, max) {
+            Ok(page) => page,
+            Err(_) => return one(context.alloc, Answer::OutOfMemory(Verb::Stored)),
+        };
+        page_answers(context.alloc, from, &page)
+    }
+
+    fn page<R: Wait, G>(
+        &mut self,
+        context: &Context<'p, 'c, N, R, G>,
+        from: u32,
+        max: u32,
+    ) -> Result<Page, AllocError>
+        ensures sees { SeesCall self.old.front self.new.front (AnswersPage from max result) }
+        ensures same { self.new ≡ record self.old { front = self.new.front } }
+    {
+        let (from, max) = (u64::from(from), u64::from(max));
+        context
+            .provider
+            .stored_page(context.rt, &mut self.caller, from, max)
+    }
+
     fn get<R: Wait, G>(
         &mut self,
         context: &Context<'p, 'c, N, R, G>,
         labels: &LabelSet,
     ) -> Result<Answer, AllocError>
-        ensures { IfOk result (λ answer. (config : Config) (setting : Setting) → Does config setting
+        ensures does { IfOk result (λ answer. (config : Config) (setting : Setting) → Does config setting
             self.old (Command.Get labels.now) (answer ∷ []) self.new) }
+        ensures asked { OnErr result ((config : Config) (setting : Setting)
+            → IsDone config setting self.old (Command.Get labels.now) self.new) }
     {
         let provider = context.provider;
         let found = match provider.get(context.rt, &mut self.caller, labels) {
@@ -367,7 +494,11 @@ impl<'p, 'c, N: Recorded> Session<'p, 'c, N> {
         while !self.opened.is_empty() {
             let _ended = self.leave_at(context, 0);
         }
-        let Session { caller, opened } = self;
+        let Session {
+            caller,
+            opened,
+            pace: _,
+        } = self;
         opened.destroy_empty();
         caller
     }
@@ -451,11 +582,12 @@ fn sweep_named<N: Recorded>(
     name: &Text,
     at: Moment,
 ) -> Result<Vec<Answer>, AllocError>
-    ensures { IfOk result (λ answers.
+    ensures sweeps { IfOk result (λ answers.
         SweepsNamed half name.now at opened.old answers.items opened.new) }
+    ensures err { OnErr result (opened.new ≡ opened.old) }
 {
     match index_named(opened, name) {
-        Some(index) => one(alloc, opened[index].sweep(half, at)),
+        Some(index) => Ok(Room::make(alloc)?.filled(opened[index].sweep(half, at))),
         None => one(alloc, Answer::NotOpen(half.sweep_word())),
     }
 }
@@ -538,6 +670,33 @@ fn stored_answers(alloc: Global, stored: &[SharedAlert]) -> Result<Vec<Answer>, 
     Ok(answers)
 }
 
+// How many alerts a collection removed, and each of them.
+fn taken_answers(alloc: Global, removed: &[SharedAlert]) -> Result<Vec<Answer>, AllocError>
+    ensures { IfOk result (λ answers. answers.items ≡ taken_answers (alerts_in removed.now)) }
+{
+    let mut answers = one(alloc, Answer::Taken(removed.len() as u64))?;
+    add_stored(&mut answers, removed)?;
+    Ok(answers)
+}
+
+// What a page from an index on is a page of, and each of its alerts.
+fn page_answers(alloc: Global, from: u32, page: &Page) -> Result<Vec<Answer>, AllocError>
+    ensures { IfOk result (λ answers. answers.items ≡ page_answers from page.now) }
+{
+    let alerts = page.alerts.as_slice();
+    let mut answers = one(
+        alloc,
+        Answer::Page {
+            alerts: alerts.len() as u64,
+            from: u64::from(from),
+            stored: page.stored,
+            calls: page.calls,
+        },
+    )?;
+    add_stored(&mut answers, alerts)?;
+    Ok(answers)
+}
+
 fn add_stored(answers: &mut Vec<Answer>, stored: &[SharedAlert]) -> Result<(), AllocError>
     ensures { OnOk result
         (answers.new.items ≡ answers.old.items ++ map Answer.StoredAlert (alerts_in stored.now)) }
@@ -568,11 +727,16 @@ fn listed_answers(alloc: Global, routes: Vec<ListedRoute>) -> Result<Vec<Answer>
     Ok(answers)
 }
 
-// The routes of a tree that a label set matches.
-fn ask_tree(alloc: Global, tree: &RouteTree, labels: &LabelSet) -> Result<Vec<Answer>, AllocError>
-    ensures { IfOk result (λ answers. AsksTree labels.now (root_of tree.now) answers.items) }
+// The routes that a label set matches.
+fn ask_tree(
+    alloc: Global,
+    config: &mut PreparedConfig<'_>,
+    labels: &LabelSet,
+) -> Result<Vec<Answer>, AllocError>
+    ensures asks { IfOk result (λ answers. AsksTree labels.now (root_of config.old.tree) answers.items) }
+    ensures same { config.new ≡ config.old }
 {
-    match matched_routes(alloc, tree, labels) {
+    match config.matched(alloc, labels) {
         Ok(routes) => matched_answers(alloc, routes),
         Err(_) => one(alloc, Answer::OutOfMemory(Verb::Route)),
     }

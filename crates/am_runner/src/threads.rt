@@ -14,6 +14,7 @@ use crate::answer::Answer;
 use crate::configured::Configured;
 use crate::context::Context;
 use crate::not_run::NotRun;
+use crate::prepared_config::PreparedConfig;
 use crate::register::{Register, TurnsSeen};
 use crate::start::Start;
 use crate::turns::Turns;
@@ -286,14 +287,14 @@ fn work_when_told<N: Recorded, M: Timeline, C: Configured, R: Wait, T: Turns>(
     if !shared.start.arrive(rt) {
         return not_run(shared, caller);
     }
-    let context = Context {
+    let mut context = Context {
         rt,
         alloc: shared.alloc,
         provider: shared.provider,
-        config: shared.config.config(),
+        config: PreparedConfig::new(shared.config.config()),
         turns: shared.turns,
     };
-    work(&context, shared.register, shared.lines, thread, caller)
+    work(&mut context, shared.register, shared.lines, thread, caller)
 }
 
 fn not_run<N: Recorded, M: Timeline, C, R: Wait, T>(

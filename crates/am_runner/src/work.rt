@@ -24,7 +24,7 @@ use std::sync::Wait;
 /// Runs a thread's own lines, and leaves the subscriptions that are still open then. Of the turns it has
 /// seen at its end those that were taken before its last one, and that.
 pub(crate) fn work<'p, 'c, N: Recorded, M: Timeline, R: Wait, T: Turns>(
-    context: &Context<'p, 'c, N, R, T>,
+    context: &mut Context<'p, 'c, N, R, T>,
     register: &Register<N, M>,
     lines: &[Line],
     thread: Thread,
@@ -33,8 +33,8 @@ pub(crate) fn work<'p, 'c, N: Recorded, M: Timeline, R: Wait, T: Turns>(
     requires new { IsNewCaller caller.pass caller.front }
     requires few { length lines.now < 2 ^ 64 - 8 }
     ensures { (turns : List (FrontView EntryView)) → IsPrefix result.1.seen turns
-        → IsWork context.now.config.now
-        (setting_of N.places N.policy context.now.provider.now.resolve_timeout) (order_of T.ordered turns)
+        → IsWork context.old.config
+        (setting_of N.places N.policy context.old.provider.now.resolve_timeout) (order_of T.ordered turns)
         lines.now thread result.0.0 result.0.1.pass result.0.1.front }
 {
     let mut seen = register.onlooker(context.rt);
@@ -76,17 +76,18 @@ fn end_session<'p, 'c, N: Recorded, M: Timeline, R: Wait, T: Turns>(
 // What each line answers: nothing, if it is another thread's. If memory runs out, the turns of the
 // following lines are begun and ended, but the lines aren't run.
 fn run_lines<'p, 'c, N: Recorded, M: Timeline, R: Wait, T: Turns>(
-    context: &Context<'p, 'c, N, R, T>,
+    context: &mut Context<'p, 'c, N, R, T>,
     register: &Register<N, M>,
     lines: &[Line],
     thread: Thread,
     seen: &mut TurnsSeen<N, M>,
     session: &mut Session<'p, 'c, N>,
 ) -> Result<Vec<Vec<Answer>>, AllocError>
-    ensures { (turns : List (FrontView EntryView)) → IsPrefix seen.new.seen turns
-        → IfOk result (λ answers. Works context.now.config.now
-        (setting_of N.places N.policy context.now.provider.now.resolve_timeout) (order_of T.ordered turns) thread 0
+    ensures works { (turns : List (FrontView EntryView)) → IsPrefix seen.new.seen turns
+        → IfOk result (λ answers. Works context.old.config
+        (setting_of N.places N.policy context.old.provider.now.resolve_timeout) (order_of T.ordered turns) thread 0
         session.old lines.now answers.items session.new) }
+    ensures same { context.new ≡ context.old }
 {
     let mut answers = Vec::new(context.alloc);
     let mut failed = false;
@@ -102,7 +103,7 @@ fn run_lines<'p, 'c, N: Recorded, M: Timeline, R: Wait, T: Turns>(
 
 // What a line answers in its turn. After a failure it isn't run.
 fn run_line<'p, 'c, N: Recorded, M: Timeline, R: Wait, T: Turns>(
-    context: &Context<'p, 'c, N, R, T>,
+    context: &mut Context<'p, 'c, N, R, T>,
     register: &Register<N, M>,
     line: &Line,
     turn: &Turn,
@@ -113,9 +114,10 @@ fn run_line<'p, 'c, N: Recorded, M: Timeline, R: Wait, T: Turns>(
     ensures ran { OnOk result (failed ≡ false) }
     ensures kept { IsPrefix seen.old.seen seen.new.seen }
     ensures does { (turns : List (FrontView EntryView)) → IsPrefix seen.new.seen turns
-        → IfOk result (λ given. RunsLine context.now.config.now
-        (setting_of N.places N.policy context.now.provider.now.resolve_timeout) (order_of T.ordered turns) turn.now.thread
+        → IfOk result (λ given. RunsLine context.old.config
+        (setting_of N.places N.policy context.old.provider.now.resolve_timeout) (order_of T.ordered turns) turn.now.thread
         turn.now.at line.now session.old given.items session.new) }
+    ensures same { context.new ≡ context.old }
 {
     if line.thread != turn.thread {
         return if failed {

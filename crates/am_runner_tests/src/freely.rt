@@ -30,13 +30,14 @@ fn log_of(number: u64) -> Log {
     }
 }
 
-// Two of three scripts have a close near their end, one of five has trims.
+// Two of three scripts have a close near their end, one of five has trims, and another one compactions.
 fn shape_of(number: u64) -> Shape {
     Shape {
         seed: number,
         steps: STEPS,
         close: if number % 3 == 0 { None } else { Some(280) },
         trims: number % 5 == 0,
+        compacts: number % 5 == 1,
     }
 }
 
@@ -60,6 +61,7 @@ struct Shown {
     no_lane: u64,
     refused_closed: u64,
     trimmed: u64,
+    compacted: u64,
     items: u64,
     closed: u64,
     overtaken: u64,
@@ -74,6 +76,7 @@ impl Shown {
         self.no_lane = self.no_lane.wrapping_add(tally.no_lane);
         self.refused_closed = self.refused_closed.wrapping_add(tally.refused_closed);
         self.trimmed = self.trimmed.wrapping_add(tally.trimmed);
+        self.compacted = self.compacted.wrapping_add(tally.compacted);
         self.items = self.items.wrapping_add(verdict.items);
         self.closed = self.closed.wrapping_add(verdict.closed);
         self.overtaken = self.overtaken.wrapping_add(verdict.overtaken);
@@ -83,8 +86,9 @@ impl Shown {
     // Whether the runs showed each of these things, so that the judge looked at some of each.
     fn has_all(&self) -> bool {
         let refusals = self.full > 0 && self.no_lane > 0 && self.refused_closed > 0;
-        let ends = self.cuts > 0 && self.closed > 0 && self.trimmed > 0;
-        refusals && ends && self.items > 0 && self.overtaken > 0 && self.again > 0
+        let ends = self.cuts > 0 && self.closed > 0;
+        let shorter = self.trimmed > 0 && self.compacted > 0;
+        refusals && ends && shorter && self.items > 0 && self.overtaken > 0 && self.again > 0
     }
 }
 
@@ -96,6 +100,7 @@ fn two_hundred_scripts(rt: HostRuntime) -> Result<(), Fail> {
         no_lane: 0,
         refused_closed: 0,
         trimmed: 0,
+        compacted: 0,
         items: 0,
         closed: 0,
         overtaken: 0,

@@ -173,6 +173,46 @@ fn full_log_cuts(rt: HostRuntime) -> Result<(), Fail> {
     Ok(())
 }
 
+// A compaction while a subscription is open, a collection that answers what it removed, and a page.
+const COMPACTED: &str = r#"{"route":{"receiver":"ops"}}
+{"do":"subscribe","thread":0,"sub":"a"}
+{"do":"post","thread":1,"at":"2024-01-01T10:00:00Z","body":[{"labels":{"n":"1"}},{"labels":{"n":"2"},"startsAt":"2024-01-01T10:00:00Z","endsAt":"2024-01-01T11:00:00Z"}]}
+{"do":"compact","thread":2}
+{"do":"take","thread":3,"at":"2024-01-01T10:05:00Z"}
+{"do":"stored","thread":4,"max":2}
+{"do":"subscribe","thread":5,"sub":"b"}
+{"do":"read","thread":0,"sub":"a","max":9}
+"#;
+
+// The first two calls aren't in memory any more, and with them what the first subscription came to.
+const COMPACTED_ANSWERS: &str = r#"2 subscribe lane 0 opening 0
+3 post valid 2 place 0
+4 compact dropped 2
+5 take removed 1
+5 alert {n="1"} 2024-01-01T10:00:00Z 2024-01-01T10:05:00Z timeout {}
+6 page 1 from 0 of 1 after 3
+6 alert {n="2"} 2024-01-01T10:00:00Z 2024-01-01T11:00:00Z given {}
+7 subscribe lane 1 opening 1
+8 item {n="1"} 2024-01-01T10:00:00Z 2024-01-01T10:05:00Z timeout {}
+8 item {n="2"} 2024-01-01T10:00:00Z 2024-01-01T11:00:00Z given {}
+8 pending
+before 2
+collected 2024-01-01T10:05:00Z
+subscribed 1
+left 0
+left 1
+ended at 3 taken 0
+early 1 places 1 posts 1 stored 1 complete true
+"#;
+
+#[test]
+fn compacted_while_a_subscription_is_open(rt: HostRuntime) -> Result<(), Fail> {
+    let alloc = rt.alloc();
+    let run = run_in_order(&rt, alloc, Log::of(256, Policy::Refuse), COMPACTED)?;
+    assert_eq!(rt; run.printed(alloc)?.as_str(), COMPACTED_ANSWERS);
+    Ok(())
+}
+
 // A line for each thread, of which the two reads hang on the order, and a merge.
 const SHORT: &str = r#"{"route":{"receiver":"ops"}}
 {"do":"subscribe","thread":0,"sub":"a"}

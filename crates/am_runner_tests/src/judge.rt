@@ -79,14 +79,15 @@ fn are_first_places(alloc: Global, places: &[u64]) -> Result<bool, AllocError> {
     Ok(true)
 }
 
-// What holds of a journal that was trimmed too: all that was told is counted.
+// What holds of a journal that was trimmed or compacted too, of which a script does one: all that was told is
+// counted.
 fn judge_counts(walk: &Walk, settled: &Settled) -> Result<(), Flaw> {
     let counts = settled.counts();
     let subscriptions = (settled.ended.len() as u64).wrapping_add(settled.early);
     if counts.places != walk.places.len() as u64
         || counts.posts != walk.tally.posts
         || subscriptions != walk.readings.len() as u64
-        || settled.journal.before != walk.tally.trimmed
+        || settled.journal.before != walk.tally.trimmed.wrapping_add(walk.tally.compacted)
     {
         return Err(Flaw::OtherCount);
     }

@@ -18,6 +18,7 @@ pub struct Shape {
     /// Where the script has its close, if it has one.
     pub close: Option<u32>,
     pub trims: bool,
+    pub compacts: bool,
 }
 
 // An open subscription of a plan.
@@ -48,7 +49,7 @@ impl Plan {
             if shape.close == Some(at) {
                 plan.add(thread, Action::Close)?;
             } else {
-                plan.add_one(alloc, thread, shape.trims)?;
+                plan.add_one(alloc, thread, &shape)?;
             }
         }
         plan.finish()?;
@@ -60,14 +61,15 @@ impl Plan {
         Ok(())
     }
 
-    fn add_one(&mut self, alloc: Global, thread: u32, trims: bool) -> Result<(), AllocError> {
+    fn add_one(&mut self, alloc: Global, thread: u32, shape: &Shape) -> Result<(), AllocError> {
         match self.dice.below(16) {
             0..=5 => self.add_post(alloc, thread),
             6 => self.add_subscribe(thread),
             7..=11 => self.add_read(thread),
             12 => self.add_leave(thread),
-            13 => self.add(thread, Action::Collect),
-            14 if trims => self.add(thread, Action::Trim),
+            13 => self.add_collection(thread),
+            14 if shape.trims => self.add(thread, Action::Trim),
+            15 if shape.compacts => self.add(thread, Action::Compact),
             _ => self.add_read(thread),
         }
     }
@@ -80,6 +82,14 @@ impl Plan {
             reports.push(report)?;
         }
         self.add(thread, Action::Post(reports))
+    }
+
+    fn add_collection(&mut self, thread: u32) -> Result<(), AllocError> {
+        if self.dice.below(2) == 0 {
+            self.add(thread, Action::Collect)
+        } else {
+            self.add(thread, Action::Take)
+        }
     }
 
     fn add_subscribe(&mut self, thread: u32) -> Result<(), AllocError> {

@@ -164,17 +164,42 @@ impl Replay {
 
     fn take_collection(&mut self, told: &Told<'_>, now: Moment) -> Result<(), Flaw> {
         let line = told.line_of(now)?;
-        let Action::Collect = told.action(line)? else {
-            return Err(Flaw::OtherCall);
+        let answers = told.answers(line)?;
+        let is_right = match told.action(line)? {
+            Action::Collect => self.is_collected(now, answers),
+            Action::Take => self.is_taken(now, answers),
+            _ => return Err(Flaw::OtherCall),
         };
-        let before = self.stored.len();
         self.stored.retain(|seen| !seen.is_resolved(now));
-        let removed = before.wrapping_sub(self.stored.len()) as u64;
         self.collections = self.collections.wrapping_add(1);
-        match told.answers(line)? {
-            [Answer::Collected(count)] if *count == removed => Ok(()),
-            _ => Err(Flaw::OtherAnswer(line)),
+        if is_right {
+            Ok(())
+        } else {
+            Err(Flaw::OtherAnswer(line))
         }
+    }
+
+    // Whether as many were counted as are resolved.
+    fn is_collected(&self, now: Moment, answers: &[Answer]) -> bool {
+        let resolved = self.stored.iter().filter(|seen| seen.is_resolved(now));
+        match answers {
+            [Answer::Collected(removed)] => *removed == resolved.count() as u64,
+            _ => false,
+        }
+    }
+
+    // Whether those that are resolved were answered, in their order.
+    fn is_taken(&self, now: Moment, answers: &[Answer]) -> bool {
+        let mut at: usize = 1;
+        for seen in &self.stored {
+            if seen.is_resolved(now) {
+                if !is_stored(answers.get(at), seen) {
+                    return false;
+                }
+                at = at.wrapping_add(1);
+            }
+        }
+        at == answers.len()
     }
 
     fn take_subscription(&mut self, lane: u32) -> Result<(), Flaw> {
@@ -391,6 +416,13 @@ fn are_posted(reports: &[Report], alerts: &[Alert], now: Moment) -> bool {
     reports.len() == alerts.len()
         && reports.iter().zip(alerts).all(|(report, alert)| Seen::posted(report, now)
             == Seen::of(alert))
+}
+
+fn is_stored(answer: Option<&Answer>, seen: &Seen) -> bool {
+    match answer {
+        Some(Answer::StoredAlert(alert)) => Seen::of(alert) == *seen,
+        _ => false,
+    }
 }
 
 fn is_posted(answer: &Answer, count: usize, place: Option<u64>) -> bool {

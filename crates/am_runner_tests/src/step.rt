@@ -12,7 +12,9 @@ pub enum Action {
     Read { of: usize, max: u32 },
     Leave { of: usize },
     Collect,
+    Take,
     Trim,
+    Compact,
     Close,
 }
 
@@ -35,7 +37,9 @@ impl Step {
             Action::Read { of, max } => write!(text, "read\",\"sub\":\"s{of}\",\"max\":{max}")?,
             Action::Leave { of } => write!(text, "leave\",\"sub\":\"s{of}\"")?,
             Action::Collect => text.push_str("collect\"")?,
+            Action::Take => text.push_str("take\"")?,
             Action::Trim => text.push_str("trim\"")?,
+            Action::Compact => text.push_str("compact\"")?,
             Action::Close => text.push_str("close\"")?,
         }
         text.push_str("}\n")

@@ -10,8 +10,9 @@ pub struct Tally {
     pub refused_closed: u64,
     pub collections: u64,
     pub closes: u64,
-    /// How many calls trims dropped.
+    /// How many calls trims dropped, and compactions.
     pub trimmed: u64,
+    pub compacted: u64,
 }
 
 impl Tally {
@@ -25,6 +26,7 @@ impl Tally {
             collections: 0,
             closes: 0,
             trimmed: 0,
+            compacted: 0,
         }
     }
 }

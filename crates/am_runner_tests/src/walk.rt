@@ -51,7 +51,9 @@ impl Walk {
             Action::Read { of, max } => self.take_read(*of, *max, answers),
             Action::Leave { of } => Ok(self.take_leaving(*of, answers)),
             Action::Collect => Ok(self.take_collection(answers)),
+            Action::Take => Ok(self.take_taking(answers)),
             Action::Trim => Ok(self.take_trim(answers)),
+            Action::Compact => Ok(self.take_compaction(answers)),
             Action::Close => Ok(self.take_close(answers)),
         }
     }
@@ -144,6 +146,24 @@ impl Walk {
         self.tally.collections = self.tally.collections.wrapping_add(1);
         match answers {
             [Answer::Collected(_)] => true,
+            _ => false,
+        }
+    }
+
+    fn take_taking(&mut self, answers: &[Answer]) -> bool {
+        self.tally.collections = self.tally.collections.wrapping_add(1);
+        match answers.split_first() {
+            Some((Answer::Taken(removed), others)) => *removed == others.len() as u64,
+            _ => false,
+        }
+    }
+
+    fn take_compaction(&mut self, answers: &[Answer]) -> bool {
+        match answers {
+            [Answer::Compacted(dropped)] => {
+                self.tally.compacted = self.tally.compacted.wrapping_add(*dropped);
+                true
+            }
             _ => false,
         }
     }

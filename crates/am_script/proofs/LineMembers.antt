@@ -15,7 +15,7 @@ use Rattle.am_alert.specs.WholeAlerts.{whole_alerts_in}
 use Rattle.am_alert.specs.declared.alert.Alert.{Alert}
 use Rattle.am_alert.specs.declared.body.Body.{Body}
 use Rattle.am_alert.proofs.Tokens.{apart}
-use Rattle.am_script.specs.Commands.{HasItsBody, IsLineFrom, ReadsCommand, command_for, command_of, given_as, given_moment_of, kind_of, labels_at, line_of, max_of, moment_of, name_of, posted_body, thread_of, unless_empty, verb_at, verb_of, within}
+use Rattle.am_script.specs.Commands.{HasItsBody, IsLineFrom, ReadsCommand, command_for, command_of, from_of, given_as, given_moment_of, kind_of, labels_at, line_of, max_of, moment_of, name_of, page_of, posted_body, thread_of, unless_empty, verb_at, verb_of, within}
 use Rattle.am_script.specs.Kinds.{kind_named}
 use Rattle.am_script.specs.Members.{◌>>=◌}
 use Rattle.am_script.specs.declared.command.Command.{Command}
@@ -116,6 +116,11 @@ none_for_three f (Some a) (Some b) (Some x) c never is = subst (λ (c : Command)
 is_that : (one c : Command) → IsNoPost one → Some one ≡ Some c → IsNoPost c
 is_that one c never is = subst (λ (c : Command). IsNoPost c) (cc) never
 
+none_for_either : (first : Bool) (one other : Option Command) (c : Command) → (one ≡ Some c → IsNoPost c) → (other ≡ Some c → IsNoPost c)
+    → cond first one other ≡ Some c → IsNoPost c
+none_for_either true one other c never nor is = never is
+none_for_either false one other c never nor is = nor is
+
 pub no_body : (b : Body) (d : Data) (v : Verb) (c : Command) → IsOther v → command_for b d v ≡ Some c → IsNoPost c
 unfolding command_for
 no_body b d verb.Post c other is = absurd (other.0 refl)
@@ -124,13 +129,18 @@ no_body b d verb.Subscribe c other is = none_for_two command.Subscribe (name_of 
 no_body b d verb.Read c other is = none_for_two command.Read (name_of d) (max_of d) c (λ name max d. tt) is
 no_body b d verb.Leave c other is = none_for command.Leave (name_of d) c (λ name d. tt) is
 no_body b d verb.Collect c other is = none_for command.Collect (moment_of d) c (λ at d. tt) is
+no_body b d verb.Take c other is = none_for command.Take (moment_of d) c (λ at d. tt) is
 no_body b d verb.Close c other is = is_that command.Close c (λ d. tt) is
 no_body b d verb.Trim c other is = is_that command.Trim c (λ d. tt) is
+no_body b d verb.Compact c other is = is_that command.Compact c (λ d. tt) is
 no_body b d verb.Groups c other is = none_for (λ name. command.Groups name (given_moment_of d)) (name_of d) c (λ name d. tt) is
 no_body b d verb.Sweep c other is = none_for_two command.Sweep (name_of d) (moment_of d) c (λ name at d. tt) is
 no_body b d verb.Forget c other is = none_for_two command.Forget (name_of d) (moment_of d) c (λ name at d. tt) is
 no_body b d verb.Mutes c other is = none_for_three command.Mutes (name_of d) (moment_of d) (labels_at d) c (λ name at labels d. tt) is
-no_body b d verb.Stored c other is = is_that command.Stored c (λ d. tt) is
+no_body b d verb.Stored c other is =
+    none_for_either (is_some (get (codes "max") d)) (page_of d) (Some command.Stored) c
+    (none_for_two command.StoredPage (from_of d) (max_of d) c (λ from max d. tt))
+    (is_that command.Stored c (λ d. tt)) is
 no_body b d verb.Get c other is = none_for command.Get (labels_at d) c (λ labels d. tt) is
 no_body b d verb.Routes c other is = is_that command.Routes c (λ d. tt) is
 no_body b d verb.Route c other is = none_for command.Route (labels_at d) c (λ labels d. tt) is
@@ -157,6 +167,13 @@ module _ (body : Option Body) (alerts : Option (List Alert)) (d : Data) (ms : Me
   same_max : max_of d ≡ max_of (object ms)
   same_max = ap (λ o. cond (is_some o) (option_and_then (within 1 65536) (option_and_then as_u64 (option_and_then as_number o))) (Some 1)) (here (codes "max") refl refl)
 
+  same_from : from_of d ≡ from_of (object ms)
+  same_from = ap (λ o. cond (is_some o) (option_and_then (within 0 4294967295) (option_and_then as_u64 (option_and_then as_number o))) (Some 0)) (here (codes "from") refl refl)
+
+  same_page : page_of d ≡ page_of (object ms)
+  same_page = ap (λ from. from >>= (λ (n : ℕ). max_of d >>= (λ m. Some (command.StoredPage n m)))) same_from
+      ∙ ap (λ max. from_of (object ms) >>= (λ (n : ℕ). max >>= (λ m. Some (command.StoredPage n m)))) same_max
+
   same_given_moment : given_moment_of d ≡ given_moment_of (object ms)
   same_given_moment = ap (λ o. cond (is_some o) (given_as (option_and_then (λ (time : Option ℕ). time) (option_and_then time_of (option_and_then as_str o)))) Absent) (here (codes "at") refl refl)
 
@@ -171,13 +188,17 @@ module _ (body : Option Body) (alerts : Option (List Alert)) (d : Data) (ms : Me
   same_command b verb.Read other = rw (same_name, same_max) refl
   same_command b verb.Leave other = ap (option_map command.Leave) same_name
   same_command b verb.Collect other = ap (option_map command.Collect) same_moment
+  same_command b verb.Take other = ap (option_map command.Take) same_moment
   same_command b verb.Close other = refl
   same_command b verb.Trim other = refl
+  same_command b verb.Compact other = refl
   same_command b verb.Groups other = rw (same_name, same_given_moment) refl
   same_command b verb.Sweep other = rw (same_name, same_moment) refl
   same_command b verb.Forget other = rw (same_name, same_moment) refl
   same_command b verb.Mutes other = rw (same_name, same_moment, same_labels) refl
-  same_command b verb.Stored other = refl
+  same_command b verb.Stored other =
+      ap (λ o. cond (is_some o) (page_of d) (Some command.Stored)) (here (codes "max") refl refl)
+      ∙ ap (λ page. cond (is_some (get_member (codes "max") ms)) page (Some command.Stored)) same_page
   same_command b verb.Get other = ap (option_map command.Get) same_labels
   same_command b verb.Routes other = refl
   same_command b verb.Route other = ap (option_map command.Route) same_labels

@@ -13,8 +13,9 @@ use Rattle.am_alert.specs.declared.body.Body.{Body}
 use Rattle.am_alert.specs.declared.body.Body.TheVariants.{Text}
 use Rattle.am_script.specs.declared.command.Command.{Command}
 use Rattle.am_script.specs.declared.command.Command.TheVariants.{Post, Put, Subscribe, Read, Leave, Collect}
-use Rattle.am_script.specs.declared.command.Command.TheVariants.{Close, Trim, Groups, Sweep, Forget, Mutes}
-use Rattle.am_script.specs.declared.command.Command.TheVariants.{Stored, Get, Routes, Route}
+use Rattle.am_script.specs.declared.command.Command.TheVariants.{Take, Close, Trim, Compact, Groups, Sweep}
+use Rattle.am_script.specs.declared.command.Command.TheVariants.{Forget, Mutes, Stored, StoredPage, Get}
+use Rattle.am_script.specs.declared.command.Command.TheVariants.{Routes, Route}
 use Rattle.am_script.specs.declared.command.GivenMoment.{GivenMoment}
 use Rattle.am_script.specs.declared.command.GivenMoment.TheVariants.{Absent, At, Unread}
 use Rattle.am_script.specs.declared.command.Line.{Line}
@@ -75,9 +76,22 @@ kind_of d =
     if is_some (get (codes "kind") d)
     then option_and_then kind_named (text_member (codes "kind") d) else Some Plain
 
--- the greatest number of calls of `next` that a read makes: one, if `max` is absent
+-- the greatest number of calls of `next` that a read makes, or of alerts that a page has: one, if `max` is
+-- absent
 abbrev pub max_of : Data → Option ℕ
 max_of d = if is_some (get (codes "max") d) then number_member (codes "max") 1 65536 d else Some 1
+
+-- the index of the first alert of a page of what is stored: 0, if `from` is absent
+abbrev pub from_of : Data → Option ℕ
+from_of d =
+    if is_some (get (codes "from") d) then number_member (codes "from") 0 4294967295 d else Some 0
+
+-- a page of what is stored: from an index on, at most so many alerts
+abbrev pub page_of : Data → Option Command
+page_of d = do
+  from ← from_of d
+  max ← max_of d
+  Some (StoredPage from max)
 
 -- the label set of an object's members as an alert's is made of them: each is a text, those with an
 -- empty value are ignored, and of two with one name the last holds
@@ -97,8 +111,10 @@ verb_of text =
     else (if bytes_eq text (codes "read") then Some verb.Read
     else (if bytes_eq text (codes "leave") then Some verb.Leave
     else (if bytes_eq text (codes "collect") then Some verb.Collect
+    else (if bytes_eq text (codes "take") then Some verb.Take
     else (if bytes_eq text (codes "close") then Some verb.Close
     else (if bytes_eq text (codes "trim") then Some verb.Trim
+    else (if bytes_eq text (codes "compact") then Some verb.Compact
     else (if bytes_eq text (codes "groups") then Some verb.Groups
     else (if bytes_eq text (codes "sweep") then Some verb.Sweep
     else (if bytes_eq text (codes "forget") then Some verb.Forget
@@ -107,7 +123,7 @@ verb_of text =
     else (if bytes_eq text (codes "get") then Some verb.Get
     else (if bytes_eq text (codes "routes") then Some verb.Routes
     else (if bytes_eq text (codes "route") then Some verb.Route
-    else None)))))))))))))))
+    else None)))))))))))))))))
 
 -- the word in `do`
 abbrev pub verb_at : Data → Option Verb
@@ -133,8 +149,10 @@ command_for body d verb.Read = do
   Some (Read name max)
 command_for body d verb.Leave = option_map Leave (name_of d)
 command_for body d verb.Collect = option_map Collect (moment_of d)
+command_for body d verb.Take = option_map Take (moment_of d)
 command_for body d verb.Close = Some Close
 command_for body d verb.Trim = Some Trim
+command_for body d verb.Compact = Some Compact
 command_for body d verb.Groups = do
   name ← name_of d
   Some (Groups name (given_moment_of d))
@@ -151,7 +169,7 @@ command_for body d verb.Mutes = do
   at ← moment_of d
   labels ← labels_at d
   Some (Mutes name at labels)
-command_for body d verb.Stored = Some Stored
+command_for body d verb.Stored = if is_some (get (codes "max") d) then page_of d else Some Stored
 command_for body d verb.Get = option_map Get (labels_at d)
 command_for body d verb.Routes = Some Routes
 command_for body d verb.Route = option_map Route (labels_at d)
@@ -172,13 +190,16 @@ posted_body (Subscribe name kind) = Text []
 posted_body (Read name max) = Text []
 posted_body (Leave name) = Text []
 posted_body (Collect at) = Text []
+posted_body (Take at) = Text []
 posted_body Close = Text []
 posted_body Trim = Text []
+posted_body Compact = Text []
 posted_body (Groups name at) = Text []
 posted_body (Sweep name at) = Text []
 posted_body (Forget name at) = Text []
 posted_body (Mutes name at labels) = Text []
 posted_body Stored = Text []
+posted_body (StoredPage from max) = Text []
 posted_body (Get labels) = Text []
 posted_body Routes = Text []
 posted_body (Route labels) = Text []
@@ -191,13 +212,16 @@ HasItsBody d (Subscribe name kind) = ⊤
 HasItsBody d (Read name max) = ⊤
 HasItsBody d (Leave name) = ⊤
 HasItsBody d (Collect at) = ⊤
+HasItsBody d (Take at) = ⊤
 HasItsBody d Close = ⊤
 HasItsBody d Trim = ⊤
+HasItsBody d Compact = ⊤
 HasItsBody d (Groups name at) = ⊤
 HasItsBody d (Sweep name at) = ⊤
 HasItsBody d (Forget name at) = ⊤
 HasItsBody d (Mutes name at labels) = ⊤
 HasItsBody d Stored = ⊤
+HasItsBody d (StoredPage from max) = ⊤
 HasItsBody d (Get labels) = ⊤
 HasItsBody d Routes = ⊤
 HasItsBody d (Route labels) = ⊤

@@ -11,8 +11,9 @@ use Rattle.std.specs.Str.{bytes_eq}
 use Rattle.am_script.specs.Commands.{IsLineOf}
 use Rattle.am_script.specs.declared.command.Command.{Command}
 use Rattle.am_script.specs.declared.command.Command.TheVariants.{Post, Put, Subscribe, Read, Leave, Collect}
-use Rattle.am_script.specs.declared.command.Command.TheVariants.{Close, Trim, Groups, Sweep, Forget, Mutes}
-use Rattle.am_script.specs.declared.command.Command.TheVariants.{Stored, Get, Routes, Route}
+use Rattle.am_script.specs.declared.command.Command.TheVariants.{Take, Close, Trim, Compact, Groups, Sweep}
+use Rattle.am_script.specs.declared.command.Command.TheVariants.{Forget, Mutes, Stored, StoredPage, Get}
+use Rattle.am_script.specs.declared.command.Command.TheVariants.{Routes, Route}
 use Rattle.am_script.specs.declared.command.GivenMoment.TheVariants.{Unread}
 use Rattle.am_script.specs.declared.command.Line.{Line}
 use Rattle.am_script.specs.declared.command.LineFault.TheVariants as line_fault
@@ -43,13 +44,16 @@ subscribed_after here name before (Post at body) = before
 subscribed_after here name before (Put at alerts) = before
 subscribed_after here name before (Read other max) = before
 subscribed_after here name before (Collect at) = before
+subscribed_after here name before (Take at) = before
 subscribed_after here name before Close = before
 subscribed_after here name before Trim = before
+subscribed_after here name before Compact = before
 subscribed_after here name before (Groups other at) = before
 subscribed_after here name before (Sweep other at) = before
 subscribed_after here name before (Forget other at) = before
 subscribed_after here name before (Mutes other at labels) = before
 subscribed_after here name before Stored = before
+subscribed_after here name before (StoredPage from max) = before
 subscribed_after here name before (Get labels) = before
 subscribed_after here name before Routes = before
 subscribed_after here name before (Route labels) = before
@@ -72,9 +76,12 @@ is_named_well subscribed (Mutes name at labels) = is_some_inhibit (subscribed na
 is_named_well subscribed (Post at body) = true
 is_named_well subscribed (Put at alerts) = true
 is_named_well subscribed (Collect at) = true
+is_named_well subscribed (Take at) = true
 is_named_well subscribed Close = true
 is_named_well subscribed Trim = true
+is_named_well subscribed Compact = true
 is_named_well subscribed Stored = true
+is_named_well subscribed (StoredPage from max) = true
 is_named_well subscribed (Get labels) = true
 is_named_well subscribed Routes = true
 is_named_well subscribed (Route labels) = true

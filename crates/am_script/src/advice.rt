@@ -5,7 +5,7 @@
 use crate::command::{GivenMoment, LineFault, Verb};
 use crate::limits::{LONGEST_LINE, MOST_LINES};
 use crate::members::{
-    given_moment_at, kind_at, labels_at, max_at, moment_at, name_at, thread_at, verb_at,
+    from_at, given_moment_at, kind_at, labels_at, max_at, moment_at, name_at, thread_at, verb_at,
 };
 use crate::put_reader::alerts_at;
 use crate::script::{Fault, Refusal};
@@ -23,6 +23,7 @@ enum Member {
     Alerts,
     Name,
     Kind,
+    From,
     Max,
     Labels,
 }
@@ -37,6 +38,7 @@ impl Member {
             Member::Alerts => "alerts",
             Member::Name => "sub",
             Member::Kind => "kind",
+            Member::From => "from",
             Member::Max => "max",
             Member::Labels => "labels",
         }
@@ -52,6 +54,7 @@ impl Member {
             Member::Alerts => "an array of alerts with their moments, as --json prints them",
             Member::Name => "the name of a subscription, a text that isn't empty",
             Member::Kind => "\"plain\", \"dispatch\", \"inhibit\" or \"notify\"",
+            Member::From => "a whole number from 0 to 4294967295",
             Member::Max => "a whole number from 1 to 65536",
             Member::Labels => "an object of texts",
         }
@@ -74,6 +77,7 @@ impl Member {
             Member::Alerts => alerts_at(alloc, value.clone()?).map(drop),
             Member::Name => name_at(alloc, value).map(drop),
             Member::Kind => kind_at(value).map(drop),
+            Member::From => from_at(value).map(drop),
             Member::Max => max_at(value).map(drop),
             Member::Labels => labels_at(alloc, value).map(drop),
         }
@@ -89,11 +93,13 @@ fn members_of(verb: Verb) -> &'static [Member] {
         Verb::Read => &[Member::Name, Member::Max],
         Verb::Leave => &[Member::Name],
         Verb::Groups => &[Member::Name, Member::GivenAt],
-        Verb::Collect => &[Member::At],
+        Verb::Collect | Verb::Take => &[Member::At],
         Verb::Sweep | Verb::Forget => &[Member::Name, Member::At],
         Verb::Mutes => &[Member::Name, Member::At, Member::Labels],
         Verb::Get | Verb::Route => &[Member::Labels],
-        Verb::Close | Verb::Trim | Verb::Stored | Verb::Routes => &[],
+        // One without `max` isn't refused.
+        Verb::Stored => &[Member::From, Member::Max],
+        Verb::Close | Verb::Trim | Verb::Compact | Verb::Routes => &[],
     }
 }
 

@@ -40,8 +40,13 @@ pub enum Command {
     Collect {
         at: Moment,
     },
+    /// A collection that answers what it removed.
+    Take {
+        at: Moment,
+    },
     Close,
     Trim,
+    Compact,
     /// The groups of a subscription's dispatcher. With an inhibitor and a moment also what mutes each of
     /// their alerts then.
     Groups {
@@ -67,6 +72,11 @@ pub enum Command {
     },
     /// All stored alerts.
     Stored,
+    /// A page of the stored alerts: from an index on, and at most so many.
+    StoredPage {
+        from: u32,
+        max: u32,
+    },
     /// The stored alert of a label set, which is made as that of `Mutes` is.
     Get {
         labels: LabelSet,
@@ -145,8 +155,10 @@ pub enum Verb {
     Read,
     Leave,
     Collect,
+    Take,
     Close,
     Trim,
+    Compact,
     Groups,
     Sweep,
     Forget,
@@ -168,8 +180,10 @@ impl fmt::Display for Verb {
             Verb::Read => "read",
             Verb::Leave => "leave",
             Verb::Collect => "collect",
+            Verb::Take => "take",
             Verb::Close => "close",
             Verb::Trim => "trim",
+            Verb::Compact => "compact",
             Verb::Groups => "groups",
             Verb::Sweep => "sweep",
             Verb::Forget => "forget",

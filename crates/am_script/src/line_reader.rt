@@ -3,15 +3,15 @@
 
 ghost use Rattle.std.specs.Prelude.{IfOk, IsUtf8, Ok};
 ghost use Rattle.serde_json.specs.View.{view};
-ghost use Rattle.am_script.specs.Commands.{command_for, command_of};
+ghost use Rattle.am_script.specs.Commands.{command_for, command_of, page_of};
 ghost use Rattle.am_script.specs.Commands.{IsCommandOf, IsLineFrom, IsLineOf, ReadsCommand};
 ghost use Rattle.am_script.specs.inside.LineMembers.{IsObjectOf};
 
 use crate::command::{Command, Line, LineFault, Verb};
 use crate::line_members::LineMembers;
 use crate::members::{
-    given_moment_at, kind_at, labels_at, max_at, moment_at, name_at, take_member, thread_at,
-    verb_at,
+    from_at, given_moment_at, kind_at, labels_at, max_at, moment_at, name_at, take_member,
+    thread_at, verb_at,
 };
 use crate::put_reader::alerts_at;
 use am_alert::Body;
@@ -148,13 +148,15 @@ pub(crate) fn command_for(alloc: Global, value: Value, verb: Verb) -> Result<Com
         Verb::Read => read_of(alloc, &value),
         Verb::Leave => leave_of(alloc, &value),
         Verb::Collect => collect_of(&value),
+        Verb::Take => take_of(&value),
         Verb::Close => Ok(Command::Close),
         Verb::Trim => Ok(Command::Trim),
+        Verb::Compact => Ok(Command::Compact),
         Verb::Groups => groups_of(alloc, &value),
         Verb::Sweep => sweep_of(alloc, &value),
         Verb::Forget => forget_of(alloc, &value),
         Verb::Mutes => mutes_of(alloc, &value),
-        Verb::Stored => Ok(Command::Stored),
+        Verb::Stored => stored_of(&value),
         Verb::Get => get_of(alloc, &value),
         Verb::Routes => Ok(Command::Routes),
         Verb::Route => route_of(alloc, &value),
@@ -223,6 +225,15 @@ fn collect_of(value: &Value) -> Result<Command, LineFault>
 }
 
 #[tactic(auto, unfolding(crate::specs::Commands::command_for))]
+fn take_of(value: &Value) -> Result<Command, LineFault>
+    ensures { ReadsCommand (view value.now) result
+        (λ body. command_for body (view value.now) Verb.Take) }
+{
+    let at = moment_at(value, "at")?;
+    Ok(Command::Take { at })
+}
+
+#[tactic(auto, unfolding(crate::specs::Commands::command_for))]
 fn groups_of(alloc: Global, value: &Value) -> Result<Command, LineFault>
     ensures { ReadsCommand (view value.now) result
         (λ body. command_for body (view value.now) Verb.Groups) }
@@ -261,6 +272,26 @@ fn mutes_of(alloc: Global, value: &Value) -> Result<Command, LineFault>
     let at = moment_at(value, "at")?;
     let labels = labels_at(alloc, value)?;
     Ok(Command::Mutes { name, at, labels })
+}
+
+#[tactic(auto, unfolding(crate::specs::Commands::command_for))]
+fn stored_of(value: &Value) -> Result<Command, LineFault>
+    ensures { ReadsCommand (view value.now) result
+        (λ body. command_for body (view value.now) Verb.Stored) }
+{
+    match value.get("max") {
+        Some(_) => page_of(value),
+        None => Ok(Command::Stored),
+    }
+}
+
+// A page, if `max` is there.
+fn page_of(value: &Value) -> Result<Command, LineFault>
+    ensures { ReadsCommand (view value.now) result (λ body. page_of (view value.now)) }
+{
+    let from = from_at(value)?;
+    let max = max_at(value)?;
+    Ok(Command::StoredPage { from, max })
 }
 
 #[tactic(auto, unfolding(crate::specs::Commands::command_for))]

@@ -3,7 +3,7 @@
 ghost use Rattle.std.specs.Prelude.{◌≡◌, ◌≤◌, IfOk, option_map};
 ghost use Rattle.serde_json.specs.Find.{get, get_member};
 ghost use Rattle.serde_json.specs.View.{view, members_view};
-ghost use Rattle.am_script.specs.Commands.{kind_of, labels_at, max_of, name_of, number_member};
+ghost use Rattle.am_script.specs.Commands.{from_of, kind_of, labels_at, max_of, name_of, number_member};
 ghost use Rattle.am_script.specs.Commands.{given_moment_of, label_set_of, thread_of, verb_at, verb_of};
 ghost use Rattle.am_script.specs.Commands.{IsReadAs};
 ghost use Rattle.am_script.specs.Members.{moment_at, text_member};
@@ -23,13 +23,23 @@ pub(crate) fn thread_at(value: &Value) -> Result<Thread, LineFault>
     Ok(Thread::new(number_member(value, "thread", 0, 7)?))
 }
 
-// The greatest number of calls of `next` that a read makes.
+// The greatest number of calls of `next` that a read makes, or of alerts that a page has.
 pub(crate) fn max_at(value: &Value) -> Result<u32, LineFault>
     ensures { IsReadAs result (max_of (view value.now)) }
 {
     match value.get("max") {
         Some(_) => number_member(value, "max", 1, 65_536),
         None => Ok(1),
+    }
+}
+
+// The index of the first alert of a page.
+pub(crate) fn from_at(value: &Value) -> Result<u32, LineFault>
+    ensures { IsReadAs result (from_of (view value.now)) }
+{
+    match value.get("from") {
+        Some(_) => number_member(value, "from", 0, u32::MAX),
+        None => Ok(0),
     }
 }
 
@@ -60,10 +70,14 @@ fn verb_of(text: &str) -> Option<Verb>
         Some(Verb::Leave)
     } else if text == "collect" {
         Some(Verb::Collect)
+    } else if text == "take" {
+        Some(Verb::Take)
     } else if text == "close" {
         Some(Verb::Close)
     } else if text == "trim" {
         Some(Verb::Trim)
+    } else if text == "compact" {
+        Some(Verb::Compact)
     } else if text == "groups" {
         Some(Verb::Groups)
     } else if text == "sweep" {

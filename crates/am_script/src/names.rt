@@ -39,9 +39,12 @@ pub(crate) fn follow(names: &mut Names, line: &Line) -> Result<bool, AllocError>
         Command::Post { .. }
         | Command::Put { .. }
         | Command::Collect { .. }
+        | Command::Take { .. }
         | Command::Close
         | Command::Trim
+        | Command::Compact
         | Command::Stored
+        | Command::StoredPage { .. }
         | Command::Get { .. }
         | Command::Routes
         | Command::Route { .. } => Ok(true),

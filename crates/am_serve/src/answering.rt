@@ -1,28 +1,37 @@
 //! Answering one line.
 
-ghost use Rattle.std.specs.Prelude.{◌≡◌, IfOk, string_bytes};
+ghost use Rattle.std.specs.Prelude.{◌≡◌, ◌++◌, ℕ, List, IfOk, OnOk, string_bytes, true};
+ghost use Rattle.am_script.specs.JsonLines.{about_line, object_line};
 ghost use Rattle.am_runner.specs.Sessions.{setting_of};
-ghost use Rattle.am_serve.specs.Answering.{Answers, Obeys, has_free_name, has_moment_if_needed, refused_text};
+ghost use Rattle.am_serve.specs.Answering.{Answers, Obeys, has_free_name, has_moment_if_needed};
+ghost use Rattle.am_serve.specs.Answering.{no_memory_text, refusal_members, refused_for, refused_text};
+ghost use Rattle.am_serve.specs.Reading.{IsReadAs};
 
+use crate::reading::InputLine;
 use am_provider::{Gate, Recorded};
-use am_runner::{Context, Form, Session, write_answers, write_count};
-use am_script::{Command, Fault, GivenMoment, LONGEST_LINE, LineFault, LineReader, write_fault};
+use am_runner::{Context, Form, Session, is_question, loses_nothing, write_answers, write_count};
+use am_script::{Command, Fault, GivenMoment, JsonLine, LONGEST_LINE, LineFault, LineReader};
 use std::alloc::{AllocError, Global};
 use std::sync::Wait;
 
-/// Does what a line asks for, and returns what is to be printed of it. If memory runs out, the line may
-/// have been done.
+// So many bytes are there for an answer before its command is done. A short one takes no more.
+const SHORT: usize = 256;
+
+/// Does what a line asks for, and returns what is to be printed of it. A line in whose reading memory runs out
+/// is answered so, and nothing is done; so is a command without memory for its answer, if it only asks or wasn't
+/// done. If memory runs out for another one's answer, that may have been done.
 pub fn answer_line<'p, 'c, N: Recorded, R: Wait, G: Gate>(
-    context: &Context<'p, 'c, N, R, G>,
+    context: &mut Context<'p, 'c, N, R, G>,
     session: &mut Session<'p, 'c, N>,
     reader: &mut LineReader,
     form: Form,
     number: u64,
     bytes: &[u8],
 ) -> Result<String, AllocError>
-    ensures { IfOk result (λ text. Answers context.now.config.now
-        (setting_of N.places N.policy context.now.provider.now.resolve_timeout) form number bytes.now
+    ensures answers { IfOk result (λ text. Answers context.old.config
+        (setting_of N.places N.policy context.old.provider.now.resolve_timeout) form number bytes.now
         session.old (string_bytes text) session.new) }
+    ensures same { context.new ≡ context.old }
 {
     let alloc = context.alloc;
     if bytes.is_empty() {
@@ -34,21 +43,43 @@ pub fn answer_line<'p, 'c, N: Recorded, R: Wait, G: Gate>(
     match reader.read_command(bytes) {
         Ok(command) => obey(context, session, form, number, &command),
         Err(LineFault::BadLine) => refused(alloc, form, number, Fault::BadLine),
-        Err(LineFault::NoMemory) => Err(AllocError),
+        Err(LineFault::NoMemory) => no_memory(alloc, form, number),
+    }
+}
+
+/// Does the same with a line as it was read.
+pub(crate) fn answer_input<'p, 'c, N: Recorded, R: Wait, G: Gate>(
+    context: &mut Context<'p, 'c, N, R, G>,
+    session: &mut Session<'p, 'c, N>,
+    reader: &mut LineReader,
+    form: Form,
+    number: u64,
+    line: &InputLine,
+) -> Result<String, AllocError>
+    ensures answers { IfOk result (λ text. (bytes : List ℕ) → IsReadAs bytes line.now → Answers context.old.config
+        (setting_of N.places N.policy context.old.provider.now.resolve_timeout) form number bytes
+        session.old (string_bytes text) session.new) }
+    ensures same { context.new ≡ context.old }
+{
+    match line {
+        InputLine::Read(bytes) => answer_line(context, session, reader, form, number, bytes),
+        InputLine::TooLong => refused(context.alloc, form, number, Fault::TooLarge),
+        InputLine::NoMemory => no_memory(context.alloc, form, number),
     }
 }
 
 // Does what a command asks for, unless its name is taken or its moment isn't one.
 fn obey<'p, 'c, N: Recorded, R: Wait, G: Gate>(
-    context: &Context<'p, 'c, N, R, G>,
+    context: &mut Context<'p, 'c, N, R, G>,
     session: &mut Session<'p, 'c, N>,
     form: Form,
     number: u64,
     command: &Command,
 ) -> Result<String, AllocError>
-    ensures { IfOk result (λ text. Obeys context.now.config.now
-        (setting_of N.places N.policy context.now.provider.now.resolve_timeout) form number command.now
+    ensures obeys { IfOk result (λ text. Obeys context.old.config
+        (setting_of N.places N.policy context.old.provider.now.resolve_timeout) form number command.now
         session.old (string_bytes text) session.new) }
+    ensures same { context.new ≡ context.old }
 {
     if !has_free_name(session, command) {
         return refused(context.alloc, form, number, Fault::BadName);
@@ -56,10 +87,38 @@ fn obey<'p, 'c, N: Recorded, R: Wait, G: Gate>(
     if !has_moment_if_needed(session, command) {
         return refused(context.alloc, form, number, Fault::BadLine);
     }
-    let given = session.run(context, command)?;
-    let mut text = String::new(context.alloc);
-    write_answers(&mut text, form, number, &given)?;
-    Ok(text)
+    run_command(context, session, form, number, command)
+}
+
+// Does what a command asks for, and returns what is to be printed of it. No memory for the answer is answered too,
+// unless something was done whose answer is lost.
+fn run_command<'p, 'c, N: Recorded, R: Wait, G: Gate>(
+    context: &mut Context<'p, 'c, N, R, G>,
+    session: &mut Session<'p, 'c, N>,
+    form: Form,
+    number: u64,
+    command: &Command,
+) -> Result<String, AllocError>
+    requires name { has_free_name command.now session.old.opened ≡ true }
+    requires moment { has_moment_if_needed command.now session.old.opened ≡ true }
+    ensures obeys { IfOk result (λ text. Obeys context.old.config
+        (setting_of N.places N.policy context.old.provider.now.resolve_timeout) form number command.now
+        session.old (string_bytes text) session.new) }
+    ensures same { context.new ≡ context.old }
+{
+    let alloc = context.alloc;
+    let Ok(mut text) = String::with_capacity(alloc, SHORT) else {
+        return no_memory(alloc, form, number);
+    };
+    match session.run(context, command) {
+        Ok(given) => match write_answers(&mut text, form, number, &given) {
+            Ok(()) => Ok(text),
+            Err(_) if is_question(command) => no_memory(alloc, form, number),
+            Err(error) => Err(error),
+        },
+        Err(_) if loses_nothing(command) => no_memory(alloc, form, number),
+        Err(error) => Err(error),
+    }
 }
 
 // Whether the command subscribes no name that an open subscription has.
@@ -85,21 +144,46 @@ fn has_moment_if_needed<N: Recorded>(session: &Session<'_, '_, N>, command: &Com
     }
 }
 
-// What is printed of a line that is refused.
+// What is printed of a line that is refused for its fault.
 fn refused(alloc: Global, form: Form, number: u64, fault: Fault) -> Result<String, AllocError>
     ensures { IfOk result (λ text. string_bytes text ≡ refused_text form number fault) }
 {
+    let why = fault.to_string(alloc)?;
+    refused_for(alloc, form, number, &why)
+}
+
+// What is printed of a line if memory ran out in reading it.
+fn no_memory(alloc: Global, form: Form, number: u64) -> Result<String, AllocError>
+    ensures { IfOk result (λ text. string_bytes text ≡ no_memory_text form number) }
+{
+    refused_for(alloc, form, number, "E0 NoMemory")
+}
+
+// What is printed of a line that is refused, for what has this text.
+fn refused_for(alloc: Global, form: Form, number: u64, why: &str) -> Result<String, AllocError>
+    ensures { IfOk result (λ text. string_bytes text ≡ refused_for form number why.now) }
+{
     match form {
-        Form::Text => format!(in alloc; "{number} {fault}\n"),
-        Form::Json => refused_object(alloc, number, fault),
+        Form::Text => format!(in alloc; "{number} {why}\n"),
+        Form::Json => refused_object(alloc, number, why),
     }
 }
 
-fn refused_object(alloc: Global, number: u64, fault: Fault) -> Result<String, AllocError>
-    ensures { IfOk result (λ text. string_bytes text ≡ refused_text Form.Json number fault) }
+fn refused_object(alloc: Global, number: u64, why: &str) -> Result<String, AllocError>
+    ensures { IfOk result (λ text. string_bytes text ≡ refused_for Form.Json number why.now) }
 {
     let mut text = String::new(alloc);
-    write_fault(&mut text, number, fault)?;
+    write_refusal(&mut text, number, why)?;
     write_count(&mut text, number, 1)?;
     Ok(text)
+}
+
+fn write_refusal(text: &mut String, number: u64, why: &str) -> Result<(), AllocError>
+    ensures { OnOk result (string_bytes text.new
+        ≡ string_bytes text.old ++ object_line (about_line number (refusal_members why.now))) }
+{
+    let mut line = JsonLine::about(*text.allocator(), number)?;
+    line.text("answer", "refused")?;
+    line.text("fault", why)?;
+    line.end(text)
 }

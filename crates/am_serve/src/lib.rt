@@ -2,17 +2,20 @@
 //! next one is read, in one thread, with no end but the end of the input.
 //!
 //! A line is one JSON object, a command as in a script (docs/FORMATS.md); its `thread` isn't looked at. A
-//! line that isn't one is refused, with its number and its fault, and the run goes on. Memory doesn't grow
-//! with the lines: the journal is trimmed from time to time.
+//! line that isn't one is refused, with its number and its fault, and the run goes on. So is a line above
+//! the limit, of which at most the limit is ever in memory, and one that there is no memory to read or to
+//! answer, unless something was done. Memory doesn't grow with the lines: the journal is compacted once
+//! more was posted than half of what is stored.
 //!
 //! ```text
 //! let (provider, mut callers) = Provider::<N>::begin(alloc, parts, policy, timeout)?;   // for one caller
-//! let context = Context { rt, alloc, provider: &provider, config: &config, turns: &Freely };
+//! let config = PreparedConfig::new(&config);
+//! let mut context = Context { rt, alloc, provider: &provider, config, turns: &Freely };
 //! let mut session = Session::begin(alloc, caller);
-//! serve(&context, &mut session, Form::Text, 1, &mut input, &mut output)?;
+//! serve(&mut context, &mut session, Form::Text, 1, &mut input, &mut output)?;
 //! ```
 //!
-//! Who has lines of its own, and no reader, calls `answer_line` for each.
+//! Who has lines of its own, and no reader, calls `answer_line` for each, and then `Session::compact_if_due`.
 #![tactic(auto)]
 
 mod answering;
@@ -20,5 +23,5 @@ mod reading;
 mod serving;
 
 pub use answering::answer_line;
-pub use reading::next_line;
+pub use reading::{InputLine, next_line};
 pub use serving::serve;

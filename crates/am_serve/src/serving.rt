@@ -1,88 +1,74 @@
 //! Serving the lines of an input, one after another.
 
-ghost use Rattle.std.specs.Prelude.{ℕ, List, OnErr, OnOk, IfOk};
+ghost use Rattle.std.specs.Prelude.{◌≡◌, ℕ, List, OnErr, OnOk, IfOk};
 ghost use Rattle.std.specs.Io.KnownBytes.{Appends};
-ghost use Rattle.am_runner.specs.Sessions.{Does, setting_of};
-ghost use Rattle.am_runner.specs.declared.answer.Answer.{Answer};
+ghost use Rattle.am_runner.specs.Sessions.{setting_of};
 ghost use Rattle.am_serve.specs.Answering.{Answers};
+ghost use Rattle.am_serve.specs.Reading.{IsReadAs};
 ghost use Rattle.am_serve.specs.Serving.{IsBeginning, IsServed, IsServedInPart};
 
-use crate::answering::answer_line;
-use crate::reading::next_line;
+use crate::answering::answer_input;
+use crate::reading::{InputLine, next_line};
 use am_provider::{Gate, Recorded};
 use am_runner::{Context, Form, Session};
-use am_script::{Command, Failure, LineReader, write_text};
-use std::alloc::AllocError;
+use am_script::{Failure, LineReader, write_text};
 use std::io::{BufRead, Write};
 use std::sync::Wait;
 
-// After how many lines the journal is trimmed again.
-const LINES_BETWEEN_TRIMS: u64 = 1_024;
-
 /// Answers each line of the input before it reads the next, to the input's end. The first line has this
-/// number.
+/// number. After a line the journal is compacted if that is due: once more than 1,024 alerts were posted or
+/// removed, and more than half of what was stored at the last compaction, each call counted as one too. A
+/// compaction costs no more than a few times that, so over many lines a line costs what its own alerts do.
 pub fn serve<'p, 'c, N: Recorded, R: Wait, G: Gate, I: BufRead, O: Write>(
-    context: &Context<'p, 'c, N, R, G>,
+    context: &mut Context<'p, 'c, N, R, G>,
     session: &mut Session<'p, 'c, N>,
     form: Form,
     first: u64,
     input: &mut I,
     out: &mut O,
 ) -> Result<(), Failure>
-    ensures served { OnOk result (IsServed context.now.config.now
-        (setting_of N.places N.policy context.now.provider.now.resolve_timeout) form first session.old
+    ensures served { OnOk result (IsServed context.old.config
+        (setting_of N.places N.policy context.old.provider.now.resolve_timeout) form first session.old
         (I.remaining input.old) (I.remaining input.new) (O.contents out.old) (O.contents out.new) session.new) }
-    ensures err { OnErr result (IsServedInPart context.now.config.now
-        (setting_of N.places N.policy context.now.provider.now.resolve_timeout) form first session.old
+    ensures err { OnErr result (IsServedInPart context.old.config
+        (setting_of N.places N.policy context.old.provider.now.resolve_timeout) form first session.old
         (I.remaining input.old) (O.contents out.old) (O.contents out.new)) }
 {
     let mut reader = LineReader::new(context.alloc);
     for number in first..u64::MAX {
-        let Some(bytes) = next_line(context.alloc, input)? else {
+        let Some(line) = next_line(context.alloc, input)? else {
             return Ok(());
         };
-        serve_line(context, session, &mut reader, form, number, &bytes, out)?;
-        if number % LINES_BETWEEN_TRIMS == 0 {
-            trim(context, session)?;
-        }
+        serve_line(context, session, &mut reader, form, number, &line, out)?;
+        session.compact_if_due(context);
     }
     Err(Failure::Read)
 }
 
 // Answers one line.
 fn serve_line<'p, 'c, N: Recorded, R: Wait, G: Gate, O: Write>(
-    context: &Context<'p, 'c, N, R, G>,
+    context: &mut Context<'p, 'c, N, R, G>,
     session: &mut Session<'p, 'c, N>,
     reader: &mut LineReader,
     form: Form,
     number: u64,
-    bytes: &[u8],
+    line: &InputLine,
     out: &mut O,
 ) -> Result<(), Failure>
-    ensures answers { OnOk result ((more : List ℕ) × Answers context.now.config.now
-        (setting_of N.places N.policy context.now.provider.now.resolve_timeout) form number bytes.now
+    ensures answers { OnOk result ((bytes : List ℕ) → IsReadAs bytes line.now → (more : List ℕ)
+        × Answers context.old.config
+        (setting_of N.places N.policy context.old.provider.now.resolve_timeout) form number bytes
         session.old more session.new × Appends (O.contents out.old) (O.contents out.new) more) }
-    ensures err { OnErr result ((beginning : List ℕ) × IsBeginning context.now.config.now
-        (setting_of N.places N.policy context.now.provider.now.resolve_timeout) form number session.old
+    ensures err { OnErr result ((bytes : List ℕ) → IsReadAs bytes line.now → (beginning : List ℕ)
+        × IsBeginning context.old.config
+        (setting_of N.places N.policy context.old.provider.now.resolve_timeout) form number session.old
         beginning × Appends (O.contents out.old) (O.contents out.new) beginning) }
+    ensures same { context.new ≡ context.old }
 {
-    let text = answer_line(context, session, reader, form, number, bytes)?;
+    let text = answer_input(context, session, reader, form, number, line)?;
     write_text(out, text.as_bytes())?;
     match out.flush() {
         Ok(()) => Ok(()),
         Err(_) => Err(Failure::Write),
     }
-}
-
-// Discards the calls of the journal that no open subscription needs.
-fn trim<'p, 'c, N: Recorded, R: Wait, G: Gate>(
-    context: &Context<'p, 'c, N, R, G>,
-    session: &mut Session<'p, 'c, N>,
-) -> Result<(), AllocError>
-    ensures { OnOk result ((given : List Answer) × Does context.now.config.now
-        (setting_of N.places N.policy context.now.provider.now.resolve_timeout) session.old
-        Command.Trim given session.new) }
-{
-    let _given = session.run(context, &Command::Trim)?;
-    Ok(())
 }

@@ -1,7 +1,6 @@
 -- Subscriptions and the flags of their lanes.
 use Rattle.std.proofs.Common.{◌≡◌, ℕ, zero, suc, ◌+◌, ◌-◌, ◌<◌, ◌≤◌, Bool, true, false, cond, ◌||◌, nat_eq, List, [], ◌∷◌, ◌++◌, length, drop, get_or, set, Option, None, Some, refl, sym, ap, subst, inl, inr, ◌∙◌, arith, get_or-set_same, get_or-set_other, length-set}
 use Rattle.std.specs.Option.{is_some, IfSome, IsSome}
-use Rattle.std.specs.VecDeque.{deque_len, deque_capacity}
 use Rattle.std.proofs.lemmas.List.{append-nil}
 use Rattle.std.proofs.lemmas.Bool.Decides.{eqb_tells}
 use Rattle.std.proofs.Math.Seq.{drop-append_seam}
@@ -11,7 +10,6 @@ use Rattle.am_store.specs.Stored.{updates, stored}
 use Rattle.am_store.specs.Broadcast.{broadcast, broadcast_from, items_of, due}
 use Rattle.am_store.specs.Journal.{JournalView, with_call, call_count, until, since, IsOpenSubscription}
 use Rattle.am_store.specs.PlainBook.{PlainBook, FollowsJournal}
-use Rattle.am_store.specs.Journal.{journal_of}
 use Rattle.am_store.specs.Lanes.{lane_at, IsLowestFree, open_count, IsItsOpening}
 use Rattle.am_store.specs.Pages.{Pages, AgreesWithJournal}
 use Rattle.am_store.proofs.Journals.{drop_twice, broadcast_parts}
@@ -66,20 +64,20 @@ left_flag false was = refl
 -- ---- a lane opens
 
 -- each lane but the one that opens has what it had
-opening_begins : (journal : JournalView) (lane other : ℕ) (one : OpenLane) (was : Option OpenLane) → one.at ≡ call_count journal → one.opening ≡ stored (updates journal)
-    → IfSome was (IsItsOpening journal other) → IfSome (cond (nat_eq lane other) (Some one) was) (IsItsOpening (with_call journal (Subscribed lane)) other)
-opening_begins journal lane other one was at opening its =
+opening_begins : (gone : ℕ) (journal : JournalView) (lane other : ℕ) (one : OpenLane) (was : Option OpenLane) → one.at ≡ call_count journal → one.opening ≡ stored (updates journal)
+    → IfSome was (IsItsOpening gone journal other) → IfSome (cond (nat_eq lane other) (Some one) was) (IsItsOpening gone (with_call journal (Subscribed lane)) other)
+opening_begins gone journal lane other one was at opening its =
     elim (eqb_tells lane other) [
       | inl e ↦
-          let begun : IsItsOpening (with_call journal (Subscribed lane)) lane one = record {
+          let begun : IsItsOpening gone (with_call journal (Subscribed lane)) lane one = record {
             given = subst (λ n. IsOpenSubscription (with_call journal (Subscribed lane)) lane n) (sym at) (open_begins journal lane);
-            opening = opening ∙ sym (ap (λ j. stored (updates j)) (ap (until (with_call journal (Subscribed lane))) at ∙ until_end journal (Subscribed lane)));
+            opening = λ late. opening ∙ sym (ap (λ j. stored (updates j)) (ap (until (with_call journal (Subscribed lane))) at ∙ until_end journal (Subscribed lane)));
           } in
-          subst (λ t. IfSome (cond t (Some one) was) (IsItsOpening (with_call journal (Subscribed lane)) other)) (sym e.0)
-          (subst (λ n. IsItsOpening (with_call journal (Subscribed lane)) n one) e.1 begun)
+          subst (λ t. IfSome (cond t (Some one) was) (IsItsOpening gone (with_call journal (Subscribed lane)) other)) (sym e.0)
+          (subst (λ n. IsItsOpening gone (with_call journal (Subscribed lane)) n one) e.1 begun)
       | inr e ↦
-          subst (λ t. IfSome (cond t (Some one) was) (IsItsOpening (with_call journal (Subscribed lane)) other)) (sym e.0)
-          (if_some was (λ x same own. opening_stays journal (Subscribed lane) other x refl own) its)
+          subst (λ t. IfSome (cond t (Some one) was) (IsItsOpening gone (with_call journal (Subscribed lane)) other)) (sym e.0)
+          (if_some was (λ x same own. opening_stays gone journal (Subscribed lane) other x refl own) its)
     ]
 
 some_true : {A : Type 0} (o : Option A) → IsSome o → is_some o ≡ true
@@ -87,11 +85,11 @@ some_true None h = h
 some_true (Some x) h = refl
 
 pub sound_subscribed : (a b : Pages) (lane : ℕ) (one : OpenLane) → AgreesWithJournal a → a.closed ≡ false → IsLowestFree a.lanes lane
-    → journal_of b.journal ≡ with_call (journal_of a.journal) (Subscribed lane)
-    → one.at ≡ call_count (journal_of a.journal) → one.opening ≡ a.stored
+    → b.journal.journal ≡ with_call a.journal.journal (Subscribed lane)
+    → one.at ≡ call_count a.journal.journal → one.opening ≡ a.stored
     → b.stored ≡ a.stored → b.sent ≡ a.sent → b.lanes ≡ set a.lanes lane (Some one) → b.closed ≡ a.closed → b.posts ≡ a.posts
-    → deque_len b.journal.calls + 9 ≤ deque_capacity b.journal.calls → AgreesWithJournal b
-sound_subscribed a b lane one sound still low journal at opening store log lanes closed posts room =
+    → b.journal.gone ≡ a.journal.gone → 9 ≤ b.journal.room → AgreesWithJournal b
+sound_subscribed a b lane one sound still low journal at opening store log lanes closed posts gone room =
     let within : lane < length a.lanes = omega (arith, low.within, sound.eight) in
     let eight : length b.lanes ≡ length a.lanes = ap length lanes ∙ length-set a.lanes lane (Some one) in
     let set_at : (other : ℕ) → lane_at b.lanes other ≡ cond (nat_eq lane other) (Some one) (lane_at a.lanes other) =
@@ -106,13 +104,14 @@ sound_subscribed a b lane one sound still low journal at opening store log lanes
     )
     (record {
       journal = journal;
-      stored = store ∙ (sound.kept.stored ∙ ap stored (sym (append-nil (updates (journal_of a.journal)))));
+      gone = gone;
+      stored = store ∙ (sound.kept.stored ∙ ap stored (sym (append-nil (updates a.journal.journal))));
       log = log ∙ sym (append-nil a.sent);
       closed = closed ∙ sym (or_false a.closed);
       eight = eight;
       lanes = λ other h. ap is_some (set_at other) ∙ opened_flag (nat_eq lane other) one (lane_at a.lanes other);
-      openings = λ other. subst (λ o. IfSome o (IsItsOpening (with_call (journal_of a.journal) (Subscribed lane)) other)) (sym (set_at other))
-          (opening_begins (journal_of a.journal) lane other one (lane_at a.lanes other) at (opening ∙ sound.kept.stored) (sound.openings other));
+      openings = λ other. subst (λ o. IfSome o (IsItsOpening a.journal.gone (with_call a.journal.journal (Subscribed lane)) other)) (sym (set_at other))
+          (opening_begins a.journal.gone a.journal.journal lane other one (lane_at a.lanes other) at (opening ∙ sound.kept.stored) (sound.openings other));
       posts = omega (arith, posts);
       limits = limits_same a b sound log;
       room = enough b (eight ∙ sound.eight) room;
@@ -120,48 +119,49 @@ sound_subscribed a b lane one sound still low journal at opening store log lanes
 
 -- ---- a lane is left
 
-flag_of : (a : Pages) (lane at : ℕ) → AgreesWithJournal a → IsOpenSubscription (journal_of a.journal) lane at → is_some (lane_at a.lanes lane) ≡ true
-flag_of a lane at sound of = sound.lanes lane (lane_low (journal_of a.journal) lane at sound.kept.legal of) ∙ is_still_open (journal_of a.journal) lane at of
+flag_of : (a : Pages) (lane at : ℕ) → AgreesWithJournal a → IsOpenSubscription a.journal.journal lane at → is_some (lane_at a.lanes lane) ≡ true
+flag_of a lane at sound of = sound.lanes lane (lane_low a.journal.journal lane at sound.kept.legal of) ∙ is_still_open a.journal.journal lane at of
 
-pub room_to_leave : (a : Pages) (lane at : ℕ) → AgreesWithJournal a → IsOpenSubscription (journal_of a.journal) lane at → deque_len a.journal.calls < deque_capacity a.journal.calls
+pub room_to_leave : (a : Pages) (lane at : ℕ) → AgreesWithJournal a → IsOpenSubscription a.journal.journal lane at → 0 < a.journal.room
 room_to_leave a lane at sound of =
-    let low = lane_low (journal_of a.journal) lane at sound.kept.legal of in
+    let low = lane_low a.journal.journal lane at sound.kept.legal of in
     let within : lane < length a.lanes = omega (arith, low, sound.eight) in
     let e : open_count (set a.lanes lane None) + 1 ≡ open_count a.lanes = open_count_cleared a.lanes lane within (flag_of a lane at sound of) in
     omega (arith, sound.room)
 
-opening_left : (journal : JournalView) (lane other : ℕ) (was : Option OpenLane) → IfSome was (IsItsOpening journal other) → IfSome (cond (nat_eq lane other) None was) (IsItsOpening (with_call journal (Left lane)) other)
-opening_left journal lane other was its =
+opening_left : (gone : ℕ) (journal : JournalView) (lane other : ℕ) (was : Option OpenLane) → IfSome was (IsItsOpening gone journal other) → IfSome (cond (nat_eq lane other) None was) (IsItsOpening gone (with_call journal (Left lane)) other)
+opening_left gone journal lane other was its =
     elim (eqb_tells lane other) [
-      | inl e ↦ subst (λ t. IfSome (cond t None was) (IsItsOpening (with_call journal (Left lane)) other)) (sym e.0) tt
+      | inl e ↦ subst (λ t. IfSome (cond t None was) (IsItsOpening gone (with_call journal (Left lane)) other)) (sym e.0) tt
       | inr e ↦
-          subst (λ t. IfSome (cond t None was) (IsItsOpening (with_call journal (Left lane)) other)) (sym e.0)
-          (if_some was (λ x same own. opening_stays journal (Left lane) other x (ap (λ t. cond t false true) e.0) own) its)
+          subst (λ t. IfSome (cond t None was) (IsItsOpening gone (with_call journal (Left lane)) other)) (sym e.0)
+          (if_some was (λ x same own. opening_stays gone journal (Left lane) other x (ap (λ t. cond t false true) e.0) own) its)
     ]
 
-pub sound_left : (a b : Pages) (lane at : ℕ) → AgreesWithJournal a → IsOpenSubscription (journal_of a.journal) lane at
-    → journal_of b.journal ≡ with_call (journal_of a.journal) (Left lane)
+pub sound_left : (a b : Pages) (lane at : ℕ) → AgreesWithJournal a → IsOpenSubscription a.journal.journal lane at
+    → b.journal.journal ≡ with_call a.journal.journal (Left lane)
     → b.stored ≡ a.stored → b.sent ≡ a.sent → b.lanes ≡ set a.lanes lane None → b.closed ≡ a.closed → b.posts ≡ a.posts
-    → (deque_len b.journal.calls ≡ deque_len a.journal.calls + 1) × (deque_capacity a.journal.calls ≤ deque_capacity b.journal.calls) → AgreesWithJournal b
-sound_left a b lane at sound of journal store log lanes closed posts room =
-    let low = lane_low (journal_of a.journal) lane at sound.kept.legal of in
+    → b.journal.gone ≡ a.journal.gone → a.journal.room ≤ b.journal.room + 1 → AgreesWithJournal b
+sound_left a b lane at sound of journal store log lanes closed posts gone room =
+    let low = lane_low a.journal.journal lane at sound.kept.legal of in
     let within : lane < length a.lanes = omega (arith, low, sound.eight) in
     let eight : length b.lanes ≡ length a.lanes = ap length lanes ∙ length-set a.lanes lane None in
     let fewer : open_count b.lanes + 1 ≡ open_count a.lanes = ap (λ lanes. open_count lanes + 1) lanes ∙ open_count_cleared a.lanes lane within (flag_of a lane at sound of) in
     let same : cond {A = ℕ} b.closed 0 1 ≡ cond {A = ℕ} a.closed 0 1 = ap (λ (b : Bool). cond {A = ℕ} b 0 1) closed in
     let set_at : (other : ℕ) → lane_at b.lanes other ≡ cond (nat_eq lane other) None (lane_at a.lanes other) =
     λ other. ap (λ lanes. lane_at lanes other) lanes ∙ lane_set a.lanes lane other None within in
-    sound_grown a b (Left lane) sound (is_still_open (journal_of a.journal) lane at of)
+    sound_grown a b (Left lane) sound (is_still_open a.journal.journal lane at of)
     (record {
       journal = journal;
-      stored = store ∙ (sound.kept.stored ∙ ap stored (sym (append-nil (updates (journal_of a.journal)))));
+      gone = gone;
+      stored = store ∙ (sound.kept.stored ∙ ap stored (sym (append-nil (updates a.journal.journal))));
       log = log ∙ sym (append-nil a.sent);
       closed = closed ∙ sym (or_false a.closed);
       eight = eight;
       lanes = λ other h. ap is_some (set_at other) ∙ left_flag (nat_eq lane other) (lane_at a.lanes other);
-      openings = λ other. subst (λ o. IfSome o (IsItsOpening (with_call (journal_of a.journal) (Left lane)) other)) (sym (set_at other))
-          (opening_left (journal_of a.journal) lane other (lane_at a.lanes other) (sound.openings other));
+      openings = λ other. subst (λ o. IfSome o (IsItsOpening a.journal.gone (with_call a.journal.journal (Left lane)) other)) (sym (set_at other))
+          (opening_left a.journal.gone a.journal.journal lane other (lane_at a.lanes other) (sound.openings other));
       posts = omega (arith, posts);
       limits = limits_same a b sound log;
-      room = omega (arith, sound.room, room.0, room.1);
+      room = omega (arith, sound.room, room);
     })

@@ -1,5 +1,5 @@
 -- How a filter judges some reports, one after another.
-use Rattle.std.proofs.Common.{◌≡◌, ℕ, ◌+◌, ◌≤◌, Bool, true, false, not, cond, List, [], ◌∷◌, ◌++◌, length, Option, None, Some, refl, sym, ap, subst, ◌∙◌, append-nil, arith, All}
+use Rattle.std.proofs.Common.{◌≡◌, ℕ, ◌+◌, ◌≤◌, Bool, true, false, not, cond, List, [], ◌∷◌, length, Option, None, Some, refl, sym, subst, arith, All}
 use Rattle.std.specs.Arc.{arc_value}
 use Rattle.std.specs.Fn.{Called}
 use Rattle.std.specs.Option.{is_none, is_some, option_copied, option_map}

@@ -1,9 +1,7 @@
 -- A book stays sound as a call comes.
 use Rattle.std.proofs.Common.{◌≡◌, ℕ, zero, suc, ◌+◌, ◌<◌, ◌≤◌, Bool, true, false, not, cond, ◌||◌, nat_eq, List, [], ◌∷◌, ◌++◌, length, drop, get_or, Option, None, Some, refl, sym, ap, subst, ◌∙◌, arith, filter, length-append}
 use Rattle.std.specs.Option.{is_some, IfSome}
-use Rattle.std.specs.VecDeque.{deque_len, deque_capacity}
 use Rattle.am_store.specs.declared.lanes.OpenLane.{OpenLane}
-use Rattle.am_store.specs.Journal.{journal_of}
 use Rattle.am_store.specs.Lanes.{lane_at, open_count, IsItsOpening}
 use Rattle.std.proofs.lemmas.List.{append-nil}
 use Rattle.std.proofs.lemmas.List.Elements.{All-append}
@@ -25,21 +23,22 @@ use Rattle.am_store.proofs.Journals.{drop_front, updates_last, broadcast_last, p
 use Rattle.am_store.proofs.Opens.{until_stays, open_stays}
 
 pub record Grows (a b : Pages) (c : Call) : Type 0 where
-  pub journal : journal_of b.journal ≡ with_call (journal_of a.journal) c
-  pub stored : b.stored ≡ stored (updates (journal_of a.journal) ++ updates_of c)
-  pub log : b.sent ≡ a.sent ++ batches_of (updates (journal_of a.journal)) c
+  pub journal : b.journal.journal ≡ with_call a.journal.journal c
+  pub gone : b.journal.gone ≡ a.journal.gone
+  pub stored : b.stored ≡ stored (updates a.journal.journal ++ updates_of c)
+  pub log : b.sent ≡ a.sent ++ batches_of (updates a.journal.journal) c
   pub closed : b.closed ≡ (a.closed || closes c)
   pub eight : length b.lanes ≡ length a.lanes
   pub lanes : (lane : ℕ) → lane < 8 → is_some (lane_at b.lanes lane) ≡ open_after lane (is_some (lane_at a.lanes lane)) c
-  pub openings : (lane : ℕ) → IfSome (lane_at b.lanes lane) (IsItsOpening (with_call (journal_of a.journal) c) lane)
+  pub openings : (lane : ℕ) → IfSome (lane_at b.lanes lane) (IsItsOpening a.journal.gone (with_call a.journal.journal c) lane)
   pub posts : b.posts ≡ a.posts + count_by is_post (c ∷ [])
   pub limits : IsWithinLogLimits b.sent
-  pub room : deque_len b.journal.calls + open_count b.lanes + cond b.closed 0 1 ≤ deque_capacity b.journal.calls
+  pub room : open_count b.lanes + cond b.closed 0 1 ≤ b.journal.room
 
-follows_grown : (a b : Pages) (c : Call) → AgreesWithJournal a → MayFollow (journal_of a.journal) c → Grows a b c
-    → FollowsJournal (record { stored = b.stored; journal = with_call (journal_of a.journal) c; log = b.sent })
+follows_grown : (a b : Pages) (c : Call) → AgreesWithJournal a → MayFollow a.journal.journal c → Grows a b c
+    → FollowsJournal (record { stored = b.stored; journal = with_call a.journal.journal c; log = b.sent })
 follows_grown a b c sound may grows =
-    let journal = journal_of a.journal in
+    let journal = a.journal.journal in
     let sent = batches_of (updates journal) c in
     record {
       stored = grows.stored ∙ sym (ap stored (updates_last journal c));
@@ -51,28 +50,18 @@ follows_grown a b c sound may grows =
       legal = legal_last journal c sound.kept.legal may;
     }
 
-pub sound_grown : (a b : Pages) (c : Call) → AgreesWithJournal a → MayFollow (journal_of a.journal) c → Grows a b c → AgreesWithJournal b
+pub sound_grown : (a b : Pages) (c : Call) → AgreesWithJournal a → MayFollow a.journal.journal c → Grows a b c → AgreesWithJournal b
 sound_grown a b c sound may grows =
-    let journal = journal_of a.journal in
-    let places : b.journal.places ≡ a.journal.places = ap (λ (j : JournalView). j.places) grows.journal in
-    let bits : b.journal.lanes ≡ a.journal.lanes = ap (λ (j : JournalView). j.lanes) grows.journal in
-    let posts : b.journal.posts ≡ a.journal.posts = ap (λ (j : JournalView). j.posts) grows.journal in
-    let lefts : b.journal.lefts ≡ a.journal.lefts = ap (λ (j : JournalView). j.lefts) grows.journal in
-    let before : b.journal.before ≡ a.journal.before = ap (λ (j : JournalView). j.before) grows.journal in
+    let journal = a.journal.journal in
     record {
       kept = subst (λ j. FollowsJournal (record { stored = b.stored; journal = j; log = b.sent })) (sym grows.journal) (follows_grown a b c sound may grows);
       eight = grows.eight ∙ sound.eight;
       closed = grows.closed ∙ (ap (λ b. b || closes c) sound.closed ∙ sym (ap is_closed grows.journal ∙ closed_last journal c));
       lanes = λ lane h. grows.lanes lane h ∙ (ap (λ was. open_after lane was c) (sound.lanes lane h) ∙ sym (ap (λ j. is_open j lane) grows.journal ∙ open_last journal c lane));
-      openings = λ lane. subst (λ j. IfSome (lane_at b.lanes lane) (IsItsOpening j lane)) (sym grows.journal) (grows.openings lane);
+      openings = λ lane.
+          subst (λ j. IfSome (lane_at b.lanes lane) (IsItsOpening b.journal.gone j lane)) (sym grows.journal)
+          (subst (λ n. IfSome (lane_at b.lanes lane) (IsItsOpening n (with_call a.journal.journal c) lane)) (sym grows.gone) (grows.openings lane));
       posts = grows.posts ∙ (ap (λ n. n + count_by is_post (c ∷ [])) sound.posts ∙ sym (ap posts_of grows.journal ∙ posts_last journal c));
-      dropped = record {
-        places = omega (arith, places, posts, sound.dropped.places);
-        posts = omega (arith, posts, before, sound.dropped.posts);
-        lefts = omega (arith, lefts, before, sound.dropped.lefts);
-        before = omega (arith, before, sound.dropped.before);
-        lanes = omega (arith, bits, sound.dropped.lanes);
-      };
       limits = grows.limits;
       room = grows.room;
     }
@@ -83,17 +72,17 @@ pub if_some : {A : Type 0} {P Q : A → Type 0} (o : Option A) → ((x : A) → 
 if_some None f p = tt
 if_some (Some x) f p = f x refl p
 
-pub opening_stays : (journal : JournalView) (c : Call) (lane : ℕ) (one : OpenLane) → open_after lane true c ≡ true → IsItsOpening journal lane one → IsItsOpening (with_call journal c) lane one
-opening_stays journal c lane one goes its = record {
+pub opening_stays : (gone : ℕ) (journal : JournalView) (c : Call) (lane : ℕ) (one : OpenLane) → open_after lane true c ≡ true → IsItsOpening gone journal lane one → IsItsOpening gone (with_call journal c) lane one
+opening_stays gone journal c lane one goes its = record {
   given = open_stays journal c lane one.at its.given goes;
-  opening = its.opening ∙ ap (λ j. stored (updates j)) (sym (until_stays journal c lane one.at its.given));
+  opening = λ late. its.opening late ∙ ap (λ j. stored (updates j)) (sym (until_stays journal c lane one.at its.given));
 }
 
 pub openings_stay : (a b : Pages) (c : Call) → AgreesWithJournal a → ((lane : ℕ) → open_after lane true c ≡ true) → b.lanes ≡ a.lanes
-    → (lane : ℕ) → IfSome (lane_at b.lanes lane) (IsItsOpening (with_call (journal_of a.journal) c) lane)
+    → (lane : ℕ) → IfSome (lane_at b.lanes lane) (IsItsOpening a.journal.gone (with_call a.journal.journal c) lane)
 openings_stay a b c sound goes lanes lane =
-    subst (λ lanes. IfSome (lane_at lanes lane) (IsItsOpening (with_call (journal_of a.journal) c) lane)) (sym lanes)
-    (if_some (lane_at a.lanes lane) (λ one e its. opening_stays (journal_of a.journal) c lane one (goes lane) its) (sound.openings lane))
+    subst (λ lanes. IfSome (lane_at lanes lane) (IsItsOpening a.journal.gone (with_call a.journal.journal c) lane)) (sym lanes)
+    (if_some (lane_at a.lanes lane) (λ one e its. opening_stays a.journal.gone a.journal.journal c lane one (goes lane) its) (sound.openings lane))
 
 pub or_false : (b : Bool) → (b || false) ≡ b
 or_false true = refl
@@ -116,8 +105,8 @@ at_most_one : (b : Bool) → cond b 0 1 ≤ 1
 at_most_one true = omega arith
 at_most_one false = omega arith
 
-pub enough : (b : Pages) → length b.lanes ≡ 8 → deque_len b.journal.calls + 9 ≤ deque_capacity b.journal.calls
-    → deque_len b.journal.calls + open_count b.lanes + cond b.closed 0 1 ≤ deque_capacity b.journal.calls
+pub enough : (b : Pages) → length b.lanes ≡ 8 → 9 ≤ b.journal.room
+    → open_count b.lanes + cond b.closed 0 1 ≤ b.journal.room
 enough b eight room =
     let x : open_count b.lanes ≤ length b.lanes = few b.lanes in
     let y : cond b.closed 0 1 ≤ 1 = at_most_one b.closed in
@@ -146,22 +135,23 @@ limits_same a b sound log = subst IsWithinLogLimits (sym log) sound.limits
 -- ---- a post
 
 pub sound_posted : (a b : Pages) (now : ℕ) (news batch : List Alert) → AgreesWithJournal a → a.closed ≡ false
-    → journal_of b.journal ≡ with_call (journal_of a.journal) (Posted now news)
+    → b.journal.journal ≡ with_call a.journal.journal (Posted now news)
     → b.stored ≡ with_alerts batch a.stored
     → b.sent ≡ cond (nat_eq (length batch) 0) a.sent (a.sent ++ batch ∷ [])
     → batch ≡ batch_by_list now news a.stored
     → length batch ≡ length news → length news ≤ MAX_ALERTS → (0 < length news → length a.sent < most_batches)
-    → b.closed ≡ a.closed → b.lanes ≡ a.lanes → b.posts ≡ a.posts + 1 → deque_len b.journal.calls + 9 ≤ deque_capacity b.journal.calls → AgreesWithJournal b
-sound_posted a b now news batch sound still journal store log sent long few fits closed lanes posts room =
-    let same = batch_of_post (updates (journal_of a.journal)) now news ∙ ap (batch_by_list now news) (sym sound.kept.stored) in
+    → b.closed ≡ a.closed → b.lanes ≡ a.lanes → b.posts ≡ a.posts + 1 → b.journal.gone ≡ a.journal.gone → 9 ≤ b.journal.room → AgreesWithJournal b
+sound_posted a b now news batch sound still journal store log sent long few fits closed lanes posts gone room =
+    let same = batch_of_post (updates a.journal.journal) now news ∙ ap (batch_by_list now news) (sym sound.kept.stored) in
     let short : length batch ≤ MAX_ALERTS = omega arith in
     let below : 0 < length batch → length a.sent < most_batches = λ h. fits (omega arith) in
     sound_grown a b (Posted now news) sound (sym sound.closed ∙ still) (record {
       journal = journal;
-      stored = store ∙ (ap (λ batch. with_alerts batch a.stored) sent ∙ sym (stored_post (updates (journal_of a.journal)) now news ∙ ap (λ olds. with_alerts (batch_by_list now news olds) olds) (sym sound.kept.stored)));
+      gone = gone;
+      stored = store ∙ (ap (λ batch. with_alerts batch a.stored) sent ∙ sym (stored_post (updates a.journal.journal) now news ∙ ap (λ olds. with_alerts (batch_by_list now news olds) olds) (sym sound.kept.stored)));
       log = log ∙ (ap (λ n. cond (nat_eq n 0) a.sent (a.sent ++ batch ∷ [])) long
           ∙ (cond_append (nat_eq (length news) 0) a.sent batch
-          ∙ ap (λ sent. a.sent ++ sent) (ap (λ x. cond (nat_eq (length news) 0) [] (x ∷ [])) (sent ∙ sym same) ∙ sym (batches_posted (updates (journal_of a.journal)) now news))));
+          ∙ ap (λ sent. a.sent ++ sent) (ap (λ x. cond (nat_eq (length news) 0) [] (x ∷ [])) (sent ∙ sym same) ∙ sym (batches_posted (updates a.journal.journal) now news))));
       closed = closed ∙ sym (or_false a.closed);
       eight = ap length lanes;
       lanes = λ lane h. ap (λ lanes. is_some (lane_at lanes lane)) lanes;
@@ -174,13 +164,14 @@ sound_posted a b now news batch sound still journal store log sent long few fits
 -- ---- a collection
 
 pub sound_collected : (a b : Pages) (now : ℕ) → AgreesWithJournal a
-    → journal_of b.journal ≡ with_call (journal_of a.journal) (Collected now)
+    → b.journal.journal ≡ with_call a.journal.journal (Collected now)
     → b.stored ≡ filter (λ alert. not (is_resolved_at now alert)) a.stored
-    → b.sent ≡ a.sent → b.closed ≡ a.closed → b.lanes ≡ a.lanes → b.posts ≡ a.posts → deque_len b.journal.calls + 9 ≤ deque_capacity b.journal.calls → AgreesWithJournal b
-sound_collected a b now sound journal store log closed lanes posts room =
+    → b.sent ≡ a.sent → b.closed ≡ a.closed → b.lanes ≡ a.lanes → b.posts ≡ a.posts → b.journal.gone ≡ a.journal.gone → 9 ≤ b.journal.room → AgreesWithJournal b
+sound_collected a b now sound journal store log closed lanes posts gone room =
     sound_grown a b (Collected now) sound tt (record {
       journal = journal;
-      stored = store ∙ sym (stored_collect (updates (journal_of a.journal)) now ∙ ap (filter (λ alert. not (is_resolved_at now alert))) (sym sound.kept.stored));
+      gone = gone;
+      stored = store ∙ sym (stored_collect (updates a.journal.journal) now ∙ ap (filter (λ alert. not (is_resolved_at now alert))) (sym sound.kept.stored));
       log = log ∙ sym (append-nil a.sent);
       closed = closed ∙ sym (or_false a.closed);
       eight = ap length lanes;
@@ -197,8 +188,8 @@ or_true : (b : Bool) → (b || true) ≡ true
 or_true true = refl
 or_true false = refl
 
-closed_room : (a b : Pages) → deque_len a.journal.calls + open_count a.lanes + cond a.closed 0 1 ≤ deque_capacity a.journal.calls → a.closed ≡ false → b.closed ≡ true → b.lanes ≡ a.lanes
-    → (deque_len b.journal.calls ≡ deque_len a.journal.calls + 1) × (deque_capacity a.journal.calls ≤ deque_capacity b.journal.calls) → deque_len b.journal.calls + open_count b.lanes + cond b.closed 0 1 ≤ deque_capacity b.journal.calls
+closed_room : (a b : Pages) → open_count a.lanes + cond a.closed 0 1 ≤ a.journal.room → a.closed ≡ false → b.closed ≡ true → b.lanes ≡ a.lanes
+    → a.journal.room ≤ b.journal.room + 1 → open_count b.lanes + cond b.closed 0 1 ≤ b.journal.room
 closed_room a b old still closed lanes room =
     let x : cond {A = ℕ} a.closed 0 1 ≡ 1 = ap (λ (b : Bool). cond {A = ℕ} b 0 1) still in
     let y : cond {A = ℕ} b.closed 0 1 ≡ 0 = ap (λ (b : Bool). cond {A = ℕ} b 0 1) closed in
@@ -206,13 +197,14 @@ closed_room a b old still closed lanes room =
     omega arith
 
 pub sound_closed : (a b : Pages) → AgreesWithJournal a → a.closed ≡ false
-    → journal_of b.journal ≡ with_call (journal_of a.journal) Closed
+    → b.journal.journal ≡ with_call a.journal.journal Closed
     → b.stored ≡ a.stored → b.sent ≡ a.sent → b.lanes ≡ a.lanes → b.posts ≡ a.posts → b.closed ≡ true
-    → (deque_len b.journal.calls ≡ deque_len a.journal.calls + 1) × (deque_capacity a.journal.calls ≤ deque_capacity b.journal.calls) → AgreesWithJournal b
-sound_closed a b sound still journal store log lanes posts closed room =
+    → b.journal.gone ≡ a.journal.gone → a.journal.room ≤ b.journal.room + 1 → AgreesWithJournal b
+sound_closed a b sound still journal store log lanes posts closed gone room =
     sound_grown a b Closed sound (sym sound.closed ∙ still) (record {
       journal = journal;
-      stored = store ∙ (sound.kept.stored ∙ ap stored (sym (append-nil (updates (journal_of a.journal)))));
+      gone = gone;
+      stored = store ∙ (sound.kept.stored ∙ ap stored (sym (append-nil (updates a.journal.journal))));
       log = log ∙ sym (append-nil a.sent);
       closed = closed ∙ sym (or_true a.closed);
       eight = ap length lanes;

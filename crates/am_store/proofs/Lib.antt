@@ -9,8 +9,11 @@ pub mod Flags
 pub mod Items
 pub mod Growing
 pub mod Entries
+pub mod Paging
 pub mod Sent
 pub mod LaneBits
 pub mod Dropping
 pub mod Trims
 pub mod Trimming
+pub mod Keeping
+pub mod KeptJournals

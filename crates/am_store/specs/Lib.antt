@@ -12,6 +12,8 @@ pub mod Journal
 pub mod Stored
 pub mod Broadcast
 pub mod Trims
+pub mod KeptJournals
+pub mod KeepingLaws
 pub mod AlertList
 pub mod Judging
 pub mod PlainBook

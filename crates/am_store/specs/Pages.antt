@@ -1,13 +1,11 @@
 -- What a Book keeps besides its log, and what always holds of it.
 use Rattle.std.specs.Prelude.{◌≡◌, ℕ, ◌<◌, ◌≤◌, ◌+◌, Bool, List, Option, if◌then◌else◌, length}
 use Rattle.std.specs.Option.{is_some, IfSome}
-use Rattle.std.specs.VecDeque.{deque_len, deque_capacity}
 use Rattle.am_alert.specs.declared.alert.Alert.{Alert}
-use Rattle.am_store.specs.declared.journal.Journal.{Journal}
 use Rattle.am_store.specs.declared.lanes.OpenLane.{OpenLane}
 use Rattle.am_store.specs.Journal.{is_closed, is_open, posts_of}
 use Rattle.am_store.specs.PlainBook.{PlainBook, FollowsJournal}
-use Rattle.am_store.specs.Journal.{journal_of, AreCounted}
+use Rattle.am_store.specs.KeptJournals.{KeptView}
 use Rattle.am_store.specs.Lanes.{lane_at, IsItsOpening, open_count}
 use Rattle.am_store.specs.LogLimits.{IsWithinLogLimits}
 
@@ -15,7 +13,7 @@ use Rattle.am_store.specs.LogLimits.{IsWithinLogLimits}
 -- what each lane has, and whether the log was ended
 pub record Pages : Type 0 where
   pub stored : List Alert
-  pub journal : Journal
+  pub journal : KeptView
   pub sent : List (List Alert)
   pub posts : ℕ
   pub lanes : List (Option OpenLane)
@@ -25,7 +23,7 @@ pub record Pages : Type 0 where
 abbrev pub book_of : Pages → PlainBook
 book_of pages = record {
   stored = pages.stored;
-  journal = journal_of pages.journal;
+  journal = pages.journal.journal;
   log = pages.sent;
 }
 
@@ -34,13 +32,11 @@ book_of pages = record {
 pub record AgreesWithJournal (pages : Pages) : Type 0 where
   pub kept : FollowsJournal (book_of pages)
   pub eight : length pages.lanes ≡ 8
-  pub closed : pages.closed ≡ is_closed (journal_of pages.journal)
+  pub closed : pages.closed ≡ is_closed pages.journal.journal
   pub lanes : (lane : ℕ) → lane < 8
-      → is_some (lane_at pages.lanes lane) ≡ is_open (journal_of pages.journal) lane
+      → is_some (lane_at pages.lanes lane) ≡ is_open pages.journal.journal lane
   pub openings : (lane : ℕ)
-      → IfSome (lane_at pages.lanes lane) (IsItsOpening (journal_of pages.journal) lane)
-  pub posts : pages.posts ≡ posts_of (journal_of pages.journal)
-  pub dropped : AreCounted pages.journal
+      → IfSome (lane_at pages.lanes lane) (IsItsOpening pages.journal.gone pages.journal.journal lane)
+  pub posts : pages.posts ≡ posts_of pages.journal.journal
   pub limits : IsWithinLogLimits pages.sent
-  pub room : deque_len pages.journal.calls + open_count pages.lanes
-      + (if pages.closed then 0 else 1) ≤ deque_capacity pages.journal.calls
+  pub room : open_count pages.lanes + (if pages.closed then 0 else 1) ≤ pages.journal.room

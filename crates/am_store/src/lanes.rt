@@ -1,7 +1,7 @@
 //! The lanes of subscriptions: which are open, since when, and which to give out next.
 
 ghost use Rattle.std.specs.Prelude.{◌≡◌, ◌<◌, None, IsSome, IfSome, IfNone, ℕ};
-ghost use Rattle.am_store.specs.Lanes.{lane_at, IsLowestFree, IsEarliest};
+ghost use Rattle.am_store.specs.Lanes.{all_subscribed_at, lane_at, IsLowestFree, IsEarliest};
 
 use crate::shared_alerts::StoredAlerts;
 
@@ -49,4 +49,17 @@ pub fn earliest(lanes: &Lanes) -> Option<&OpenLane>
         }
     }
     first
+}
+
+/// Each open lane lets go of its opening, and shares this list in its place. Were that shared 2^63 times already,
+/// the opening would stay.
+pub fn let_openings_go(lanes: &mut Lanes, others: &StoredAlerts)
+    ensures { all_subscribed_at lanes.new ≡ all_subscribed_at lanes.old }
+{
+    for lane in 0..LANES {
+        if let (Some(open), Ok(opening)) = (&lanes[lane], others.share()) {
+            let at = open.at;
+            lanes[lane] = Some(OpenLane { at, opening });
+        }
+    }
 }

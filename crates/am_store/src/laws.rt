@@ -3,6 +3,7 @@
 ghost use Rattle.am_store.specs.Laws.{BatchesAnswerPosts, LeavingEnds, OpenLanesAreOpen};
 ghost use Rattle.am_store.specs.Laws.{EndedOwesNoMore, StaysFront, StaysOpen};
 ghost use Rattle.am_store.specs.Laws.{StartsWithBase, StoredIsDistinct, StoredIsOfEach};
+ghost use Rattle.am_store.specs.KeepingLaws.{TrimmedBetween, TrimmedToSo};
 ghost use Rattle.am_store.specs.Laws.{OneTrim, TrimmedGivesTheSame, TrimmedGrows, TrimmedTwice};
 
 /// A subscription stays open as calls come, until its lane is left; what begins what is due to it
@@ -30,4 +31,11 @@ pub fn trimming_laws()
     ensures grows { TrimmedGrows }
     ensures twice { TrimmedTwice }
     ensures one { OneTrim }
+{}
+
+/// Of two trims of one journal the longer is one of what the shorter left. A journal of calls has the trim to
+/// any of them.
+pub fn keeping_laws()
+    ensures between { TrimmedBetween }
+    ensures any { TrimmedToSo }
 {}

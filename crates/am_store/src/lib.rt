@@ -23,14 +23,18 @@
 
 mod call;
 mod journal;
+mod kept_journal;
 mod lane_set;
 pub mod lanes;
 mod laws;
+mod past;
 mod shared_alerts;
 pub mod store;
 
 pub use call::Call;
 pub use journal::{Journal, MAX_BEFORE};
+pub use kept_journal::KeptJournal;
 pub use lane_set::LaneSet;
-pub use laws::{journal_laws, trimming_laws};
+pub use laws::{journal_laws, keeping_laws, trimming_laws};
+pub use past::Past;
 pub use shared_alerts::{SharedAlert, StoredAlerts};

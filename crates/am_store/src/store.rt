@@ -1,6 +1,6 @@
 //! The stored alerts, each under its label set, in the order in which the label sets began.
 
-ghost use Rattle.std.specs.Prelude.{◌≡◌, IfOk, filter, not, count_by};
+ghost use Rattle.std.specs.Prelude.{◌≡◌, IfOk, drop, filter, not, count_by, take};
 ghost use Rattle.std.specs.Arc.{arc_value};
 ghost use Rattle.std.specs.Option.{option_map};
 ghost use Rattle.am_alert.specs.Merging.{is_resolved_at};
@@ -31,6 +31,21 @@ pub fn share_all(alerts: &AlertMap) -> Result<StoredAlerts, AllocError>
         shared.push(Arc::try_clone(alert)?)?;
     }
     StoredAlerts::new(alloc, shared)
+}
+
+/// The alerts from an index on, in order, and at most so many. None is copied.
+pub fn share_page(alerts: &AlertMap, from: usize, most: usize) -> Result<StoredAlerts, AllocError>
+    ensures { IfOk result (λ page. page ≡ take most (drop from (stored_in alerts.now.entries))) }
+{
+    let alloc = *alerts.allocator();
+    let all = alerts.as_slice();
+    let (_, rest) = all.split_at(from.min(all.len()));
+    let (some, _) = rest.split_at(most.min(rest.len()));
+    let mut page = Vec::with_capacity(alloc, some.len())?;
+    for alert in some.values() {
+        page.push(Arc::try_clone(alert)?)?;
+    }
+    StoredAlerts::new(alloc, page)
 }
 
 /// The alert of a label set. It isn't copied: this takes no memory, and fails only if the alert has

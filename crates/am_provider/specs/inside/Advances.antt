@@ -1,7 +1,9 @@
 -- How a subscription moves on before its alert is lent.
-use Rattle.std.specs.Prelude.{◌≡◌, ℕ, ◌<◌, ◌+◌, ◌-◌, ◌^◌, ◌%◌, Bool, true, false, List, length, slice_get}
-use Rattle.std.specs.Prelude.{Some}
+use Rattle.std.specs.Prelude.{◌≡◌, ℕ, ◌<◌, ◌+◌, ◌-◌, ◌^◌, ◌%◌, Bool, true, false, List, [], length}
+use Rattle.std.specs.Prelude.{slice_get, Option, Some}
 use mathlib.Core.List.{IsPrefix}
+use Rattle.am_alert.specs.declared.alert.Alert.{Alert}
+use Rattle.am_cast.specs.Cursors.{shown_items}
 use Rattle.am_cast.specs.Lent.{IsItem, IsPending, IsClosed, IsCut, IsInHand}
 use Rattle.am_cast.specs.declared.lends.Moved.{Moved}
 use Rattle.am_cast.specs.declared.lends.Moved.TheVariants as moved
@@ -32,7 +34,7 @@ AdvancesPast noted new other = Unit {0}
 
 -- what was advanced can be lent
 abbrev pub CanShow : Advance → SubscriptionView → Type 0
-CanShow advance.Opened s = 0 < s.shown
+CanShow advance.Opened s = (0 < s.shown) × (shown_items s.cursor ≡ [])
 CanShow advance.Logged s = s.cursor.lane.held ≡ true
 CanShow other s = Unit {0}
 
@@ -44,6 +46,11 @@ IsShown s advance.Pending answer = answer ≡ step.Pending
 IsShown s advance.Closed answer = answer ≡ step.Closed
 IsShown s advance.Cut answer = answer ≡ step.Cut
 IsShown s other answer = ⊥
+
+-- what memory has of the opening after a move of the cursor: as before, unless the log showed an alert
+abbrev pub LetsGo : Moved → Option (List Alert) → Option (List Alert) → Type 0
+LetsGo moved.One was is = Unit {0}
+LetsGo other was is = is ≡ was
 
 -- a subscription's count and what it was told, after a move of its cursor
 abbrev pub Notes : Moved → ℕ → Bool → Advance → ℕ → Bool → Type 0

@@ -1,7 +1,7 @@
 -- How a subscription moves on before many alerts are lent.
-use Rattle.std.specs.Prelude.{◌≡◌, ℕ, ◌<◌, ◌≤◌, true, false, drop, length}
+use Rattle.std.specs.Prelude.{◌≡◌, ℕ, ◌<◌, ◌≤◌, true, false, [], drop, length}
 use Rattle.am_store.specs.Shared.{alerts_in}
-use Rattle.am_cast.specs.Cursors.{items_at}
+use Rattle.am_cast.specs.Cursors.{items_at, shown_items}
 use Rattle.am_cast.specs.Lent.{MovesSlice}
 use Rattle.am_cast.specs.declared.lends.Moved.TheVariants as moved
 use Rattle.am_provider.specs.declared.answers.Slice.{Slice}
@@ -31,7 +31,7 @@ AdvancesSlice old other from new = Advances old other new
 
 -- what was advanced can be lent
 abbrev pub CanShowFrom : Advance → ℕ → SubscriptionView → Type 0
-CanShowFrom advance.Opened from s = from ≤ length s.opening
+CanShowFrom advance.Opened from s = (from ≤ length s.opening) × (shown_items s.cursor ≡ [])
 CanShowFrom advance.Logged from s =
     (s.cursor.lane.held ≡ true) × (from ≤ length (items_at s.cursor.lane.front s.cursor.lane.passed))
 CanShowFrom other from s = Unit {0}

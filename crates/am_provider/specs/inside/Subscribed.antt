@@ -1,5 +1,5 @@
 -- What always holds of a subscription.
-use Rattle.std.specs.Prelude.{◌≡◌, ℕ, ◌≤◌, ◌<◌, ◌%◌, ◌^◌, true, false, [], Some, length}
+use Rattle.std.specs.Prelude.{◌≡◌, ℕ, ◌≤◌, ◌<◌, ◌%◌, ◌^◌, true, false, List, [], Option, Some, length}
 use Rattle.am_alert.specs.declared.alert.Alert.{Alert}
 use Rattle.am_store.specs.declared.call.Call.{Call}
 use Rattle.am_store.specs.declared.lanes.OpenLane.{OpenLane}
@@ -21,3 +21,10 @@ pub record IsSubscription (s : SubscriptionView) (count : ℕ) : Type 0 where
   pub note : s.cursor.lane.note ≡ Some (record { at = s.at; opening = s.opening })
   pub told : s.closed_told ≡ true → HasEnded s.cursor × (s.shown ≡ length s.opening)
   pub counted : count ≡ length (taken s) % 2 ^ 64
+
+-- memory has the opening, of that many alerts, at least until the cursor has shown one of the log
+pub record IsHeld (opening : List Alert) (cursor : CursorView Alert Call OpenLane)
+    (held : Option (List Alert)) (stored : ℕ) : Type 0 where
+  pub there : cast.shown_items cursor ≡ [] → held ≡ Some opening
+  pub counted : stored ≡ length opening
+  pub few : stored < 2 ^ 63

@@ -99,7 +99,8 @@ type Alerts struct {
 	cuts     prometheus.Counter
 	restarts prometheus.Counter
 
-	gate sync.RWMutex // puts share it, and a collection has it alone; with a callback so has a put
+	listing sync.RWMutex // who reads the store page by page shares it, and a collection has it alone
+	gate    sync.RWMutex // puts share it, and a collection has it alone; with a callback so has a put
 
 	closing chan struct{} // closed by Close
 	once    sync.Once
@@ -199,43 +200,33 @@ func (a *Alerts) Get(fingerprint model.Fingerprint) (*types.Alert, error) {
 	return alert, err
 }
 
-// GetPending returns an iterator over what is stored. If the program fails, one empty alert comes while Err says why:
-// Alertmanager's API looks for an error only when it gets an alert.
+// GetPending returns an iterator over what is stored. Puts go on while it is read, so each alert is as it was at its turn.
+// If the program fails, one empty alert comes while Err says why: Alertmanager's API looks for an error only when it gets an
+// alert.
 func (a *Alerts) GetPending() provider.AlertIterator {
-	alerts, err := a.current.Load().stored()
+	alerts, err := a.stored()
 	if err != nil {
 		alerts = []*types.Alert{{}}
 	}
 	return filled(alerts, err)
 }
 
-// collect removes what is resolved, and says so to the marker and the callback. What is stored is read just before, so
-// what of it is resolved is what goes.
+// stored reads the store page by page, while no collection comes between.
+func (a *Alerts) stored() ([]*types.Alert, error) {
+	a.listing.RLock()
+	defer a.listing.RUnlock()
+	return a.current.Load().stored()
+}
+
+// collect removes what is resolved, and says so to the marker and the callback.
 func (a *Alerts) collect(now time.Time) error {
+	a.listing.Lock()
+	defer a.listing.Unlock()
 	a.gate.Lock()
 	defer a.gate.Unlock()
 	h := a.current.Load()
-	calls := h.send(false, getStored, collectLine(now))
-	if err := calls[1].wait(); err != nil {
-		return err
-	}
-	alerts, err := alertsIn(calls[0])
-	if err != nil {
-		return err
-	}
-	collected, err := answersOf(calls[1])
-	if err != nil {
-		return err
-	}
-	if len(collected) != 1 || collected[0].word != "collect" {
-		return fmt.Errorf("sinnoraku: the collection was answered by %q", calls[1].answers)
-	}
-	gone := 0
-	for _, alert := range alerts {
-		if !alert.ResolvedAt(now) {
-			continue
-		}
-		gone++
+	taken, err := h.takeResolved(now)
+	for _, alert := range taken {
 		fingerprint := alert.Fingerprint()
 		h.known.remove(fingerprint)
 		a.marker.Delete(fingerprint)
@@ -243,8 +234,5 @@ func (a *Alerts) collect(now time.Time) error {
 			a.callback.PostDelete(alert)
 		}
 	}
-	if gone != collected[0].removed {
-		return fmt.Errorf("sinnoraku: %d alerts were removed where %d were resolved", collected[0].removed, gone)
-	}
-	return nil
+	return err
 }

@@ -78,6 +78,7 @@ type answer struct {
 	lane     int
 	opening  int
 	removed  int
+	stored   int // of a page: how many alerts are stored in all
 	hasPlace bool
 	alert    *types.Alert
 }
@@ -116,6 +117,8 @@ func parseAnswer(line []byte) (answer, error) {
 			found.opening = s.number()
 		case "removed":
 			found.removed = s.number()
+		case "stored":
+			found.stored = s.number()
 		case "place":
 			if found.hasPlace = !s.has("null"); found.hasPlace {
 				s.number()

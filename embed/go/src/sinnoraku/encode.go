@@ -35,8 +35,12 @@ func getLine(labels string) []byte {
 	return []byte(`{"do":"get","labels":` + labels + "}\n")
 }
 
-func collectLine(now time.Time) []byte {
-	line := appendMoment([]byte(`{"do":"collect","at":`), now)
+func pageLine(from, most int) []byte {
+	return []byte(`{"do":"stored","from":` + strconv.Itoa(from) + `,"max":` + strconv.Itoa(most) + "}\n")
+}
+
+func takeLine(now time.Time) []byte {
+	line := appendMoment([]byte(`{"do":"take","at":`), now)
 	return append(line, "}\n"...)
 }
 

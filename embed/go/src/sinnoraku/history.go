@@ -90,8 +90,70 @@ func (h *history) get(labels string) (*types.Alert, error) {
 	return alerts[0], nil
 }
 
-// stored asks for all stored alerts.
-func (h *history) stored() ([]*types.Alert, error) { return alertsIn(h.send(false, getStored)[0]) }
+// How many alerts are asked for at once. Other lines come between two pages, so no put waits for a whole store.
+const pageLength = 500
+
+// stored asks for all stored alerts, page by page. Each is as it was when its page was read. New ones come at the end, so
+// none is missed while no collection comes.
+func (h *history) stored() (all []*types.Alert, _ error) {
+	for {
+		alerts, stored, err := h.page(len(all))
+		all = append(all, alerts...)
+		if err != nil || len(alerts) == 0 || len(all) >= stored {
+			return all, err
+		}
+	}
+}
+
+// page asks for the stored alerts from an index on, and how many are stored in all.
+func (h *history) page(from int) (alerts []*types.Alert, stored int, _ error) {
+	answers, err := answersFor(h.send(false, pageLine(from, pageLength))[0], "page")
+	if err != nil {
+		return nil, 0, err
+	}
+	return alertsOf(answers[1:]), answers[0].stored, nil
+}
+
+// takeResolved has what is resolved removed, and returns it.
+func (h *history) takeResolved(now time.Time) ([]*types.Alert, error) {
+	answers, err := answersFor(h.send(false, takeLine(now))[0], "take")
+	if err != nil {
+		return nil, err
+	}
+	taken := alertsOf(answers[1:])
+	if len(taken) != answers[0].removed {
+		return nil, fmt.Errorf("sinnoraku: %d alerts were removed, and %d named", answers[0].removed, len(taken))
+	}
+	return taken, nil
+}
+
+// answersFor waits for a call's answers, the first of which has this word.
+func answersFor(asked *call, word string) ([]answer, error) {
+	if err := asked.wait(); err != nil {
+		return nil, err
+	}
+	answers, err := answersOf(asked)
+	switch {
+	case err != nil:
+		return nil, err
+	case len(answers) > 0 && answers[0].word == word:
+		return answers, nil
+	case len(answers) > 0 && answers[0].word == "refused":
+		return nil, errors.New("sinnoraku: refused: " + answers[0].fault)
+	}
+	return nil, fmt.Errorf("sinnoraku: no %s was answered, but %.200q", word, asked.answers)
+}
+
+// alertsOf are the alerts of answers.
+func alertsOf(answers []answer) []*types.Alert {
+	alerts := make([]*types.Alert, 0, len(answers))
+	for _, it := range answers {
+		if it.alert != nil {
+			alerts = append(alerts, it.alert)
+		}
+	}
+	return alerts
+}
 
 // alertsIn waits for a call's answers and reads the alerts in them. If they end with a cut, that is errCut.
 func alertsIn(asked *call) ([]*types.Alert, error) {

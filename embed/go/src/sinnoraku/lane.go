@@ -11,11 +11,11 @@ import (
 )
 
 const (
-	// How many alerts one line reads at most, of what is stored and of what comes.
-	mostOfOpening = 65_536
-	mostRead      = 1024
-	// So many reads of what is stored also reach the end of a full log, whose places hold 1,024 alerts each.
-	readsOfFullLog = 256 * mostAlerts / mostOfOpening
+	// How many alerts one line reads, and how many it can read at most.
+	mostRead    = 1024
+	longestRead = 65_536
+	// So many of the longest reads reach the end of a full log, whose places hold 1,024 alerts each.
+	readsOfFullLog = 256 * mostAlerts / longestRead
 	// How many alerts wait for a reader before no more are read ahead for it.
 	mostWaiting = 16 * mostRead
 )
@@ -40,7 +40,7 @@ type lane struct {
 // A member is one who has a lane or shares it.
 type member struct {
 	lane    *lane
-	opening []*call       // answers with what was stored when it came; it takes them first
+	opening chan *call    // answers with what was stored when it came, closed after the last; it takes them first
 	filled  chan struct{} // has a token if something came since
 
 	mutex   sync.Mutex
@@ -48,26 +48,37 @@ type member struct {
 	err     error // why no more come
 }
 
-// openLane subscribes, for a first member. What is stored is read before another line can come, since the log goes on
-// meanwhile; more than one read holds is read before the first one is answered.
+// openLane subscribes, for a first member. The lane stays locked until what is stored has been read: so nothing else of it
+// is read before, and a put that finds too much of the log unread waits for that.
 func (r *readers) openLane(reader string, isShared bool) (*lane, *member, error) {
 	l := r.newLane(reader, isShared)
 	l.mutex.Lock()
-	defer l.mutex.Unlock()
-	calls := r.program.send(false, subscribeLine(l.name), readLineOf(l.name, mostOfOpening))
+	calls := r.program.send(false, subscribeLine(l.name), readLineOf(l.name, mostRead))
 	stored, err := l.begin(calls[0])
 	if err != nil {
+		l.mutex.Unlock()
 		close(l.left)
 		r.forget(l)
 		return nil, nil, err
 	}
-	opening := calls[1:]
-	for left := stored - mostOfOpening; left > 0; left -= mostOfOpening {
-		opening = append(opening, r.program.send(false, readLineOf(l.name, mostOfOpening))...)
-	}
-	first := l.add(opening)
-	go l.run()
+	first := l.add(make(chan *call, stored/mostRead+1))
+	go func() {
+		l.readOpening(first, calls[1], stored)
+		l.mutex.Unlock()
+		l.run()
+	}()
 	return l, first, nil
+}
+
+// readOpening reads what is stored in pages, of which the first has been asked for, so that puts come between.
+func (l *lane) readOpening(first *member, page *call, stored int) {
+	defer close(first.opening)
+	first.opening <- page
+	for left := stored - mostRead; left > 0 && page.wait() == nil; left -= mostRead {
+		page = l.readers.program.send(false, readLineOf(l.name, mostRead))[0]
+		first.opening <- page
+	}
+	poke(l.woken)
 }
 
 func (r *readers) newLane(reader string, isShared bool) *lane {
@@ -107,7 +118,7 @@ func (l *lane) begin(asked *call) (stored int, _ error) {
 }
 
 // add adds a member that has this opening.
-func (l *lane) add(opening []*call) *member {
+func (l *lane) add(opening chan *call) *member {
 	it := &member{lane: l, opening: opening, filled: make(chan struct{}, 1)}
 	l.members[it] = struct{}{}
 	return it
@@ -123,7 +134,7 @@ func (l *lane) join() (*member, error) {
 	}
 	var lines [][]byte
 	for len(lines) < readsOfFullLog {
-		lines = append(lines, readLineOf(l.name, mostOfOpening))
+		lines = append(lines, readLineOf(l.name, longestRead))
 	}
 	calls := l.readers.program.send(false, append(lines, getStored)...)
 	for _, read := range calls[:readsOfFullLog] {
@@ -132,7 +143,10 @@ func (l *lane) join() (*member, error) {
 			return nil, err
 		}
 	}
-	return l.add(calls[readsOfFullLog:]), nil
+	opening := make(chan *call, 1)
+	opening <- calls[readsOfFullLog]
+	close(opening)
+	return l.add(opening), nil
 }
 
 func (l *lane) isLeft() bool {
@@ -261,10 +275,13 @@ func (m *member) end(err error) {
 
 // next waits until there are alerts, or until the iterator is closed. With an error no more come.
 func (m *member) next(closed <-chan struct{}) ([]*types.Alert, error) {
-	if len(m.opening) > 0 {
-		first := m.opening[0]
-		m.opening = m.opening[1:]
-		return alertsIn(first)
+	select {
+	case page, is := <-m.opening:
+		if is {
+			return alertsIn(page)
+		}
+	case <-closed:
+		return nil, errClosed
 	}
 	select {
 	case <-m.filled:

@@ -30,7 +30,7 @@ func (c stateCollector) Collect(to chan<- prometheus.Metric) {
 
 // countStates counts the stored alerts that aren't resolved.
 func (a *Alerts) countStates() (map[types.AlertState]int, error) {
-	alerts, err := a.current.Load().stored()
+	alerts, err := a.stored()
 	counts := map[types.AlertState]int{}
 	for _, it := range alerts {
 		if !it.Resolved() {

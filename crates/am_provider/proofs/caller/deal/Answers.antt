@@ -1,4 +1,4 @@
-use Rattle.std.proofs.Common.{◌≡◌, ◌∙◌, ℕ, ◌+◌, ◌-◌, ◌∷◌, [], length, sym, ap, rules, arith}
+use Rattle.std.proofs.Common.{◌≡◌, ◌∙◌, ◌+◌, ◌-◌, ◌∷◌, [], length, sym, ap, rules, arith}
 use Rattle.std.specs.Vec.Iter.{into_iter_items}
 use Rattle.am_history.specs.Fronts.{FrontView}
 use Rattle.am_provider.specs.Callers.{IsNewCaller}

@@ -1,4 +1,4 @@
-use Rattle.std.proofs.Common.{◌≡◌, ◌∙◌, ◌++◌, ◌∷◌, [], List, ℕ, length, map, true, refl, sym, ap, subst, arith}
+use Rattle.std.proofs.Common.{◌≡◌, ◌∙◌, ◌++◌, ◌∷◌, [], ℕ, length, map, Result, Ok, Err, OnOk, OnErr, refl, sym, ap, subst}
 use Rattle.am_alert.specs.declared.alert.Alert.{Alert}
 use Rattle.am_cast.specs.Posters.{PassView}
 use Rattle.am_history.specs.Fronts.{FrontView}
@@ -27,6 +27,15 @@ same_setting places other policy another timeout given p q r =
 fresh : (session : SessionView) (pass : PassView Alert Call) (front : FrontView EntryView) → session ≡ record { pass = pass; front = front; opened = [] } → IsNewCaller pass front → session ≡ new_session front.seat
 fresh session pass front is new = is ∙ (ap (λ (p : PassView Alert Call). record { pass = p; front = front; opened = [] }) new.0 ∙ ap (λ (f : FrontView EntryView). record { pass = record { noted = []; own = [] }; front = f; opened = [] }) new.1)
 
+-- what holds of a result that is known
+when_ok : {T E P : Type 0} (r : Result T E) (x : T) → r ≡ Ok x → OnOk r P → P
+when_ok (Ok y) x is holds = holds
+when_ok (Err e) x is holds = absurd (cc)
+
+when_err : {T E P : Type 0} (r : Result T E) (e : E) → r ≡ Err e → OnErr r P → P
+when_err (Ok x) e is holds = absurd (cc)
+when_err (Err d) e is holds = holds
+
 pub returns-in-Ok-served : goal.returns-in-Ok-served
 returns-in-Ok-served g c =
     let left = c.pop.new.self.items in
@@ -35,20 +44,22 @@ returns-in-Ok-served g c =
     let count : length c.in-Ok.callers.items ≡ 1 = c.in-Ok.ensures.callers.0 ∙ c.requires.posters.0 in
     let none : left ≡ [] = none_before left caller c.in-Ok.callers.items last count in
     let new : IsNewCaller caller.pass caller.front = last_holds (λ one. IsNewCaller one.pass one.front) left caller c.in-Ok.callers.items last none c.in-Ok.ensures.callers.1 in
-    let begun : c.begin-session.result ≡ new_session caller.front.seat = fresh c.begin-session.result caller.pass caller.front c.begin-session.ensures new in
+    let begin : SessionView = record { pass = caller.pass; front = caller.front; opened = [] } in
+    let begun : begin ≡ new_session caller.front.seat = fresh begin caller.pass caller.front refl new in
     let setting : Setting = setting_of c.args.arguments.places c.args.arguments.full c.args.config.now.resolve_timeout in
     let same : setting_of g.N.Recorded.places g.N.Recorded.policy c.in-Ok.provider.resolve_timeout ≡ setting =
     same_setting c.args.arguments.places g.N.Recorded.places c.args.arguments.full g.N.Recorded.policy c.args.config.now.resolve_timeout c.in-Ok.provider.resolve_timeout c.requires.limits.1 c.requires.limits.2 c.in-Ok.ensures.timeout in
-    let all : c.push_reserved.new.self.items ≡ c.end.result ∷ [] = c.push_reserved.ensures.items ∙ ap (λ l. l ++ c.end.result ∷ []) none in
-    counts_told setting c.args.arguments.form c.args.config.now (g.I.Read.remaining c.args.input.now) (g.I.Read.remaining c.serve-served.new.input) (g.O.Write.contents c.args.out.now) (g.O.Write.contents c.serve-served.new.out) (g.O.Write.contents c.print_counts.new.out) c.counts.result c.print_counts.result
+    let done = when_ok c.serve_all-served.result.0 _ c.in-Ok-served.is c.serve_all-served.ensures.served in
+    let all : c.push_reserved.new.self.items ≡ c.serve_all-served.result.1 ∷ [] = c.push_reserved.ensures.items ∙ ap (λ l. l ++ c.serve_all-served.result.1 ∷ []) none in
+    counts_told setting c.args.arguments.form c.args.config.now (g.I.Read.remaining c.args.input.now) (g.I.Read.remaining c.serve_all-served.new.input) (g.O.Write.contents c.args.out.now) (g.O.Write.contents c.serve_all-served.new.out) (g.O.Write.contents c.print_counts.new.out) c.counts.result c.print_counts.result
     (record {
       seat = caller.front.seat;
-      end = c.serve-served.new.session;
-      left = record { pass = c.end.result.pass; front = c.end.result.front; opened = [] };
+      end = done.0;
+      left = record { pass = c.serve_all-served.result.1.pass; front = c.serve_all-served.result.1.front; opened = [] };
       settled = c.settle-settled.result;
-      served = subst (λ (first : SessionView). IsServed c.args.config.now setting c.args.arguments.form 2 first (g.I.Read.remaining c.args.input.now) (g.I.Read.remaining c.serve-served.new.input) (g.O.Write.contents c.args.out.now) (g.O.Write.contents c.serve-served.new.out) c.serve-served.new.session) begun
-          (subst (λ (s : Setting). IsServed c.args.config.now s c.args.arguments.form 2 c.begin-session.result (g.I.Read.remaining c.args.input.now) (g.I.Read.remaining c.serve-served.new.input) (g.O.Write.contents c.args.out.now) (g.O.Write.contents c.serve-served.new.out) c.serve-served.new.session) same c.in-Ok-served.ensures.served);
-      leaves = c.end.ensures;
+      served = subst (λ (first : SessionView). IsServed c.args.config.now setting c.args.arguments.form 2 first (g.I.Read.remaining c.args.input.now) (g.I.Read.remaining c.serve_all-served.new.input) (g.O.Write.contents c.args.out.now) (g.O.Write.contents c.serve_all-served.new.out) done.0) begun
+          (subst (λ (s : Setting). IsServed c.args.config.now s c.args.arguments.form 2 begin (g.I.Read.remaining c.args.input.now) (g.I.Read.remaining c.serve_all-served.new.input) (g.O.Write.contents c.args.out.now) (g.O.Write.contents c.serve_all-served.new.out) done.0) same done.1);
+      leaves = done.2;
       ended = subst (λ l. IsSettledFrom (map (λ one. one.pass) l) (map (λ one. one.front) l) c.settle-settled.result) all c.settle-settled.ensures.settled;
       complete = c.settle-settled.ensures.complete.1 (ap length all ∙ sym c.requires.posters.1);
       counts_are = record { places = c.counts.ensures.places; posts = c.counts.ensures.posts; stored = c.counts.ensures.stored };
@@ -62,10 +73,11 @@ returns g c =
     let count : length c.in-Ok.callers.items ≡ 1 = c.in-Ok.ensures.callers.0 ∙ c.requires.posters.0 in
     let none : left ≡ [] = none_before left caller c.in-Ok.callers.items last count in
     let new : IsNewCaller caller.pass caller.front = last_holds (λ one. IsNewCaller one.pass one.front) left caller c.in-Ok.callers.items last none c.in-Ok.ensures.callers.1 in
-    let begun : c.begin-session.result ≡ new_session caller.front.seat = fresh c.begin-session.result caller.pass caller.front c.begin-session.ensures new in
+    let begin : SessionView = record { pass = caller.pass; front = caller.front; opened = [] } in
+    let begun : begin ≡ new_session caller.front.seat = fresh begin caller.pass caller.front refl new in
     let setting : Setting = setting_of c.args.arguments.places c.args.arguments.full c.args.config.now.resolve_timeout in
     let same : setting_of g.N.Recorded.places g.N.Recorded.policy c.in-Ok.provider.resolve_timeout ≡ setting =
     same_setting c.args.arguments.places g.N.Recorded.places c.args.arguments.full g.N.Recorded.policy c.args.config.now.resolve_timeout c.in-Ok.provider.resolve_timeout c.requires.limits.1 c.requires.limits.2 c.in-Ok.ensures.timeout in
     cut_short c.status_of.ensures
-    (subst (λ (first : SessionView). IsServedInPart c.args.config.now setting c.args.arguments.form 2 first (g.I.Read.remaining c.args.input.now) (g.O.Write.contents c.args.out.now) (g.O.Write.contents c.serve-served.new.out)) begun
-    (subst (λ (s : Setting). IsServedInPart c.args.config.now s c.args.arguments.form 2 c.begin-session.result (g.I.Read.remaining c.args.input.now) (g.O.Write.contents c.args.out.now) (g.O.Write.contents c.serve-served.new.out)) same c.in-Err.ensures.err))
+    (subst (λ (first : SessionView). IsServedInPart c.args.config.now setting c.args.arguments.form 2 first (g.I.Read.remaining c.args.input.now) (g.O.Write.contents c.args.out.now) (g.O.Write.contents c.serve_all-served.new.out)) begun
+    (subst (λ (s : Setting). IsServedInPart c.args.config.now s c.args.arguments.form 2 begin (g.I.Read.remaining c.args.input.now) (g.O.Write.contents c.args.out.now) (g.O.Write.contents c.serve_all-served.new.out)) same (when_err c.serve_all-served.result.0 _ c.in-Err.is c.serve_all-served.ensures.err)))

@@ -1,5 +1,4 @@
 use Rattle.am_replay.specs.Live.{LivesUnder}
-use Rattle.am_replay.specs.Live as live
 use Rattle.am_replay.proofs.Replays.{keeps_same}
 use Rattle.am_replay.proofs.live.live_under.Goals as goal
 

@@ -1,4 +1,4 @@
-use Rattle.std.proofs.Common.{ℕ, List, subst, sym, string_bytes}
+use Rattle.std.proofs.Common.{subst, sym, string_bytes}
 use Rattle.std.specs.Io.KnownBytes.{Appends}
 use Rattle.am_script.specs.Outputs.{AppendsBeginning}
 use Rattle.am_replay.specs.Replays.{IsReplay}

@@ -1,4 +1,4 @@
-use Rattle.std.proofs.Common.{◌≡◌, ◌∙◌, map, Ok, refl, sym, ap}
+use Rattle.std.proofs.Common.{◌∙◌, map, refl, sym, ap}
 use Rattle.std.proofs.lemmas.List.{length-map}
 use Rattle.am_runner.specs.Working.{outcome_of}
 use Rattle.am_replay.proofs.Replays.{map_twice, run_of}

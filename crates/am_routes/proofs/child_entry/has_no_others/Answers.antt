@@ -1,4 +1,4 @@
-use Rattle.std.proofs.Common.{◌≡◌, ◌≤◌, Bool, true, false, cond, List, [], ◌∷◌, length, refl, arith}
+use Rattle.std.proofs.Common.{◌≡◌, ◌≤◌, true, false, cond, List, [], ◌∷◌, length, refl, arith}
 use Rattle.am_labels.specs.Matchers.{MatcherView}
 use Rattle.am_routes.specs.Looking.{is_equal}
 use Rattle.am_routes.specs.inside.ChildIndexes.{has_none, other_matchers}

@@ -13,7 +13,7 @@ use Rattle.am_routes.specs.RouteAnswers.{answer_of}
 use Rattle.am_routes.specs.Looking.{looked_from, routes_looked_at}
 use Rattle.am_routes.specs.inside.ChildIndexes.{CandidatesView, view_of, IsChildOf, IsNextChild, has_none, other_matchers}
 use Rattle.am_routes.specs.inside.Searches.{node_of, nodes_in, others_of, in_pre_order, BeginAt}
-use Rattle.am_routes.proofs.Searching.{search-first, search-bound, search-below, others-decide, child-begins, child-fewer, drop-none, answer-first, pending_answer, pending_looked, pending_count, IsPending, some-left, next-answer, next-looked, next-pending, next-fewer, answer-stops, answer-goes_on, looked-stops, looked-goes_on, own-kept, own-pushed, leaf-itself, leaf-looked, answer-fails, looked-fails}
+use Rattle.am_routes.proofs.Searching.{search-first, search-bound, search-below, others-decide, child-begins, child-fewer, drop-none, answer-first, pending_answer, pending_looked, pending_count, IsPending, some-left, next-answer, next-looked, next-pending, next-fewer, answer-stops, answer-goes_on, looked-stops, looked-goes_on, own-kept, leaf-itself, leaf-looked, answer-fails, looked-fails}
 use Rattle.am_routes.proofs.matching.+ask.Goals as goal
 
 on_ok : {A E P Q : Type 0} (o : Result A E) → (P → Q) → OnOk o P → OnOk o Q

@@ -98,3 +98,15 @@ returns-in_ok-text-in-Forgotten c =
     IfOk-weaker c.number-in-Forgotten.result _ _ (λ _ last. and_then c.text-in-Forgotten.new.self c.number-in-Forgotten.new.self part-1 (end_object ∷ []) last
     ∙ (and_then c.args.line.now c.text-in-Forgotten.new.self part-0 _ step-0
     ∙ ap (λ (answer : Answer). c.args.line.now ++ members_tokens (answer_members answer)) (sym c.in-Forgotten.is))) c.number-in-Forgotten.ensures
+
+pub returns-in-Taken : goal.returns-in-Taken
+returns-in-Taken c =
+    IfOk-weaker c.write_number.result _ _ (λ _ all. all ∙ ap (λ (answer : Answer). c.args.line.now ++ members_tokens (answer_members answer)) (sym c.in-Taken.is)) c.write_number.ensures
+
+pub returns-in-Compacted : goal.returns-in-Compacted
+returns-in-Compacted c =
+    IfOk-weaker c.write_number-in-Compacted.result _ _ (λ _ all. all ∙ ap (λ (answer : Answer). c.args.line.now ++ members_tokens (answer_members answer)) (sym c.in-Compacted.is)) c.write_number-in-Compacted.ensures
+
+pub returns-in-Page : goal.returns-in-Page
+returns-in-Page c =
+    IfOk-weaker c.write_page.result _ _ (λ _ all. all ∙ ap (λ (answer : Answer). c.args.line.now ++ members_tokens (answer_members answer)) (sym c.in-Page.is)) c.write_page.ensures

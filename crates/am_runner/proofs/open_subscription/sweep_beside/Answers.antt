@@ -1,7 +1,6 @@
 use Rattle.std.proofs.Common.{Option, Some, sym, subst}
 use Rattle.am_runner.specs.Consuming.{IsSwept, sweep_word}
 use Rattle.am_runner.specs.Reading.{AsksBeside, asks, none_beside}
-use Rattle.am_runner.specs.declared.answer.Answer.{Answer}
 use Rattle.am_runner.specs.declared.answer.Answer.TheVariants.{NotOpen}
 use Rattle.am_runner.specs.declared.consumer.Consumer.{Consumer}
 use Rattle.am_script.specs.declared.command.Verb.{Verb}

@@ -21,7 +21,7 @@ returns-else-failed-clause-kept g c = prefix_self c.args.seen.now.seen
 pub returns-else-failed-clause-does : goal.returns-else-failed-clause-does
 returns-else-failed-clause-does g c = λ turns longer.
     let apart : c.args.line.now.thread ≢ c.args.turn.now.thread = search rules in
-    subst (λ (given : List Answer). RunsLine c.args.context.now.config.now (setting_of g.N.Recorded.places g.N.Recorded.policy c.args.context.now.provider.now.resolve_timeout) (order_of g.T.Turns.ordered turns) c.args.turn.now.thread c.args.turn.now.at c.args.line.now c.args.session.now given c.args.session.now) (sym c.new.ensures.items)
+    subst (λ (given : List Answer). RunsLine c.args.context.now.config (setting_of g.N.Recorded.places g.N.Recorded.policy c.args.context.now.provider.now.resolve_timeout) (order_of g.T.Turns.ordered turns) c.args.turn.now.thread c.args.turn.now.at c.args.line.now c.args.session.now given c.args.session.now) (sym c.new.ensures.items)
     (others apart)
 
 pub returns-clause-kept : goal.returns-clause-kept
@@ -32,7 +32,7 @@ pub returns-clause-does : goal.returns-clause-does
 returns-clause-does g c = λ turns longer.
     let same : c.args.line.now.thread ≡ c.args.turn.now.thread = search rules in
     let ordered = g.T.Turns.ordered in
-    let config = c.args.context.now.config.now in
+    let config = c.args.context.now.config in
     let setting = setting_of g.N.Recorded.places g.N.Recorded.policy c.args.context.now.provider.now.resolve_timeout in
     let line = c.args.line.now in
     let begins = begins_more ordered _ _ _ _ _ c.begin_turn.ensures.begun in
@@ -42,7 +42,7 @@ returns-clause-does g c = λ turns longer.
       | then-failed-2 w ↦ subst (λ (r : Result (Vec Answer) _). IfOk r (λ given. RunsLine config setting (order_of ordered turns) c.args.turn.now.thread c.args.turn.now.at line c.args.session.now given.items c.end_turn.new.self)) (sym w.given-is) tt
       | else-failed-2 w ↦
           subst (λ (r : Result (Vec Answer) _). IfOk r (λ given. RunsLine config setting (order_of ordered turns) c.args.turn.now.thread c.args.turn.now.at line c.args.session.now given.items c.end_turn.new.self)) (sym w.given-is)
-          (if_ok_map w.run-given.result w.run-given.ensures (λ given does. own c.begin_turn.new.self w.run-given.new.self same
+          (if_ok_map w.run-given.result w.run-given.ensures.does (λ given does. own c.begin_turn.new.self w.run-given.new.self same
           (begins.1, c.begin_turn.ensures.same) does
           (subst (λ (session : SessionView). LooksOn session c.end_turn.new.self) w.session-is (ends.1, c.end_turn.ensures.same)) turn))
     ]

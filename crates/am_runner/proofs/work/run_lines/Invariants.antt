@@ -7,7 +7,7 @@ use Rattle.am_runner.specs.Turning.{order_of}
 use Rattle.am_runner.specs.Working.{Works}
 use Rattle.am_runner.proofs.work.run_lines.Given as goal
 
--- unless memory ran out, the lines so far were run
+-- the context is as it was, and unless memory ran out, the lines so far were run
 abbrev pub invariant-loop-at : goal.invariant-loop-at
-invariant-loop-at g l = l.failed ≡ false → (turns : List (FrontView EntryView)) → IsPrefix l.seen.seen turns
-    → Works l.context.config.now (setting_of g.N.Recorded.places g.N.Recorded.policy l.context.provider.now.resolve_timeout) (order_of g.T.Turns.ordered turns) l.thread 0 l.initial.session (take l.at l.lines) l.answers.items l.session
+invariant-loop-at g l = (l.context ≡ l.initial.context) × (l.failed ≡ false → (turns : List (FrontView EntryView)) → IsPrefix l.seen.seen turns
+    → Works l.initial.context.config (setting_of g.N.Recorded.places g.N.Recorded.policy l.initial.context.provider.now.resolve_timeout) (order_of g.T.Turns.ordered turns) l.thread 0 l.initial.session (take l.at l.lines) l.answers.items l.session)

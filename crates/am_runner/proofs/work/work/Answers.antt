@@ -10,13 +10,13 @@ pub returns : goal.returns
 returns g c = λ turns longer.
     let ordered = g.T.Turns.ordered in
     let order = order_of ordered turns in
-    let config = c.args.context.now.config.now in
+    let config = c.args.context.now.config in
     let setting = setting_of g.N.Recorded.places g.N.Recorded.policy c.args.context.now.provider.now.resolve_timeout in
     let ended = c.end_session-caller.ensures in
     let begins = begins_more ordered _ _ _ _ _ c.begin_turn.ensures.begun in
     let ends = ends_more ordered _ _ _ _ _ ended.2 in
     let turn = turn_of ordered _ _ _ _ turns _ _ _ _ c.begin_turn.ensures.begun ended.2 longer in
-    let ran = c.run_lines-answers.ensures turns (prefix_then _ _ turns begins.0 (prefix_then _ _ turns ends.0 longer)) in
+    let ran = c.run_lines-answers.ensures.works turns (prefix_then _ _ turns begins.0 (prefix_then _ _ turns ends.0 longer)) in
     let seat = c.args.caller.front.seat in
     let new : c.begin-session.result ≡ new_session seat = c.begin-session.ensures
     ∙ (ap (λ p. record { pass = p; front = c.args.caller.front; opened = [] }) c.requires.new.0

@@ -12,9 +12,9 @@ pub returns-in-Trim : goal.returns-in-Trim
 unfolding command_for
 returns-in-Trim c = (tt, ap (λ v. command_for (Text []) (view c.args.value) v) c.in-Trim.is)
 
-pub returns-in-Stored : goal.returns-in-Stored
+pub returns-in-Compact : goal.returns-in-Compact
 unfolding command_for
-returns-in-Stored c = (tt, ap (λ v. command_for (Text []) (view c.args.value) v) c.in-Stored.is)
+returns-in-Compact c = (tt, ap (λ v. command_for (Text []) (view c.args.value) v) c.in-Compact.is)
 
 pub returns-in-Routes : goal.returns-in-Routes
 unfolding command_for

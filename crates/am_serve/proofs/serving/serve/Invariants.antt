@@ -1,9 +1,11 @@
+use Rattle.std.proofs.Common.{◌≡◌}
 use Rattle.am_runner.specs.Sessions.{setting_of}
 use Rattle.am_serve.proofs.OneByOne.{SoFar}
 use Rattle.am_serve.proofs.serving.serve.Given as goal
 
--- the lines before the number were served
+-- the context is as it was, and the lines before the number were served
 abbrev pub invariant-loop-number : goal.invariant-loop-number
 invariant-loop-number g l =
-    SoFar l.context.config.now (setting_of g.N.Recorded.places g.N.Recorded.policy l.context.provider.now.resolve_timeout) l.form l.first l.initial.session (g.I.Read.remaining l.initial.input) (g.O.Write.contents l.initial.out)
+    (l.context ≡ l.initial.context)
+    × SoFar l.initial.context.config (setting_of g.N.Recorded.places g.N.Recorded.policy l.initial.context.provider.now.resolve_timeout) l.form l.first l.initial.session (g.I.Read.remaining l.initial.input) (g.O.Write.contents l.initial.out)
     l.number l.session (g.I.Read.remaining l.input) (g.O.Write.contents l.out)

@@ -25,13 +25,13 @@ pub returns-then-not-admits-clause-looked : goal.returns-then-not-admits-clause-
 returns-then-not-admits-clause-looked c = sym (ap (count_to (inhibits c.args.self.now.rule c.args.labels.now c.args.now)) (no_target c))
 
 -- the sources that were found
-sources_are : (c : goal.After-as_slice-in-Some) → c.as_slice-in-Some.result.now ≡ sources_from c.args.self.now.rule (values_of c.args.self.now.rule.equal c.args.labels.now) 0 (label_sets c.args.alerts.now)
+sources_are : (c : goal.In-Some) → c.in-Some.sources.now ≡ sources_from c.args.self.now.rule (values_of c.args.self.now.rule.equal c.args.labels.now) 0 (label_sets c.args.alerts.now)
 sources_are c =
     let entries = c.self.inside.sources.entries in
     let known = ap (λ (i : IndexView). listed c.in_ok-values.values i.entries) c.self.view_is
     ∙ listed_are c.args.self.now c.args.labels.now (label_sets c.args.alerts.now) c.as_slice.result.now c.in_ok-values.values c.requires (c.as_slice.ensures ∙ ap (λ (i : IndexView). i.rule.equal) c.self.view_is) c.in_ok-values.ensures in
     let got : Some c.in-Some.sources.now ≡ lookup (same_values c.in_ok-values.values) entries = c.in-Some.ensures.value in
-    c.as_slice-in-Some.ensures ∙ (ap (λ o. unwrap_or o []) got ∙ known)
+    ap (λ o. unwrap_or o []) got ∙ known
 
 pub first_muting-requires : goal.first_muting-requires
 first_muting-requires c =
@@ -41,13 +41,13 @@ first_muting-requires c =
     let long : length sets ≤ length c.args.alerts.now = omega (arith, length-map c.args.alerts.now (λ (alert : Alert). alert.labels)) in
     subst (All (λ (source : Source). source.at < length c.args.alerts.now)) (sym (sources_are c)) (all_within rule (values_of rule.equal labels) sets (length c.args.alerts.now) long)
 
-sources_found : (c : goal.After-drop-values-inside) → c.as_slice-in-Some.result.now ≡ sources_from c.args.self.now.rule (values_of c.args.self.now.rule.equal c.args.labels.now) 0 (label_sets c.args.alerts.now)
+sources_found : (c : goal.After-drop-values-inside) → c.in-Some.sources.now ≡ sources_from c.args.self.now.rule (values_of c.args.self.now.rule.equal c.args.labels.now) 0 (label_sets c.args.alerts.now)
 sources_found c =
     let entries = c.self.inside.sources.entries in
     let known = ap (λ (i : IndexView). listed c.in_ok-values.values i.entries) c.self.view_is
     ∙ listed_are c.args.self.now c.args.labels.now (label_sets c.args.alerts.now) c.as_slice.result.now c.in_ok-values.values c.requires (c.as_slice.ensures ∙ ap (λ (i : IndexView). i.rule.equal) c.self.view_is) c.in_ok-values.ensures in
     let got : Some c.in-Some.sources.now ≡ lookup (same_values c.in_ok-values.values) entries = c.in-Some.ensures.value in
-    c.as_slice-in-Some.ensures ∙ (ap (λ o. unwrap_or o []) got ∙ known)
+    ap (λ o. unwrap_or o []) got ∙ known
 
 target_found : (c : goal.After-drop-values-inside) → Target c.args.self.now.rule c.args.labels.now c.admits-is_source.result
 target_found c = record {

@@ -1,8 +1,10 @@
-use Rattle.std.proofs.Common.{◌<◌, length, sym, ap, subst, arith}
+use Rattle.std.proofs.Common.{◌-◌, ◌∙◌, ◌<◌, length, sym, subst}
 use Rattle.am_cast.specs.Changes.{AreInLog}
-use Rattle.am_store.specs.Journal.{lefts_of}
+use Rattle.am_store.specs.Journal.{journal_of}
+use Rattle.am_store.proofs.Trims.{trimmed_lefts, trimmed_posts}
 use Rattle.am_provider.specs.Batches.{LogView}
 use Rattle.am_provider.specs.Settling.{own_in}
+use Rattle.am_provider.proofs.Leaving.{places_left}
 use Rattle.am_provider.proofs.book.Book.end_joined.Goals as goal
 
 pub returns-clause-settled : goal.returns-clause-settled
@@ -12,12 +14,23 @@ returns-clause-settled g c =
     let own = own_in c.args.all in
     record {
       faithful = parts.faithful;
-      journal = parts.journal.0;
-      store = parts.journal.1;
-      ended = parts.endings.0;
-      early = parts.endings.1;
-      ends = omega (arith, parts.faithful.ends, ap length parts.endings.0, parts.endings.1, ap lefts_of parts.journal.0);
+      gone = parts.gone;
+      journal = parts.journal;
+      store = parts.stored;
+      ended = parts.endings;
+      early = parts.early;
+      ends = parts.early ∙ (parts.faithful.ends ∙ sym (trimmed_lefts c.args.self.journal (journal_of c.into_parts-journal.result.0) (c.args.self.gone - c.args.self.journal.before) parts.journal));
       posts = subst (λ (q : LogView). AreInLog own q.tail.log) parts.log.0 audit.stand;
       once = audit.once;
       all = λ yes place inside. audit.all yes place (subst (λ (q : LogView). place < length q.tail.log) (sym parts.log.0) inside);
     }
+
+pub invariant_of-result-clause-places_of_journal : goal.invariant_of-result-clause-places_of_journal
+invariant_of-result-clause-places_of_journal g c =
+    let parts = c.into_parts-journal.ensures in
+    c.counts-places.ensures.places ∙ places_left c.args.self (journal_of c.into_parts-journal.result.0) (c.args.self.gone - c.args.self.journal.before) parts.faithful parts.journal
+
+pub invariant_of-result-clause-posts_of_journal : goal.invariant_of-result-clause-posts_of_journal
+invariant_of-result-clause-posts_of_journal g c =
+    let parts = c.into_parts-journal.ensures in
+    c.counts-places.ensures.posts ∙ sym (trimmed_posts c.args.self.journal (journal_of c.into_parts-journal.result.0) (c.args.self.gone - c.args.self.journal.before) parts.journal)

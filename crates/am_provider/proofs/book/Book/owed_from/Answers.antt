@@ -1,7 +1,6 @@
 use Rattle.std.proofs.Common.{◌≡◌, ◌-◌, length, subst, arith}
 use Rattle.am_store.specs.Trims.{AreBeforeOpen}
 use Rattle.am_provider.specs.BookView.{BookView}
-use Rattle.am_store.specs.Journal.{journal_of}
 use Rattle.am_store.proofs.Trimming.{before_earliest, before_none}
 use Rattle.am_provider.proofs.book.Book.owed_from.Goals as goal
 
@@ -12,6 +11,6 @@ returns-in-Some-clause-before g c =
 
 pub returns-in-None-clause-before : goal.returns-in-None-clause-before
 returns-in-None-clause-before g c =
-    let all : length c.self.inside.journal.calls.items ≡ c.call_count.result - c.self.inside.journal.before = omega (arith, c.call_count.ensures) in
+    let all : length c.self.inside.journal.journal.calls ≡ c.call_count.result - c.self.inside.journal.journal.before = omega (arith, c.call_count.ensures) in
     subst (λ (s : BookView). AreBeforeOpen s.journal (c.call_count.result - s.journal.before)) c.self.view_is
-    (subst (AreBeforeOpen (journal_of c.self.inside.journal)) all (before_none _ c.self.invariant.1.pages c.in-None.ensures.none))
+    (subst (AreBeforeOpen c.self.inside.journal.journal) all (before_none _ c.self.invariant.1.pages c.in-None.ensures.none))

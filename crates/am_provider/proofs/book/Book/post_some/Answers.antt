@@ -1,13 +1,11 @@
-use Rattle.std.proofs.Common.{◌≡◌, ◌+◌, ◌≤◌, ◌<◌, ◌++◌, ◌∷◌, [], List, length, refl, sym, ap, subst, ◌∙◌, ℕ, false, rules, arith}
+use Rattle.std.proofs.Common.{◌≡◌, ◌≤◌, ◌<◌, ◌++◌, ◌∷◌, [], length, refl, sym, ap, subst, ◌∙◌, ℕ, false, rules, arith}
 use Rattle.std.proofs.lemmas.List.{length-append}
-use Rattle.std.specs.VecDeque.{deque_len, deque_capacity}
 use mathlib.Core.List.{IsPrefix}
 use Rattle.am_store.specs.declared.call.Call.{Call}
 use Rattle.am_store.specs.declared.call.Call.TheVariants.{Posted}
-use Rattle.am_store.specs.Journal.{with_call, is_closed}
+use Rattle.am_store.specs.Journal.{JournalView, with_call, is_closed}
 use Rattle.am_store.specs.Shared.{alerts_in}
 use Rattle.am_store.specs.AlertList.{with_alerts, batch_by_list}
-use Rattle.am_store.specs.Journal.{journal_of}
 use Rattle.am_store.specs.AlertMaps.{stored_in, AreKeptByLabels}
 use Rattle.am_store.proofs.Entries.{length_batch, length_became}
 use Rattle.am_alert.specs.declared.alert.Alert.{Alert}
@@ -20,6 +18,7 @@ use Rattle.am_provider.specs.Batches.{Batch}
 use Rattle.am_provider.specs.BookView.{BookView}
 use Rattle.am_provider.proofs.Shelves.{GoesOnAs, stays_as, cut_as, goes_on_twice, kept_alike}
 use Rattle.am_provider.proofs.Calls.{kept_posted}
+use Rattle.am_provider.proofs.Endings.{still_endings_of}
 use Rattle.am_provider.proofs.Rising.{one_more}
 use Rattle.am_provider.proofs.book.Book.post_some.Given.{Over}
 use Rattle.am_provider.proofs.book.Book.post_some.Goals as goal
@@ -55,30 +54,30 @@ invariant_of-self-in-Ok-1 g c =
     let still : c.self.inside.log.tail.closed ≡ false = kept.pages.closed ∙ (ap (λ (b : BookView). is_closed b.journal) c.self.view_is ∙ c.requires.open) in
     let posted : x.0.post ≡ Posted c.args.now valid = x.1 in
     let few : length c.self.inside.log.tail.log < LONGEST_LOG = omega (arith, c.if-len-ge-LONGEST_LOG.false, c.len.ensures.0, ap (λ (t : Tail Batch). length t.log) tail) in
-    let room : deque_len c.push_back_reserved.new.self + 9 ≤ deque_capacity c.push_back_reserved.new.self = omega (arith, c.in_ok-reserve.ensures.ok, c.push_back_reserved.ensures.len, c.push_back_reserved.ensures.capacity) in
-    let calls : c.push_back_reserved.new.self.items ≡ c.self.inside.journal.calls.items ++ Posted c.args.now valid ∷ [] =
-    c.push_back_reserved.ensures.items ∙ ap (λ (calls : List Call). calls ++ Posted c.args.now valid ∷ []) c.in_ok-reserve.ensures.items in
-    let journal : journal_of (record c.self.inside.journal { calls = c.push_back_reserved.new.self }) ≡ with_call (journal_of c.self.inside.journal) (Posted c.args.now valid) =
-    ap (λ (calls : List Call). record (journal_of c.self.inside.journal) { calls = calls }) calls in (
+    let room : 9 ≤ c.push.new.self.room = omega (arith, c.in_ok-reserve.ensures.room, c.push.ensures.room) in
+    let gone : c.push.new.self.gone ≡ c.self.inside.journal.gone = c.push.ensures.gone.0 ∙ c.in_ok-reserve.ensures.same.1 in
+    let journal : c.push.new.self.journal ≡ with_call c.self.inside.journal.journal (Posted c.args.now valid) =
+    c.push.ensures.journal ∙ ap (λ (j : JournalView). with_call j (Posted c.args.now valid)) c.in_ok-reserve.ensures.same.0 in (
       c.in_ok-batch.ensures.kept,
       kept_posted _ _ _ _ _ c.args.now valid batch x.0 kept still journal stored became (ap length became ∙ length_batch c.args.now valid olds) c.requires.few c.requires.some few
-          posted x.2 (x.3 ∙ ap (longer_tail x.0) tail) (lanes_on g c) refl refl refl refl c.add.ensures.total room,
+          posted x.2 (x.3 ∙ ap (longer_tail x.0) tail) (lanes_on g c) refl refl refl refl c.add.ensures.total gone room,
       c.self.invariant.2,
       c.self.invariant.3,
+      still_endings_of _ _ _ _ c.self.invariant.4 refl refl (ap (λ (j : JournalView). j.before) journal) gone,
     )
 
 pub invariant_of-self-in-Err : goal.invariant_of-self-in-Err
 invariant_of-self-in-Err g c =
     let entries : c.take_back.new.alerts.entries ≡ c.self.inside.stored.entries = c.take_back.ensures ∙ c.in_ok-batch.ensures.back in
     let unsent = c.in-Err.ensures.unsent in
-    let journal : journal_of (record c.self.inside.journal { calls = c.reserve.new.self }) ≡ journal_of c.self.inside.journal =
-    ap (λ (calls : List Call). record (journal_of c.self.inside.journal) { calls = calls }) c.in_ok-reserve.ensures.items in (
+    let same = c.in_ok-reserve.ensures.same in (
       subst AreKeptByLabels (sym entries) c.self.invariant.0,
-      kept_alike _ _ _ _ c.self.invariant.1 journal c.in_ok-reserve.ensures.len (omega (arith, c.in_ok-reserve.ensures.capacity)) (ap stored_in entries) (unsent.tail ∙ c.harvest-full.ensures.harvested.tail)
+      kept_alike _ _ _ _ c.self.invariant.1 same.0 same.1 c.in_ok-reserve.ensures.kept (ap stored_in entries) (unsent.tail ∙ c.harvest-full.ensures.harvested.tail)
           (λ lane small. goes_on_twice (account_of c.self.inside.log lane) (account_of c.harvest-full.new.self lane) (account_of c.send_batch.new.writer lane)
           (stays_as _ _ (c.harvest-full.ensures.harvested.each lane small)) (stays_as _ _ (unsent.lanes lane small))) refl refl refl refl,
       c.self.invariant.2,
       c.self.invariant.3,
+      still_endings_of _ _ _ _ c.self.invariant.4 refl refl (ap (λ (j : JournalView). j.before) same.0) same.1,
     )
 
 pub returns-in-Ok-clause-own : goal.returns-in-Ok-clause-own

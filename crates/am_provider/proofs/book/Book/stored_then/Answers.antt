@@ -1,4 +1,4 @@
-use Rattle.std.proofs.Common.{◌≡◌, ℕ, List, IfOk, subst, ◌∙◌}
+use Rattle.std.proofs.Common.{◌≡◌, ◌<◌, ◌+◌, ℕ, List, IfOk, subst, ◌∙◌}
 use Rattle.am_alert.specs.declared.alert.Alert.{Alert}
 use Rattle.am_store.specs.Journal.{first_calls}
 use Rattle.am_store.specs.AlertMaps.{stored_in}
@@ -10,18 +10,18 @@ use Rattle.am_provider.proofs.book.Book.stored_then.Goals as goal
 
 -- what is asked of the answer
 IsThat : BookView → List Alert → Type 0
-IsThat book store = (count : ℕ) → AreBeforeOpen book.journal count → store ≡ stored (updates (first_calls count book.journal))
+IsThat book store = (count : ℕ) → AreBeforeOpen book.journal count → book.gone < book.journal.before + count → store ≡ stored (updates (first_calls count book.journal))
 
 pub returns-in-Some : goal.returns-in-Some
 unfolding IsThat
 returns-in-Some g c =
     subst (λ (s : BookView). IfOk c.share.result (IsThat s)) c.self.view_is
     (if_ok (λ shared. shared ≡ c.in-Some.open.now.opening) _ c.share.result
-    (λ store same count before. same ∙ store_then _ c.in-Some.open.now c.self.invariant.1.pages c.in-Some.ensures.some count before) c.share.ensures)
+    (λ store same count before late. same ∙ store_then _ c.in-Some.open.now c.self.invariant.1.pages c.in-Some.ensures.some count before late) c.share.ensures)
 
 pub returns-in-None : goal.returns-in-None
 unfolding IsThat
 returns-in-None g c =
     subst (λ (s : BookView). IfOk c.share_all.result (IsThat s)) c.self.view_is
     (if_ok (λ shared. shared ≡ stored_in c.self.inside.stored.entries) _ c.share_all.result
-    (λ store same count before. same ∙ store_now _ c.self.invariant.1.pages c.in-None.ensures.none count before) c.share_all.ensures)
+    (λ store same count before late. same ∙ store_now _ c.self.invariant.1.pages c.in-None.ensures.none count before) c.share_all.ensures)

@@ -24,7 +24,7 @@ invariant_of-self g c =
       subst (IsRecorded g.N.Recorded.policy g.N.Recorded.places new) (sym (c.record.ensures.longer ∙ ap (λ lane. entries ++ Accepted (Left lane) 0 (Some c.leave-ended.result) ∷ []) c.lane.ensures))
           (recorded_more old new entries (Left number) 0 (Some c.leave-ended.result) c.self.invariant.0 c.kept.ensures c.kept-2.ensures left.journal
           (prefix_same _ _ (ap (λ (t : Tail Batch). t.log) left.log)) left.limits
-          (cuts_one old new (Left number) 0 number (λ lane was. refl) (λ stands. omega (arith, idles, stands)) left.others) (left.endings.0, left.endings.1, low)),
+          (cuts_one old new (Left number) 0 number (λ lane was. refl) (λ stands. omega (arith, idles, stands)) left.others) (left.endings.0, left.endings.1, low) left.gone),
       c.self.invariant.1,
     )
 

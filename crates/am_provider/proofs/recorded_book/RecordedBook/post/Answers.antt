@@ -20,7 +20,7 @@ invariant_of-self-2 g c =
     let last : c.last_call.result.now ≡ call = last_is old.journal new.journal call c.last_call.result.now posted.journal c.last_call.ensures in (
       subst (IsRecorded g.N.Recorded.policy g.N.Recorded.places new) (sym (c.record.ensures.longer ∙ ap (λ one. entries ++ Accepted one bits None ∷ []) last))
           (recorded_more old new entries call bits None c.self.invariant.0 c.kept.ensures c.kept-2.ensures posted.journal
-          posted.log posted.limits (cuts_posted old new c.args.now c.args.post.valid bits posted.cut) posted.endings),
+          posted.log posted.limits (cuts_posted old new c.args.now c.args.post.valid bits posted.cut) posted.endings posted.gone),
       c.self.invariant.1,
     )
 
@@ -51,3 +51,6 @@ pub returns-in-Err-clause-sees : goal.returns-in-Err-clause-sees
 returns-in-Err-clause-sees g c =
     sees_none c.args.caller.now.front c.show.new.to c.self.inside.history _ c.show.ensures.seen c.show.ensures.to
     (put_refusal c.self.inside.book c.post.new.self c.self.inside.history (length c.args.post.valid) c.in-Err.fault c.self.invariant.0 c.kept.ensures c.in-Err.ensures.err.0 c.in-Err.ensures.refused, refl)
+
+pub last_call-requires : goal.last_call-requires
+last_call-requires g c = c.in-Ok.ensures.last

@@ -1,18 +1,20 @@
-use Rattle.std.proofs.Common.{◌≡◌, ◌∙◌, ◌+◌, ◌<◌, [], length, drop, filter, map, sym, ap, subst, arith}
+use Rattle.std.proofs.Common.{◌≡◌, ◌∙◌, ◌+◌, ◌-◌, ◌<◌, [], length, map, sym, ap, subst, arith}
 use Rattle.std.specs.List.{All}
 use Rattle.std.proofs.lemmas.List.{length-map}
 use mathlib.Core.List.{IsPrefix}
 use Rattle.am_history.specs.Fronts.{FrontView, AreMade, AreMadeOnce, IsMade}
-use Rattle.am_store.specs.Journal.{JournalView, journal_of, lefts_of}
-use Rattle.am_store.specs.Trims.{IsTrimmed}
+use Rattle.am_store.specs.Journal.{journal_of, lefts_of}
 use Rattle.am_provider.specs.Batches.{posts_in}
 use Rattle.am_cast.specs.Changes.{AreInLog}
 use Rattle.am_cast.specs.Rule.{Once}
-use Rattle.am_provider.specs.BookView.{batches, sends}
+use Rattle.am_provider.specs.BookView.{batches}
 use Rattle.am_provider.specs.Ending.{IsLeftOf, IsOwed}
-use Rattle.am_provider.specs.Histories.{EntryView, endings_of, trimmed_by, whole}
-use Rattle.am_provider.specs.Settling.{IsOwn, JoinedView, made_of, own_in, own_of}
+use Rattle.am_provider.specs.Histories.{EntryView, endings_of}
+use Rattle.am_provider.specs.inside.Endings.{is_since}
+use Rattle.am_provider.specs.Settling.{IsOwn, JoinedView, made_of, own_in, own_of, parts_in}
 use Rattle.am_provider.proofs.Recording.{owed_whole, stored_whole}
+use Rattle.am_provider.proofs.Leaving.{ended_whole, left_whole}
+use Rattle.am_provider.proofs.Trimming.{filter_all, posts_trimmed}
 use Rattle.am_provider.proofs.recorded_book.RecordedBook.settle.Goals.{in-None, in-Some}
 use Rattle.am_provider.proofs.recorded_book.RecordedBook.settle.Goals as goal
 
@@ -25,23 +27,21 @@ returns-clause-settled g c =
     let end = c.settle_joined.result in
     let passes = map (λ caller. caller.pass) c.args.callers.items in
     let fronts = map (λ caller. caller.front) c.args.callers.items in
-    let journal = subst (IsTrimmed (whole entries) (trimmed_by entries)) (sym settled.journal) of.journal in
-    let ends = ap length settled.ended in
-    let early : end.early + length end.ended.items ≡ length (endings_of entries) = omega (arith, of.early, settled.early, ends) in
+    let early : end.early + length end.ended.items ≡ length (endings_of entries) = omega (arith, of.early, settled.early) in
     let lefts : length (endings_of entries) ≡ lefts_of (journal_of end.journal) = omega (arith, early, settled.ends) in
-    let owed = subst (All (IsOwed entries)) (sym settled.ended) (owed_whole book entries of c.kept.ensures) in
+    let owed = subst (All (IsOwed entries)) (sym settled.ended) (filter_all (is_since book.gone) (IsOwed entries) (IsOwed entries) book.endings (λ e late own. own) (owed_whole book entries of c.kept.ensures)) in
     let stored = settled.store ∙ stored_whole book entries of c.kept.ensures in
     let complete = c.settle_joined.ensures.complete in
     let left : IsLeftOf entries end = record {
       legal = of.legal;
-      journal = journal;
+      journal = left_whole book entries end of settled;
       stored = stored;
-      endings = settled.ended ∙ of.endings;
+      endings = ended_whole book entries end of settled;
       early = early;
       lefts = lefts;
       owed = owed;
     } in
-    let senders = subst (λ (j : JournalView). drop j.places (posts_in (batches book)) ≡ filter sends j.calls) (sym settled.journal) c.kept.ensures.posts in
+    let senders = posts_trimmed book.journal (journal_of end.journal) (book.gone - book.journal.before) (posts_in (batches book)) settled.journal c.kept.ensures.posts in
     let long : c.len-count.result ≡ length c.args.callers.items = omega (arith, c.len-count.ensures, c.args.callers.ok.0) in
     elim c.match-gather.branch [
       | in-Some w ↦
@@ -95,4 +95,16 @@ returns-clause-settled g c =
               all = λ yes index inside. absurd (let some = complete.0 yes in let one = c.self.invariant.1.1 in omega (arith, long, nobody, some, one));
             };
           }
+    ]
+
+pub settle_joined-requires : goal.settle_joined-requires
+settle_joined-requires g c =
+    let long : c.len-count.result ≡ length c.args.callers.items = omega (arith, c.len-count.ensures, c.args.callers.ok.0) in
+    elim c.match-gather.branch [
+      | in-Some w ↦
+          ap parts_in w.passes-is
+          ∙ (ap (λ (j : JoinedView). j.parts) w.in-Some.ensures.gathered.0 ∙ (length-map c.args.callers.items (λ caller. caller.pass) ∙ sym long))
+      | in-None w ↦
+          let none : map (λ caller. caller.pass) c.args.callers.items ≡ [] = w.in-None.ensures.gathered.0 in
+          ap parts_in w.passes-is ∙ (sym (ap length none) ∙ (length-map c.args.callers.items (λ caller. caller.pass) ∙ sym long))
     ]

@@ -9,7 +9,7 @@ pub invariant_of-self-2 : goal.invariant_of-self-2
 invariant_of-self-2 g c =
     let entry : c.of.result.value ≡ Trimmed c.in-Ok.count = search rules in (
       subst (IsRecorded g.N.Recorded.policy g.N.Recorded.places c.trim.new.self) (sym (c.push.ensures.longer ∙ ap (λ e. c.self.inside.history ++ e ∷ []) entry))
-          (recorded_trimmed c.self.inside.book c.trim.new.self c.self.inside.history c.in-Ok.count c.self.invariant.0 c.in-Ok.ensures.dropped c.in-Ok.ensures.journal c.in-Ok.ensures.log c.in-Ok.ensures.limits c.in-Ok.ensures.endings c.in-Ok.ensures.early),
+          (recorded_trimmed c.self.inside.book c.trim.new.self c.self.inside.history c.in-Ok.count c.self.invariant.0 c.in-Ok.ensures.dropped c.in-Ok.ensures.journal c.in-Ok.ensures.log c.in-Ok.ensures.limits c.in-Ok.ensures.endings c.in-Ok.ensures.early c.in-Ok.ensures.gone),
       c.self.invariant.1,
     )
 

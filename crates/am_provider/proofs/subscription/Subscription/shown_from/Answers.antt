@@ -8,7 +8,7 @@ returns-in-Opened g c = (
   (refl, (λ _. tt), c.self.view_is),
   record {
     lender = tt;
-    shown = lends_opening c.args.self.now c.args.advance c.args.from _ c.as_slice.result.now c.in-Opened.is refl
-        (c.as_slice.ensures.alerts ∙ ap (λ (s : SubscriptionView). s.opening) c.self.view_is);
+    shown = lends_opening c.args.self.now c.args.advance c.args.from _ c.held_opening.result.now c.in-Opened.is refl
+        (c.held_opening.ensures ∙ ap (λ (s : SubscriptionView). s.opening) c.self.view_is);
   },
 )

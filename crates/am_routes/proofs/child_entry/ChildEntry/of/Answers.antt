@@ -1,7 +1,6 @@
-use Rattle.std.proofs.Common.{◌≡◌, Bool, ap, ◌∙◌}
-use Rattle.am_config.specs.Routes.{Forest}
+use Rattle.std.proofs.Common.{Bool, ap, ◌∙◌}
 use Rattle.am_routes.specs.declared.child_entry.ChildEntry.{ChildEntry}
-use Rattle.am_routes.specs.inside.ChildIndexes.{has_none, has_no_routes, other_matchers}
+use Rattle.am_routes.specs.inside.ChildIndexes.{has_none, other_matchers}
 use Rattle.am_routes.proofs.ChildIndexes.{none-of_routes}
 use Rattle.am_routes.proofs.child_entry.ChildEntry.of.Goals as goal
 

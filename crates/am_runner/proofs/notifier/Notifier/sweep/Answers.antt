@@ -1,4 +1,4 @@
-use Rattle.std.proofs.Common.{refl, sym, subst}
+use Rattle.std.proofs.Common.{refl, subst}
 use Rattle.am_runner.specs.Consuming.{IsSwept}
 use Rattle.am_runner.specs.Notifiers.{NotifierView, unasked}
 use Rattle.am_runner.specs.declared.answer.Answer.TheVariants as answer

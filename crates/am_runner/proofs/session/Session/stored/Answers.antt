@@ -1,29 +1,37 @@
-use Rattle.std.proofs.Common.{◌∷◌, [], List, sym, subst}
-use Rattle.am_alert.specs.declared.alert.Alert.{Alert}
-use Rattle.am_store.specs.Shared.{alerts_in}
-use Rattle.am_store.specs.declared.call.Call.{Call}
-use Rattle.am_cast.specs.Posters.{PassView}
+use Rattle.std.proofs.Common.{◌∙◌, List, ap, sym, subst}
 use Rattle.am_runner.specs.Sessions.{SessionView, Does, stored, stored_refused, stored_answers}
 use Rattle.am_runner.specs.declared.answer.Answer.{Answer}
-use Rattle.am_runner.specs.declared.answer.Answer.TheVariants.{OutOfMemory}
 use Rattle.am_script.specs.declared.command.Command.TheVariants.{Stored}
-use Rattle.am_script.specs.declared.command.Verb.TheVariants as verb
-use Rattle.am_runner.proofs.Results.{if_ok_map}
+use Rattle.am_runner.proofs.Named.{on_front}
+use Rattle.am_runner.proofs.Results.{if_ok_map, on_err}
 use Rattle.am_runner.proofs.session.Session.stored.Goals as goal
 
-pub returns : goal.returns
-returns g c =
+pub returns-clause-does : goal.returns-clause-does
+returns-clause-does g c =
+    let inside : SessionView = record { pass = c.self.inside.caller.pass; front = c.self.inside.caller.front; opened = c.self.inside.opened.items } in
     if_ok_map c.stored_answers.result c.stored_answers.ensures (λ answers are config setting.
-    subst (λ (given : List Answer). Does config setting c.args.self.now Stored given (record { pass = c.stored.new.caller.pass; front = c.stored.new.caller.front; opened = c.self.inside.opened.items })) (sym are)
-    (subst (λ (old : SessionView). Does config setting old Stored (stored_answers (alerts_in c.as_slice.result.now)) (record { pass = c.stored.new.caller.pass; front = c.stored.new.caller.front; opened = c.self.inside.opened.items })) c.self.view_is
-    (subst (λ (pass : PassView Alert Call). Does config setting (record { pass = c.self.inside.caller.pass; front = c.self.inside.caller.front; opened = c.self.inside.opened.items }) Stored (stored_answers (alerts_in c.as_slice.result.now)) (record { pass = pass; front = c.stored.new.caller.front; opened = c.self.inside.opened.items })) (sym c.in-Ok.ensures.pass)
-    (subst (λ (alerts : List Alert). Does config setting (record { pass = c.self.inside.caller.pass; front = c.self.inside.caller.front; opened = c.self.inside.opened.items }) Stored (stored_answers alerts) (record { pass = c.self.inside.caller.pass; front = c.stored.new.caller.front; opened = c.self.inside.opened.items })) (sym c.as_slice.ensures.alerts)
-    (stored c.in-Ok.ensures.sees)))))
+    on_front config setting Stored answers.items c.args.self.now inside _ c.stored.new.caller.front c.self.view_is c.in-Ok.ensures.pass
+    (subst (λ (given : List Answer). Does config setting inside Stored given (record inside { front = c.stored.new.caller.front })) (sym (are ∙ ap stored_answers c.as_slice.ensures.alerts))
+    (stored c.in-Ok.ensures.sees)))
 
-pub returns-in-Err : goal.returns-in-Err
-returns-in-Err g c =
+pub returns-clause-asked : goal.returns-clause-asked
+returns-clause-asked g c =
+    on_err c.stored_answers.result (λ config setting. (
+      _,
+      on_front config setting Stored _ c.args.self.now (record { pass = c.self.inside.caller.pass; front = c.self.inside.caller.front; opened = c.self.inside.opened.items }) _ _ c.self.view_is c.in-Ok.ensures.pass (stored c.in-Ok.ensures.sees),
+    ))
+
+pub returns-in-Err-clause-does : goal.returns-in-Err-clause-does
+returns-in-Err-clause-does g c =
+    let inside : SessionView = record { pass = c.self.inside.caller.pass; front = c.self.inside.caller.front; opened = c.self.inside.opened.items } in
     if_ok_map c.one.result c.one.ensures (λ answers are config setting.
-    subst (λ (given : List Answer). Does config setting c.args.self.now Stored given (record { pass = c.stored.new.caller.pass; front = c.stored.new.caller.front; opened = c.self.inside.opened.items })) (sym are)
-    (subst (λ (old : SessionView). Does config setting old Stored (OutOfMemory verb.Stored ∷ []) (record { pass = c.stored.new.caller.pass; front = c.stored.new.caller.front; opened = c.self.inside.opened.items })) c.self.view_is
-    (subst (λ (pass : PassView Alert Call). Does config setting (record { pass = c.self.inside.caller.pass; front = c.self.inside.caller.front; opened = c.self.inside.opened.items }) Stored (OutOfMemory verb.Stored ∷ []) (record { pass = pass; front = c.stored.new.caller.front; opened = c.self.inside.opened.items })) (sym c.in-Err.ensures.pass)
-    (stored_refused c.in-Err.ensures.sees))))
+    on_front config setting Stored answers.items c.args.self.now inside _ c.stored.new.caller.front c.self.view_is c.in-Err.ensures.pass
+    (subst (λ (given : List Answer). Does config setting inside Stored given (record inside { front = c.stored.new.caller.front })) (sym are)
+    (stored_refused c.in-Err.ensures.sees)))
+
+pub returns-in-Err-clause-asked : goal.returns-in-Err-clause-asked
+returns-in-Err-clause-asked g c =
+    on_err c.one.result (λ config setting. (
+      _,
+      on_front config setting Stored _ c.args.self.now (record { pass = c.self.inside.caller.pass; front = c.self.inside.caller.front; opened = c.self.inside.opened.items }) _ _ c.self.view_is c.in-Err.ensures.pass (stored_refused c.in-Err.ensures.sees),
+    ))

@@ -1,0 +1,29 @@
+//! Room for an answer, made before what it is the answer to.
+
+ghost use Rattle.std.specs.Prelude.{◌≡◌, ◌∷◌, ◌<◌, [], vec_capacity};
+
+use crate::answer::Answer;
+use std::alloc::{AllocError, Global};
+
+/// Room for one answer. What is done once there is room can be answered, however little memory is left.
+#[derive(Drop)]
+pub(crate) struct Room {
+    answers: Vec<Answer>,
+    ghost empty: { (answers.items ≡ []) × (0 < vec_capacity answers) },
+}
+
+impl Room {
+    pub(crate) fn make(alloc: Global) -> Result<Room, AllocError> {
+        let answers = Vec::with_capacity(alloc, 1)?;
+        Ok(Room { answers })
+    }
+
+    /// The answer, as a list.
+    pub(crate) fn filled(self, answer: Answer) -> Vec<Answer>
+        ensures { result.items ≡ answer ∷ [] }
+    {
+        let mut answers = self.answers;
+        answers.push_reserved(answer);
+        answers
+    }
+}

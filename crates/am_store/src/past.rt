@@ -1,0 +1,31 @@
+//! Values that were, for contracts alone.
+
+ghost use Rattle.std.specs.Prelude.{◌≡◌};
+ghost use Rattle.std.specs.Borrow.{ftrue};
+
+use std::marker::{Model, PhantomData, Send};
+
+/// A value that was: contracts read it, and no code. It takes no memory. It may be part of what goes to another
+/// thread, and a caller has nothing to prove for that.
+#[derive(Drop)]
+pub struct Past<T> {
+    of: PhantomData<T>,
+    pub ghost value: { T },
+}
+
+impl<T> Model for Past<T> {
+    ghost also_owns = { λ _. ftrue };
+}
+
+// It owns nothing.
+unsafe impl<T> Send for Past<T> {}
+
+impl<T> Past<T> {
+    /// What a reference shows.
+    pub fn of(value: &T) -> Past<T>
+        ensures { result.value ≡ value.now }
+    {
+        let _ = value;
+        Past { of: PhantomData }
+    }
+}
