@@ -4,6 +4,7 @@ import (
 	"context"
 	"fmt"
 	"os"
+	"path/filepath"
 	"reflect"
 	"strings"
 	"sync"
@@ -599,6 +600,52 @@ func TestClosedIteratorsFreeTheirLanes(t *testing.T) {
 	waitUntil(t, "no lane is open", func() bool {
 		return len(a.current.Load().readers.lanes()) == 0 && len(a.current.Load().readers.own) == 0
 	})
+}
+
+// A leave that the program has no memory for is asked again, until it is done.
+func TestALeaveThatIsRefused(t *testing.T) {
+	t.Parallel()
+	asked := filepath.Join(t.TempDir(), "leaves")
+	path := writeProgram(t, `read -r configuration
+		for ((n = 2; ; n++)); do
+			read -r line || exit 0
+			case $line in
+			*'"subscribe"'*) echo "{\"line\":$n,\"answer\":\"subscribe\",\"lane\":0,\"opening\":0}" ;;
+			*'"leave"'*)
+				echo "$line" >>`+asked+`
+				answers=('"leave","taken":0,"closed":false,"cut":false' '"refused","do":"leave","fault":"E0 NoMemory"')
+				echo "{\"line\":$n,\"answer\":${answers[$(wc -l <`+asked+`) < 3]}}" ;;
+			*) echo "{\"line\":$n,\"answer\":\"pending\"}" ;;
+			esac
+			echo "{\"line\":$n,\"answers\":1}"
+		done`)
+	a, err := NewAlerts(context.Background(), types.NewMarker(prometheus.NewRegistry()), time.Hour, nil, log.NewNopLogger(), nil,
+		Options{Program: path})
+	if err != nil {
+		t.Fatal(err)
+	}
+	defer a.Close()
+	a.Subscribe().Close()
+	leaves := func() int {
+		text, _ := os.ReadFile(asked)
+		return strings.Count(string(text), "leave")
+	}
+	waitUntil(t, "it is asked a third time", func() bool { return leaves() == 3 })
+	time.Sleep(2 * refusedPause)
+	if count := leaves(); count != 3 {
+		t.Errorf("it was asked %d times", count)
+	}
+}
+
+// Who subscribed is named, also if the provider is embedded in another type.
+func TestAReaderIsNamed(t *testing.T) {
+	a := startPlain(t)
+	embedded := provider.Alerts(struct{ *Alerts }{a})
+	defer embedded.Subscribe().Close()
+	lanes := a.current.Load().readers.lanes()
+	if len(lanes) != 1 || lanes[0].reader != "sinnoraku.TestAReaderIsNamed" {
+		t.Errorf("the lanes are %v", lanes)
+	}
 }
 
 // Subscriptions that share a lane come and go while alerts are put, each of its own label set and with the numbers of its

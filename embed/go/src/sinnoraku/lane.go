@@ -6,6 +6,7 @@ import (
 	"strconv"
 	"sync"
 	"sync/atomic"
+	"time"
 
 	"github.com/prometheus/alertmanager/types"
 )
@@ -246,10 +247,31 @@ func (l *lane) leaveIfAlone() {
 	}
 	close(l.left)
 	l.readers.forget(l)
-	l.readers.program.send(false, leaveLine(l.name))
+	go l.leaveAgain(l.readers.program.send(false, leaveLine(l.name))[0])
 	if !l.isShared {
 		<-l.readers.own
 	}
+}
+
+// leaveAgain asks the program again while it refuses to leave the lane: then it had no memory for that, and did nothing.
+func (l *lane) leaveAgain(asked *call) {
+	for isRefused(asked) {
+		select {
+		case <-time.After(refusedPause):
+			asked = l.readers.program.send(false, leaveLine(l.name))[0]
+		case <-l.readers.program.ended:
+			return
+		}
+	}
+}
+
+// isRefused waits for a call's answers, and says whether it is refused.
+func isRefused(asked *call) bool {
+	if asked.wait() != nil {
+		return false
+	}
+	answers, err := answersOf(asked)
+	return err == nil && len(answers) > 0 && answers[0].word == "refused"
 }
 
 func (m *member) isFull() bool {

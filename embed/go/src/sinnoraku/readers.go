@@ -19,7 +19,7 @@ import (
 // The program has eight lanes. Seven are for one subscription each, and further ones share the last.
 const ownLanes = 7
 
-// How long a subscription that the program refused waits before it is tried again.
+// How long a subscription or a leave that the program refused waits before it is tried again.
 const refusedPause = time.Second
 
 // Why no more comes of a lane, if it isn't by the program's end, and why a subscription ends.
