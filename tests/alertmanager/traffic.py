@@ -228,6 +228,35 @@ def of_deaths(room, command):
         yield f"{file} after the end", None if not silenced and found >= wanted else f"{kept} is in it {found} times"
 
 
+def of_flags(room, command, program):
+    """Where the command finds its program, and what it says of flags that aren't right."""
+    beside, path = room / "beside", room / "path"
+    for folder in (beside, path):
+        folder.mkdir()
+        (folder / "am_replay").symlink_to(program)
+    (beside / "alertmanager").hardlink_to(command)
+    none = "there is no am_replay in the command's folder or on the PATH"
+    starts = {
+        "a program in the command's folder": ([beside / "alertmanager"], {}, None),
+        "a program on the PATH": ([command], {"PATH": str(path)}, None),
+        "a program that the environment names": ([command], {"SINNORAKU_PROGRAM": str(program)}, None),
+        "the log's places and refused posts": ([command, "--provider.places=1", "--provider.full=refuse"], {"PATH": str(path)}, None),
+        "no program": ([command], {}, none),
+        "a program that isn't there": ([command, "--provider.program=/nowhere/am_replay"], {}, "no such file"),
+        "no places": ([command, "--provider.places=0"], {"PATH": str(path)}, "a number from 1 to 256, not 0"),
+        "no such choice": ([command, "--provider.full=wait"], {"PATH": str(path)}, "must be one of cut,refuse"),
+    }
+    with Webhook() as hook:
+        for at, (name, (words, environment, refusal)) in enumerate(starts.items()):
+            with started(room, f"start{at}", words, hook, environment) as server:
+                runs = server.running.poll() is None and server.program() is not None
+            is_right = runs and server.status == 0 if refusal is None else server.status == 1 and refusal in server.log.read_text()
+            yield name, None if is_right else f"it runs: {runs}, status {server.status}: {server.log.read_text()[-600:]}"
+    for word, wanted in {"--help": "--provider.program", "--version": "branch: sinnoraku"}.items():
+        ran = subprocess.run([command, word], capture_output=True, text=True)
+        yield word, None if wanted in ran.stdout else ran.stdout[:600] + ran.stderr
+
+
 def of_package(room):
     """Whether what tools/package writes runs in another folder: the program by itself, and the command that finds it there."""
     tar, other = room / "package.tar.gz", room / "other"
