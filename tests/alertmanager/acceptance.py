@@ -70,7 +70,7 @@ def suites(room, command, program):
             yield f"acceptance, {suite}", printed[-2000:]
         for test, outcome in outcomes.items():
             if outcome == "FAIL":
-                print(f"run again by itself: {test} ({suite}), since: {why(printed)[:300]}", flush=True)
+                print(f"run again by itself: {test} ({suite})", flush=True)
                 again, printed_again = run(suite, room, program, f"^{test}$", 1)
                 outcome, printed = again.get(test), printed_again
             yield f"acceptance, {suite}: {test}", None if outcome == "PASS" else f"{outcome}: {why(printed)}"
