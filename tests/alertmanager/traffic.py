@@ -3,6 +3,7 @@ import collections
 import concurrent.futures
 import datetime
 import json
+import os
 import signal
 import subprocess
 import threading
@@ -226,6 +227,27 @@ def of_deaths(room, command):
     for file, kept, wanted in (("silences", b"kept", 1), ("nflog", b"After", 2)):
         found = (server.storage / file).read_bytes().count(kept)
         yield f"{file} after the end", None if not silenced and found >= wanted else f"{kept} is in it {found} times"
+
+
+def of_stuck(room, command):
+    """What is left of a command whose provider ends while its start doesn't: here it waits for a template that never comes. It
+    doesn't listen to signals yet."""
+    os.mkfifo(room / "never.tmpl")
+    configuration = room / "stuck.yml"
+    configuration.write_text(f"templates: ['{room / 'never.tmpl'}']\n" + CONFIGURATION.format(port=1))
+    server = Alertmanager(room / "stuck", *command, f"--config.file={configuration}")
+    try:
+        killed, last = 0, None
+        while killed < 3 and wait_until(lambda: server.program() not in (None, last), 20):
+            last = server.program()
+            killed += server.kill_program()
+        begun = time.monotonic()
+        has_ended = wait_until(lambda: server.running.poll() is not None, 60)
+        took = time.monotonic() - begun
+    finally:
+        server.end(signal.SIGKILL)
+    is_right = killed == 3 and has_ended and server.status == 1 and 25 < took < 45
+    yield "the end of a stuck command", None if is_right else f"{killed} killed, status {server.status} after {took:.0f} s"
 
 
 def of_flags(room, command, program):
