@@ -11,6 +11,7 @@ import subprocess
 
 from golang import SOURCES, go
 
+PACKAGE = "github.com/prometheus/alertmanager/test/{}/acceptance"
 SUITES = {"v1": "with_api_v1", "v2": "with_api_v2", "cli": "cli"}
 # How many tests of a suite run at once.
 AT_ONCE = 4
@@ -31,7 +32,7 @@ exec "{}" "${{words[@]}}"
 def built(room):
     """What goes wrong in building the suites, each of which becomes a program."""
     for suite, folder in SUITES.items():
-        ran = go("test", "-c", "-o", room / f"acceptance-{suite}", f"github.com/prometheus/alertmanager/test/{folder}/acceptance")
+        ran = go("test", "-c", "-o", room / f"acceptance-{suite}", PACKAGE.format(folder))
         yield f"the acceptance suite {suite}", ran.stderr if ran.returncode else None
 
 
@@ -47,7 +48,8 @@ def lay_out(path, command):
 
 def run(suite, room, program, pattern=".", at_once=AT_ONCE):
     """The outcome of each test of a suite whose name matches, and what was printed."""
-    words = [room / f"acceptance-{suite}", "-test.v", f"-test.timeout={SECONDS}s", f"-test.parallel={at_once}", f"-test.run={pattern}"]
+    words = [room / f"acceptance-{suite}", "-test.v", f"-test.run={pattern}", f"-test.parallel={at_once}"]
+    words.append(f"-test.timeout={SECONDS}s")
     settings = os.environ | {"GOPATH": str(room / "gopath"), "SINNORAKU_PROGRAM": str(program)}
     ran = subprocess.run(list(map(str, words)), env=settings, cwd=room, capture_output=True, text=True, errors="replace")
     found = re.findall(r"^--- (PASS|FAIL|SKIP): (\w+)", ran.stdout, re.M)

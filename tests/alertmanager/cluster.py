@@ -127,8 +127,10 @@ def judged(nodes, hook):
     wait_for_all()
     seen = hook.counts()
     lost, again = posts.wanted - seen, seen - posts.wanted
-    yield "posts to the cluster", None if killed and not posts.faults else f"a program was killed: {killed}; {posts.faults[:5]}"
-    yield f"{sum(posts.wanted.values())} notifications of the cluster", f"{came}: lost {dict(lost)}" if lost or not all(came) else None
+    yield "posts to the cluster", "; ".join(posts.faults[:5]) or None
+    yield "a program of the cluster was killed", None if killed else "there was none"
+    in_time = f"in time: {came}, lost {dict(lost)}" if lost or not all(came) else None
+    yield f"{sum(posts.wanted.values())} notifications of the cluster", in_time
     yield "none of them twice", f"again {dict(again)}" if again else None
 
 

@@ -205,7 +205,7 @@ def of_pages(server):
 
 
 def of_deaths(room, command):
-    """What is left of a command whose program dies: another one goes on, and after the third death the command ends."""
+    """What becomes of a command whose program dies: another one goes on, and after the third death the command ends."""
     with Webhook() as hook, started(room, "deaths", command, hook) as server:
         yield from of_pages(server)
         silenced = server.amtool("silence", "add", "alertname=Silenced", "--comment=kept", "--author=test").returncode
@@ -216,12 +216,14 @@ def of_deaths(room, command):
             name = f"After{turn}"
             is_posted = wait_until(lambda: not server.amtool("alert", "add", name).returncode, 20)
             is_there = wait_until(lambda: hook.counts()[name, "firing"] == 1, 20)
-            yield f"an alert after death {turn + 1}", None if is_posted and is_there else f"posted: {is_posted}, notified of: {is_there}"
+            fault = None if is_posted and is_there else f"posted: {is_posted}, notified of: {is_there}"
+            yield f"an alert after death {turn + 1}", fault
         restarts = server.metric("sinnoraku_program_restarts_total")
         yield "restarts", None if restarts == 2 else f"{restarts} were counted where there were 2"
         server.kill_program()
         has_ended = wait_until(lambda: server.running.poll() is not None, 20)
-    yield "the end after three deaths", None if has_ended and server.status == 2 else f"status {server.status}, by itself: {has_ended}"
+    is_right = has_ended and server.status == 2
+    yield "the end after three deaths", None if is_right else f"status {server.status}, by itself: {has_ended}"
     log = server.log.read_text()
     yield "what the end says", None if ENDED in log else f"the log ends with {log[-600:]}"
     for file, kept, wanted in (("silences", b"kept", 1), ("nflog", b"After", 2)):
@@ -230,7 +232,7 @@ def of_deaths(room, command):
 
 
 def of_stuck(room, command):
-    """What is left of a command whose provider ends while its start doesn't: here it waits for a template that never comes. It
+    """How a command ends whose provider ends while its start doesn't: here it waits for a template that never comes. It
     doesn't listen to signals yet."""
     os.mkfifo(room / "never.tmpl")
     configuration = room / "stuck.yml"
@@ -262,7 +264,8 @@ def of_flags(room, command, program):
         "a program in the command's folder": ([beside / "alertmanager"], {}, None),
         "a program on the PATH": ([command], {"PATH": str(path)}, None),
         "a program that the environment names": ([command], {"SINNORAKU_PROGRAM": str(program)}, None),
-        "the log's places and refused posts": ([command, "--provider.places=1", "--provider.full=refuse"], {"PATH": str(path)}, None),
+        "one place": ([command, "--provider.places=1"], {"PATH": str(path)}, None),
+        "refused posts": ([command, "--provider.full=refuse"], {"PATH": str(path)}, None),
         "no program": ([command], {}, none),
         "a program that isn't there": ([command, "--provider.program=/nowhere/am_replay"], {}, "no such file"),
         "no places": ([command, "--provider.places=0"], {"PATH": str(path)}, "a number from 1 to 256, not 0"),
@@ -272,8 +275,9 @@ def of_flags(room, command, program):
         for at, (name, (words, environment, refusal)) in enumerate(starts.items()):
             with started(room, f"start{at}", words, hook, environment) as server:
                 runs = server.running.poll() is None and server.program() is not None
-            is_right = runs and server.status == 0 if refusal is None else server.status == 1 and refusal in server.log.read_text()
-            yield name, None if is_right else f"it runs: {runs}, status {server.status}: {server.log.read_text()[-600:]}"
+            log = server.log.read_text()
+            is_right = runs and server.status == 0 if refusal is None else server.status == 1 and refusal in log
+            yield name, None if is_right else f"it runs: {runs}, status {server.status}: {log[-600:]}"
     for word, wanted in {"--help": "--provider.program", "--version": "branch: sinnoraku"}.items():
         ran = subprocess.run([command, word], capture_output=True, text=True)
         yield word, None if wanted in ran.stdout else ran.stdout[:600] + ran.stderr
