@@ -4,6 +4,7 @@ import http.server
 import json
 import os
 import pathlib
+import random
 import signal
 import socket
 import subprocess
@@ -12,10 +13,26 @@ import time
 import urllib.request
 
 
+# The ports that were handed out, and those from which the system takes one for each connection: lest it takes one between its
+# choice here and its use, these are left out.
+CHOSEN, CHOOSING = set(), threading.Lock()
+CONNECTIONS = pathlib.Path("/proc/sys/net/ipv4/ip_local_port_range")
+
+
 def free_port():
-    with socket.socket() as it:
-        it.bind(("127.0.0.1", 0))
-        return it.getsockname()[1]
+    """A port that nobody listens to."""
+    least = int(CONNECTIONS.read_text().split()[0])
+    with CHOOSING:
+        while True:
+            port = random.randrange(1024, least)
+            with socket.socket() as it:
+                try:
+                    it.bind(("127.0.0.1", port))
+                except OSError:
+                    continue
+            if port not in CHOSEN:
+                CHOSEN.add(port)
+                return port
 
 
 def wait_until(holds, seconds):
