@@ -13,8 +13,7 @@ import time
 import urllib.request
 
 
-# The ports that were handed out, and those from which the system takes one for each connection: lest it takes one between its
-# choice here and its use, these are left out.
+# The ports that were chosen. Each connection gets one of the system's range, maybe one that was just chosen; so they are below it.
 CHOSEN, CHOOSING = set(), threading.Lock()
 CONNECTIONS = pathlib.Path("/proc/sys/net/ipv4/ip_local_port_range")
 
