@@ -1,12 +1,14 @@
-"""The package's own tests, those of Alertmanager that use a provider, and the race of bench/race."""
+"""The module, its packages' own tests, those of Alertmanager that use a provider, and the race of bench/race."""
 import os
 import pathlib
 import re
 import shutil
 import subprocess
 
-from golang import ALERTMANAGER, GO, TOP, ended, go
+from golang import ALERTMANAGER, GO, SOURCES, TOP, ended, go
 
+# The provider, and what it is made of that isn't Alertmanager's.
+PACKAGES = ("sinnoraku", "sinnoraku/program")
 # How many posters, posts of each, readers, turns of each and merges the race has.
 RACE = (4, 4_000, 4, 250, 5_000)
 RACE_SECONDS = 300
@@ -38,7 +40,10 @@ import (
 	"github.com/prometheus/client_golang/prometheus"
 
 	"github.com/prometheus/alertmanager/types"
+	"sinnoraku/program"
 )
+
+const alertChannelLength = program.ChannelLength
 
 type noopCallback struct{}
 
@@ -134,9 +139,30 @@ def tidiness():
     files = sorted([*GO.glob("**/*.go"), *TOP.glob("bench/*.go")])
     ran = subprocess.run(["gofmt", "-l", *files], capture_output=True, text=True)
     yield "gofmt -l", (ran.stdout + ran.stderr) or None
-    for words in (["sinnoraku"], [GO / "mem/mem.go"], [TOP / "bench/race.go", TOP / "bench/race_sinnoraku.go"]):
+    for words in (PACKAGES, [GO / "mem/mem.go"], [TOP / "bench/race.go", TOP / "bench/race_sinnoraku.go"]):
         ran = go("vet", *words)
         yield f"go vet of {pathlib.Path(words[-1]).name}", ran.stderr if ran.returncode else None
+    listed = go("list", "-deps", "-f", "{{.ImportPath}}", PACKAGES[1]).stdout.split()
+    names = [name for name in listed if name.startswith("github.com/prometheus/alertmanager")]
+    yield f"what {PACKAGES[1]} uses", None if PACKAGES[1] in listed and not names else f"it uses {names}"
+
+
+def module(room):
+    """Whether the module builds. As no network is asked, Debian's packages are what it has vendored."""
+    own, text = room / "module", ""
+    shutil.copytree(GO / "src/sinnoraku", own, ignore=shutil.ignore_patterns("*_test.go"))
+    listed = go("list", "-deps", "-f", "{{.ImportPath}}", *PACKAGES).stdout.split()
+    for name, version in re.findall(r"^\t(\S+) (v\S+)", (own / "go.mod").read_text(), re.M):
+        folder = re.sub(r"/v\d+$", "", name)
+        link = own / "vendor" / name
+        link.parent.mkdir(parents=True, exist_ok=True)
+        link.symlink_to(SOURCES / "src" / folder)
+        packages = [it for it in listed if f"{it}/".startswith(f"{folder}/")]
+        text += f"# {name} {version}\n## explicit; go 1.19\n" + "".join(f"{name}{it.removeprefix(folder)}\n" for it in packages)
+    (own / "vendor/modules.txt").write_text(text)
+    settings = os.environ | {"GO111MODULE": "on", "GOFLAGS": "-mod=vendor", "GOPROXY": "off"}
+    ran = subprocess.run(["go", "vet", "./..."], cwd=own, env=settings, capture_output=True, text=True)
+    yield "the module", ran.stderr if ran.returncode else None
 
 
 def copied(room):
@@ -150,6 +176,8 @@ def copied(room):
         for file in kept.glob("*.go"):
             if not file.name.endswith("_test.go"):
                 shutil.copy(file, own)
+        if name == "sinnoraku":
+            shutil.copytree(kept / "program", own / "program", ignore=shutil.ignore_patterns("*_test.go"))
         users[name] = []
         for file in sorted((ALERTMANAGER / folder).glob("*_test.go")):
             text = file.read_text()
@@ -192,8 +220,9 @@ def tested_again(path, package, program, names, *words):
 def all_tests(room, program):
     users = copied(room)
     for words in ((), ("-race",)):
-        for name, fault in tested(GO, "sinnoraku", program, *words):
-            yield f"sinnoraku: {name}, {' '.join(words)}", fault
+        for package in PACKAGES:
+            for name, fault in tested(GO, package, program, *words):
+                yield f"{package}: {name}, {' '.join(words)}", fault
         for package, names in users.items():
             for name, fault in tested_again(room, package, program, names, *words):
                 yield f"Alertmanager's own, {name}", fault

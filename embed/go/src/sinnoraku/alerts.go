@@ -1,9 +1,7 @@
 // Package sinnoraku is an alert provider of Alertmanager 0.25 over the proved replay program.
 //
-// NewAlerts starts the program and keeps it as a process of its own. Every call is a line that is written to it, and
-// every answer a line that it prints. The program runs the lines in their order, so what they answer is one history of
-// all calls; many goroutines can wait for their answers at once. Merging, the store, the order of alerts and who gets
-// what are the program's. Here are the encoding of alerts, their fingerprints, the waiting of readers, and the callbacks.
+// NewAlerts starts the program and keeps it as a process of its own. All that isn't Alertmanager's is in package
+// sinnoraku/program; here are the types, metrics and log lines that version 0.25 wants of a provider.
 //
 // What comes is read ahead for each subscriber, so that one that is slow for a while is served all the same. A Put may wait
 // for that reading, but for no subscriber. One that is too slow is cut off. It then subscribes again and gets what is stored
@@ -23,9 +21,9 @@ package sinnoraku
 
 import (
 	"context"
-	"fmt"
+	"runtime"
+	"strings"
 	"sync"
-	"sync/atomic"
 	"time"
 
 	"github.com/go-kit/log"
@@ -36,46 +34,17 @@ import (
 	"github.com/prometheus/alertmanager/provider"
 	"github.com/prometheus/alertmanager/store"
 	"github.com/prometheus/alertmanager/types"
+	"sinnoraku/program"
 )
 
 // Options say how the program is run.
-type Options struct {
-	// Program is the path of the replay program, or of the script replay that runs it.
-	Program string
-	// Places is how many batches its log holds for the slowest reader, 1 to 256; 0 is 256.
-	Places int
-	// Refuse has a Put refused if the log is full. Without it the readers that hold it up are cut off.
-	Refuse bool
-	// Interval is how often the program is asked whether it still answers; 0 is 5 s.
-	Interval time.Duration
-	// Patience is how long it may print nothing while it is asked something. Then it is killed. 0 is 30 s.
-	Patience time.Duration
-}
+type Options = program.Options
 
-// withDefaults are the options with what is 0 replaced.
-func (o Options) withDefaults() Options {
-	if o.Places == 0 {
-		o.Places = 256
-	}
-	if o.Interval == 0 {
-		o.Interval = 5 * time.Second
-	}
-	if o.Patience == 0 {
-		o.Patience = 30 * time.Second
-	}
-	return o
-}
+// A PutError says which alerts of a Put weren't stored. The others were.
+type PutError = program.PutError
 
-func (o Options) arguments() []string {
-	full := "cut"
-	if o.Refuse {
-		full = "refuse"
-	}
-	return []string{"--json", "--mode", "live", "--places", fmt.Sprint(o.Places), "--full", full}
-}
-
-// The program's routes aren't asked: Alertmanager's own dispatcher reads its own configuration.
-const configuration = `{"route":{"receiver":"alertmanager"}}`
+// ErrClosed is what calls end with after Close.
+var ErrClosed = program.ErrClosed
 
 // AlertStoreCallback is asked before an alert is stored, and notified of what is stored and removed, as provider/mem's.
 type AlertStoreCallback interface {
@@ -91,21 +60,12 @@ type AlertStoreCallback interface {
 // Alerts is a provider.Alerts whose store and broadcast are the replay program's. All methods may be called from any
 // goroutine.
 type Alerts struct {
-	options  Options
-	current  atomic.Pointer[history] // the last one that has begun
-	marker   types.Marker
-	callback AlertStoreCallback // nil if nobody has to be asked
-	logger   log.Logger
-	cuts     prometheus.Counter
-	restarts prometheus.Counter
-
-	listing sync.RWMutex // who reads the store page by page shares it, and a collection has it alone
-	gate    sync.RWMutex // puts share it, and a collection has it alone; with a callback so has a put
-
-	closing chan struct{} // closed by Close
-	once    sync.Once
-	done    chan struct{}  // closed once no program runs any more
-	work    sync.WaitGroup // the goroutines that collect and that replace programs
+	program    *program.Program
+	marker     types.Marker
+	logger     log.Logger
+	cuts       prometheus.Counter
+	restarts   prometheus.Counter
+	collecting sync.WaitGroup // the goroutine that collects
 }
 
 var _ provider.Alerts = (*Alerts)(nil)
@@ -117,10 +77,8 @@ func NewAlerts(
 	r prometheus.Registerer, options Options,
 ) (*Alerts, error) {
 	a := &Alerts{
-		options:  options.withDefaults(),
-		marker:   m,
-		callback: cb,
-		logger:   log.With(l, "component", "provider"),
+		marker: m,
+		logger: log.With(l, "component", "provider"),
 		cuts: prometheus.NewCounter(prometheus.CounterOpts{
 			Name: "sinnoraku_subscriptions_cut_total",
 			Help: "How many subscriptions were cut off because their reader was too slow.",
@@ -129,27 +87,26 @@ func NewAlerts(
 			Name: "sinnoraku_program_restarts_total",
 			Help: "How many programs were started because the one before had died.",
 		}),
-		closing: make(chan struct{}),
-		done:    make(chan struct{}),
 	}
-	first := a.begin()
-	if err := first.check(a.options.Patience); err != nil {
-		<-first.ended
+	var asked program.Callback
+	if cb != nil {
+		asked = callback{cb, a.logger}
+	}
+	var err error
+	if a.program, err = program.Start(options, listener{a}, asked); err != nil {
 		return nil, err
 	}
-	a.current.Store(first)
 	if r != nil {
 		r.MustRegister(a.cuts, a.restarts, stateCollector{a})
 	}
-	a.work.Add(2)
-	go a.keep()
+	a.collecting.Add(1)
 	go a.run(ctx, intervalGC)
 	return a, nil
 }
 
-// run collects each interval, until the provider is closed or has ended.
+// run collects each interval, until the provider has ended.
 func (a *Alerts) run(ctx context.Context, interval time.Duration) {
-	defer a.work.Done()
+	defer a.collecting.Done()
 	ticker := time.NewTicker(interval)
 	defer ticker.Stop()
 	for {
@@ -161,43 +118,62 @@ func (a *Alerts) run(ctx context.Context, interval time.Duration) {
 		case <-ctx.Done():
 			go a.Close()
 			return
-		case <-a.closing:
-			return
-		case <-a.done:
+		case <-a.Done():
 			return
 		}
 	}
 }
 
+// collect removes what is resolved, and says so to the marker and the callback.
+func (a *Alerts) collect(now time.Time) error { return a.program.Collect(now) }
+
 // Close ends the program once it has answered what was asked before, and waits for its end. Iterators of subscriptions
 // stay open.
 func (a *Alerts) Close() {
-	a.once.Do(func() { close(a.closing) })
-	a.current.Load().close()
-	a.work.Wait()
+	a.program.Close()
+	a.collecting.Wait()
 }
 
 // Done is closed once no program runs any more, by Close or because too many have died.
-func (a *Alerts) Done() <-chan struct{} { return a.done }
+func (a *Alerts) Done() <-chan struct{} { return a.program.Done() }
 
 // Err says why no calls are taken, and is nil while they are. Until Done is closed another program may take some.
-func (a *Alerts) Err() error { return a.current.Load().why() }
+func (a *Alerts) Err() error { return a.program.Err() }
+
+// Put stores alerts, each merged with the stored one of its labels. Up to 1,024 alerts of one Put are stored together,
+// and they reach each subscriber in their order. An error names those that weren't stored.
+func (a *Alerts) Put(alerts ...*types.Alert) error {
+	ours := make([]*program.Alert, len(alerts))
+	for at, it := range alerts {
+		ours[at] = (*program.Alert)(it)
+	}
+	return a.program.Put(ours...)
+}
 
 // Get returns the stored alert of a fingerprint.
 func (a *Alerts) Get(fingerprint model.Fingerprint) (*types.Alert, error) {
-	h := a.current.Load()
-	if err := h.why(); err != nil {
-		return nil, err
-	}
-	labels, found := h.known.get(fingerprint)
-	if !found {
-		return nil, store.ErrNotFound
-	}
-	alert, err := h.get(labels)
+	alert, err := a.program.Get(fingerprint)
 	if alert == nil && err == nil {
 		err = store.ErrNotFound
 	}
-	return alert, err
+	return theirs(alert), err
+}
+
+// Subscribe returns an iterator over what is stored and over every alert that is stored from now on. If it is cut off or
+// the program dies, it subscribes again. Its channel isn't closed when the provider ends, as that of provider/mem isn't,
+// and what it holds can still be taken.
+func (a *Alerts) Subscribe() provider.AlertIterator {
+	return program.Subscribe(a.program, callerName(), theirs)
+}
+
+// callerName names who called Subscribe, as `dispatch.(*Dispatcher).Run`.
+func callerName() string {
+	at, _, _, found := runtime.Caller(2)
+	if !found {
+		return "unknown"
+	}
+	name := runtime.FuncForPC(at).Name()
+	return name[strings.LastIndexByte(name, '/')+1:]
 }
 
 // GetPending returns an iterator over what is stored. Puts go on while it is read, so each alert is as it was at its turn.
@@ -208,31 +184,66 @@ func (a *Alerts) GetPending() provider.AlertIterator {
 	if err != nil {
 		alerts = []*types.Alert{{}}
 	}
-	return filled(alerts, err)
+	return program.Over(alerts, err)
 }
 
-// stored reads the store page by page, while no collection comes between.
 func (a *Alerts) stored() ([]*types.Alert, error) {
-	a.listing.RLock()
-	defer a.listing.RUnlock()
-	return a.current.Load().stored()
+	ours, err := a.program.Stored()
+	alerts := make([]*types.Alert, len(ours))
+	for at, it := range ours {
+		alerts[at] = theirs(it)
+	}
+	return alerts, err
 }
 
-// collect removes what is resolved, and says so to the marker and the callback.
-func (a *Alerts) collect(now time.Time) error {
-	a.listing.Lock()
-	defer a.listing.Unlock()
-	a.gate.Lock()
-	defer a.gate.Unlock()
-	h := a.current.Load()
-	taken, err := h.takeResolved(now)
-	for _, alert := range taken {
-		fingerprint := alert.Fingerprint()
-		h.known.remove(fingerprint)
-		a.marker.Delete(fingerprint)
-		if a.callback != nil {
-			a.callback.PostDelete(alert)
-		}
+// theirs is the same alert with Alertmanager's type, whose fields are those of the program's.
+func theirs(alert *program.Alert) *types.Alert { return (*types.Alert)(alert) }
+
+// A listener counts, logs, and deletes the marks of what is gone.
+type listener struct{ *Alerts }
+
+func (l listener) Gone(fingerprint model.Fingerprint) { l.marker.Delete(fingerprint) }
+
+func (l listener) Cut(reader string) {
+	l.cuts.Inc()
+	level.Warn(l.logger).Log("msg", "a reader was too slow and was cut off; it gets what is stored again", "reader", reader)
+}
+
+func (l listener) Unserved(reader string, err error) {
+	level.Error(l.logger).Log("msg", "a reader can't be served now", "reader", reader, "err", err)
+}
+
+func (l listener) Died(err error) {
+	l.restarts.Inc()
+	level.Error(l.logger).Log("msg", "the program has died; another one starts with an empty store", "err", err)
+}
+
+func (l listener) Ended(err error) {
+	level.Error(l.logger).Log("msg", "the provider has ended, since too many programs have died", "err", err)
+}
+
+// A callback asks Alertmanager's.
+type callback struct {
+	asked  AlertStoreCallback
+	logger log.Logger
+}
+
+func (c callback) Merge(stored, report *program.Alert) *program.Alert {
+	return (*program.Alert)(theirs(stored).Merge(theirs(report)))
+}
+
+func (c callback) PreStore(alert *program.Alert, existing bool) error {
+	err := c.asked.PreStore(theirs(alert), existing)
+	if err != nil {
+		level.Error(c.logger).Log("msg", "pre-store callback returned error on set alert", "err", err)
 	}
 	return err
+}
+
+func (c callback) PostStore(alert *program.Alert, existing bool) {
+	c.asked.PostStore(theirs(alert), existing)
+}
+
+func (c callback) PostDelete(alert *program.Alert) {
+	c.asked.PostDelete(theirs(alert))
 }

@@ -1,7 +1,6 @@
-package sinnoraku
+package program
 
 import (
-	"context"
 	"fmt"
 	"os"
 	"path/filepath"
@@ -11,17 +10,9 @@ import (
 	"syscall"
 	"testing"
 	"time"
-
-	"github.com/go-kit/log"
-	"github.com/prometheus/client_golang/prometheus"
-	"github.com/prometheus/client_golang/prometheus/testutil"
-
-	"github.com/prometheus/alertmanager/provider"
-	"github.com/prometheus/alertmanager/store"
-	"github.com/prometheus/alertmanager/types"
 )
 
-func (p *program) signal(t *testing.T, it syscall.Signal) {
+func (p *process) signal(t *testing.T, it syscall.Signal) {
 	t.Helper()
 	if err := p.command.Process.Signal(it); err != nil {
 		t.Fatal(err)
@@ -29,7 +20,7 @@ func (p *program) signal(t *testing.T, it syscall.Signal) {
 }
 
 // kill kills the program, and waits until another one has been started or the provider has ended.
-func kill(t *testing.T, a *Alerts) {
+func kill(t *testing.T, a *watched) {
 	t.Helper()
 	h := a.current.Load()
 	h.signal(t, syscall.SIGKILL)
@@ -42,7 +33,7 @@ func kill(t *testing.T, a *Alerts) {
 }
 
 // everythingFails fails if a call of a provider that has ended doesn't say why.
-func everythingFails(t *testing.T, a *Alerts) {
+func everythingFails(t *testing.T, a *watched) {
 	t.Helper()
 	select {
 	case <-a.Done():
@@ -59,30 +50,22 @@ func everythingFails(t *testing.T, a *Alerts) {
 	says("Put", a.Put(firing(1)))
 	_, err := a.Get(firing(0).Fingerprint())
 	says("Get", err)
-	says("collect", a.collect(time.Now()))
+	says("Collect", a.Collect(time.Now()))
 	takesNothing(t, a.Subscribe())
-	it := a.GetPending()
-	if alert, isOpen := <-it.Next(); !isOpen || len(alert.Labels) != 0 {
-		t.Errorf("GetPending: %v came", alert)
-	}
-	says("GetPending", it.Err())
-	if alert, isOpen := <-it.Next(); isOpen {
-		t.Errorf("GetPending: %v came", alert)
-	}
-	_, err = a.countStates()
-	says("countStates", err)
+	_, err = a.Stored()
+	says("Stored", err)
 	a.Close()
 	says("Err after Close", a.Err())
 }
 
 // putAgain puts an alert until that succeeds, as Prometheus does.
-func putAgain(t *testing.T, a *Alerts, alert *types.Alert) {
+func putAgain(t *testing.T, a *watched, alert *Alert) {
 	t.Helper()
 	waitUntil(t, "a put succeeds", func() bool { return a.Put(alert) == nil })
 }
 
 // subscribeAll subscribes so often that some share a lane, and has each take what is stored.
-func subscribeAll(t *testing.T, a *Alerts, stored int) (iterators []provider.AlertIterator) {
+func subscribeAll(t *testing.T, a *watched, stored int) (iterators []*Iterator[Alert]) {
 	t.Helper()
 	for reader := 0; reader < ownLanes+3; reader++ {
 		it := a.Subscribe()
@@ -93,7 +76,7 @@ func subscribeAll(t *testing.T, a *Alerts, stored int) (iterators []provider.Ale
 }
 
 // eachGets fails if a reader doesn't get just the alert of a number.
-func eachGets(t *testing.T, iterators []provider.AlertIterator, number int) {
+func eachGets(t *testing.T, iterators []*Iterator[Alert], number int) {
 	t.Helper()
 	for _, it := range iterators {
 		if got := numbers(take(t, it, 1)); got[0] != fmt.Sprint(number) {
@@ -107,12 +90,11 @@ func TestAProgramThatDiesIsReplaced(t *testing.T) {
 	a := startPlain(t)
 	lost := firing(0)
 	put(t, a, lost)
-	a.marker.SetActiveOrSilenced(lost.Fingerprint(), 1, []string{"1"}, nil)
 	iterators := subscribeAll(t, a, 1)
 	for at := 1; at < mostDeaths; at++ {
 		kill(t, a)
-		if _, err := a.Get(lost.Fingerprint()); err != store.ErrNotFound {
-			t.Errorf("what was stored before: %v", err)
+		if got, err := a.Get(lost.Fingerprint()); got != nil || err != nil {
+			t.Errorf("what was stored before: %v, %v", got, err)
 		}
 		put(t, a, firing(at))
 		eachGets(t, iterators, at)
@@ -120,11 +102,11 @@ func TestAProgramThatDiesIsReplaced(t *testing.T) {
 			t.Errorf("%v are stored", stored)
 		}
 	}
-	if restarts := testutil.ToFloat64(a.restarts); restarts != mostDeaths-1 {
+	if restarts := a.restarts.Load(); restarts != mostDeaths-1 {
 		t.Errorf("%v restarts were counted", restarts)
 	}
-	if state := a.marker.Status(lost.Fingerprint()).State; state != types.AlertStateUnprocessed {
-		t.Errorf("the mark of what was lost is %v", state)
+	if times := a.timesGone(lost); times != 1 {
+		t.Errorf("what was lost was gone %d times", times)
 	}
 	put(t, a, lost)
 	eachGets(t, iterators, 0)
@@ -132,15 +114,15 @@ func TestAProgramThatDiesIsReplaced(t *testing.T) {
 
 // The program stands still. Calls wait, and fail once that is found; then all goes on with another program.
 func TestAProgramThatStopsIsReplaced(t *testing.T) {
-	a := startWith(t, time.Hour, nil, log.NewNopLogger(), Options{Interval: 200 * time.Millisecond, Patience: 2 * time.Second})
+	a := startWith(t, Options{Interval: 200 * time.Millisecond, Patience: 2 * time.Second})
 	put(t, a, firing(0))
 	iterators := subscribeAll(t, a, 1)
 	a.current.Load().signal(t, syscall.SIGSTOP)
-	failures, subscribed := make(chan error, 4), make(chan provider.AlertIterator)
+	failures, subscribed := make(chan error, 4), make(chan *Iterator[Alert])
 	go func() { failures <- a.Put(firing(1)) }()
 	go func() { failures <- a.Put(firings(0, 10*mostAlerts)...) }()
 	go func() { _, err := a.Get(firing(0).Fingerprint()); failures <- err }()
-	go func() { failures <- a.GetPending().Err() }()
+	go func() { _, err := a.Stored(); failures <- err }()
 	go func() { subscribed <- a.Subscribe() }()
 	for at := 0; at < cap(failures); at++ {
 		if err := <-failures; err == nil || !strings.Contains(err.Error(), "answered nothing for 2s") {
@@ -150,7 +132,7 @@ func TestAProgramThatStopsIsReplaced(t *testing.T) {
 	iterators = append(iterators, <-subscribed)
 	putAgain(t, a, firing(1))
 	eachGets(t, iterators, 1)
-	if restarts := testutil.ToFloat64(a.restarts); restarts != 1 {
+	if restarts := a.restarts.Load(); restarts != 1 {
 		t.Errorf("%v restarts were counted", restarts)
 	}
 }
@@ -223,7 +205,7 @@ func TestWhatWaitsComesAfterADeath(t *testing.T) {
 	a := startPlain(t)
 	it := a.Subscribe()
 	put(t, a, firings(0, count)...)
-	waitUntil(t, "the channel is full", func() bool { return len(it.Next()) == alertChannelLength })
+	waitUntil(t, "the channel is full", func() bool { return len(it.Next()) == ChannelLength })
 	kill(t, a)
 	put(t, a, firing(count))
 	if got := take(t, it, count+1); !reflect.DeepEqual(numbers(got), numbers(firings(0, count+1))) {
@@ -240,25 +222,22 @@ func TestWhatWaitsComesAfterADeath(t *testing.T) {
 }
 
 func TestTheProgramDiesInACollection(t *testing.T) {
-	callback := &recorder{}
-	a := startWith(t, time.Hour, callback, log.NewNopLogger(), Options{})
+	a := startPlain(t)
 	gone := firing(0)
 	gone.EndsAt = gone.StartsAt
 	put(t, a, gone)
 	a.current.Load().signal(t, syscall.SIGSTOP)
 	failed := make(chan error)
-	go func() { failed <- a.collect(time.Now()) }()
+	go func() { failed <- a.Collect(time.Now()) }()
 	time.Sleep(50 * time.Millisecond)
 	kill(t, a)
 	if err := <-failed; err == nil {
 		t.Error("the collection didn't fail")
 	}
-	for _, it := range callback.calls {
-		if strings.HasPrefix(it, "delete") {
-			t.Error("an alert was said to be removed")
-		}
+	if times := a.timesGone(gone); times != 1 {
+		t.Errorf("the alert was gone %d times", times)
 	}
-	if err := a.collect(time.Now()); err != nil {
+	if err := a.Collect(time.Now()); err != nil {
 		t.Error(err)
 	}
 }
@@ -313,20 +292,6 @@ func TestCloseWhileAProgramIsReplaced(t *testing.T) {
 	noMoreGoroutinesThan(t, before)
 }
 
-func TestTheContextCloses(t *testing.T) {
-	ctx, cancel := context.WithCancel(context.Background())
-	marker := types.NewMarker(prometheus.NewRegistry())
-	a, err := NewAlerts(ctx, marker, time.Hour, nil, log.NewNopLogger(), nil, Options{Program: programPath(t)})
-	if err != nil {
-		t.Fatal(err)
-	}
-	cancel()
-	<-a.Done()
-	if err := a.Put(firing(0)); err != ErrClosed {
-		t.Errorf("Put: %v", err)
-	}
-}
-
 // Writes a program in bash. No other process is forked meanwhile: it would hold the file open for writing until it
 // runs a program of its own, and what is open for writing can't be run ("text file busy").
 func writeProgram(t *testing.T, script string) (path string) {
@@ -374,8 +339,7 @@ func TestOtherPrograms(t *testing.T) {
 			if c.script != "" {
 				path = writeProgram(t, c.script)
 			}
-			marker := types.NewMarker(prometheus.NewRegistry())
-			a, err := NewAlerts(context.Background(), marker, time.Hour, nil, log.NewNopLogger(), nil, Options{Program: path})
+			a, err := begun(t.Name(), Options{Program: path})
 			if (err == nil) != c.starts {
 				t.Fatalf("it started with %v", err)
 			}
@@ -396,16 +360,15 @@ func TestAPutWithoutAnAnswer(t *testing.T) {
 		script := `read a; read b; printf '{"line":2,"answer":"stored","alerts":0}\n{"line":2,"answers":1}\n'; read c; printf '` +
 			printed + `{"line":3,"answers":` + fmt.Sprint(strings.Count(printed, "answer")) + `}\n'; read d`
 		path := writeProgram(t, script)
-		marker := types.NewMarker(prometheus.NewRegistry())
-		a, err := NewAlerts(context.Background(), marker, time.Hour, nil, log.NewNopLogger(), nil, Options{Program: path})
+		a, err := begun(t.Name(), Options{Program: path})
 		if err != nil {
 			t.Fatal(err)
 		}
 		if err := a.Put(firing(0)); err == nil || !strings.Contains(err.Error(), "a put was answered by") {
 			t.Errorf("%q: %v", printed, err)
 		}
-		if _, err := a.Get(firing(0).Fingerprint()); err != store.ErrNotFound {
-			t.Errorf("%q: %v", printed, err)
+		if got, err := a.Get(firing(0).Fingerprint()); got != nil || err != nil {
+			t.Errorf("%q: %v, %v", printed, got, err)
 		}
 		a.Close()
 	}

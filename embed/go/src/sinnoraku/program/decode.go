@@ -1,4 +1,4 @@
-package sinnoraku
+package program
 
 import (
 	"bytes"
@@ -10,8 +10,6 @@ import (
 	"unicode/utf8"
 
 	"github.com/prometheus/common/model"
-
-	"github.com/prometheus/alertmanager/types"
 )
 
 // What a printed line is.
@@ -80,7 +78,7 @@ type answer struct {
 	removed  int
 	stored   int // of a page: how many alerts are stored in all
 	hasPlace bool
-	alert    *types.Alert
+	alert    *Alert
 }
 
 // answersOf reads the answers of a call.
@@ -318,8 +316,8 @@ func (s *scanner) unit() rune {
 	return rune(unit)
 }
 
-func (s *scanner) alert() *types.Alert {
-	alert := &types.Alert{}
+func (s *scanner) alert() *Alert {
+	alert := &Alert{}
 	s.object(func(name string) {
 		switch name {
 		case "labels":

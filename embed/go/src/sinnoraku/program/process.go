@@ -1,4 +1,4 @@
-package sinnoraku
+package program
 
 import (
 	"bufio"
@@ -19,9 +19,9 @@ var ErrClosed = errors.New("sinnoraku: the provider is closed")
 // How long the program may take to end once its input has ended.
 const endPatience = 10 * time.Second
 
-// A program is one running replay program. It runs the lines that it is given in their order, so many callers can wait
+// A process is one running replay program. It runs the lines that it is given in their order, so many callers can wait
 // for their answers at once. One goroutine reads the answers and hands each to its call.
-type program struct {
+type process struct {
 	path    string
 	command *exec.Cmd
 	input   io.WriteCloser
@@ -48,8 +48,8 @@ type call struct {
 }
 
 // start starts the program with these arguments and gives it its first line. If it can't be started, it has ended already.
-func start(path string, arguments []string, configuration string, onPut func()) *program {
-	p := &program{path: path, onPut: onPut, ended: make(chan struct{}), waiting: map[int]*call{}, last: 1}
+func start(path string, arguments []string, configuration string, onPut func()) *process {
+	p := &process{path: path, onPut: onPut, ended: make(chan struct{}), waiting: map[int]*call{}, last: 1}
 	p.command = exec.Command(path, arguments...)
 	p.command.Stderr = &p.told
 	// A signal of the terminal is for this process, which then ends the program in order.
@@ -68,7 +68,7 @@ func start(path string, arguments []string, configuration string, onPut func()) 
 }
 
 // launch runs the command with pipes as its input and its output.
-func (p *program) launch() (output io.Reader, err error) {
+func (p *process) launch() (output io.Reader, err error) {
 	if p.input, err = p.command.StdinPipe(); err != nil {
 		return nil, err
 	}
@@ -79,7 +79,7 @@ func (p *program) launch() (output io.Reader, err error) {
 }
 
 // watch checks each interval whether the program still answers, until it ends.
-func (p *program) watch(interval, patience time.Duration) {
+func (p *process) watch(interval, patience time.Duration) {
 	ticker := time.NewTicker(interval)
 	defer ticker.Stop()
 	for {
@@ -94,7 +94,7 @@ func (p *program) watch(interval, patience time.Duration) {
 
 // check asks the program what it answers at once, however much is stored. A program that prints nothing for that long
 // while it is asked is killed.
-func (p *program) check(patience time.Duration) error {
+func (p *process) check(patience time.Duration) error {
 	answered := make(chan struct{})
 	defer close(answered)
 	go p.killIfSilent(patience, answered)
@@ -104,7 +104,7 @@ func (p *program) check(patience time.Duration) error {
 
 // killIfSilent kills the program if it prints nothing for that long. What it prints for other calls counts, since the
 // answer comes after theirs. The time is counted in parts: one in which this process was stopped too is one part.
-func (p *program) killIfSilent(patience time.Duration, answered <-chan struct{}) {
+func (p *process) killIfSilent(patience time.Duration, answered <-chan struct{}) {
 	const parts = 10
 	ticker := time.NewTicker(patience / parts)
 	defer ticker.Stop()
@@ -124,7 +124,7 @@ func (p *program) killIfSilent(patience time.Duration, answered <-chan struct{})
 }
 
 // ask writes a line and waits for its answers.
-func (p *program) ask(line []byte) (*call, error) {
+func (p *process) ask(line []byte) (*call, error) {
 	asked := p.send(false, line)[0]
 	return asked, asked.wait()
 }
@@ -135,7 +135,7 @@ func (c *call) wait() error {
 }
 
 // send writes lines, each with its line feed, so that none comes between them. It doesn't wait for their answers.
-func (p *program) send(arePuts bool, lines ...[]byte) []*call {
+func (p *process) send(arePuts bool, lines ...[]byte) []*call {
 	calls := make([]*call, len(lines))
 	p.writing.Lock()
 	defer p.writing.Unlock()
@@ -154,7 +154,7 @@ func (p *program) send(arePuts bool, lines ...[]byte) []*call {
 }
 
 // expect makes the calls of the next lines. If no more are taken, they have ended already.
-func (p *program) expect(calls []*call, arePuts bool) error {
+func (p *process) expect(calls []*call, arePuts bool) error {
 	p.mutex.Lock()
 	defer p.mutex.Unlock()
 	for at := range calls {
@@ -170,7 +170,7 @@ func (p *program) expect(calls []*call, arePuts bool) error {
 }
 
 // read hands each answer to its call, until the program ends.
-func (p *program) read(output *bufio.Reader) {
+func (p *process) read(output *bufio.Reader) {
 	if err := p.readAnswers(output); err != nil {
 		p.kill(err)
 	}
@@ -178,7 +178,7 @@ func (p *program) read(output *bufio.Reader) {
 }
 
 // readAnswers reads answers to the end of the output. What can't be an answer is an error.
-func (p *program) readAnswers(output *bufio.Reader) error {
+func (p *process) readAnswers(output *bufio.Reader) error {
 	var current *call
 	number := 0
 	for {
@@ -224,14 +224,14 @@ func readLine(from *bufio.Reader) ([]byte, error) {
 	return append(long, rest...), err
 }
 
-func (p *program) waitingFor(number int) *call {
+func (p *process) waitingFor(number int) *call {
 	p.mutex.Lock()
 	defer p.mutex.Unlock()
 	return p.waiting[number]
 }
 
 // answered ends the call of a line.
-func (p *program) answered(number int) {
+func (p *process) answered(number int) {
 	p.mutex.Lock()
 	answered := p.waiting[number]
 	delete(p.waiting, number)
@@ -243,14 +243,14 @@ func (p *program) answered(number int) {
 }
 
 // note keeps a refusal of the configuration as why the program ended.
-func (p *program) note(line []byte) {
+func (p *process) note(line []byte) {
 	if refused, err := parseAnswer(line); err == nil && refused.word == "refused" {
 		_, _ = fmt.Fprintf(&p.told, "%s refused: %s", refused.do, refused.fault)
 	}
 }
 
 // end says that the program has ended, and ends each call that still waits.
-func (p *program) end(exit error) {
+func (p *process) end(exit error) {
 	p.mutex.Lock()
 	if p.err == nil {
 		p.err = fmt.Errorf("sinnoraku: the program %s ended by itself: %s", p.path, withTold(endText(exit), p.told.String()))
@@ -281,14 +281,14 @@ func withTold(text, told string) string {
 }
 
 // why says why the program takes no more calls; nil while it does.
-func (p *program) why() error {
+func (p *process) why() error {
 	p.mutex.Lock()
 	defer p.mutex.Unlock()
 	return p.err
 }
 
 // close ends the program's input, and waits until the program has answered what was asked before and has ended.
-func (p *program) close() {
+func (p *process) close() {
 	p.refuse(ErrClosed)
 	// A writer that is stuck is freed by the program's end.
 	late := time.AfterFunc(endPatience, func() { p.kill(nil) })
@@ -302,7 +302,7 @@ func (p *program) close() {
 }
 
 // kill kills the program with what it has started. Without a reason calls end with how it ended.
-func (p *program) kill(reason error) {
+func (p *process) kill(reason error) {
 	p.refuse(reason)
 	if p.command.Process != nil {
 		_ = syscall.Kill(-p.command.Process.Pid, syscall.SIGKILL)
@@ -310,7 +310,7 @@ func (p *program) kill(reason error) {
 }
 
 // refuse takes no more calls. The first reason counts.
-func (p *program) refuse(reason error) {
+func (p *process) refuse(reason error) {
 	p.mutex.Lock()
 	defer p.mutex.Unlock()
 	if p.err == nil {

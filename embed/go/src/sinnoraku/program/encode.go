@@ -1,4 +1,4 @@
-package sinnoraku
+package program
 
 import (
 	"errors"
@@ -9,8 +9,6 @@ import (
 	"unicode/utf8"
 
 	"github.com/prometheus/common/model"
-
-	"github.com/prometheus/alertmanager/types"
 )
 
 // The lines that have no members but names and numbers.
@@ -65,7 +63,7 @@ var (
 )
 
 // timed is the alert with each moment that isn't there replaced by the one that stands for it.
-func timed(alert *types.Alert) types.Alert {
+func timed(alert *Alert) Alert {
 	it := *alert
 	if it.StartsAt.IsZero() {
 		it.StartsAt = noStart
@@ -80,7 +78,7 @@ func timed(alert *types.Alert) types.Alert {
 }
 
 // untime undoes what timed did.
-func untime(alert *types.Alert) {
+func untime(alert *Alert) {
 	if alert.StartsAt.Equal(noStart) {
 		alert.StartsAt = time.Time{}
 	}
@@ -94,7 +92,7 @@ func untime(alert *types.Alert) {
 
 // appendAlert writes an alert, and says where in the line its labels begin and end. If it can't be written, the line is
 // as it was.
-func appendAlert(line []byte, alert *types.Alert) (_ []byte, from, to int, err error) {
+func appendAlert(line []byte, alert *Alert) (_ []byte, from, to int, err error) {
 	it, begun := timed(alert), len(line)
 	if err := checkAlert(&it); err != nil {
 		return line, begun, begun, err
@@ -124,7 +122,7 @@ func appendAlert(line []byte, alert *types.Alert) (_ []byte, from, to int, err e
 }
 
 // checkAlert says why an alert can't be written, if it can't.
-func checkAlert(alert *types.Alert) error {
+func checkAlert(alert *Alert) error {
 	for _, moment := range [...]time.Time{alert.StartsAt, alert.EndsAt, alert.UpdatedAt} {
 		if moment.Before(noStart) || moment.After(noEnd) {
 			return fmt.Errorf("%w: %v", errBadMoment, moment)

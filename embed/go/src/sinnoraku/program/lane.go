@@ -1,4 +1,4 @@
-package sinnoraku
+package program
 
 import (
 	"bytes"
@@ -7,8 +7,6 @@ import (
 	"sync"
 	"sync/atomic"
 	"time"
-
-	"github.com/prometheus/alertmanager/types"
 )
 
 const (
@@ -45,7 +43,7 @@ type member struct {
 	filled  chan struct{} // has a token if something came since
 
 	mutex   sync.Mutex
-	waiting []*types.Alert
+	waiting []*Alert
 	err     error // why no more come
 }
 
@@ -54,7 +52,7 @@ type member struct {
 func (r *readers) openLane(reader string, isShared bool) (*lane, *member, error) {
 	l := r.newLane(reader, isShared)
 	l.mutex.Lock()
-	calls := r.program.send(false, subscribeLine(l.name), readLineOf(l.name, mostRead))
+	calls := r.process.send(false, subscribeLine(l.name), readLineOf(l.name, mostRead))
 	stored, err := l.begin(calls[0])
 	if err != nil {
 		l.mutex.Unlock()
@@ -76,7 +74,7 @@ func (l *lane) readOpening(first *member, page *call, stored int) {
 	defer close(first.opening)
 	first.opening <- page
 	for left := stored - mostRead; left > 0 && page.wait() == nil; left -= mostRead {
-		page = l.readers.program.send(false, readLineOf(l.name, mostRead))[0]
+		page = l.readers.process.send(false, readLineOf(l.name, mostRead))[0]
 		first.opening <- page
 	}
 	poke(l.woken)
@@ -137,7 +135,7 @@ func (l *lane) join() (*member, error) {
 	for len(lines) < readsOfFullLog {
 		lines = append(lines, readLineOf(l.name, longestRead))
 	}
-	calls := l.readers.program.send(false, append(lines, getStored)...)
+	calls := l.readers.process.send(false, append(lines, getStored)...)
 	for _, read := range calls[:readsOfFullLog] {
 		if err := l.deal(read); err != nil {
 			l.end(err)
@@ -168,9 +166,9 @@ func (l *lane) run() {
 			}
 		case <-l.left:
 			return
-		case <-l.readers.program.ended:
+		case <-l.readers.process.ended:
 			l.mutex.Lock()
-			l.end(l.readers.program.why())
+			l.end(l.readers.process.why())
 			l.mutex.Unlock()
 			return
 		}
@@ -185,7 +183,7 @@ func (l *lane) readOn() bool {
 		return false
 	}
 	lag := l.lag.Load()
-	read := l.readers.program.send(false, readLineOf(l.name, mostRead))[0]
+	read := l.readers.process.send(false, readLineOf(l.name, mostRead))[0]
 	if err := l.deal(read); err != nil {
 		l.end(err)
 		return false
@@ -247,7 +245,7 @@ func (l *lane) leaveIfAlone() {
 	}
 	close(l.left)
 	l.readers.forget(l)
-	go l.leaveAgain(l.readers.program.send(false, leaveLine(l.name))[0])
+	go l.leaveAgain(l.readers.process.send(false, leaveLine(l.name))[0])
 	if !l.isShared {
 		<-l.readers.own
 	}
@@ -258,8 +256,8 @@ func (l *lane) leaveAgain(asked *call) {
 	for isRefused(asked) {
 		select {
 		case <-time.After(refusedPause):
-			asked = l.readers.program.send(false, leaveLine(l.name))[0]
-		case <-l.readers.program.ended:
+			asked = l.readers.process.send(false, leaveLine(l.name))[0]
+		case <-l.readers.process.ended:
 			return
 		}
 	}
@@ -280,7 +278,7 @@ func (m *member) isFull() bool {
 	return len(m.waiting) >= mostWaiting
 }
 
-func (m *member) give(alerts []*types.Alert) {
+func (m *member) give(alerts []*Alert) {
 	m.mutex.Lock()
 	defer m.mutex.Unlock()
 	m.waiting = append(m.waiting, alerts...)
@@ -296,7 +294,7 @@ func (m *member) end(err error) {
 }
 
 // next waits until there are alerts, or until the iterator is closed. With an error no more come.
-func (m *member) next(closed <-chan struct{}) ([]*types.Alert, error) {
+func (m *member) next(closed <-chan struct{}) ([]*Alert, error) {
 	select {
 	case page, is := <-m.opening:
 		if is {
@@ -314,7 +312,7 @@ func (m *member) next(closed <-chan struct{}) ([]*types.Alert, error) {
 }
 
 // take takes all that waits.
-func (m *member) take() ([]*types.Alert, error) {
+func (m *member) take() ([]*Alert, error) {
 	m.mutex.Lock()
 	defer m.mutex.Unlock()
 	alerts := m.waiting

@@ -1,4 +1,4 @@
-package sinnoraku
+package program
 
 import (
 	"errors"
@@ -6,10 +6,7 @@ import (
 	"sync"
 	"time"
 
-	"github.com/go-kit/log/level"
 	"github.com/prometheus/common/model"
-
-	"github.com/prometheus/alertmanager/types"
 )
 
 // So many programs may die in that time. Then the provider ends.
@@ -21,41 +18,40 @@ const (
 // A history is what one program stores and broadcasts. If the program dies, the next one begins a history with an empty
 // store.
 type history struct {
-	*program
+	*process
 	known    labelTexts // of all stored alerts
 	readers  readers
 	replaced chan struct{} // closed once the next history has begun
 }
 
 // begin starts a program.
-func (a *Alerts) begin() *history {
+func (p *Program) begin() *history {
 	h := &history{replaced: make(chan struct{})}
 	h.known.texts = map[model.Fingerprint]string{}
-	h.readers.init(a.options.Places)
-	h.program = start(a.options.Program, a.options.arguments(), configuration, h.readers.wake)
-	h.readers.program = h.program
-	go h.watch(a.options.Interval, a.options.Patience)
+	h.readers.init(p.options.Places)
+	h.process = start(p.options.Program, p.options.arguments(), configuration, h.readers.wake)
+	h.readers.process = h.process
+	go h.watch(p.options.Interval, p.options.Patience)
 	return h
 }
 
 // keep starts another program when one has died, until the provider is closed or too many have died.
-func (a *Alerts) keep() {
-	defer a.work.Done()
-	defer close(a.done)
+func (p *Program) keep() {
+	defer close(p.done)
 	var deaths []time.Time
 	for {
-		h := a.current.Load()
+		h := p.current.Load()
 		<-h.ended
 		err := h.why()
 		if err == ErrClosed {
 			return
 		}
 		if deaths = append(deaths, time.Now()); areTooMany(deaths) {
-			level.Error(a.logger).Log("msg", "the provider has ended, since too many programs have died", "err", err)
+			p.listener.Ended(err)
 			return
 		}
-		level.Error(a.logger).Log("msg", "the program has died; another one starts with an empty store", "err", err)
-		a.replace(h)
+		p.listener.Died(err)
+		p.replace(h)
 	}
 }
 
@@ -65,24 +61,23 @@ func areTooMany(deaths []time.Time) bool {
 	return last >= mostDeaths-1 && deaths[last].Sub(deaths[last-mostDeaths+1]) < deathWindow
 }
 
-// replace begins the next history. The marks of what is lost are deleted, as a collection deletes those of what it removes.
-func (a *Alerts) replace(dead *history) {
+// replace begins the next history. What is lost is gone, as what a collection removes.
+func (p *Program) replace(dead *history) {
 	for _, fingerprint := range dead.known.all() {
-		a.marker.Delete(fingerprint)
+		p.listener.Gone(fingerprint)
 	}
-	a.restarts.Inc()
-	next := a.begin()
-	a.current.Store(next)
+	next := p.begin()
+	p.current.Store(next)
 	close(dead.replaced)
 	select {
-	case <-a.closing: // Close may have seen the dead one only
+	case <-p.closing: // Close may have seen the dead one only
 		next.close()
 	default:
 	}
 }
 
 // get asks for the stored alert of these labels, and is nil if there is none.
-func (h *history) get(labels string) (*types.Alert, error) {
+func (h *history) get(labels string) (*Alert, error) {
 	alerts, err := alertsIn(h.send(false, getLine(labels))[0])
 	if err != nil || len(alerts) == 0 {
 		return nil, err
@@ -95,7 +90,7 @@ const pageLength = 500
 
 // stored asks for all stored alerts, page by page. Each is as it was when its page was read. New ones come at the end, so
 // none is missed while no collection comes.
-func (h *history) stored() (all []*types.Alert, _ error) {
+func (h *history) stored() (all []*Alert, _ error) {
 	for {
 		alerts, stored, err := h.page(len(all))
 		all = append(all, alerts...)
@@ -106,7 +101,7 @@ func (h *history) stored() (all []*types.Alert, _ error) {
 }
 
 // page asks for the stored alerts from an index on, and how many are stored in all.
-func (h *history) page(from int) (alerts []*types.Alert, stored int, _ error) {
+func (h *history) page(from int) (alerts []*Alert, stored int, _ error) {
 	answers, err := answersFor(h.send(false, pageLine(from, pageLength))[0], "page")
 	if err != nil {
 		return nil, 0, err
@@ -115,7 +110,7 @@ func (h *history) page(from int) (alerts []*types.Alert, stored int, _ error) {
 }
 
 // takeResolved has what is resolved removed, and returns it.
-func (h *history) takeResolved(now time.Time) ([]*types.Alert, error) {
+func (h *history) takeResolved(now time.Time) ([]*Alert, error) {
 	answers, err := answersFor(h.send(false, takeLine(now))[0], "take")
 	if err != nil {
 		return nil, err
@@ -145,8 +140,8 @@ func answersFor(asked *call, word string) ([]answer, error) {
 }
 
 // alertsOf are the alerts of answers.
-func alertsOf(answers []answer) []*types.Alert {
-	alerts := make([]*types.Alert, 0, len(answers))
+func alertsOf(answers []answer) []*Alert {
+	alerts := make([]*Alert, 0, len(answers))
 	for _, it := range answers {
 		if it.alert != nil {
 			alerts = append(alerts, it.alert)
@@ -156,7 +151,7 @@ func alertsOf(answers []answer) []*types.Alert {
 }
 
 // alertsIn waits for a call's answers and reads the alerts in them. If they end with a cut, that is errCut.
-func alertsIn(asked *call) ([]*types.Alert, error) {
+func alertsIn(asked *call) ([]*Alert, error) {
 	if err := asked.wait(); err != nil {
 		return nil, err
 	}
@@ -164,7 +159,7 @@ func alertsIn(asked *call) ([]*types.Alert, error) {
 	if err != nil {
 		return nil, err
 	}
-	alerts := make([]*types.Alert, 0, len(answers))
+	alerts := make([]*Alert, 0, len(answers))
 	for _, it := range answers {
 		switch it.word {
 		case "alert", "item":

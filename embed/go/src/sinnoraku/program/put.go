@@ -1,4 +1,4 @@
-package sinnoraku
+package program
 
 import (
 	"fmt"
@@ -6,10 +6,7 @@ import (
 	"sync"
 	"time"
 
-	"github.com/go-kit/log/level"
 	"github.com/prometheus/common/model"
-
-	"github.com/prometheus/alertmanager/types"
 )
 
 // What one line of the program holds.
@@ -28,7 +25,7 @@ func (e *PutError) Error() string {
 	return "sinnoraku: not stored: " + strings.Join(e.Faults, "; ")
 }
 
-func (e *PutError) add(alert *types.Alert, fault string) {
+func (e *PutError) add(alert *Alert, fault string) {
 	e.Faults = append(e.Faults, fmt.Sprintf("%v: %s", alert.Labels, fault))
 }
 
@@ -41,44 +38,43 @@ func (e *PutError) orNil() error {
 
 // Put stores alerts, each merged with the stored one of its labels. Up to 1,024 alerts of one Put are stored together,
 // and they reach each subscriber in their order. An error names those that weren't stored.
-func (a *Alerts) Put(alerts ...*types.Alert) error {
-	if a.callback != nil {
-		a.gate.Lock()
-		defer a.gate.Unlock()
-		return a.putOneByOne(a.current.Load(), alerts)
+func (p *Program) Put(alerts ...*Alert) error {
+	if p.callback != nil {
+		p.gate.Lock()
+		defer p.gate.Unlock()
+		return p.putOneByOne(p.current.Load(), alerts)
 	}
-	a.gate.RLock()
-	defer a.gate.RUnlock()
-	return a.current.Load().put(alerts)
+	p.gate.RLock()
+	defer p.gate.RUnlock()
+	return p.current.Load().put(alerts)
 }
 
 // putOneByOne asks the callback about each alert, and notifies it before the next one. It has the gate alone, so that
 // nothing changes between the question and the put.
-func (a *Alerts) putOneByOne(h *history, alerts []*types.Alert) error {
+func (p *Program) putOneByOne(h *history, alerts []*Alert) error {
 	var failed PutError
 	for _, alert := range alerts {
-		merged, existing, err := h.merged(alert)
+		merged, existing, err := h.merged(alert, p.callback.Merge)
 		if err != nil {
 			return err
 		}
-		if err := a.callback.PreStore(merged, existing); err != nil {
-			level.Error(a.logger).Log("msg", "pre-store callback returned error on set alert", "err", err)
+		if p.callback.PreStore(merged, existing) != nil {
 			continue
 		}
-		if err := h.put([]*types.Alert{merged}); err != nil {
+		if err := h.put([]*Alert{merged}); err != nil {
 			if h.why() != nil {
 				return err
 			}
 			failed.Faults = append(failed.Faults, err.Error())
 			continue
 		}
-		a.callback.PostStore(merged, existing)
+		p.callback.PostStore(merged, existing)
 	}
 	return failed.orNil()
 }
 
 // merged is the alert as it would be stored, and whether one of its labels is.
-func (h *history) merged(alert *types.Alert) (_ *types.Alert, existing bool, _ error) {
+func (h *history) merged(alert *Alert, merge func(stored, report *Alert) *Alert) (_ *Alert, existing bool, _ error) {
 	labels, found := h.known.get(fingerprintOf(alert.Labels))
 	if !found {
 		return alert, false, h.why()
@@ -91,19 +87,19 @@ func (h *history) merged(alert *types.Alert) (_ *types.Alert, existing bool, _ e
 	if !overlap(&old, &new) {
 		return alert, true, nil
 	}
-	whole := old.Merge(&new)
+	whole := merge(&old, &new)
 	untime(whole)
 	return whole, true, nil
 }
 
 // overlap is the test before Merge in provider/mem's Put.
-func overlap(old, new *types.Alert) bool {
+func overlap(old, new *Alert) bool {
 	return new.EndsAt.After(old.StartsAt) && new.EndsAt.Before(old.EndsAt) ||
 		new.StartsAt.After(old.StartsAt) && new.StartsAt.Before(old.EndsAt)
 }
 
 // put writes the lines of all alerts, and then waits for the answers.
-func (h *history) put(alerts []*types.Alert) error {
+func (h *history) put(alerts []*Alert) error {
 	var failed PutError
 	room := rooms.Get().(*[]byte)
 	w := writer{text: (*room)[:0], now: time.Now()}
@@ -159,7 +155,7 @@ type line struct {
 
 // A written alert, with the part of the text that has its labels.
 type written struct {
-	alert    *types.Alert
+	alert    *Alert
 	from, to int
 	// What will be known of it once it is stored. The labels are empty if they are known already.
 	fingerprint model.Fingerprint
@@ -167,7 +163,7 @@ type written struct {
 }
 
 // add writes an alert into the last line, or into a new one if that is full. If it can't be written, nothing is.
-func (w *writer) add(alert *types.Alert) error {
+func (w *writer) add(alert *Alert) error {
 	last := w.last()
 	before := len(w.text)
 	text := w.text

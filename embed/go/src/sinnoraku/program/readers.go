@@ -1,19 +1,12 @@
-package sinnoraku
+package program
 
 import (
 	"errors"
 	"fmt"
 	"regexp"
-	"runtime"
 	"strconv"
-	"strings"
 	"sync"
 	"time"
-
-	"github.com/go-kit/log/level"
-
-	"github.com/prometheus/alertmanager/provider"
-	"github.com/prometheus/alertmanager/types"
 )
 
 // The program has eight lanes. Seven are for one subscription each, and further ones share the last.
@@ -30,7 +23,7 @@ var (
 
 // readers are all lanes of a program that are open.
 type readers struct {
-	program *program
+	process *process
 	mostLag int           // how many batches of the log may be unread before a put waits until they are read
 	own     chan struct{} // has an element for each own lane that is open
 
@@ -138,41 +131,32 @@ func (r *readers) share() (*member, error) {
 	return first, err
 }
 
-// Subscribe returns an iterator over what is stored and over every alert that is stored from now on. If it is cut off or
-// the program dies, it subscribes again. Its channel isn't closed when the provider ends, as that of provider/mem isn't,
-// and what it holds can still be taken.
-func (a *Alerts) Subscribe() provider.AlertIterator {
-	s := &subscription{iterator: newIterator(alertChannelLength), alerts: a, reader: callerName()}
+// Subscribe returns an iterator over what is stored and over every alert that is stored from now on, each as its caller wants
+// it. If it is cut off or the program dies, it subscribes again. Its channel isn't closed when the program ends, and what it
+// holds can still be taken.
+func Subscribe[A any](p *Program, reader string, as func(*Alert) *A) *Iterator[A] {
+	s := &subscription[A]{iterator: newIterator[A](ChannelLength), program: p, reader: reader, as: as}
 	from, err := s.subscribe()
 	go s.feed(from, err)
 	return s.iterator
 }
 
-// callerName names who called Subscribe, as `dispatch.(*Dispatcher).Run`.
-func callerName() string {
-	at, _, _, found := runtime.Caller(2)
-	if !found {
-		return "unknown"
-	}
-	name := runtime.FuncForPC(at).Name()
-	return name[strings.LastIndexByte(name, '/')+1:]
-}
-
 // A subscription feeds an iterator, in one history after another.
-type subscription struct {
-	iterator *iterator
-	alerts   *Alerts
+type subscription[A any] struct {
+	iterator *Iterator[A]
+	program  *Program
 	reader   string
+	as       func(*Alert) *A
 	history  *history
 }
 
-func (s *subscription) subscribe() (*member, error) {
-	s.history = s.alerts.current.Load()
+func (s *subscription[A]) subscribe() (*member, error) {
+	s.history = s.program.current.Load()
 	return s.history.readers.subscribe(s.reader)
 }
 
 // feed hands on what comes, until the iterator is closed or the provider ends.
-func (s *subscription) feed(from *member, err error) {
+func (s *subscription[A]) feed(from *member, err error) {
 	for {
 		if err == nil {
 			err = s.pass(from)
@@ -187,7 +171,7 @@ func (s *subscription) feed(from *member, err error) {
 }
 
 // pass hands on what comes to a member, and says how that ended.
-func (s *subscription) pass(from *member) error {
+func (s *subscription[A]) pass(from *member) error {
 	for {
 		alerts, err := from.next(s.iterator.closed)
 		for _, alert := range alerts {
@@ -202,30 +186,28 @@ func (s *subscription) pass(from *member) error {
 }
 
 // hand waits until there is room for an alert. It is false once the iterator is closed or the provider has ended.
-func (s *subscription) hand(alert *types.Alert) bool {
+func (s *subscription[A]) hand(alert *Alert) bool {
 	select {
-	case s.iterator.alerts <- alert:
+	case s.iterator.alerts <- s.as(alert):
 		return true
 	case <-s.iterator.closed:
 		return false
-	case <-s.alerts.done:
+	case <-s.program.done:
 		return false
 	}
 }
 
 // goesOn says whether to subscribe again after an error, and waits until that can be done.
-func (s *subscription) goesOn(err error) bool {
+func (s *subscription[A]) goesOn(err error) bool {
 	var later <-chan time.Time
 	switch {
 	case err == errClosed:
 		return false
 	case err == errCut:
-		s.alerts.cuts.Inc()
-		level.Warn(s.alerts.logger).Log(
-			"msg", "a reader was too slow and was cut off; it gets what is stored again", "reader", s.reader)
+		s.program.listener.Cut(s.reader)
 		return true
 	case s.history.why() == nil:
-		level.Error(s.alerts.logger).Log("msg", "a reader can't be served now", "reader", s.reader, "err", err)
+		s.program.listener.Unserved(s.reader, err)
 		later = time.After(refusedPause)
 	}
 	select {
@@ -235,7 +217,7 @@ func (s *subscription) goesOn(err error) bool {
 		return true
 	case <-s.iterator.closed:
 		return false
-	case <-s.alerts.done:
+	case <-s.program.done:
 		return false
 	}
 }
