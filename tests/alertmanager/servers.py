@@ -13,7 +13,8 @@ import time
 import urllib.request
 
 
-# The ports that were chosen. Each connection gets one of the system's range, maybe one that was just chosen; so they are below it.
+# The ports that were chosen, which are below those that the system gives to connections: one of these may get a port between
+# its choice and its use.
 CHOSEN, CHOOSING = set(), threading.Lock()
 CONNECTIONS = pathlib.Path("/proc/sys/net/ipv4/ip_local_port_range")
 
