@@ -3,7 +3,6 @@
 Their tests start $GOPATH/bin/prometheus-alertmanager. Here that is a script that runs the command in its own process, and
 leaves out `--template.default`: Debian's tests pass that flag, which no command of this version takes, Debian's own included.
 """
-import concurrent.futures
 import os
 import re
 import shutil
@@ -63,16 +62,15 @@ def why(printed):
 
 
 def suites(room, command, program):
-    """The tests of all suites, side by side. As they wait for fixed times, one that fails is run again by itself."""
+    """The tests of all suites, one suite after another. As they wait for fixed times, one that fails is run again by itself."""
     lay_out(room / "gopath", command)
-    with concurrent.futures.ThreadPoolExecutor() as pool:
-        ran = list(pool.map(lambda suite: run(suite, room, program), SUITES))
-    for suite, (outcomes, printed) in zip(SUITES, ran):
+    for suite in SUITES:
+        outcomes, printed = run(suite, room, program)
         if not outcomes:
             yield f"acceptance, {suite}", printed[-2000:]
         for test, outcome in outcomes.items():
             if outcome == "FAIL":
                 print(f"run again by itself: {test} ({suite})", flush=True)
-                again, printed_again = run(suite, room, program, f"^{test}$", 1)
-                outcome, printed = again.get(test), printed_again
+                again, printed = run(suite, room, program, f"^{test}$", 1)
+                outcome = again.get(test)
             yield f"acceptance, {suite}: {test}", None if outcome == "PASS" else f"{outcome}: {why(printed)}"
