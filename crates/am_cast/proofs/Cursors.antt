@@ -1,5 +1,5 @@
 -- What a cursor has taken.
-use Rattle.std.proofs.Common.{◌≡◌, ℕ, zero, suc, ◌+◌, ◌-◌, ◌<◌, ◌≤◌, List, [], ◌∷◌, ◌++◌, length, take, drop, sym, refl, ap, ◌∙◌, subst, arith, Bool, true, false, add-one, append_assoc, Option, Some, None, is_some, slice_get}
+use Rattle.std.proofs.Common.{◌≡◌, ℕ, zero, suc, ◌+◌, ◌-◌, ◌<◌, ◌≤◌, ◌⊎◌, inl, inr, ⊎_elim, List, [], ◌∷◌, ◌++◌, length, take, drop, sym, refl, ap, ◌∙◌, subst, arith, Bool, true, false, add-one, append_assoc, Option, Some, None, is_some, slice_get}
 use Rattle.std.proofs.lemmas.Bool.{false≢true}
 use mathlib.Core.Option.{some, some-ne-none, some-injective}
 use mathlib.Core.List.{IsPrefix}
@@ -12,16 +12,16 @@ use Rattle.am_cast.specs.declared.lends.Moved.TheVariants.{One, Pending, Closed,
 use Rattle.am_cast.specs.declared.views.LaneView.{LaneView}
 use Rattle.am_cast.specs.declared.views.Account.{Account}
 use Rattle.am_cast.specs.declared.views.Tail.{Tail}
-use Rattle.am_cast.specs.Rule.{Sound}
+use Rattle.am_cast.specs.Rule.{Sound, first_lane}
 use Rattle.am_cast.specs.Changes.{seeing, holding, left}
-use Rattle.am_cast.specs.Seats.{HoldsKey, Took, lane_of}
+use Rattle.am_cast.specs.Seats.{HoldsKey, Took, lane_of, some_or}
 use Rattle.am_cast.specs.Keys.{batch_items, all_items, key_of}
 use Rattle.am_cast.specs.Steps.{SeatState}
 use Rattle.atomic_table.specs.Seated.{TableId}
 use Rattle.am_cast.specs.declared.views.View.{View}
 use Rattle.am_cast.specs.Cursors.{CursorView, items_at, shown_items, HasEnded}
 use Rattle.am_cast.specs.inside.Cursors.{CursorOk, HasHand}
-use Rattle.am_cast.specs.Lent.{IsItem, IsInHand, Moves}
+use Rattle.am_cast.specs.Lent.{IsItem, IsInHand, HasNews, Moves}
 use Rattle.am_cast.specs.inside.Moving.{NeedsLook, AfterLook}
 use Rattle.atomic_table.specs.Table.{rest}
 use Rattle.am_cast.specs.Rule.{slot}
@@ -163,6 +163,44 @@ module _ {T P A : Type 0} where
       go Closed t = record { taken = ap (λ (c : CursorView T P A). shown_items c) t.0 ∙ same; ended = subst (λ (c : CursorView T P A). HasEnded c) (sym t.0) t.1; was_uncut = needs.was_uncut }
       go Cut t = record { taken = t.taken ∙ same; cut = t.cut; was_open = needs.was_open }
 
+  -- what a look finds, after all that was seen is passed
+  pub found_news : (c s m : CursorView T P A) → NeedsLook c s → m.lane ≡ seeing m.lane.front m.lane.told s.lane → m.shown ≡ s.shown → IsPrefix s.lane.front m.lane.front → (m.lane.passed < length m.lane.front) ⊎ (m.lane.told ≡ true) → HasNews c m
+  found_news c s m needs lane shown p found = let at = needs.all in record {
+    taken = taken_look s m lane (shown ∙ needs.shown) needs.shown p (omega arith) ∙ needs.taken;
+    known = inr (⊎_elim (λ below. inl below) (λ told. inr (inr told)) found);
+  }
+
+  -- a hand is the same by another view of its lane's seat
+  same_hand : (m m' : SeatState (BatchView T P) (KeyView T) A) (v : LaneView (BatchView T P) A) (shown : ℕ) (hand : Option ℕ) → m'.1 ≡ m.1 → HasHand m v shown hand → HasHand m' v shown hand
+  same_hand m m' v shown (Some count) e has = (has.0, (has.1.0, has.1.1, e ∙ has.1.2), has.2, has.3, has.4)
+  same_hand m m' v shown None e has = (has.0, e ∙ has.1, has.2)
+
+  -- and so are a cursor's fields
+  pub same_cursor : (table seat_table seat_table' : TableId) (m m' : SeatState (BatchView T P) (KeyView T) A) (number places passed seen shown : ℕ) (closed cut : Bool) (hand : Option ℕ) → CursorOk table seat_table m number places passed seen shown closed cut hand
+      → seat_table' ≡ seat_table → m'.1 ≡ m.1 → m'.0.lane ≡ m.0.lane → m'.0.writer ≡ None → m'.0.own ≡ m.0.own → CursorOk table seat_table' m' number places passed seen shown closed cut hand
+  same_cursor table seat_table seat_table' m m' number places passed seen shown closed cut hand ok same hands lanes alone owns =
+      let v : lane_of m'.0 ≡ lane_of m.0 = ap (λ (o : Option (LaneView (BatchView T P) A)). some_or (first_lane 0 0) o) lanes in record {
+        same = same ∙ ok.same;
+        lane = lanes ∙ (ok.lane ∙ ap (λ (l : LaneView (BatchView T P) A). Some l) (sym v));
+        alone = (alone, owns ∙ ok.alone.1);
+        here = ap (λ (l : LaneView (BatchView T P) A). l.here) v ∙ ok.here;
+        begun = ap (λ (l : LaneView (BatchView T P) A). l.begun) v ∙ ok.begun;
+        number_is = ap (λ (l : LaneView (BatchView T P) A). l.number) v ∙ ok.number_is;
+        small = ok.small;
+        places_is = ap (λ (l : LaneView (BatchView T P) A). l.places) v ∙ ok.places_is;
+        some_places = ok.some_places;
+        passed_is = ap (λ (l : LaneView (BatchView T P) A). l.passed) v ∙ ok.passed_is;
+        low = subst (λ (l : LaneView (BatchView T P) A). l.start ≤ passed) (sym v) ok.low;
+        mid = ok.mid;
+        seen_is = ap (λ (l : LaneView (BatchView T P) A). length l.front) v ∙ ok.seen_is;
+        bound = ok.bound;
+        told_is = ap (λ (l : LaneView (BatchView T P) A). l.told) v ∙ ok.told_is;
+        cut_is = ap (λ (l : LaneView (BatchView T P) A). l.cut) v ∙ ok.cut_is;
+        hand_is = subst (λ (l : LaneView (BatchView T P) A). HasHand m' l shown hand) (sym v) (same_hand m m' (lane_of m.0) shown hand hands ok.hand_is);
+        below = λ held. ok.below (sym (ap (λ (l : LaneView (BatchView T P) A). l.held) v) ∙ held);
+        uncut = λ held. ap (λ (l : LaneView (BatchView T P) A). l.cut) v ∙ ok.uncut (sym (ap (λ (l : LaneView (BatchView T P) A). l.held) v) ∙ held);
+      }
+
   -- a place in hand has its key there
   pub has_key : (m : SeatState (BatchView T P) (KeyView T) A) (v : LaneView (BatchView T P) A) (shown : ℕ) (hand : Option ℕ) → v.held ≡ true → HasHand m v shown hand → HoldsKey key_of m v
   has_key m v shown (Some count) held has = has.1
@@ -254,6 +292,10 @@ module _ {T P A : Type 0} where
             ∙ sym (append_assoc before (all_items (drop at front)) (all_items p.0)) ∙ ap (λ (l : List T). l ++ all_items p.0) (sym (items_append (drop start (take at front)) (drop at front)) ∙ ap (λ (l : List (BatchView T P)). all_items l) (sym (drop_parts front start at low high)))
             ∙ sym (items_append (drop start front) p.0) ∙ ap (λ (l : List (BatchView T P)). all_items l) (sym (drop_front front p.0 start (omega arith)) ∙ ap (λ (l : List (BatchView T P)). drop start l) p.1),
       )
+
+  -- the same, of a cursor whose lane stays
+  pub taken_sound : (t : Tail (BatchView T P)) (b : Account (KeyView T) A) (c : CursorView T P A) (l : ℕ) → Sound t b c.lane l → IsPrefix (shown_items c) (all_items (drop c.lane.start t.log))
+  taken_sound t b c l sd = let low = sd.counts.low in let mid = sd.mid in let start = sd.start in let high = sd.seen.high in taken_front t.log c sd.seen.begins (omega arith) (omega arith)
 
   -- the same, of a cursor whose lane has come home
   pub taken_home : (t : Tail (BatchView T P)) (b : Account (KeyView T) A) (c : CursorView T P A) (l : ℕ) → Sound t b (left c.lane) l → IsPrefix (shown_items c) (all_items (drop c.lane.start t.log))

@@ -1,9 +1,8 @@
 -- What a cursor knows, and the items that it has shown.
-use Rattle.std.specs.Prelude.{◌≡◌, ℕ, ◌+◌, List, ◌++◌, take, drop, length, true, false}
+use Rattle.std.specs.Prelude.{◌≡◌, ℕ, List, ◌++◌, take, drop, length, true, false}
 use mathlib.Core.List.{IsPrefix}
 use Rattle.am_cast.specs.declared.batch_view.BatchView.{BatchView}
 use Rattle.am_cast.specs.declared.views.LaneView.{LaneView}
-use Rattle.am_cast.specs.Rule.{bit}
 use Rattle.am_cast.specs.Keys.{all_items}
 
 -- what the cursor's lane knows, and how many items of the place in hand were shown
@@ -34,14 +33,6 @@ module _ {T P A : Type 0} where
   abbrev pub HasEnded : CursorView T P A → Type 0
   HasEnded c = (c.lane.told ≡ true) × (c.lane.passed ≡ length c.lane.front) × (c.lane.held ≡ false)
       × (c.lane.cut ≡ false)
-
-  -- what it has seen of the log it has shown, the place in its hand too, and it was told neither that the log
-  -- is closed nor that its lane was cut
-  pub record HasNoNews (c : CursorView T P A) : Type 0 where
-    pub untold : c.lane.told ≡ false
-    pub uncut : c.lane.cut ≡ false
-    pub places : c.lane.passed + bit c.lane.held ≡ length c.lane.front
-    pub items : c.lane.held ≡ true → c.shown ≡ length (items_at c.lane.front c.lane.passed)
 
   -- the same lane, admitted once, which has seen as much or more
   abbrev pub GoesOn : CursorView T P A → CursorView T P A → Type 0

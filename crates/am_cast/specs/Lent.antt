@@ -1,7 +1,7 @@
 -- What an answer of `next` or `next_slice` says of the cursor. `Pending`, `Closed` and `Cut` are `Empty`,
 -- `Closed` and `Lagged` of tokio's `broadcast::Receiver::try_recv`, but a cut lane stays cut.
-use Rattle.std.specs.Prelude.{◌≡◌, ℕ, ◌+◌, ◌-◌, ◌≤◌, List, [], ◌∷◌, ◌++◌, Some, true, false, drop, length}
-use Rattle.std.specs.Prelude.{slice_get}
+use Rattle.std.specs.Prelude.{◌≡◌, ℕ, ◌+◌, ◌-◌, ◌≤◌, ◌<◌, ◌⊎◌, List, [], ◌∷◌, ◌++◌, Some, true, false}
+use Rattle.std.specs.Prelude.{drop, length, slice_get}
 use mathlib.Core.List.{IsPrefix}
 use Rattle.am_cast.specs.declared.batch_view.BatchView.{BatchView}
 use Rattle.am_cast.specs.declared.lends.Step.{Step}
@@ -23,6 +23,13 @@ module _ {T P A : Type 0} where
     pub cut : d.lane.cut ≡ false
     pub was_open : HasEnded c → ⊥
     pub was_uncut : HasCut c → ⊥
+
+  -- nothing more was shown, and an answer other than Pending is known: an item of the place in hand or a
+  -- place is left, or it was told that its lane was cut or that the log is closed
+  pub record HasNews (c d : CursorView T P A) : Type 0 where
+    pub taken : shown_items d ≡ shown_items c
+    pub known : ((d.lane.held ≡ true) × (d.shown < length (items_at d.lane.front d.lane.passed)))
+        ⊎ (d.lane.passed < length d.lane.front) ⊎ (d.lane.cut ≡ true) ⊎ (d.lane.told ≡ true)
 
   -- the log is closed, and all of it was shown
   pub record IsClosed (c d : CursorView T P A) : Type 0 where

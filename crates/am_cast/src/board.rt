@@ -10,8 +10,7 @@
 //! **Word 0, the tail.** Twice the log's length, and one more once the log is closed. The writer
 //! stores it (`publish`, `close`). Lanes load it (`look`), posters do (`note`), and so does a seat
 //! that is cut in two or takes in another's (`tell`, `hand`, `take_in`, `weigh`): each such load
-//! tells that the log which it knew begins the log. `has_grown` loads it to see whether a look is
-//! worth while.
+//! tells that the log which it knew begins the log.
 //!
 //! **Word 16 l + 16, lane l's.** Four times the number of places that the lane has passed, 2 more
 //! while the key of the next place is in its cursor's hand, and 1 more once the lane is cut. The
@@ -67,7 +66,7 @@ pub(crate) use fill::fill_slot;
 pub(crate) use hand::hand_own;
 pub(crate) use harvest::find_word;
 pub(crate) use leave::leave_lane;
-pub(crate) use look::{has_grown, look_at_log};
+pub(crate) use look::look_at_log;
 pub(crate) use note::note_log;
 pub(crate) use open::open_lane;
 pub(crate) use pass::pass_place;
@@ -78,4 +77,4 @@ pub(crate) use slot::key_in;
 pub(crate) use take::take_key;
 pub(crate) use take_in::take_in;
 pub(crate) use tell::{new_seat, tell_seat};
-pub(crate) use weigh::weigh_view;
+pub(crate) use weigh::{weigh_lane, weigh_view};

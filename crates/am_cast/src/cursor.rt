@@ -4,7 +4,7 @@ ghost use mathlib.Core.List.{IsPrefix};
 ghost use Rattle.am_cast.specs.declared.limits.TheConstants.{LANES, WORDS};
 ghost use Rattle.am_cast.specs.Rule.{bit};
 ghost use Rattle.am_cast.specs.Changes.{holding, cut_off, seeing, left};
-ghost use Rattle.am_cast.specs.Cursors.{shown_items, items_at, HasNoNews};
+ghost use Rattle.am_cast.specs.Cursors.{shown_items, items_at};
 
 use crate::batch_view::{Board, LogSeat};
 use crate::board;
@@ -57,17 +57,8 @@ impl<'a, T, P, A, N: Feed> Cursor<'a, T, P, A, N> {
         self.number
     }
 
-    /// Whether `next` may answer anything but `Pending`: by what is known and, if that was all shown, by a load of
-    /// the log's length. A lane is cut for a batch, so the length tells of a cut too. A caller that sleeps while
-    /// there is nothing looks so first.
-    pub fn has_news(&self) -> bool
-        ensures { result ≡ false → HasNoNews self.now }
-    {
-        self.closed || self.cut || self.has_item() || self.finds_more()
-    }
-
     // Whether the place in hand has an item that wasn't shown.
-    fn has_item(&self) -> bool
+    pub(crate) fn has_item(&self) -> bool
         ensures yes { result ≡ true → (self.now.lane.held ≡ true)
             × (self.now.shown < length (items_at self.now.lane.front self.now.lane.passed)) }
         ensures no { result ≡ false → self.now.lane.held ≡ true
@@ -77,18 +68,6 @@ impl<'a, T, P, A, N: Feed> Cursor<'a, T, P, A, N> {
             Some(count) => self.shown < count,
             None => false,
         }
-    }
-
-    // Whether a place is there after the one in hand, or the log is closed.
-    fn finds_more(&self) -> bool
-        ensures { result ≡ false
-            → self.now.lane.passed + bit self.now.lane.held ≡ length self.now.lane.front }
-    {
-        let next = match self.hand {
-            Some(_) => self.next.number() + 1,
-            None => self.next.number(),
-        };
-        next < self.seen || board::has_grown(&self.cast.board.shared, self.seen)
     }
 
     // One item more is shown, if the place in hand has one. Answers whether it has.

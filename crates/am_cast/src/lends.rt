@@ -4,7 +4,7 @@ ghost use Rattle.std.specs.Prelude.{◌≡◌, ◌<◌, ◌≤◌, true, false, 
 ghost use Rattle.std.specs.Borrow.{sem};
 ghost use Rattle.am_cast.specs.Lending.{AfterTheLoan};
 ghost use Rattle.am_cast.specs.Cursors.{GoesOn, items_at};
-ghost use Rattle.am_cast.specs.Lent.{Moves, MovesPast, MovesSlice, Lends, LendsPast, LendsSlice, IsInHand};
+ghost use Rattle.am_cast.specs.Lent.{Moves, MovesPast, MovesSlice, Lends, LendsPast, LendsSlice, HasNews, IsInHand, IsPending};
 ghost use Rattle.am_cast.specs.inside.Moving.{TriesTake, AfterLook, NeedsLook, AreAllSeen, LendsInHand, without_item};
 
 use crate::board;
@@ -115,6 +115,35 @@ impl<'a, T, P, A, N: Feed> Cursor<'a, T, P, A, N> {
             return Some(Moved::Closed);
         }
         None
+    }
+
+    // Whether `next` needs no look: it has an item or knows of a place more, or was told that the log is closed or its
+    // lane cut. If not, the place in hand has gone home.
+    fn knows_more(&mut self) -> bool
+        ensures on { GoesOn self.old self.new }
+        ensures yes { result ≡ true → HasNews self.old self.new }
+        ensures no { result ≡ false → NeedsLook self.old self.new }
+    {
+        if self.has_item() {
+            return true;
+        }
+        self.put_back();
+        self.is_cut() || self.has_more() || self.is_told()
+    }
+
+    /// Whether `next` has anything to answer but `Pending`: by what is known and, if that was all shown, by one look at
+    /// the log. A lane is cut for a batch, so a look tells of a cut too. A caller that sleeps while there is nothing looks
+    /// so first.
+    pub fn has_news(&mut self) -> bool
+        ensures on { GoesOn self.old self.new }
+        ensures yes { result ≡ true → HasNews self.old self.new }
+        ensures no { result ≡ false → IsPending self.old self.new }
+    {
+        if self.knows_more() {
+            return true;
+        }
+        self.look();
+        self.has_more() || self.is_told()
     }
 
     // What follows from a look, with at most one Take.

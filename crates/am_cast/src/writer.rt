@@ -17,6 +17,7 @@ pub(crate) mod lane_account;
 mod publish;
 mod retire;
 pub(crate) mod state;
+mod vouch;
 
 use crate::cursor::Cast;
 use crate::faults::AlreadyClosed;

@@ -34,11 +34,3 @@ pub(crate) fn look_at_log<B, K, A, R: Keyed<B, K>>(
     let n = top.load::<Look>(seat, 0);
     (n / 2, n % 2 == 1)
 }
-
-/// Whether the log is longer than that, or closed. It loads the tail without a seat, so that nothing is known of
-/// what the word shows.
-pub(crate) fn has_grown<B, K, A, R: Keyed<B, K>>(top: &AnyTop<B, K, A, R>, seen: u64) -> bool
-    requires { IsSized top.now.table_id × (seen ≤ LONGEST_LOG) }
-{
-    top.peek(0) != 2 * seen
-}

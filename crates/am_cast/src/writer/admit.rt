@@ -38,7 +38,7 @@ impl<T: Drop, P, A, N: Feed> Writer<T, P, A, N> {
             (account_of self.old c.lane.number))))) }
         ensures lane { IfOk result (λ c. let b = account_of self.new c.lane.number in
             (b.stand ≡ live) × (b.turn ≡ c.lane.turn) × (b.note ≡ Some note.value)
-            × (b.start ≡ length self.old.tail.log)) }
+            × (b.start ≡ length self.old.tail.log) × (b.known ≡ length self.old.tail.log)) }
         ensures others { IfOk result (λ c. (m : ℕ) → m ≢ c.lane.number
             → account_of self.new m ≡ account_of self.old m) }
 
