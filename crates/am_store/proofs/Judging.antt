@@ -1,16 +1,23 @@
 -- How a filter judges some reports, one after another.
-use Rattle.std.proofs.Common.{◌≡◌, ℕ, ◌+◌, ◌≤◌, Bool, true, false, not, cond, List, [], ◌∷◌, length, Option, None, Some, refl, sym, subst, arith, All}
+use Rattle.std.proofs.Common.{◌≡◌, ℕ, ◌+◌, ◌≤◌, Bool, true, false, not, cond, List, [], ◌∷◌, ◌++◌, length, take, append-nil, Option, None, Some, refl, sym, ap, subst, ◌∙◌, arith, All}
 use Rattle.std.specs.Arc.{arc_value}
 use Rattle.std.specs.Fn.{Called}
+use Rattle.std.specs.Prelude.{Result, Ok, Err, OnErr}
 use Rattle.std.specs.Option.{is_none, is_some, option_copied, option_map}
 use Rattle.std.specs.declared.sync.Arc.{Arc}
 use Rattle.std.specs.declared.alloc.Global.{Global}
+use Rattle.std.proofs.Math.Seq.{take-append_seam}
 use Rattle.std.proofs.lemmas.List.Elements.{All-cons, All-head, All-nil, All-tail}
 use denote.Ref.{Bor}
 use Rattle.am_alert.specs.declared.alert.Alert.{Alert}
 use Rattle.am_alert.specs.Merging.{absorbed}
 use Rattle.am_store.specs.AlertList.{lookup, absorb_into}
-use Rattle.am_store.specs.Judging.{Filter, Judges, AreJudged}
+use Rattle.am_store.specs.Judging.{Filter, Judges, AreJudged, WasAsked}
+
+-- it holds of an error, whatever the answer is
+pub on_err : {T E R : Type 0} (r : Result T E) → R → OnErr r R
+on_err (Ok x) holds = tt
+on_err (Err e) holds = holds
 
 -- a look-up that finds nothing says that no alert has the label set
 pub first_is : (o : Option (Bor (Arc Alert Global))) (answer : Bool) (found : Option Alert) → is_some o ≡ not answer → option_map arc_value (option_copied o) ≡ found → answer ≡ is_none found
@@ -46,9 +53,24 @@ module _ {F : Type 0} (filter : Filter F) where
         subst (λ (xs : List Alert). AreJudged filter now last is (i + 1) xs news others rest) left (subst (λ (n : ℕ). AreJudged filter now last is n after news others rest) counts judged),
       )
 
-  -- none more
-  pub judged_none : (now i : ℕ) (was : F) (olds items : List Alert) → items ≡ [] → AreJudged filter now was was i olds items [] []
-  judged_none now i was olds items none = subst (λ (xs : List Alert). AreJudged filter now was was i olds xs [] []) (sym none) (refl, refl, refl)
+  -- all that were judged, with nothing after them
+  pub judged_all : (now i : ℕ) (last was : F) (olds done news accepted : List Alert) (refused : List ℕ) → done ≡ news
+      → AreJudged filter now last was i olds (done ++ []) (accepted ++ []) (refused ++ []) → AreJudged filter now last was i olds news accepted refused
+  judged_all now i last was olds done news accepted refused all judged =
+      subst (λ (xs : List Alert). AreJudged filter now last was i olds xs accepted refused) (append-nil done ∙ all)
+      (subst (λ (xs : List Alert). AreJudged filter now last was i olds (done ++ []) xs refused) (append-nil accepted)
+      (subst (λ (xs : List ℕ). AreJudged filter now last was i olds (done ++ []) (accepted ++ []) xs) (append-nil refused) judged))
+
+  -- a filter that was asked of none
+  pub asked_none : (now : ℕ) (was : F) (olds news : List Alert) → WasAsked filter now was was olds news
+  asked_none now was olds news = (0, [], [], (refl, refl, refl))
+
+  -- a filter was asked of those that were judged
+  pub asked_some : (now : ℕ) (last was : F) (olds done more news accepted : List Alert) (refused : List ℕ) → done ++ more ≡ news
+      → AreJudged filter now last was 0 olds (done ++ []) (accepted ++ []) (refused ++ []) → WasAsked filter now last was olds news
+  asked_some now last was olds done more news accepted refused parts judged =
+      let first : done ≡ take (length done) news = sym (take-append_seam done more) ∙ ap (take (length done)) parts in
+      (length done, accepted, refused, judged_all now 0 last was olds done (take (length done) news) accepted refused first judged)
 
   -- what was accepted is some of what was reported
   pub accepted_few : (now i : ℕ) (last was : F) (olds news accepted : List Alert) (refused : List ℕ) → AreJudged filter now last was i olds news accepted refused → length accepted ≤ length news

@@ -1,6 +1,6 @@
 -- How a filter judges the reports of a post before they are stored (Alertmanager's `AlertStoreCallback`,
 -- whose PreStore may refuse an alert, as its limits do).
-use Rattle.std.specs.Prelude.{◌≡◌, ℕ, ◌+◌, Bool, if◌then◌else◌, is_none, List, [], ◌∷◌}
+use Rattle.std.specs.Prelude.{◌≡◌, ℕ, ◌+◌, Bool, if◌then◌else◌, is_none, List, [], ◌∷◌, take}
 use Rattle.std.specs.Fn.{Called, Mut}
 use denote.Ref.{Bor}
 use Rattle.am_alert.specs.declared.alert.Alert.{Alert}
@@ -31,3 +31,8 @@ AreJudged {F} filter now last was i olds (new ∷ news) accepted refused =
     × (refused ≡ (if accepts then rest else i ∷ rest))
     × AreJudged filter now last is (i + 1) (if accepts then absorb_into now new olds else olds) news others
     rest
+
+-- a filter was asked of so many of the first reports, in order, and of no other
+abbrev pub WasAsked : {F : Type 0} → Filter F → ℕ → F → F → List Alert → List Alert → Type 0
+WasAsked filter now last was olds news = (count : ℕ) × (accepted : List Alert) × (refused : List ℕ)
+    × AreJudged filter now last was 0 olds (take count news) accepted refused

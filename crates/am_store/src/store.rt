@@ -1,6 +1,6 @@
 //! The stored alerts, each under its label set, in the order in which the label sets began.
 
-ghost use Rattle.std.specs.Prelude.{◌≡◌, IfOk, drop, filter, not, count_by, take};
+ghost use Rattle.std.specs.Prelude.{◌≡◌, ◌≢◌, IfOk, None, OnErr, drop, filter, not, count_by, take};
 ghost use Rattle.std.specs.Arc.{arc_value};
 ghost use Rattle.std.specs.Option.{option_map};
 ghost use Rattle.am_alert.specs.Merging.{is_resolved_at};
@@ -52,8 +52,9 @@ pub fn share_page(alerts: &AlertMap, from: usize, most: usize) -> Result<StoredA
 /// 2^63 owners already.
 pub fn share_of(alerts: &AlertMap, labels: &LabelSet) -> Result<Option<SharedAlert>, AllocError>
     requires { AreKeptByLabels alerts.now.entries }
-    ensures { IfOk result (λ found.
+    ensures found { IfOk result (λ found.
         option_map arc_value found ≡ lookup labels.now (stored_in alerts.now.entries)) }
+    ensures stored { OnErr result (lookup labels.now (stored_in alerts.now.entries) ≢ None) }
 {
     match alerts.get(labels) {
         Some(alert) => Ok(Some(Arc::try_clone(alert)?)),

@@ -1,10 +1,10 @@
 //! Judging the reports of a post by a filter, before any of them is stored.
 
-ghost use Rattle.std.specs.Prelude.{◌≡◌, ◌≤◌, [], IfOk, is_none, length, vec_capacity};
+ghost use Rattle.std.specs.Prelude.{◌≡◌, ◌≤◌, [], IfOk, OnErr, is_none, length, vec_capacity};
 ghost use Rattle.am_alert.specs.declared.post.TheConstants.{MAX_ALERTS};
 ghost use Rattle.am_store.specs.AlertList.{lookup};
 ghost use Rattle.am_store.specs.AlertMaps.{stored_in, all_taken_back, AreKeptByLabels};
-ghost use Rattle.am_store.specs.Judging.{AreJudged};
+ghost use Rattle.am_store.specs.Judging.{AreJudged, WasAsked};
 
 use crate::store::AlertMap;
 use crate::store::absorb::{Change, absorb_one, take_back, take_one_back};
@@ -23,18 +23,21 @@ pub struct Judged {
 
 /// Asks a filter of each report, in order. It is shown the alert as it would be stored, over what those
 /// before it that were accepted left, and told whether no alert of its label set was there. Nothing is
-/// stored.
+/// stored. If memory runs out, it was asked of some of the first reports, or of all.
 pub fn judge_each<F: FnMut(&Alert, bool) -> bool>(
     alerts: &mut AlertMap,
     news: Alerts,
     now: Moment,
-    accepts: F,
+    accepts: &mut F,
 ) -> Result<Judged, AllocError>
     requires kept { AreKeptByLabels alerts.old.entries }
     requires few { length news ≤ MAX_ALERTS }
-    requires callable { F.IsAlwaysCallable accepts }
-    ensures judged { IfOk result (λ done. (last : F) × AreJudged F.FnMut now last accepts 0
+    requires callable { F.IsAlwaysCallable accepts.old }
+    ensures judged { IfOk result (λ done. AreJudged F.FnMut now accepts.new accepts.old 0
         (stored_in alerts.old.entries) news done.accepted done.refused.items) }
+    ensures asked { OnErr result (WasAsked F.FnMut now accepts.new accepts.old
+        (stored_in alerts.old.entries) news) }
+    ensures callable { F.IsAlwaysCallable accepts.new }
     ensures same { alerts.new.entries ≡ alerts.old.entries }
 {
     let alloc = *alerts.allocator();
@@ -50,15 +53,18 @@ fn judge_over<F: FnMut(&Alert, bool) -> bool>(
     changes: &mut Vec<Change>,
     news: Alerts,
     now: Moment,
-    mut accepts: F,
+    accepts: &mut F,
 ) -> Result<Judged, AllocError>
     requires kept { AreKeptByLabels alerts.old.entries }
     requires few { length news ≤ MAX_ALERTS }
-    requires callable { F.IsAlwaysCallable accepts }
+    requires callable { F.IsAlwaysCallable accepts.old }
     requires empty { changes.old.items ≡ [] }
     requires room { length news ≤ vec_capacity changes.old }
-    ensures judged { IfOk result (λ done. (last : F) × AreJudged F.FnMut now last accepts 0
+    ensures judged { IfOk result (λ done. AreJudged F.FnMut now accepts.new accepts.old 0
         (stored_in alerts.old.entries) news done.accepted done.refused.items) }
+    ensures asked { OnErr result (WasAsked F.FnMut now accepts.new accepts.old
+        (stored_in alerts.old.entries) news) }
+    ensures callable { F.IsAlwaysCallable accepts.new }
     ensures back { all_taken_back changes.new.items alerts.new.entries ≡ alerts.old.entries }
 {
     let alloc = *alerts.allocator();

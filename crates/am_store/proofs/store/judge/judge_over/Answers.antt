@@ -9,7 +9,7 @@ use Rattle.am_store.specs.AlertList.{lookup, with_alert, absorb_into}
 use Rattle.am_store.specs.AlertMaps.{stored_in, all_taken_back, AreKeptByLabels}
 use Rattle.am_store.specs.Judging.{AreJudged}
 use Rattle.am_store.proofs.Entries.{all_back_last}
-use Rattle.am_store.proofs.Judging.{judged_more, judged_none, judges_of}
+use Rattle.am_store.proofs.Judging.{asked_none, asked_some, judged_all, judged_more, judges_of, on_err}
 use Rattle.am_store.proofs.store.judge.judge_over.Goals as goal
 
 pub loop-new-preserved-then-keeps : goal.loop-new-preserved-then-keeps
@@ -25,6 +25,8 @@ loop-new-preserved-then-keeps g c =
     let items : into_iter_items c.loop-new.new-iterator ≡ new ∷ into_iter_items c.next.new.self = search rules in
     let left : into_iter_len c.next.new.self ≡ length (into_iter_items c.next.new.self) = search rules in
     let fewer : into_iter_len c.loop-new.new-iterator ≡ into_iter_len c.next.new.self + 1 = omega (arith, ap length items, so_far.left, left) in
+    let done = so_far.judged.0 in
+    let one_done : (done ++ new ∷ []) ++ into_iter_items c.next.new.self ≡ c.args.news = append_assoc done (new ∷ []) (into_iter_items c.next.new.self) ∙ (ap (λ rest. done ++ rest) (sym items) ∙ so_far.judged.1) in
     let change = c.in_ok-became.change in
     let entries = c.absorb_one.new.alerts.entries in
     let stored : stored_in entries ≡ absorb_into now new olds = c.in_ok-became.ensures.stored ∙ ap (λ a. with_alert a olds) became in
@@ -33,10 +35,16 @@ loop-new-preserved-then-keeps g c =
     let changes : c.push_reserved-then-keeps.new.self.items ≡ c.loop-new.changes.items ++ change ∷ [] = c.push_reserved-then-keeps.ensures.items in
     record {
       callable = mut_next filter _ _ _ _ _ c.accepts-keeps.ensures refl so_far.callable;
-      judged = λ last others rest h.
-          subst (λ (front : List Alert). AreJudged filter now last c.args.accepts 0 (stored_in c.args.alerts.now.entries) c.args.news front (c.loop-new.refused.items ++ rest))
-          (sym (ap (λ front. front ++ others) pushed ∙ append_assoc c.loop-new.accepted.items (new ∷ []) others))
-          (so_far.judged last (new ∷ others) rest (judged_more filter now i (length c.push_reserved.new.self.items + length c.loop-new.refused.items) last c.loop-new.accepts c.accepts-keeps.new.self olds _ new _ _ others rest true judges stored items (omega (arith, longer)) h));
+      judged = (
+        done ++ new ∷ [],
+        one_done,
+        λ last news others rest h.
+            subst (λ (front : List Alert). AreJudged filter now last c.args.accepts.now 0 (stored_in c.args.alerts.now.entries) ((done ++ new ∷ []) ++ news) front (c.loop-new.refused.items ++ rest))
+            (sym (ap (λ front. front ++ others) pushed ∙ append_assoc c.loop-new.accepted.items (new ∷ []) others))
+            (subst (λ (all : List Alert). AreJudged filter now last c.args.accepts.now 0 (stored_in c.args.alerts.now.entries) all (c.loop-new.accepted.items ++ new ∷ others) (c.loop-new.refused.items ++ rest))
+            (sym (append_assoc done (new ∷ []) news))
+            (so_far.judged.2 last (new ∷ news) (new ∷ others) rest (judged_more filter now i (length c.push_reserved.new.self.items + length c.loop-new.refused.items) last c.loop-new.accepts c.accepts-keeps.new.self olds _ new (new ∷ news) news others rest true judges stored refl (omega (arith, longer)) h))),
+      );
       kept = c.in_ok-became.ensures.kept;
       back = ap (λ changes. all_taken_back changes entries) changes
           ∙ (all_back_last c.loop-new.changes.items change entries ∙ (ap (all_taken_back c.loop-new.changes.items) c.in_ok-became.ensures.change ∙ so_far.back));
@@ -60,16 +68,24 @@ loop-new-preserved-else-keeps g c =
     let items : into_iter_items c.loop-new.new-iterator ≡ new ∷ into_iter_items c.next.new.self = search rules in
     let left : into_iter_len c.next.new.self ≡ length (into_iter_items c.next.new.self) = search rules in
     let fewer : into_iter_len c.loop-new.new-iterator ≡ into_iter_len c.next.new.self + 1 = omega (arith, ap length items, so_far.left, left) in
+    let done = so_far.judged.0 in
+    let one_done : (done ++ new ∷ []) ++ into_iter_items c.next.new.self ≡ c.args.news = append_assoc done (new ∷ []) (into_iter_items c.next.new.self) ∙ (ap (λ rest. done ++ rest) (sym items) ∙ so_far.judged.1) in
     let change = c.in_ok-became.change in
     let same = c.take_one_back.ensures ∙ c.in_ok-became.ensures.change in
     let pushed : c.push_reserved-else-keeps.new.self.items ≡ c.loop-new.refused.items ++ i ∷ [] = search rules in
     let longer : length c.push_reserved-else-keeps.new.self.items ≡ length c.loop-new.refused.items + 1 = omega (arith, ap length pushed, length-append c.loop-new.refused.items (i ∷ [])) in
     record {
       callable = mut_next filter _ _ _ _ _ c.accepts-keeps.ensures refl so_far.callable;
-      judged = λ last others rest h.
-          subst (λ (front : List ℕ). AreJudged filter now last c.args.accepts 0 (stored_in c.args.alerts.now.entries) c.args.news (c.loop-new.accepted.items ++ others) front)
-          (sym (ap (λ front. front ++ rest) pushed ∙ append_assoc c.loop-new.refused.items (i ∷ []) rest))
-          (so_far.judged last others (i ∷ rest) (judged_more filter now i (length c.loop-new.accepted.items + length c.push_reserved-else-keeps.new.self.items) last c.loop-new.accepts c.accepts-keeps.new.self olds _ new _ _ others rest false judges (ap stored_in same) items (omega (arith, longer)) h));
+      judged = (
+        done ++ new ∷ [],
+        one_done,
+        λ last news others rest h.
+            subst (λ (front : List ℕ). AreJudged filter now last c.args.accepts.now 0 (stored_in c.args.alerts.now.entries) ((done ++ new ∷ []) ++ news) (c.loop-new.accepted.items ++ others) front)
+            (sym (ap (λ front. front ++ rest) pushed ∙ append_assoc c.loop-new.refused.items (i ∷ []) rest))
+            (subst (λ (all : List Alert). AreJudged filter now last c.args.accepts.now 0 (stored_in c.args.alerts.now.entries) all (c.loop-new.accepted.items ++ others) (c.loop-new.refused.items ++ i ∷ rest))
+            (sym (append_assoc done (new ∷ []) news))
+            (so_far.judged.2 last (new ∷ news) others (i ∷ rest) (judged_more filter now i (length c.loop-new.accepted.items + length c.push_reserved-else-keeps.new.self.items) last c.loop-new.accepts c.accepts-keeps.new.self olds _ new (new ∷ news) news others rest false judges (ap stored_in same) refl (omega (arith, longer)) h))),
+      );
       kept = subst AreKeptByLabels (sym same) so_far.kept;
       back = ap (all_taken_back c.loop-new.changes.items) same ∙ so_far.back;
       left = left;
@@ -92,16 +108,24 @@ loop-new-preserved g c =
     let items : into_iter_items c.loop-new.new-iterator ≡ new ∷ into_iter_items c.next.new.self = search rules in
     let left : into_iter_len c.next.new.self ≡ length (into_iter_items c.next.new.self) = search rules in
     let fewer : into_iter_len c.loop-new.new-iterator ≡ into_iter_len c.next.new.self + 1 = omega (arith, ap length items, so_far.left, left) in
+    let done = so_far.judged.0 in
+    let one_done : (done ++ new ∷ []) ++ into_iter_items c.next.new.self ≡ c.args.news = append_assoc done (new ∷ []) (into_iter_items c.next.new.self) ∙ (ap (λ rest. done ++ rest) (sym items) ∙ so_far.judged.1) in
     let change = c.in_ok-became.change in
     let same = c.take_one_back.ensures ∙ c.in_ok-became.ensures.change in
     let pushed : c.push_reserved-else-keeps.new.self.items ≡ c.loop-new.refused.items ++ i ∷ [] = search rules in
     let longer : length c.push_reserved-else-keeps.new.self.items ≡ length c.loop-new.refused.items + 1 = omega (arith, ap length pushed, length-append c.loop-new.refused.items (i ∷ [])) in
     record {
       callable = mut_next filter _ _ _ _ _ c.accepts-keeps.ensures refl so_far.callable;
-      judged = λ last others rest h.
-          subst (λ (front : List ℕ). AreJudged filter now last c.args.accepts 0 (stored_in c.args.alerts.now.entries) c.args.news (c.loop-new.accepted.items ++ others) front)
-          (sym (ap (λ front. front ++ rest) pushed ∙ append_assoc c.loop-new.refused.items (i ∷ []) rest))
-          (so_far.judged last others (i ∷ rest) (judged_more filter now i (length c.loop-new.accepted.items + length c.push_reserved-else-keeps.new.self.items) last c.loop-new.accepts c.accepts-keeps.new.self olds _ new _ _ others rest false judges (ap stored_in same) items (omega (arith, longer)) h));
+      judged = (
+        done ++ new ∷ [],
+        one_done,
+        λ last news others rest h.
+            subst (λ (front : List ℕ). AreJudged filter now last c.args.accepts.now 0 (stored_in c.args.alerts.now.entries) ((done ++ new ∷ []) ++ news) (c.loop-new.accepted.items ++ others) front)
+            (sym (ap (λ front. front ++ rest) pushed ∙ append_assoc c.loop-new.refused.items (i ∷ []) rest))
+            (subst (λ (all : List Alert). AreJudged filter now last c.args.accepts.now 0 (stored_in c.args.alerts.now.entries) all (c.loop-new.accepted.items ++ others) (c.loop-new.refused.items ++ i ∷ rest))
+            (sym (append_assoc done (new ∷ []) news))
+            (so_far.judged.2 last (new ∷ news) others (i ∷ rest) (judged_more filter now i (length c.loop-new.accepted.items + length c.push_reserved-else-keeps.new.self.items) last c.loop-new.accepts c.accepts-keeps.new.self olds _ new (new ∷ news) news others rest false judges (ap stored_in same) refl (omega (arith, longer)) h))),
+      );
       kept = subst AreKeptByLabels (sym same) so_far.kept;
       back = ap (all_taken_back c.loop-new.changes.items) same ∙ so_far.back;
       left = left;
@@ -116,8 +140,18 @@ returns-clause-judged g c =
     let so_far = c.loop-new.invariant in
     let filter = g.F.FnMut in
     let none : into_iter_len c.loop-new.new-iterator ≡ 0 = search rules in
-    let judged = so_far.judged c.loop-new.accepts [] [] (judged_none filter c.args.now _ c.loop-new.accepts _ _ (nil_from_length _ (omega (arith, none, so_far.left)))) in (
-      c.loop-new.accepts,
-      subst (λ (refused : List ℕ). AreJudged filter c.args.now c.loop-new.accepts c.args.accepts 0 (stored_in c.args.alerts.now.entries) c.args.news c.loop-new.accepted.items refused) (append-nil c.loop-new.refused.items)
-          (subst (λ (accepted : List Alert). AreJudged filter c.args.now c.loop-new.accepts c.args.accepts 0 (stored_in c.args.alerts.now.entries) c.args.news accepted (c.loop-new.refused.items ++ [])) (append-nil c.loop-new.accepted.items) judged),
-    )
+    let all : so_far.judged.0 ≡ c.args.news = sym (append-nil so_far.judged.0) ∙ (ap (λ rest. so_far.judged.0 ++ rest) (sym (nil_from_length _ (omega (arith, none, so_far.left)))) ∙ so_far.judged.1) in
+    judged_all filter c.args.now 0 c.loop-new.accepts c.args.accepts.now _ _ c.args.news _ _ all
+    (so_far.judged.2 c.loop-new.accepts [] [] [] (refl, refl, refl))
+
+pub returns-in_err-accepted-clause-asked : goal.returns-in_err-accepted-clause-asked
+returns-in_err-accepted-clause-asked g c = on_err c.from_residual.result (asked_none g.F.FnMut c.args.now c.args.accepts.now (stored_in c.args.alerts.now.entries) c.args.news)
+
+pub returns-in_err-refused-clause-asked : goal.returns-in_err-refused-clause-asked
+returns-in_err-refused-clause-asked g c = on_err c.from_residual-in_err-refused.result (asked_none g.F.FnMut c.args.now c.args.accepts.now (stored_in c.args.alerts.now.entries) c.args.news)
+
+pub returns-in_err-became-clause-asked : goal.returns-in_err-became-clause-asked
+returns-in_err-became-clause-asked g c =
+    let so_far = c.loop-new.invariant in
+    on_err c.from_residual-in_err-became.result (asked_some g.F.FnMut c.args.now c.loop-new.accepts c.args.accepts.now (stored_in c.args.alerts.now.entries) so_far.judged.0 (into_iter_items c.loop-new.new-iterator) c.args.news c.loop-new.accepted.items c.loop-new.refused.items so_far.judged.1
+    (so_far.judged.2 c.loop-new.accepts [] [] [] (refl, refl, refl)))

@@ -8,9 +8,9 @@ use Rattle.am_store.proofs.store.judge.judge_over.Given as goal
 abbrev pub invariant-loop-new : goal.invariant-loop-new
 invariant-loop-new g l = record {
   callable : goal.F-IsAlwaysCallable g l.accepts;
-  judged : (last : _) (others : List Alert) (rest : List ℕ)
-      → AreJudged g.F.FnMut l.now last l.accepts (length l.accepted.items + length l.refused.items) (stored_in l.alerts.entries) (into_iter_items l.new-iterator) others rest
-      → AreJudged g.F.FnMut l.now last l.fn.accepts 0 (stored_in l.fn.alerts.entries) l.fn.news (l.accepted.items ++ others) (l.refused.items ++ rest);
+  judged : (done : List Alert) × (done ++ into_iter_items l.new-iterator ≡ l.fn.news) × ((last : _) (news others : List Alert) (rest : List ℕ)
+      → AreJudged g.F.FnMut l.now last l.accepts (length l.accepted.items + length l.refused.items) (stored_in l.alerts.entries) news others rest
+      → AreJudged g.F.FnMut l.now last l.fn.accepts 0 (stored_in l.fn.alerts.entries) (done ++ news) (l.accepted.items ++ others) (l.refused.items ++ rest));
   kept : AreKeptByLabels l.alerts.entries;
   back : all_taken_back l.changes.items l.alerts.entries ≡ l.fn.alerts.entries;
   left : into_iter_len l.new-iterator ≡ length (into_iter_items l.new-iterator);
