@@ -1,5 +1,5 @@
 -- What the Book answers is what the history of its calls says.
-use Rattle.std.proofs.Common.{◌≡◌, ◌↔◌, ◌⊎◌, inr, ℕ, suc, ◌+◌, ◌-◌, ◌<◌, Bool, true, false, IsTrue, List, [], ◌∷◌, ◌++◌, length, filter, take, drop, Option, None, Result, Ok, Err, refl, sym, ap, subst, ◌∙◌, arith, slice_index_or, length-append}
+use Rattle.std.proofs.Common.{◌≡◌, ◌↔◌, ◌⊎◌, inr, ℕ, suc, ◌+◌, ◌-◌, ◌≤◌, ◌<◌, Bool, true, false, IsTrue, List, [], ◌∷◌, ◌++◌, length, filter, take, drop, Option, None, Result, Ok, Err, refl, sym, ap, subst, ◌∙◌, arith, slice_index_or, length-append}
 use mathlib.Core.List.{IsPrefix}
 use mathlib.Core.Logic.{dite}
 use native.Mathlib.Decide.{ℕ_discrete}
@@ -11,7 +11,7 @@ use Rattle.am_alert.specs.declared.post.Post.{Post}
 use Rattle.am_segment.specs.Segments.{KeyView}
 use Rattle.am_cast.specs.declared.views.Account.{Account}
 use Rattle.am_cast.specs.declared.views.Tail.{Tail}
-use Rattle.am_cast.specs.Rule.{live}
+use Rattle.am_cast.specs.Rule.{live, cut}
 use Rattle.am_cast.specs.Seats.{account_of}
 use Rattle.am_cast.specs.Writers.{StaysAs}
 use Rattle.am_history.specs.Fronts.{FrontView, made_at}
@@ -27,15 +27,20 @@ use Rattle.am_provider.specs.declared.answers.PostedIf.{PostedIf}
 use Rattle.am_provider.specs.declared.faults.PutFault.{PutFault}
 use Rattle.am_provider.specs.declared.faults.PutFault.TheVariants as put
 use Rattle.am_provider.specs.Batches.{Batch}
-use Rattle.am_provider.specs.BookView.{BookView, IsFaithful}
+use Rattle.am_provider.specs.BookView.{BookView, IsFaithful, batches}
 use Rattle.am_provider.specs.Callers.{SeesCall}
-use Rattle.am_provider.specs.Headline.{AnswersCollect, AnswersPost, AnswersTake, IsPage, IsPutRefusal, IsSubRefusal}
+use Rattle.am_provider.specs.Headline.{AreSentSince, TakesItsDue, AnswersCollect, AnswersPost, AnswersTake, IsPage, IsPutRefusal, IsSubRefusal}
 use Rattle.am_provider.specs.declared.faults.SubFault.{SubFault}
 use Rattle.am_provider.specs.declared.faults.SubFault.TheVariants as sub
-use Rattle.am_provider.specs.Histories.{EntryView, Accepted, calls_of, whole, stored_after, is_cut}
-use Rattle.am_provider.specs.Posts.{IsAsBefore, IsPutCause}
+use Rattle.am_provider.specs.Histories.{EntryView, Accepted, calls_of, whole, trimmed_by, stored_after, is_cut}
+use Rattle.am_provider.specs.Posts.{IsAsBefore, IsPutCause, WasAskedBefore}
 use Rattle.am_provider.specs.inside.Records.{IsRecorded}
-use Rattle.am_provider.proofs.Recording.{same_closed, same_open, same_places, tells_of}
+use Rattle.am_store.proofs.Opens.{lane_low}
+use Rattle.am_store.proofs.Trims.{sent_until}
+use Rattle.am_store.specs.Broadcast.{items_of, IsFront}
+use Rattle.am_provider.specs.Subscriptions.{SubscriptionView, taken}
+use Rattle.am_provider.specs.Vouching.{HasTakenDue}
+use Rattle.am_provider.proofs.Recording.{open_whole, same, same_closed, same_open, same_places, tells_of}
 
 -- ---- a caller that has seen its call
 
@@ -99,7 +104,7 @@ pub sees_put_if : {F : Type 0} (judges : Filter F) (accepts last : F) (policy : 
     → is.seen ≡ entries ++ Accepted (Posted now kept.valid) done.posted.cut None ∷ []
     → SeesCall was is (AnswersPost policy places now kept (Ok done.posted))
     → SeesCall was is (λ before added.
-    ((last : F) × AreJudged judges now last accepts 0 (stored_after before) post.valid kept.valid done.refused.items)
+    AreJudged judges now last accepts 0 (stored_after before) post.valid kept.valid done.refused.items
     × AnswersPost policy places now kept (Ok done.posted) before added)
 sees_put_if judges accepts last policy places now post kept done was is entries olds stored judged seen sees =
     let entry = Accepted (Posted now kept.valid) done.posted.cut None ∷ [] in
@@ -114,7 +119,7 @@ sees_put_if judges accepts last policy places now post kept done was is entries 
       same = sees.same;
       looked = sees.looked;
       answers = (
-        (last, subst (λ (olds : List Alert). AreJudged judges now last accepts 0 olds post.valid kept.valid done.refused.items) (stored ∙ ap stored_after (sym same)) judged),
+        subst (λ (olds : List Alert). AreJudged judges now last accepts 0 olds post.valid kept.valid done.refused.items) (stored ∙ ap stored_after (sym same)) judged,
         sees.answers,
       );
     }
@@ -124,9 +129,9 @@ pub sees_put_if_refused : {F : Type 0} (judges : Filter F) (accepts last : F) (p
     → olds ≡ stored_after entries → AreJudged judges now last accepts 0 olds post.valid kept.valid refused → is.seen ≡ entries
     → SeesCall was is (AnswersPost policy places now kept (Err fault))
     → SeesCall was is (λ before added.
-    (IsPutRefusal policy places 0 before fault
-    ⊎ ((alerts : List Alert) × (others : List ℕ) × (final : F)
-    × AreJudged judges now final accepts 0 (stored_after before) post.valid alerts others
+    ((IsPutRefusal policy places 0 before fault × WasAskedBefore judges accepts last now (stored_after before) post.valid fault)
+    ⊎ ((alerts : List Alert) × (others : List ℕ)
+    × AreJudged judges now last accepts 0 (stored_after before) post.valid alerts others
     × IsPutRefusal policy places (length alerts) before fault))
     × (added ≡ []))
 sees_put_if_refused judges accepts last policy places now post kept refused fault was is entries olds stored judged seen sees =
@@ -141,7 +146,7 @@ sees_put_if_refused judges accepts last policy places now post kept refused faul
       same = sees.same;
       looked = sees.looked;
       answers = (
-        inr (kept.valid, refused, last, subst (λ (olds : List Alert). AreJudged judges now last accepts 0 olds post.valid kept.valid refused) (stored ∙ ap stored_after (sym same)) judged, sees.answers.0),
+        inr (kept.valid, refused, subst (λ (olds : List Alert). AreJudged judges now last accepts 0 olds post.valid kept.valid refused) (stored ∙ ap stored_after (sym same)) judged, sees.answers.0),
         sees.answers.1,
       );
     }
@@ -164,6 +169,33 @@ module _ {policy : Policy} {places : ℕ} (book : BookView) (entries : List Entr
       uncut false e = e
       uncut true e = absurd (let stands = (tells_of book entries of lane small).yes e in omega (arith, stands, lives))
 
+  -- it was given out at least as many batches ago as its reader is found to lag by
+  pub sent_since : (lane passed count : ℕ) → lane < 8 → is_open (whole entries) lane ≡ true → (account_of book.log lane).known ≤ passed → length (batches book) ≡ passed + count → AreSentSince count lane entries
+  sent_since lane passed count small opened known lags =
+      let of_lane = kept.lanes lane small in
+      let own = of_lane.begun (sym (same_open book entries of lane) ∙ opened) in
+      let start = of_lane.start own.0 own.1 in
+      let all = sent_until (whole entries) book.journal (trimmed_by entries) own.0 of.journal own.1.begun in
+      (own.0, open_whole book entries of lane own.0 own.1, omega (arith, start, all, own.2, known, lags, same_places book entries of))
+
+  -- what a subscription has taken by the Book, it has by the history
+  pub due_whole : (s : SubscriptionView) → HasTakenDue book s → TakesItsDue s entries
+  due_whole s it =
+      let number = s.cursor.lane.number in
+      let owed = (same book entries of).due s.at it.lane.begun in
+      record {
+        lane = open_whole book entries of number s.at it.lane;
+        owes = sym owed ∙ (it.owes ∙ ap (λ sent. s.opening ++ items_of (drop s.cursor.lane.start sent)) of.sent);
+        front = subst (IsFront (taken s)) owed it.front;
+        complete = λ told. it.complete told ∙ owed;
+        told_closed = λ told. same_closed book entries of ∙ it.told_closed told;
+        told_cut = λ told. was_cut (is_cut entries number) refl (it.told_cut told);
+      }
+    where
+      was_cut : (b : Bool) → is_cut entries s.cursor.lane.number ≡ b → (account_of book.log s.cursor.lane.number).stand ≡ cut → is_cut entries s.cursor.lane.number ≡ true
+      was_cut true e stands = e
+      was_cut false e stands = absurd ((tells_of book entries of s.cursor.lane.number (lane_low book.journal s.cursor.lane.number s.at kept.journal.legal it.lane)).no e stands)
+
 -- ---- why a post is refused
 
 pub put_refusal : {policy : Policy} {places : ℕ} (a b : BookView) (entries : List EntryView) (count : ℕ) (fault : PutFault) → IsRecorded policy places a entries → IsFaithful a
@@ -182,6 +214,7 @@ put_refusal {policy} {places} a b entries count (put.Full lane passed) of kept s
     let behind = refusal.3 in
     let lives : (account_of a.log lane).stand ≡ live = was_live (account_of a.log lane) (account_of b.log lane) (same.lanes lane small) behind.0 in
     let opened = live_lane a entries of kept lane small lives in
+    let moved = (same.lanes lane small).0 in
     let long = same_places a entries of in
     let log = ap (λ (t : Tail Batch). length t.log) same.tail in
     let limit = ap (λ (t : Tail Batch). t.places) same.tail in
@@ -189,7 +222,7 @@ put_refusal {policy} {places} a b entries count (put.Full lane passed) of kept s
     let most = behind.1 in
     let still = refusal.0 in
     let room = still.1 in
-    (same_closed a entries of ∙ why.0, why.1, omega (arith, long, room), sym of.limits.0 ∙ why.2.0, small, opened.0, opened.1, omega (arith, long, log, limit, known, most, of.limits.1))
+    (same_closed a entries of ∙ why.0, why.1, omega (arith, long, room), sym of.limits.0 ∙ why.2.0, small, opened.0, opened.1, omega (arith, long, log, limit, known, most, of.limits.1), sent_since a entries of kept lane passed places small opened.0 (omega (arith, known, moved.4)) (omega (arith, log, limit, known, most, of.limits.1)))
   where
     was_live : (was is : Account (KeyView Alert) OpenLane) → StaysAs was is → is.stand ≡ live → was.stand ≡ live
     was_live was is on lives = dite (ℕ_discrete is.stand was.stand) (λ e. sym e ∙ lives) (λ ne. let moved = on.1 ne in absurd (omega (arith, moved.1, lives)))

@@ -11,18 +11,18 @@ use Rattle.am_segment.specs.Segments.{KeyView}
 use Rattle.am_cast.specs.declared.views.Account.{Account}
 use Rattle.am_cast.specs.declared.views.Tail.{Tail}
 use Rattle.am_cast.specs.declared.limits.TheConstants.{LONGEST_LOG}
-use Rattle.am_cast.specs.Rule.{idle, live, Sound}
+use Rattle.am_cast.specs.Rule.{idle, live, cut, Sound}
 use Rattle.am_cast.specs.Changes.{longer_tail, shut_tail, left}
 use Rattle.am_cast.specs.Seats.{account_of}
 use Rattle.am_cast.specs.Keys.{all_items}
 use Rattle.am_cast.specs.Keys as keys
-use Rattle.am_cast.specs.Cursors.{CursorView, HasEnded}
+use Rattle.am_cast.specs.Cursors.{CursorView, HasCut, HasEnded}
 use Rattle.am_cast.specs.Cursors as cast
 use Rattle.am_store.specs.declared.call.Call.{Call}
 use Rattle.am_store.specs.declared.call.Call.TheVariants.{Posted, Subscribed, Left, Closed}
 use Rattle.am_store.specs.declared.lanes.OpenLane.{OpenLane}
 use Rattle.am_store.specs.AlertList.{with_alerts, batch_by_list}
-use Rattle.am_store.specs.Journal.{JournalView, with_call, call_count, until, lefts_of, MayFollow}
+use Rattle.am_store.specs.Journal.{JournalView, with_call, call_count, until, lefts_of, IsOpenSubscription, MayFollow}
 use Rattle.am_store.specs.Stored.{updates, stored}
 use Rattle.am_store.specs.Broadcast.{broadcast, items_of, due, IsFront}
 use Rattle.am_store.specs.Lanes.{lane_at, open_count, IsLowestFree, IsItsOpening}
@@ -35,7 +35,8 @@ use Rattle.am_provider.specs.declared.answers.Ended.{Ended}
 use Rattle.am_provider.specs.Batches.{Batch, LogView, posts_in, sent_in}
 use Rattle.am_provider.specs.BookView.{sends, IsEndingOf}
 use Rattle.am_provider.specs.Subscriptions.{SubscriptionView, taken}
-use Rattle.am_provider.specs.inside.Shelves.{Shelf, pages_of, IsKeptLane, IsKeptBook}
+use Rattle.am_provider.specs.Vouching.{HasTakenDue}
+use Rattle.am_provider.specs.inside.Shelves.{Shelf, pages_of, view_of, IsKeptLane, IsKeptBook}
 use Rattle.am_provider.specs.inside.Subscribed.{IsSubscription}
 use Rattle.am_provider.specs.Lefts.{left_ats}
 use Rattle.am_provider.proofs.Lefts.{lefts_quiet, lefts_left, count_quiet, count_left}
@@ -114,7 +115,7 @@ lowest_free a counted places lane kept small free low = record {
 
 lane_begins : (gone : ℕ) (journal : JournalView) (lane other start : ℕ) (one : OpenLane) (o : Option OpenLane) (was is : Account (KeyView Alert) OpenLane)
     → one.at ≡ call_count journal → one.opening ≡ stored (updates journal) → start ≡ journal.places + length (broadcast journal)
-    → (lane ≡ other → (is.stand ≡ live) × (is.note ≡ Some one) × (is.start ≡ start)) → ((lane ≢ other) → is ≡ was)
+    → (lane ≡ other → (is.stand ≡ live) × (is.note ≡ Some one) × (is.start ≡ start) × (is.known ≡ start)) → ((lane ≢ other) → is ≡ was)
     → IfSome o (IsItsOpening gone journal other) → IsKeptLane journal was o → IsKeptLane (with_call journal (Subscribed lane)) is (cond (nat_eq lane other) (Some one) o)
 lane_begins gone journal lane other start one o was is at opening starts new same its kept =
     elim (eqb_tells lane other) [
@@ -125,6 +126,7 @@ lane_begins gone journal lane other start one o was is at opening starts new sam
             λ (no : is.stand ≡ idle). let lives = own.0 in omega arith,
             own.1 ∙ ap (λ o. Some (record { at = one.at; opening = o })) (opening ∙ ap (λ j. stored (updates j)) (sym before)),
             own.2 ∙ (starts ∙ ap (λ j. journal.places + length (broadcast j)) (sym before)),
+            omega (arith, own.2, own.3),
           )
       | inr e ↦
           subst (λ t. IsKeptLane (with_call journal (Subscribed lane)) is (cond t (Some one) o)) (sym e.0)
@@ -133,11 +135,11 @@ lane_begins gone journal lane other start one o was is at opening starts new sam
 
 pub kept_subscribed : (a b : Shelf) (counted places room lane : ℕ) (one : OpenLane) → IsKeptBook a counted places → a.log.tail.closed ≡ false → IsLowestFree a.lanes lane
     → b.journal.journal ≡ with_call a.journal.journal (Subscribed lane) → one.at ≡ call_count a.journal.journal → one.opening ≡ a.stored
-    → b.stored ≡ a.stored → b.log.tail ≡ a.log.tail → (account_of b.log lane).stand ≡ live → (account_of b.log lane).note ≡ Some one → (account_of b.log lane).start ≡ length a.log.tail.log
+    → b.stored ≡ a.stored → b.log.tail ≡ a.log.tail → (account_of b.log lane).stand ≡ live → (account_of b.log lane).note ≡ Some one → (account_of b.log lane).start ≡ length a.log.tail.log → (account_of b.log lane).known ≡ length a.log.tail.log
     → ((other : ℕ) → other ≢ lane → account_of b.log other ≡ account_of a.log other)
     → b.lanes ≡ set a.lanes lane (Some one) → b.posts ≡ a.posts → b.endings ≡ a.endings → b.early ≡ a.early → b.journal.gone ≡ a.journal.gone → 9 ≤ b.journal.room
     → length b.endings + 8 ≤ room → IsKeptBook b counted room
-kept_subscribed a b counted places room lane one kept still low journal at opening stored tail stand note start others lanes posts endings early gone deque roomy =
+kept_subscribed a b counted places room lane one kept still low journal at opening stored tail stand note start known others lanes posts endings early gone deque roomy =
     let old = a.journal.journal in
     let within : lane < length a.lanes = omega (arith, low.within, kept.pages.eight) in
     let pages = sound_subscribed (pages_of a) (pages_of b) lane one kept.pages still low journal at opening stored (ap (λ (t : Tail Batch). sent_in t.log) tail) lanes (ap (λ (t : Tail Batch). t.closed) tail) posts gone deque in
@@ -156,7 +158,7 @@ kept_subscribed a b counted places room lane one kept still low journal at openi
           (subst (λ j. IsKeptLane j (account_of b.log other) (lane_at (set a.lanes lane (Some one)) other)) (sym journal)
           (subst (IsKeptLane (with_call old (Subscribed lane)) (account_of b.log other)) (sym (lane_set a.lanes lane other (Some one) within))
           (lane_begins a.journal.gone old lane other (length a.log.tail.log) one (lane_at a.lanes other) (account_of a.log other) (account_of b.log other) at (opening ∙ kept.pages.kept.stored) starts
-          (λ e. subst (λ n. ((account_of b.log n).stand ≡ live) × ((account_of b.log n).note ≡ Some one) × ((account_of b.log n).start ≡ length a.log.tail.log)) e (stand, note, start))
+          (λ e. subst (λ n. ((account_of b.log n).stand ≡ live) × ((account_of b.log n).note ≡ Some one) × ((account_of b.log n).start ≡ length a.log.tail.log) × ((account_of b.log n).known ≡ length a.log.tail.log)) e (stand, note, start, known))
           (λ ne. others other (λ e. ne (sym e))) (kept.pages.openings other) (kept.lanes other small))));
       endings = subst (All (IsEndingOf b.journal.journal)) (sym endings) (subst (λ j. All (IsEndingOf j) a.endings) (sym journal) (endings_grown old (Subscribed lane) a.endings (
         sym kept.pages.closed ∙ still,
@@ -198,7 +200,7 @@ lane_given a counted places lane kept small ne = given (lane_at a.lanes lane) re
     given None here its own = absurd (ne own)
     given (Some one) here its own = (one, here, its, own.1, own.2)
 
-items_alike : (log : List Batch) → all_items log ≡ items_of (sent_in log)
+pub items_alike : (log : List Batch) → all_items log ≡ items_of (sent_in log)
 items_alike [] = refl
 items_alike (x ∷ xs) = ap (λ rest. keys.batch_items x ++ rest) (items_alike xs)
 
@@ -245,25 +247,27 @@ pub record Leaving (a : Shelf) (s : SubscriptionView) (one : OpenLane) : Type 0 
   pub start : s.cursor.lane.start ≡ a.journal.journal.places + length (broadcast (until a.journal.journal one.at))
   pub at : s.at ≡ one.at
   pub opening : s.opening ≡ stored (updates (until a.journal.journal one.at))
+  pub owes : due a.journal.journal s.at ≡ s.opening ++ items_of (drop s.cursor.lane.start (sent_in a.log.tail.log))
   pub front : IsFront (taken s) (due a.journal.journal s.at)
   pub complete : s.closed_told ≡ true → taken s ≡ due a.journal.journal s.at
   pub closed : s.closed_told ≡ true → a.log.tail.closed ≡ true
 
 pub leaving : (a : Shelf) (counted places count : ℕ) (s : SubscriptionView) → IsKeptBook a counted places → IsSubscription s count → s.cursor.lane.number < 8
-    → (account_of a.log s.cursor.lane.number).stand ≢ idle → Sound a.log.tail (account_of a.log s.cursor.lane.number) (left s.cursor.lane) s.cursor.lane.number
+    → (account_of a.log s.cursor.lane.number).stand ≢ idle → s.cursor.lane.note ≡ (account_of a.log s.cursor.lane.number).note → s.cursor.lane.start ≡ (account_of a.log s.cursor.lane.number).start
+    → (s.cursor.lane.told ≡ true → a.log.tail.closed ≡ true)
     → IsPrefix (cast.shown_items s.cursor) (all_items (drop s.cursor.lane.start a.log.tail.log))
     → (HasEnded s.cursor → cast.shown_items s.cursor ≡ all_items (drop s.cursor.lane.start a.log.tail.log))
     → (one : OpenLane) × Leaving a s one
-leaving a counted places count s kept of small ne sound began ended =
+leaving a counted places count s kept of small ne note_is start_is told_closed began ended =
     let lane = s.cursor.lane.number in
     let given = lane_given a counted places lane kept small ne in
     let one = given.0 in
     let then : OpenLane = record { at = one.at; opening = stored (updates (until a.journal.journal one.at)) } in
-    let same : Some (record { at = s.at; opening = s.opening }) ≡ Some then = sym of.note ∙ (sound.note ∙ given.3) in
+    let same : Some (record { at = s.at; opening = s.opening }) ≡ Some then = sym of.note ∙ (note_is ∙ given.3) in
     let note : (record { at = s.at; opening = s.opening }) ≡ then = some_same _ then same in
     let at : s.at ≡ one.at = ap (λ (o : OpenLane). o.at) note in
     let opening : s.opening ≡ then.opening = ap (λ (o : OpenLane). o.opening) note in
-    let start : s.cursor.lane.start ≡ a.journal.journal.places + length (broadcast (until a.journal.journal one.at)) = sound.start ∙ given.4 in
+    let start : s.cursor.lane.start ≡ a.journal.journal.places + length (broadcast (until a.journal.journal one.at)) = start_is ∙ given.4 in
     let all : s.opening ++ all_items (drop s.cursor.lane.start a.log.tail.log) ≡ due a.journal.journal s.at =
     ap (λ xs. xs ++ all_items (drop s.cursor.lane.start a.log.tail.log)) opening ∙ (due_is a counted places lane s.cursor.lane.start then kept refl start ∙ ap (due a.journal.journal) (sym at)) in (
       one,
@@ -273,9 +277,10 @@ leaving a counted places count s kept of small ne sound began ended =
         start = start;
         at = at;
         opening = opening;
+        owes = sym all ∙ ap (λ xs. s.opening ++ xs) (items_alike (drop s.cursor.lane.start a.log.tail.log) ∙ ap items_of (sym (drop-map (λ (y : Batch). keys.batch_items y) s.cursor.lane.start a.log.tail.log)));
         front = subst (IsFront (taken s)) all (taken_begins s count (all_items (drop s.cursor.lane.start a.log.tail.log)) of began);
         complete = λ told. taken_complete s count (all_items (drop s.cursor.lane.start a.log.tail.log)) of told ended ∙ all;
-        closed = λ told. (sound.seen.told (of.told told).0.0).0;
+        closed = λ told. told_closed (of.told told).0.0;
       },
     )
   where
@@ -304,12 +309,25 @@ pub leaving_by : (a : Shelf) (counted places count : ℕ) (s : SubscriptionView)
     → (HasEnded cursor → cast.shown_items cursor ≡ all_items (drop cursor.lane.start a.log.tail.log))
     → (one : OpenLane) × Leaving a s one
 leaving_by a counted places count s cursor kept of same small ne sound began ended =
+    let here = subst (λ (k : CursorView Alert Call OpenLane). Sound a.log.tail (account_of a.log k.lane.number) (left k.lane) k.lane.number) same sound in
     leaving a counted places count s kept of
     (subst (λ (k : CursorView Alert Call OpenLane). k.lane.number < 8) same small)
     (subst (λ (k : CursorView Alert Call OpenLane). (account_of a.log k.lane.number).stand ≢ idle) same ne)
-    (subst (λ (k : CursorView Alert Call OpenLane). Sound a.log.tail (account_of a.log k.lane.number) (left k.lane) k.lane.number) same sound)
+    here.note here.start (λ told. (here.seen.told told).0)
     (subst (λ (k : CursorView Alert Call OpenLane). IsPrefix (cast.shown_items k) (all_items (drop k.lane.start a.log.tail.log))) same began)
     (subst (λ (k : CursorView Alert Call OpenLane). HasEnded k → cast.shown_items k ≡ all_items (drop k.lane.start a.log.tail.log)) same ended)
+
+-- it has taken its due, by the Book that it leaves or in which it goes on
+pub has_taken : (a : Shelf) (counted places : ℕ) (s : SubscriptionView) (one : OpenLane) → IsKeptBook a counted places → Leaving a s one
+    → (HasCut s.cursor → (account_of a.log s.cursor.lane.number).stand ≡ cut) → HasTakenDue (view_of a) s
+has_taken a counted places s one kept by was_cut = record {
+  lane = subst (IsOpenSubscription a.journal.journal s.cursor.lane.number) (sym by.at) by.its.given;
+  owes = by.owes;
+  front = by.front;
+  complete = by.complete;
+  told_closed = λ told. sym kept.pages.closed ∙ by.closed told;
+  told_cut = was_cut;
+}
 
 is_given : (a : Shelf) (s : SubscriptionView) (one : OpenLane) → Leaving a s one → is_some (lane_at a.lanes s.cursor.lane.number) ≡ true
 is_given a s one by = ap is_some by.here
@@ -355,6 +373,7 @@ lane_leaves gone journal lane other o was is free same its kept =
       ap (λ (x : Account (KeyView Alert) OpenLane). x.note) e
           ∙ (kept.1 ∙ ap (λ j. Some (record { at = one.at; opening = stored (updates j) })) (sym (until_stays journal (Left lane) other one.at its.given))),
       ap (λ (x : Account (KeyView Alert) OpenLane). x.start) e ∙ (kept.2 ∙ ap (λ j. journal.places + length (broadcast j)) (sym (until_stays journal (Left lane) other one.at its.given))),
+      subst (λ (x : Account (KeyView Alert) OpenLane). x.start ≤ x.known) (sym e) kept.3,
     )
 
 pub kept_left : (a b : Shelf) (counted places room : ℕ) (s : SubscriptionView) (one : OpenLane) (ended : Ended) → IsKeptBook a counted places → Leaving a s one → s.cursor.lane.number < 8

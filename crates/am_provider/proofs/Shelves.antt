@@ -41,6 +41,11 @@ some_kept : (journal : JournalView) (account : Account (KeyView Alert) OpenLane)
 some_kept journal account None e kept = absurd (cc)
 some_kept journal account (Some one) e kept = kept.0
 
+begun_kept : (journal : JournalView) (account : Account (KeyView Alert) OpenLane) (gone lane : ℕ) (o : Option OpenLane) → is_some o ≡ true → IfSome o (IsItsOpening gone journal lane) → IsKeptLane journal account o
+    → (at : ℕ) × IsOpenSubscription journal lane at × (account.start ≤ account.known)
+begun_kept journal account gone lane None e its kept = absurd (cc)
+begun_kept journal account gone lane (Some one) e its kept = (one.at, its.given, kept.3)
+
 this_kept : (journal : JournalView) (account : Account (KeyView Alert) OpenLane) (o : Option OpenLane) (one : OpenLane) → o ≡ Some one → IsKeptLane journal account o
     → (account.note ≡ Some (record { at = one.at; opening = Rattle.am_store.specs.Stored.stored (updates (until journal one.at)) })) × (account.start ≡ journal.places + length (broadcast (until journal one.at)))
 this_kept journal account o one here kept =
@@ -54,6 +59,7 @@ lane_of shelf counted places lane small kept =
     record {
       shut = λ no. none_kept journal (account_of shelf.log lane) (lane_at shelf.lanes lane) (flag ∙ no) own;
       given = λ yes. some_kept journal (account_of shelf.log lane) (lane_at shelf.lanes lane) (flag ∙ yes) own;
+      begun = λ yes. begun_kept journal (account_of shelf.log lane) shelf.journal.gone lane (lane_at shelf.lanes lane) (flag ∙ yes) (kept.pages.openings lane) own;
       start = λ at of.
           let one = kept_for (pages_of shelf) lane at kept.pages of in
           (this_kept journal (account_of shelf.log lane) (lane_at shelf.lanes lane) one.0 one.1.0 own).1
@@ -114,6 +120,7 @@ pub record GoesOnAs (was is : Account (KeyView Alert) OpenLane) : Type 0 where
   pub start : is.start ≡ was.start
   pub shut : was.stand ≡ idle → is.stand ≡ idle
   pub given : was.stand ≢ idle → is.stand ≢ idle
+  pub low : was.start ≤ was.known → is.start ≤ is.known
 
 pub same_account : (was is : Account (KeyView Alert) OpenLane) → is ≡ was → GoesOnAs was is
 same_account was is same = record {
@@ -121,6 +128,7 @@ same_account was is same = record {
   start = ap (λ (a : Account (KeyView Alert) OpenLane). a.start) same;
   shut = λ e. ap (λ (a : Account (KeyView Alert) OpenLane). a.stand) same ∙ e;
   given = λ ne e. ne (sym (ap (λ (a : Account (KeyView Alert) OpenLane). a.stand) same) ∙ e);
+  low = subst (λ (a : Account (KeyView Alert) OpenLane). a.start ≤ a.known) (sym same);
 }
 
 pub stays_as : (was is : Account (KeyView Alert) OpenLane) → StaysAs was is → GoesOnAs was is
@@ -129,6 +137,7 @@ stays_as was is stays = record {
   start = stays.0.2;
   shut = λ e. dite (ℕ_discrete is.stand was.stand) (λ same. same ∙ e) (λ other. absurd (omega (arith, (stays.1 other).0, e)));
   given = λ ne e. dite (ℕ_discrete is.stand was.stand) (λ same. ne (sym same ∙ e)) (λ other. absurd (omega (arith, (stays.1 other).1, e)));
+  low = λ h. omega (arith, stays.0.2, stays.0.4, h);
 }
 
 pub cut_as : (n places : ℕ) (was is : Account (KeyView Alert) OpenLane) (bit : Bool) → SameAdmission was is → IsCutAs n places was is bit → GoesOnAs was is
@@ -137,6 +146,7 @@ cut_as n places was is true same cut = record {
   start = same.2;
   shut = λ e. absurd (let l = cut.0 in omega (arith, e));
   given = λ ne e. let k = cut.1 in omega arith;
+  low = λ h. omega (arith, same.2, same.4, h);
 }
 cut_as n places was is false same on = stays_as was is (same, on)
 
@@ -146,13 +156,14 @@ goes_on_twice was between is first second = record {
   start = second.start ∙ first.start;
   shut = λ e. second.shut (first.shut e);
   given = λ ne. second.given (first.given ne);
+  low = λ h. second.low (first.low h);
 }
 
 pub lane_stays : (gone : ℕ) (journal : JournalView) (c : Call) (lane : ℕ) (o : Option OpenLane) (was is : Account (KeyView Alert) OpenLane) → GoesOnAs was is → IfSome o (IsItsOpening gone journal lane)
     → IsKeptLane journal was o → IsKeptLane (with_call journal c) is o
 lane_stays gone journal c lane None was is on its kept = on.shut kept
 lane_stays gone journal c lane (Some one) was is on its kept =
-    (on.given kept.0, on.note ∙ (kept.1 ∙ ap (λ j. Some (record { at = one.at; opening = Rattle.am_store.specs.Stored.stored (updates j) })) (sym (until_stays journal c lane one.at its.given))), on.start ∙ (kept.2 ∙ ap (λ j. journal.places + length (broadcast j)) (sym (until_stays journal c lane one.at its.given))))
+    (on.given kept.0, on.note ∙ (kept.1 ∙ ap (λ j. Some (record { at = one.at; opening = Rattle.am_store.specs.Stored.stored (updates j) })) (sym (until_stays journal c lane one.at its.given))), on.start ∙ (kept.2 ∙ ap (λ j. journal.places + length (broadcast j)) (sym (until_stays journal c lane one.at its.given))), on.low kept.3)
 
 pub lanes_stay : (a b : Shelf) (counted places : ℕ) (c : Call) → IsKeptBook a counted places → b.lanes ≡ a.lanes → b.journal.journal ≡ with_call a.journal.journal c
     → ((lane : ℕ) → lane < 8 → GoesOnAs (account_of a.log lane) (account_of b.log lane))
@@ -222,4 +233,4 @@ kept_alike a b counted places kept journal gone roomy stored tail on lanes posts
   where
     still_kept : (journal : JournalView) (o : Option OpenLane) (was is : Account (KeyView Alert) OpenLane) → GoesOnAs was is → IsKeptLane journal was o → IsKeptLane journal is o
     still_kept journal None was is on kept = on.shut kept
-    still_kept journal (Some one) was is on kept = (on.given kept.0, on.note ∙ kept.1, on.start ∙ kept.2)
+    still_kept journal (Some one) was is on kept = (on.given kept.0, on.note ∙ kept.1, on.start ∙ kept.2, on.low kept.3)

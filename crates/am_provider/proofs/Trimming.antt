@@ -95,7 +95,7 @@ lane_trimmed : (gone : ℕ) (old new : JournalView) (count lane : ℕ) (account 
 lane_trimmed gone old new count lane account None fits of its kept = kept
 lane_trimmed gone old new count lane account (Some one) fits of its kept =
     let h : new.before ≤ one.at = omega (arith, of.before, fits.kept lane one.at its.given) in
-    (kept.0, kept.1 ∙ ap (λ opening. Some (record { at = one.at; opening = opening })) (sym (until_stored old new count of one.at h)), kept.2 ∙ sym (sent_until old new count one.at of h))
+    (kept.0, kept.1 ∙ ap (λ opening. Some (record { at = one.at; opening = opening })) (sym (until_stored old new count of one.at h)), kept.2 ∙ sym (sent_until old new count one.at of h), kept.3)
 
 pub kept_trimmed : (a b : Shelf) (counted places count : ℕ) → IsKeptBook a counted places → AreBeforeOpen a.journal.journal count → IsTrimmed a.journal.journal count b.journal.journal → a.journal.gone ≤ b.journal.gone
     → b.stored ≡ a.stored → b.log ≡ a.log → b.lanes ≡ a.lanes → b.posts ≡ a.posts → a.journal.room ≤ b.journal.room
@@ -138,7 +138,7 @@ lane_compacted journal account None (Some one) e kept = (cc)
 lane_compacted journal account (Some one) None e kept = (cc)
 lane_compacted journal account (Some one) (Some other) e kept =
     let same : one.at ≡ other.at = sym (at_same one other e) in
-    subst (λ n. (account.stand ≢ idle) × (account.note ≡ Some (record { at = n; opening = stored (updates (until journal n)) })) × (account.start ≡ journal.places + length (broadcast (until journal n)))) same kept
+    subst (λ n. (account.stand ≢ idle) × (account.note ≡ Some (record { at = n; opening = stored (updates (until journal n)) })) × (account.start ≡ journal.places + length (broadcast (until journal n))) × (account.start ≤ account.known)) same kept
 
 pub kept_compacted : (a b : Shelf) (counted places : ℕ) → IsKeptBook a counted places → b.journal.journal ≡ a.journal.journal → b.journal.gone ≡ call_count a.journal.journal → a.journal.room ≤ b.journal.room
     → b.stored ≡ a.stored → b.log ≡ a.log → b.posts ≡ a.posts → all_subscribed_at b.lanes ≡ all_subscribed_at a.lanes → b.endings ≡ a.endings → b.early ≡ a.early → IsKeptBook b counted places

@@ -52,11 +52,13 @@ abbrev pub places_of : JournalView → ℕ
 places_of journal = journal.places + length (broadcast journal)
 
 -- what the log has of a lane agrees with the journal: an idle lane isn't open; an open one reads the
--- log from the batches before its subscription on, with a note of when it was subscribed and what was
--- stored then
+-- log from the batches before its subscription on, of which its reader is known to have passed no fewer, with
+-- a note of when it was subscribed and what was stored then
 pub record IsLaneOf (book : BookView) (lane : ℕ) : Type 0 where
   pub shut : is_open book.journal lane ≡ false → (account_of book.log lane).stand ≡ idle
   pub given : is_open book.journal lane ≡ true → (account_of book.log lane).stand ≢ idle
+  pub begun : is_open book.journal lane ≡ true → (at : ℕ) × IsOpenSubscription book.journal lane at
+      × ((account_of book.log lane).start ≤ (account_of book.log lane).known)
   pub start : (at : ℕ) → IsOpenSubscription book.journal lane at → (account_of book.log lane).start
       ≡ places_of (until book.journal at)
   pub note : (at : ℕ) → IsOpenSubscription book.journal lane at → (account_of book.log lane).note

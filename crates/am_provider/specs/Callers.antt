@@ -8,6 +8,7 @@ use Rattle.am_history.specs.Fronts.{FrontView, made_at}
 use Rattle.am_history.specs.declared.views.Made.{Made}
 use Rattle.am_store.specs.declared.call.Call.{Call}
 use Rattle.am_store.specs.Judging.{Filter, AreJudged}
+use Rattle.am_cast.specs.Changes.{AreInLog}
 use Rattle.am_cast.specs.Posters.{PassView}
 use Rattle.am_provider.specs.declared.answers.Policy.{Policy}
 use Rattle.am_provider.specs.declared.answers.Posted.{Posted}
@@ -16,8 +17,9 @@ use Rattle.am_provider.specs.declared.faults.PostRefused.{PostRefused}
 use Rattle.am_provider.specs.declared.faults.PostRefused.TheVariants as refused
 use Rattle.am_provider.specs.declared.faults.PutFault.{PutFault}
 use Rattle.am_provider.specs.Headline.{AnswersPost, IsPutRefusal}
-use Rattle.am_provider.specs.Posts.{AddsOwn}
-use Rattle.am_provider.specs.Histories.{EntryView, stored_after}
+use Rattle.am_provider.specs.Posts.{AddsOwn, WasAskedBefore}
+use Rattle.am_provider.specs.Batches.{sent_in}
+use Rattle.am_provider.specs.Histories.{EntryView, sent_by, stored_after}
 
 -- entries that were made one after another, with their numbers
 abbrev pub made_from : ℕ → List EntryView → List (Made EntryView)
@@ -62,24 +64,31 @@ AnswersBody policy places now timeout body was is saw sees (Err (refused.Unread 
 
 -- what a post of those alerts that a filter accepts comes to: each is judged as it would be stored after the
 -- history (Alertmanager's `AlertStoreCallback`'s PreStore). It is refused before the filter was asked of all,
--- or as a post of those that it accepted
-abbrev pub AnswersPostIf : {F : Type 0} → Filter F → F → Policy → ℕ → ℕ → Post → PassView Alert Call
+-- or as a post of those that it accepted. The filter is as its last question left it
+abbrev pub AnswersPostIf : {F : Type 0} → Filter F → F → F → Policy → ℕ → ℕ → Post → PassView Alert Call
     → PassView Alert Call → FrontView EntryView → FrontView EntryView → Result PostedIf PutFault → Type 0
-AnswersPostIf {F} filter accepts policy places now post was is saw sees (Ok done) =
+AnswersPostIf filter accepts last policy places now post was is saw sees (Ok done) =
     (kept : Post) × (kept.faults ≡ post.faults)
     × SeesCall saw sees (λ before added.
-    ((last : F) × AreJudged filter now last accepts 0 (stored_after before) post.valid kept.valid
-    done.refused.items)
+    AreJudged filter now last accepts 0 (stored_after before) post.valid kept.valid done.refused.items
     × AnswersPost policy places now kept (Ok done.posted) before added)
     × AddsOwn was now kept.valid done.posted.place is
-AnswersPostIf {F} filter accepts policy places now post was is saw sees (Err fault) =
+AnswersPostIf filter accepts last policy places now post was is saw sees (Err fault) =
     SeesCall saw sees (λ before added.
-    (IsPutRefusal policy places 0 before fault
-    ⊎ ((kept : List Alert) × (refused : List ℕ) × (last : F)
+    ((IsPutRefusal policy places 0 before fault
+    × WasAskedBefore filter accepts last now (stored_after before) post.valid fault)
+    ⊎ ((kept : List Alert) × (refused : List ℕ)
     × AreJudged filter now last accepts 0 (stored_after before) post.valid kept refused
     × IsPutRefusal policy places (length kept) before fault))
     × (added ≡ []))
     × (is ≡ was)
+
+-- a pass, which owns what it did, knows all that was sent out of a front's history
+pub record KnowsAllSent (was is : PassView Alert Call) (front : FrontView EntryView) : Type 0 where
+  pub own : is.own ≡ was.own
+  pub more : IsPrefix was.noted is.noted
+  pub known : AreInLog is.own is.noted
+  pub sent : sent_in is.noted ≡ sent_by front.seen
 
 -- a caller that has posted nothing, seen nothing and added nothing
 abbrev pub IsNewCaller : PassView Alert Call → FrontView EntryView → Type 0

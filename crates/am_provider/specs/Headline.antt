@@ -1,7 +1,7 @@
 -- What each call of a provider answers: by the history before it, and the entries that it added.
-use Rattle.std.specs.Prelude.{◌≡◌, ℕ, ◌+◌, ◌≤◌, ◌<◌, true, false, if◌then◌else◌, nat_eq}
-use Rattle.std.specs.Prelude.{List, [], ◌∷◌, length, filter, take, drop, Option, None, Some}
-use Rattle.std.specs.Prelude.{Result, Ok, Err, IfOk}
+use Rattle.std.specs.Prelude.{◌≡◌, ◌≢◌, ℕ, ◌+◌, ◌≤◌, ◌<◌, true, false, if◌then◌else◌, nat_eq}
+use Rattle.std.specs.Prelude.{List, [], ◌∷◌, ◌++◌, length, filter, take, drop, Option, None, Some}
+use Rattle.std.specs.Prelude.{Result, Ok, Err, IfOk, OnErr}
 use Rattle.std.specs.Arc.{arc_value}
 use Rattle.std.specs.List.{count_by}
 use Rattle.std.specs.Option.{option_map}
@@ -17,9 +17,9 @@ use Rattle.am_cast.specs.Cursors.{HasCut}
 use Rattle.am_store.specs.AlertList.{lookup}
 use Rattle.am_store.specs.LaneSets.{has_lane}
 use Rattle.am_store.specs.declared.call.Call.TheVariants.{Posted, Collected, Subscribed, Left, Closed}
-use Rattle.am_store.specs.Journal.{JournalView, is_closed, is_open, AreAllOpen}
+use Rattle.am_store.specs.Journal.{JournalView, is_closed, is_open, until, AreAllOpen}
 use Rattle.am_store.specs.Journal.{IsOpenSubscription, IsLowestIdle}
-use Rattle.am_store.specs.Broadcast.{due, IsFront}
+use Rattle.am_store.specs.Broadcast.{broadcast, due, items_of, IsFront}
 use Rattle.am_store.specs.Trims.{IsTrimmed, Drops}
 use Rattle.am_provider.specs.declared.answers.Policy.{Policy}
 use Rattle.am_provider.specs.declared.answers.Policy.TheVariants.{Refuse}
@@ -34,9 +34,15 @@ use Rattle.am_provider.specs.Histories.{EntryView, Accepted, Trimmed, Compacted,
 use Rattle.am_provider.specs.Histories.{trimmed_by, gone_by, stored_after, sent_by, is_cut}
 use Rattle.am_provider.specs.Subscriptions.{SubscriptionView, taken}
 
+-- an open lane was given out when so many batches or more of those that were sent still were to come
+abbrev pub AreSentSince : ℕ → ℕ → List EntryView → Type 0
+AreSentSince count lane before = (at : ℕ) × IsOpenSubscription (whole before) lane at
+    × (length (broadcast (until (whole before) at)) + count ≤ length (sent_by before))
+
 -- an accepted post: its alerts are stored, and are sent out as the log's next batch if there is one. It cut
--- only open lanes that were not cut before, and none if the policy is to refuse (`provider/mem`'s Put)
-pub record IsPosted (policy : Policy) (now : ℕ) (post : Post) (posted : answers.Posted)
+-- only open lanes that were not cut before and were given out at least as many batches ago as the log has
+-- places, and none if the policy is to refuse (`provider/mem`'s Put)
+pub record IsPosted (policy : Policy) (places now : ℕ) (post : Post) (posted : answers.Posted)
     (before added : List EntryView) : Type 0 where
   pub still_open : is_closed (whole before) ≡ false
   pub valid : posted.valid ≡ length post.valid
@@ -44,13 +50,15 @@ pub record IsPosted (policy : Policy) (now : ℕ) (post : Post) (posted : answer
   pub place : posted.place ≡ (if nat_eq (length post.valid) 0 then None else Some (length (sent_by before)))
   pub cuts : (lane : ℕ) → lane < LANES → has_lane posted.cut lane ≡ true
       → (is_open (whole before) lane ≡ true) × (is_cut before lane ≡ false)
+  pub late : (lane : ℕ) → lane < LANES → has_lane posted.cut lane ≡ true → AreSentSince places lane before
   pub refuses : policy ≡ Refuse → posted.cut ≡ 0
   pub entry : added ≡ Accepted (Posted now post.valid) posted.cut None ∷ []
 
 -- why a post of so many valid alerts is refused: a closed log before its end, and that before the others. A
--- full log names an open lane that isn't cut, and how many batches a lane has passed that lags by as many as
--- there are places. That the named lane has passed as many, that it is the lowest such, and that a full log
--- isn't answered as a lack of memory, is said of the log's own calls (am_cast) and not here
+-- full log names an open lane that isn't cut and was given out at least as many batches ago as there are
+-- places, and how many batches a lane has passed that lags by as many. The log's own calls (am_cast) say
+-- that the named lane has passed as many, that it is the lowest such, and that a full log isn't answered as a
+-- lack of memory. It isn't said here: no entry of the history says how far a reader has come
 abbrev pub IsPutRefusal : Policy → ℕ → ℕ → List EntryView → PutFault → Type 0
 IsPutRefusal policy places count before put.Closed = is_closed (whole before) ≡ true
 IsPutRefusal policy places count before put.LogEnd =
@@ -59,14 +67,15 @@ IsPutRefusal policy places count before (put.Full lane passed) =
     (is_closed (whole before) ≡ false) × (0 < count) × (length (sent_by before) < LONGEST_LOG)
     × (policy ≡ Refuse)
     × (lane < LANES) × (is_open (whole before) lane ≡ true) × (is_cut before lane ≡ false)
-    × (length (sent_by before) ≡ passed + places)
+    × (length (sent_by before) ≡ passed + places) × AreSentSince places lane before
 IsPutRefusal policy places count before put.NoMemory =
     (is_closed (whole before) ≡ false) × (0 < count → length (sent_by before) < LONGEST_LOG)
 
 -- what a post answers
 abbrev pub AnswersPost : Policy → ℕ → ℕ → Post → Result answers.Posted PutFault → List EntryView
     → List EntryView → Type 0
-AnswersPost policy places now post (Ok posted) before added = IsPosted policy now post posted before added
+AnswersPost policy places now post (Ok posted) before added =
+    IsPosted policy places now post posted before added
 AnswersPost policy places now post (Err fault) before added =
     IsPutRefusal policy places (length post.valid) before fault × (added ≡ [])
 
@@ -92,18 +101,30 @@ abbrev pub AnswersSubscribe : Result SubscriptionView SubFault → List EntryVie
 AnswersSubscribe (Ok made) before added = IsSubscribed made before added
 AnswersSubscribe (Err fault) before added = IsSubRefusal before fault × (added ≡ [])
 
--- a subscription that is given back: what it has taken begins what was due to it, and is all of it if it was
--- told that no more would come. One that was told Cut was cut
+-- what a subscription has taken: it begins what the history owes it, and is all of that if it was told that
+-- no more would come, which it is of a closed log alone. One that was told Cut was cut. It is owed what was
+-- stored when it came, and each batch since
+pub record TakesItsDue (subscription : SubscriptionView) (before : List EntryView) : Type 0 where
+  pub lane : IsOpenSubscription (whole before) subscription.cursor.lane.number subscription.at
+  pub owes : due (whole before) subscription.at
+      ≡ subscription.opening ++ items_of (drop subscription.cursor.lane.start (sent_by before))
+  pub front : IsFront (taken subscription) (due (whole before) subscription.at)
+  pub complete : subscription.closed_told ≡ true → taken subscription ≡ due (whole before) subscription.at
+  pub told_closed : subscription.closed_told ≡ true → is_closed (whole before) ≡ true
+  pub told_cut : HasCut subscription.cursor → is_cut before subscription.cursor.lane.number ≡ true
+
+-- a subscription that goes on: so far it has taken its due. It adds no entry
+abbrev pub AnswersVouch : SubscriptionView → List EntryView → List EntryView → Type 0
+AnswersVouch subscription before added = TakesItsDue subscription before × (added ≡ [])
+
+-- a subscription that is given back has taken its due
 pub record AnswersLeave (subscription : SubscriptionView) (ended : Ended) (before added : List EntryView)
     : Type 0 where
-  pub lane : IsOpenSubscription (whole before) subscription.cursor.lane.number subscription.at
+  pub due : TakesItsDue subscription before
   pub at : ended.at ≡ subscription.at
   pub count : ended.taken ≡ length (taken subscription)
   pub closed : ended.closed ≡ subscription.closed_told
   pub cut : ended.cut ≡ is_cut before subscription.cursor.lane.number
-  pub told_cut : HasCut subscription.cursor → ended.cut ≡ true
-  pub front : IsFront (taken subscription) (due (whole before) subscription.at)
-  pub complete : subscription.closed_told ≡ true → taken subscription ≡ due (whole before) subscription.at
   pub entry : added ≡ Accepted (Left subscription.cursor.lane.number) 0 (Some ended) ∷ []
 
 -- a collection counts the stored alerts that are resolved (`provider/mem`'s garbage collection)
@@ -157,8 +178,10 @@ pub record IsPage (from most : ℕ) (before : List EntryView) (page : Page) : Ty
 abbrev pub AnswersPage : {E : Type 0} → ℕ → ℕ → Result Page E → List EntryView → List EntryView → Type 0
 AnswersPage from most result before added = IfOk result (IsPage from most before) × (added ≡ [])
 
--- the same of the one alert of a label set, if there is one (`provider/mem`'s Get)
+-- the same of the one alert of a label set, if there is one. Of a label set that isn't stored there is always
+-- an answer (`provider/mem`'s Get)
 abbrev pub AnswersGet : {E : Type 0} → Labels → Result (Option (Arc Alert Global)) E → List EntryView
     → List EntryView → Type 0
 AnswersGet labels result before added =
-    IfOk result (λ found. option_map arc_value found ≡ lookup labels (stored_after before)) × (added ≡ [])
+    IfOk result (λ found. option_map arc_value found ≡ lookup labels (stored_after before))
+    × OnErr result (lookup labels (stored_after before) ≢ None) × (added ≡ [])

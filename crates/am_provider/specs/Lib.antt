@@ -6,6 +6,7 @@ pub mod Showings
 pub mod Lending
 pub mod Lefts
 pub mod BookView
+pub mod Vouching
 pub mod Posts
 pub mod Histories
 pub mod Headline

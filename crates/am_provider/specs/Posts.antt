@@ -10,7 +10,7 @@ use Rattle.am_store.specs.declared.call.Call.TheVariants.{Posted}
 use Rattle.am_store.specs.LaneSets.{has_lane}
 use Rattle.am_alert.specs.declared.post.Post.{Post}
 use Rattle.am_store.specs.Journal.{is_closed, with_call}
-use Rattle.am_store.specs.Judging.{Filter, AreJudged}
+use Rattle.am_store.specs.Judging.{Filter, AreJudged, WasAsked}
 use Rattle.am_cast.specs.declared.views.Own.{Own}
 use Rattle.am_cast.specs.Rule.{live}
 use Rattle.am_cast.specs.Changes.{AreInLog, own_at}
@@ -68,10 +68,10 @@ pub record Puts (old new : BookView) (was is : PassView Alert Call) (now : ℕ) 
   pub cut : IsCutBy old new posted.cut
 
 -- a post of those alerts that a filter accepted, each judged as it would be stored
-abbrev pub PutsIf : {F : Type 0} → Filter F → F → BookView → BookView → PassView Alert Call
+abbrev pub PutsIf : {F : Type 0} → Filter F → F → F → BookView → BookView → PassView Alert Call
     → PassView Alert Call → ℕ → Post → PostedIf → Type 0
-PutsIf {F} filter accepts old new was is now post done =
-    (kept : Post) × (last : F)
+PutsIf filter accepts last old new was is now post done =
+    (kept : Post)
     × AreJudged filter now last accepts 0 old.stored post.valid kept.valid done.refused.items
     × (kept.faults ≡ post.faults) × Puts old new was is now kept done.posted
 
@@ -104,11 +104,17 @@ IsPutCause old new count put_fault.NoMemory =
 IsPutCause old new count fault =
     (is_closed old.journal ≡ false) × (0 < count) × IsLogCause old.policy old.log new.log fault
 
+-- a filter was asked of some of the first alerts, in order, over what was stored, and of none if the log was
+-- closed
+abbrev pub WasAskedBefore : {F : Type 0} → Filter F → F → F → ℕ → List Alert → List Alert → PutFault → Type 0
+WasAskedBefore filter accepts last now stored alerts fault =
+    WasAsked filter now last accepts stored alerts × (fault ≡ put_fault.Closed → last ≡ accepts)
+
 -- why a post of those alerts that a filter accepts is refused: before the filter was asked of all, or as a
 -- post of those that it accepted
-abbrev pub IsPutIfCause : {F : Type 0} → Filter F → F → BookView → BookView → ℕ → Post → PutFault → Type 0
-IsPutIfCause {F} filter accepts old new now post fault =
-    IsPutCause old new 0 fault
-    ⊎ ((kept : List Alert) × (refused : List ℕ) × (last : F)
+abbrev pub IsPutIfCause : {F : Type 0} → Filter F → F → F → BookView → BookView → ℕ → Post → PutFault → Type 0
+IsPutIfCause filter accepts last old new now post fault =
+    (IsPutCause old new 0 fault × WasAskedBefore filter accepts last now old.stored post.valid fault)
+    ⊎ ((kept : List Alert) × (refused : List ℕ)
     × AreJudged filter now last accepts 0 old.stored post.valid kept refused
     × IsPutCause old new (length kept) fault)

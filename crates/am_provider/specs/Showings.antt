@@ -1,9 +1,10 @@
 -- What a call of `next` or `next_slice` shows, and what it leaves (`provider.AlertIterator`'s Next).
-use Rattle.std.specs.Prelude.{◌≡◌, ◌<◌, Bool, true, false, List, [], ◌∷◌, ◌++◌, length}
+use Rattle.std.specs.Prelude.{◌≡◌, ◌<◌, ◌⊎◌, Bool, true, false, List, [], ◌∷◌, ◌++◌, length}
 use mathlib.Core.List.{IsPrefix}
 use Rattle.am_alert.specs.declared.alert.Alert.{Alert}
 use Rattle.am_cast.specs.Cursors.{GoesOn, HasCut}
 use Rattle.am_cast.specs.Lent.{IsPending, IsClosed, IsCut, IsRest}
+use Rattle.am_cast.specs.Lent as cast
 use Rattle.am_store.specs.Shared.{alerts_in}
 use Rattle.am_provider.specs.declared.answers.Slice.{Slice}
 use Rattle.am_provider.specs.declared.answers.Slice.TheVariants as slice
@@ -30,6 +31,18 @@ pub record ShowsNone (old : SubscriptionView) (told : Bool) (new : SubscriptionV
   pub shown : old.shown ≡ length old.opening
   pub rest : new ≡ record old { cursor = new.cursor; closed_told = told }
   pub on : GoesOn old.cursor new.cursor
+
+-- nothing more was shown or told
+pub record StaysShown (old new : SubscriptionView) : Type 0 where
+  pub rest : new ≡ record old { cursor = new.cursor }
+  pub on : GoesOn old.cursor new.cursor
+  pub taken : taken new ≡ taken old
+
+-- nothing more was shown or told, and an answer other than Pending is known: of the opening, that the log was
+-- closed, or of the log
+pub record HasNews (old new : SubscriptionView) : Type 0 where
+  pub stays : StaysShown old new
+  pub known : (new.shown < length new.opening) ⊎ (new.closed_told ≡ true) ⊎ cast.HasNews old.cursor new.cursor
 
 -- what an answer shows: an alert more; that nothing is left after a look of this call, which showed the
 -- log open; that the log is closed and all of it was shown; or that a post cut the lane

@@ -1,5 +1,5 @@
 -- What contracts see of a subscription.
-use Rattle.std.specs.Prelude.{◌≡◌, ℕ, Bool, List, ◌++◌, take, length}
+use Rattle.std.specs.Prelude.{ℕ, Bool, List, ◌++◌, take}
 use Rattle.am_alert.specs.declared.alert.Alert.{Alert}
 use Rattle.am_store.specs.declared.call.Call.{Call}
 use Rattle.am_store.specs.declared.lanes.OpenLane.{OpenLane}
@@ -18,8 +18,3 @@ pub record SubscriptionView : Type 0 where
 -- what it has taken: what it has shown of the opening, and then of the log
 abbrev pub taken : SubscriptionView → List Alert
 taken subscription = take subscription.shown subscription.opening ++ cast.shown_items subscription.cursor
-
--- it has shown its opening and what its cursor has seen of the log, and was told neither Closed nor Cut
-abbrev pub HasNoNews : SubscriptionView → Type 0
-HasNoNews subscription =
-    (subscription.shown ≡ length subscription.opening) × cast.HasNoNews subscription.cursor

@@ -7,3 +7,4 @@ pub mod Records
 pub mod Entries
 pub mod Endings
 pub mod Gatherings
+pub mod Vouched

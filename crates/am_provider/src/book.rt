@@ -16,14 +16,12 @@ ghost use Rattle.am_alert.specs.Merging.{is_resolved_at};
 ghost use Rattle.am_alert.specs.declared.post.TheConstants.{MAX_ALERTS};
 ghost use Rattle.am_cast.specs.Rule.{Once, cut, idle, live};
 ghost use Rattle.am_cast.specs.Changes.{AreInLog, shut_tail};
-ghost use Rattle.am_cast.specs.Cursors.{HasCut};
 ghost use Rattle.am_cast.specs.Seats.{account_of};
 ghost use Rattle.am_store.specs.Journal.{with_call, call_count, first_calls, is_closed};
-ghost use Rattle.am_store.specs.Journal.{posts_of, AreAllIdle, AreAllOpen, IsOpenSubscription};
+ghost use Rattle.am_store.specs.Journal.{posts_of, AreAllIdle, AreAllOpen};
 ghost use Rattle.am_store.specs.Journal.{new_journal, journal_of};
 ghost use Rattle.am_store.specs.AlertList.{lookup};
 ghost use Rattle.am_store.specs.AlertMaps.{stored_in};
-ghost use Rattle.am_store.specs.Broadcast.{due, IsFront};
 ghost use Rattle.am_store.specs.Judging.{AreJudged};
 ghost use Rattle.am_store.specs.Trims.{AreBeforeOpen, Drops, IsTrimmed};
 ghost use Rattle.am_store.specs.Stored.{updates, stored};
@@ -32,8 +30,9 @@ ghost use Rattle.am_provider.specs.Subscriptions.{taken};
 ghost use Rattle.am_provider.specs.Rising.{IsRising};
 ghost use Rattle.am_provider.specs.Settling.{IsOwn, IsSettled, own_in, own_of, parts_in};
 ghost use Rattle.am_provider.specs.Posts.{AddsOwn, IsCutBy, IsCutTo, PutsIf, IsPutCause, IsPutIfCause};
-ghost use Rattle.am_provider.specs.Posts.{IsAsBefore, Loads};
+ghost use Rattle.am_provider.specs.Posts.{IsAsBefore, Loads, WasAskedBefore};
 ghost use Rattle.am_provider.specs.Posts.{HasSameLimits};
+ghost use Rattle.am_provider.specs.Vouching.{HasTakenDue, IsTold};
 
 use crate::answers::{Counts, Ended, Page, Policy, Posted, PostedIf};
 use crate::faults::{PutFault, SubFault};
@@ -340,11 +339,11 @@ impl<N: Origin> Book<N> {
         pass: &mut Pass<N>,
         post: Post,
         now: Moment,
-        accepts: F,
+        accepts: &mut F,
     ) -> Result<PostedIf, PutFault>
-        requires { F.IsAlwaysCallable accepts }
+        requires { F.IsAlwaysCallable accepts.old }
         ensures posted { IfOk result
-            (PutsIf F.FnMut accepts self.old self.new pass.old pass.new now post) }
+            (PutsIf F.FnMut accepts.old accepts.new self.old self.new pass.old pass.new now post) }
         ensures log { IsPrefix (batches self.old) (batches self.new) }
         ensures endings { (self.new.endings ≡ self.old.endings) × (self.new.early ≡ self.old.early) }
         ensures gone { self.new.gone ≡ self.old.gone }
@@ -352,7 +351,8 @@ impl<N: Origin> Book<N> {
 
         ensures closed { IsErrOf result PutFault.Closed ↔ IsTrue (is_closed self.old.journal) }
         ensures refused { IfErr result
-            (IsPutIfCause F.FnMut accepts self.old self.new now post) }
+            (IsPutIfCause F.FnMut accepts.old accepts.new self.old self.new now post) }
+        ensures callable { F.IsAlwaysCallable accepts.new }
         ensures err { OnErr result (IsAsBefore self.old self.new × (pass.new ≡ pass.old)) }
     {
         let (accepted, refused) = self.judge(post, now, accepts)?;
@@ -367,11 +367,14 @@ impl<N: Origin> Book<N> {
         &mut self,
         post: Post,
         now: Moment,
-        accepts: F,
+        accepts: &mut F,
     ) -> Result<(Post, Vec<u32>), PutFault>
-        requires { F.IsAlwaysCallable accepts }
-        ensures judged { IfOk result (λ done. (last : F) × AreJudged F.FnMut now last accepts 0
+        requires { F.IsAlwaysCallable accepts.old }
+        ensures judged { IfOk result (λ done. AreJudged F.FnMut now accepts.new accepts.old 0
             self.old.stored post.valid done.0.valid done.1.items) }
+        ensures asked { IfErr result
+            (WasAskedBefore F.FnMut accepts.old accepts.new now self.old.stored post.valid) }
+        ensures callable { F.IsAlwaysCallable accepts.new }
         ensures faults { IfOk result (λ done. done.0.faults ≡ post.faults) }
         ensures same { self.new ≡ self.old }
         ensures open { OnOk result (is_closed self.old.journal ≡ false) }
@@ -524,15 +527,7 @@ impl<N: Origin> Book<N> {
         ensures closed { result.closed ≡ subscription.entry.closed_told }
         ensures cut { IsTrue result.cut
             ↔ ((account_of self.old.log subscription.entry.cursor.lane.number).stand ≡ cut) }
-        ensures told_cut { HasCut subscription.entry.cursor → IsTrue result.cut }
-        ensures open { IsOpenSubscription self.old.journal subscription.entry.cursor.lane.number
-            subscription.entry.at }
-
-        // What was taken begins what was due, and is all of it if no more was to come.
-        ensures front { IsFront (taken subscription.entry)
-            (due self.old.journal subscription.entry.at) }
-        ensures complete { IsTrue subscription.entry.closed_told
-            → taken subscription.entry ≡ due self.old.journal subscription.entry.at }
+        ensures due { HasTakenDue self.old subscription.entry }
 
         ensures endings { (self.new.endings ≡ self.old.endings ++ result ∷ [])
             × (self.new.early ≡ self.old.early) }
@@ -557,6 +552,23 @@ impl<N: Origin> Book<N> {
         self.journal.push(Call::Left(lane as u32));
         self.endings.push(ended);
         ended
+    }
+
+    /// Says of a subscription that goes on what `leave` says of one that is given back: so far it has taken its due.
+    /// And the pass knows the whole log: who reads past it is shown all that was sent so far. Nothing else changes. It
+    /// is no call of the journal.
+    pub fn vouch(
+        &mut self,
+        cast: &Cast<N>,
+        pass: &mut Pass<N>,
+        subscription: &mut Subscription<'_, N>,
+    )
+        ensures same { (self.new ≡ self.old) × (subscription.new ≡ subscription.old) }
+        ensures due { HasTakenDue self.old subscription.old }
+        ensures told { IsTold self.old pass.old pass.new }
+    {
+        self.log.tell(cast, &mut pass.pass);
+        subscription.vouch(cast, &mut self.log);
     }
 
     /// Ends the log: no post and no subscription is accepted from now on.
@@ -727,8 +739,9 @@ impl<N: Origin> Book<N> {
     /// The stored alert of a label set (`provider.Alerts`' Get). It is no call of the journal, takes no
     /// memory, and fails only if the alert has 2^63 owners already.
     pub fn get(&self, labels: &LabelSet) -> Result<Option<SharedAlert>, AllocError>
-        ensures { IfOk result (λ found.
+        ensures found { IfOk result (λ found.
             option_map arc_value found ≡ lookup labels.now self.now.stored) }
+        ensures stored { OnErr result (lookup labels.now self.now.stored ≢ None) }
     {
         share_of(&self.stored, labels)
     }

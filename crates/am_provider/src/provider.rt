@@ -9,10 +9,10 @@
 ghost use Rattle.std.specs.Prelude.{◌≡◌, ◌↔◌, IsTrue, IfOk, OnErr, [], length, map};
 ghost use Rattle.std.specs.List.{All};
 ghost use Rattle.std.specs.Duration.{as_nanos};
-ghost use Rattle.am_provider.specs.Callers.{AnswersBody, AnswersPostIf, IsNewCaller, SeesCall, SeesWhole};
+ghost use Rattle.am_provider.specs.Callers.{AnswersBody, AnswersPostIf, IsNewCaller, KnowsAllSent, SeesCall, SeesWhole};
 ghost use Rattle.am_provider.specs.Headline.{AnswersPost, AnswersSubscribe, AnswersLeave, AnswersCollect};
 ghost use Rattle.am_provider.specs.Headline.{AnswersClose, AnswersTrim, AnswersStored, AnswersGet, AnswersTake};
-ghost use Rattle.am_provider.specs.Headline.{AnswersCompact, AnswersPage};
+ghost use Rattle.am_provider.specs.Headline.{AnswersCompact, AnswersPage, AnswersVouch};
 ghost use Rattle.am_provider.specs.Posts.{AddsOwn, HasMet};
 ghost use Rattle.am_provider.specs.Rising.{IsRising};
 ghost use Rattle.am_provider.specs.Ending.{IsSettledFrom};
@@ -153,7 +153,8 @@ impl<N: Recorded> Provider<N> {
     /// Posts those valid alerts that a filter accepts (what `provider/mem`'s Put does by its callback's
     /// PreStore). The filter is asked under the lock: it is shown each alert as it would be stored, over
     /// what those before it that it accepted left, and told whether no alert of its label set is stored.
-    /// One that it refuses is as if it hadn't been posted.
+    /// One that it refuses is as if it hadn't been posted. It is asked once of each, in order, and can be asked
+    /// afterwards what it counted.
     pub fn put_if<R: Wait, G: Gate, F: FnMut(&Alert, bool) -> bool>(
         &self,
         rt: &R,
@@ -161,11 +162,12 @@ impl<N: Recorded> Provider<N> {
         gate: &G,
         post: Post,
         now: Moment,
-        accepts: F,
+        accepts: &mut F,
     ) -> Result<PostedIf, PutFault>
-        requires { F.IsAlwaysCallable accepts }
-        ensures { AnswersPostIf F.FnMut accepts N.policy N.places now post
+        requires { F.IsAlwaysCallable accepts.old }
+        ensures answers { AnswersPostIf F.FnMut accepts.old accepts.new N.policy N.places now post
             caller.old.pass caller.new.pass caller.old.front caller.new.front result }
+        ensures callable { F.IsAlwaysCallable accepts.new }
     {
         let answer = {
             let mut book = self.lock(rt);
@@ -211,6 +213,24 @@ impl<N: Recorded> Provider<N> {
     {
         self.lock(rt)
             .leave(&self.cast, &self.table, caller, subscription)
+    }
+
+    /// Says of a subscription that goes on what `leave` says of one that is given back: what it has taken so far begins
+    /// what the whole history owes it. So a reader that never leaves has the promise while it reads. And the caller's
+    /// pass knows all that was sent so far: `next_past` with it shows all of that before it answers `Pending`. Nothing
+    /// is added to the history.
+    pub fn vouch<R: Wait>(
+        &self,
+        rt: &R,
+        caller: &mut Caller<N>,
+        subscription: &mut Subscription<'_, N>,
+    )
+        ensures sees { SeesCall caller.old.front caller.new.front (AnswersVouch subscription.old) }
+        ensures pass { KnowsAllSent caller.old.pass caller.new.pass caller.new.front }
+        ensures same { subscription.new ≡ subscription.old }
+    {
+        self.lock(rt)
+            .vouch(&self.cast, &self.table, caller, subscription);
     }
 
     /// Removes the stored alerts that are resolved, and answers how many.

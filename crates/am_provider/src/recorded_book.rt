@@ -7,10 +7,10 @@ ghost use Rattle.std.specs.Prelude.{◌≡◌, ◌↔◌, ◌+◌, ◌++◌, ◌
 ghost use Rattle.std.specs.List.{All};
 ghost use mathlib.Core.List.{IsPrefix};
 ghost use Rattle.am_history.specs.Fronts.{made_at};
-ghost use Rattle.am_provider.specs.Callers.{AnswersPostIf, SeesCall, SeesWhole};
+ghost use Rattle.am_provider.specs.Callers.{AnswersPostIf, KnowsAllSent, SeesCall, SeesWhole};
 ghost use Rattle.am_provider.specs.Headline.{AnswersPost, AnswersSubscribe, AnswersLeave, AnswersCollect};
 ghost use Rattle.am_provider.specs.Headline.{AnswersClose, AnswersTrim, AnswersStored, AnswersGet, AnswersTake};
-ghost use Rattle.am_provider.specs.Headline.{AnswersCompact, AnswersPage};
+ghost use Rattle.am_provider.specs.Headline.{AnswersCompact, AnswersPage, AnswersVouch};
 ghost use Rattle.am_provider.specs.Histories.{Accepted};
 ghost use Rattle.am_provider.specs.Posts.{AddsOwn};
 ghost use Rattle.am_provider.specs.Rising.{IsRising};
@@ -105,11 +105,12 @@ impl<N: Recorded> RecordedBook<N> {
         caller: &mut Caller<N>,
         post: Post,
         now: Moment,
-        accepts: F,
+        accepts: &mut F,
     ) -> Result<PostedIf, PutFault>
-        requires { F.IsAlwaysCallable accepts }
-        ensures { AnswersPostIf F.FnMut accepts N.policy N.places now post
+        requires { F.IsAlwaysCallable accepts.old }
+        ensures answers { AnswersPostIf F.FnMut accepts.old accepts.new N.policy N.places now post
             caller.old.pass caller.new.pass caller.old.front caller.new.front result }
+        ensures callable { F.IsAlwaysCallable accepts.new }
     {
         self.book.kept();
         let (accepted, refused) = match self.book.judge(post, now, accepts) {
@@ -181,6 +182,23 @@ impl<N: Recorded> RecordedBook<N> {
             caller,
         );
         ended
+    }
+
+    /// Says of a subscription that goes on that it has taken its due.
+    pub(crate) fn vouch(
+        &mut self,
+        cast: &Cast<N>,
+        table: &HistoryTable<Entry, N>,
+        caller: &mut Caller<N>,
+        subscription: &mut Subscription<'_, N>,
+    )
+        ensures sees { SeesCall caller.old.front caller.new.front (AnswersVouch subscription.old) }
+        ensures pass { KnowsAllSent caller.old.pass caller.new.pass caller.new.front }
+        ensures same { subscription.new ≡ subscription.old }
+    {
+        self.book.kept();
+        self.history.show(table, &mut caller.front);
+        self.book.vouch(cast, &mut caller.pass, subscription);
     }
 
     /// Removes what is resolved.

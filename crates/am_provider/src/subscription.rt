@@ -1,16 +1,19 @@
 //! A subscriber's place. It reads without the provider: no lock, no memory, no waiting.
 
-ghost use Rattle.std.specs.Prelude.{◌≡◌, ◌+◌, ◌<◌, ◌^◌, IfNone, IfSome, Some, false, true, [], length};
+ghost use Rattle.std.specs.Prelude.{◌≡◌, ℕ, ◌+◌, ◌<◌, ◌^◌, IfNone, IfSome, Some, false, true, [], length};
 ghost use Rattle.am_store.specs.Shared.{alerts_in};
 ghost use Rattle.am_cast.specs.Cursors.{shown_items};
-ghost use Rattle.am_provider.specs.Subscriptions.{taken, HasNoNews};
+ghost use Rattle.am_provider.specs.Subscriptions.{taken};
+ghost use Rattle.am_cast.specs.Lent.{IsPending};
+ghost use Rattle.am_provider.specs.Showings.{HasNews, ShowsNone};
 ghost use Rattle.am_provider.specs.inside.Advances.{Advances, AdvancesPast, LetsGo, Notes};
 ghost use Rattle.am_provider.specs.inside.Slices.{AdvancesSlice, ShowsOpening};
 ghost use Rattle.am_provider.specs.Posts.{HasMet};
 ghost use Rattle.am_provider.specs.inside.Subscribed.{IsFresh, IsSubscription};
+ghost use Rattle.am_provider.specs.inside.Vouched.{IsVouched};
 
 use crate::answers::{Slice, Step};
-use crate::feed::{Cast, Cursor, Origin};
+use crate::feed::{Cast, Cursor, Origin, Writer};
 use crate::pass::Pass;
 use am_cast::Moved;
 use am_store::{Past, SharedAlert, StoredAlerts};
@@ -124,6 +127,15 @@ impl<'a, N: Origin> Subscription<'a, N> {
         (at, count, closed_told, cursor)
     }
 
+    /// The log's writer says of the cursor, which goes on, what it says of one that is given back.
+    pub(crate) fn vouch(&mut self, cast: &Cast<N>, log: &mut Writer<N>)
+        ensures same { (self.new ≡ self.old) × (log.new ≡ log.old) }
+        ensures kept { (count : ℕ) × IsSubscription self.old count }
+        ensures vouched { IsVouched log.old self.old.cursor }
+    {
+        log.vouch(cast, &mut self.cursor);
+    }
+
     /// The lane that it has.
     pub fn lane(&self) -> u32
         ensures { result ≡ self.now.cursor.lane.number }
@@ -131,12 +143,17 @@ impl<'a, N: Origin> Subscription<'a, N> {
         self.cursor.lane() as u32
     }
 
-    /// Whether `next` may answer anything but `Pending`: by what is known and, if that was all shown, by a look
-    /// at the log.
-    pub fn has_news(&self) -> bool
-        ensures { result ≡ false → HasNoNews self.now }
+    /// Whether `next` has anything to answer but `Pending`: by what is known and, if that was all shown, by one look at
+    /// the log. No says what `Pending` says.
+    pub fn has_news(&mut self) -> bool
+        ensures yes { result ≡ true → HasNews self.old self.new }
+        ensures no { result ≡ false
+            → ShowsNone self.old self.old.closed_told self.new × IsPending self.old.cursor self.new.cursor }
     {
-        self.shown < self.stored || self.cursor.has_news()
+        if self.shown < self.stored || self.closed_told {
+            return true;
+        }
+        self.cursor.has_news()
     }
 
     /// How many alerts were stored at the subscription.

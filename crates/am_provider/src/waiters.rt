@@ -6,6 +6,8 @@
 //! first and then looks whether anyone sleeps. All of this is sequentially consistent. So either the reader
 //! finds what the call changed, or the call finds the reader counted and wakes it.
 
+ghost use Rattle.am_provider.specs.Showings.{StaysShown};
+
 use crate::feed::{Origin, Recorded};
 use crate::provider::Provider;
 use crate::subscription::Subscription;
@@ -38,7 +40,9 @@ impl Waiters {
     }
 
     /// Sleeps until the next wake, unless the subscription has news. It may also return for no reason.
-    fn sleep<N: Origin, R: Wait>(&self, rt: &R, subscription: &Subscription<'_, N>) {
+    fn sleep<N: Origin, R: Wait>(&self, rt: &R, subscription: &mut Subscription<'_, N>)
+        ensures { StaysShown subscription.old subscription.new }
+    {
         self.sleepers.fetch_add(1, Ordering::SeqCst);
         let wakes = self.wakes.load(Ordering::SeqCst);
         if !subscription.has_news() {
@@ -50,9 +54,11 @@ impl Waiters {
 
 impl<'a, N: Recorded> Subscription<'a, N> {
     /// Sleeps until a post, a close or a cut, unless there are news already. It may also return for no reason,
-    /// so `next` is what to call then. A post that finds no sleeper pays one load for this; one that wakes
+    /// so `next` is what to call then. It shows nothing. A post that finds no sleeper pays one load for this; one that wakes
     /// sleepers pays for a call of the system.
-    pub fn wait_past<R: Wait>(&self, rt: &R, provider: &Provider<N>) {
+    pub fn wait_past<R: Wait>(&mut self, rt: &R, provider: &Provider<N>)
+        ensures { StaysShown self.old self.new }
+    {
         provider.waiters.sleep(rt, self);
     }
 }

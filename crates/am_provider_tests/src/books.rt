@@ -72,8 +72,8 @@ fn post_none<N: Origin>(
     let Ok(post) = read_post(alloc, body.as_bytes(), moment(11), Duration::from_secs(300)) else {
         return Err(Stopped::Refused);
     };
-    let known = |_alert: &Alert, first: bool| -> bool { !first };
-    match book.post_if(cast, pass, post, moment(11), known) {
+    let mut known = |_alert: &Alert, first: bool| -> bool { !first };
+    match book.post_if(cast, pass, post, moment(11), &mut known) {
         Ok(done) => Ok((done.posted.place, done.refused.len())),
         Err(_) => Err(Stopped::Refused),
     }

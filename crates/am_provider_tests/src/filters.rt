@@ -60,7 +60,7 @@ fn post_most<N: Recorded, R: Wait>(
             &NoGate,
             post,
             moment(10),
-            |_alert: &Alert, first: bool| -> bool {
+            &mut |_alert: &Alert, first: bool| -> bool {
                 let accepts = !first || left > 0;
                 left = left.saturating_sub(1);
                 accepts
@@ -89,7 +89,7 @@ fn post_longer<N: Recorded, R: Wait>(
             &NoGate,
             post,
             moment(15),
-            |alert: &Alert, first: bool| -> bool { sees_merged(alert, first, start, end) },
+            &mut |alert: &Alert, first: bool| -> bool { sees_merged(alert, first, start, end) },
         ),
     )
 }
@@ -111,7 +111,7 @@ fn post_none<N: Recorded, R: Wait>(
             &NoGate,
             post,
             moment(16),
-            |_alert: &Alert, _first: bool| -> bool { false },
+            &mut |_alert: &Alert, _first: bool| -> bool { false },
         ),
     )
 }

@@ -161,6 +161,84 @@ fn sleepers_are_woken(rt: HostRuntime) -> Result<(), Fail> {
     Ok(())
 }
 
+// Closes so many turns after the reader has come, which may be between its last look and its sleep.
+fn close_after<N: Recorded, R: Wait>(
+    rt: &R,
+    provider: &Provider<N>,
+    closer: &mut Caller<N>,
+    heard: &Heard,
+    turns: u32,
+) {
+    if comes_to(&heard.readers, 1) {
+        for _turn in 0..turns {
+            let _come = heard.readers.load(Ordering::SeqCst);
+        }
+    }
+    let _closed = provider.close(rt, closer);
+}
+
+fn close_beside<N: Recorded + Send + Sync, R: Threads + Wait + Sync>(
+    rt: &R,
+    provider: &Provider<N>,
+    callers: &mut [Caller<N>],
+    heard: &Heard,
+    turns: u32,
+) -> Result<(), Stopped> {
+    let (closer, readers) = callers.split_first_mut().ok_or(Stopped::Refused)?;
+    let (_closed, _read) = thread::join(
+        rt,
+        move || close_after(rt, provider, closer, heard, turns),
+        move || read_each(rt, provider, readers, heard),
+    );
+    Ok(())
+}
+
+fn close_beside_over<N: Recorded + Send + Sync, R: Threads + Wait + Sync>(
+    rt: &R,
+    alloc: Global,
+    parts: Parts,
+    settings: Settings,
+    turns: u32,
+) -> Result<Settled, Stopped>
+    requires table { parts.log.board.shared.table_id ≡ N.table }
+    requires ledger { (parts.ledger.name ≡ N.name) × (parts.ledger.parts ≡ N.parts) }
+    requires history { parts.history.board.shared.table_id ≡ N.timeline }
+    requires entries { (parts.history.ledger.name ≡ N.entries)
+        × (parts.history.ledger.parts ≡ N.holders) }
+    requires limits { (parts.log.places ≡ N.places) × (settings.policy ≡ N.policy) }
+{
+    let (provider, mut callers) = begin_day::<N>(alloc, parts, settings)?;
+    let heard = Heard {
+        readers: AtomicU32::new(0),
+        alerts: AtomicU32::new(0),
+    };
+    let closed = close_beside(rt, &provider, &mut callers, &heard, turns);
+    let settled = provider.settle(rt, callers);
+    closed?;
+    Ok(settled)
+}
+
+// One reader and a close. If the close wakes nobody, this doesn't end.
+fn close_beside_of<R: Threads + Wait + Sync>(
+    rt: &R,
+    alloc: Global,
+    turns: u32,
+) -> Result<Settled, Stopped> {
+    let settings = Settings::of(2, 2);
+    let parts = settings.parts(alloc)?;
+    close_beside_over::<Brand, R>(rt, alloc, parts, settings, turns)
+}
+
+#[test]
+fn close_meets_a_reader_that_falls_asleep(rt: HostRuntime) -> Result<(), Fail> {
+    for round in 0..2_000u32 {
+        let settled = close_beside_of(&rt, rt.alloc(), round % 200)?;
+        assert_eq!(rt; settled.ended.len(), 1);
+        assert!(rt; settled.ended.as_slice()[0].closed);
+    }
+    Ok(())
+}
+
 /// Whether a subscription has news before an alert that was stored is shown, and none after it; the same of one that
 /// was posted; and whether it has news after a close.
 #[derive(Drop)]

@@ -60,6 +60,7 @@ IsKeptLane journal account (Some one) =
     (account.stand ≢ idle)
     × (account.note ≡ Some (record { at = one.at; opening = stored (updates (until journal one.at)) }))
     × (account.start ≡ journal.places + length (broadcast (until journal one.at)))
+    × (account.start ≤ account.known)
 
 -- the fields agree with the journal and with each other: each post is counted in the ledger, and
 -- there is room for an ending of each open lane

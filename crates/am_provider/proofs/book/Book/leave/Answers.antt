@@ -1,23 +1,18 @@
-use Rattle.std.proofs.Common.{◌≡◌, ◌<◌, ◌∷◌, [], None, length, length-append, set, refl, ap, subst, ◌∙◌, ℕ, arith, Bool, true, false}
+use Rattle.std.proofs.Common.{◌≡◌, ◌<◌, ◌∷◌, [], None, length, length-append, set, refl, ap, subst, ◌∙◌, ℕ, arith, true}
 use Rattle.am_store.specs.declared.call.Call.{Call}
 use Rattle.am_store.specs.declared.call.Call.TheVariants.{Left}
 use Rattle.am_store.specs.Journal.{JournalView, with_call}
-use Rattle.am_store.specs.Broadcast.{due, IsFront}
 use Rattle.am_alert.specs.declared.alert.Alert.{Alert}
 use Rattle.am_store.specs.declared.lanes.OpenLane.{OpenLane}
 use Rattle.am_cast.specs.Cursors.{CursorView}
+use Rattle.am_cast.specs.Rule.{cut}
 use Rattle.am_cast.specs.Seats.{account_of}
 use Rattle.am_provider.specs.declared.answers.Ended.{Ended}
 use Rattle.am_provider.specs.BookView.{BookView}
-use Rattle.am_provider.specs.Subscriptions.{taken}
+use Rattle.am_provider.specs.Vouching.{HasTakenDue}
 use Rattle.am_provider.proofs.Endings.{still_endings_of}
-use Rattle.am_provider.proofs.Calls.{leaving_by, all_counted, room_for_left, room_for_ending, kept_left}
+use Rattle.am_provider.proofs.Calls.{leaving_by, has_taken, all_counted, room_for_left, room_for_ending, kept_left}
 use Rattle.am_provider.proofs.book.Book.leave.Goals as goal
-
--- what isn't false is true
-cut_told : (b : Bool) → (b ≡ false → ⊥) → b ≡ true
-cut_told true fails = refl
-cut_told false fails = absurd (fails refl)
 
 pub push-requires-clause-room : goal.push-requires-clause-room
 push-requires-clause-room g c =
@@ -72,20 +67,11 @@ invariant_of-self g c =
       still_endings_of _ _ _ _ c.self.invariant.4 ends.from.0 ends.from.1 (ap (λ (j : JournalView). j.before) journal) c.push.ensures.gone.0,
     )
 
-pub returns-clause-front : goal.returns-clause-front
-returns-clause-front g c =
+pub returns-clause-due : goal.returns-clause-due
+returns-clause-due g c =
     let r = c.retire.ensures in
-    let by = leaving_by _ _ _ c.into_parts-at.result.1 c.args.subscription c.into_parts-at.result.3 c.self.invariant.1 c.into_parts-at.ensures.kept c.into_parts-at.ensures.parts.2 r.lane.0 r.given r.sound r.taken r.ended in
-    subst (λ (b : BookView). IsFront (taken c.args.subscription) (due b.journal c.args.subscription.at)) c.self.view_is by.1.front
-
-pub returns-clause-complete : goal.returns-clause-complete
-returns-clause-complete g c = λ told.
-    let r = c.retire.ensures in
-    let by = leaving_by _ _ _ c.into_parts-at.result.1 c.args.subscription c.into_parts-at.result.3 c.self.invariant.1 c.into_parts-at.ensures.kept c.into_parts-at.ensures.parts.2 r.lane.0 r.given r.sound r.taken r.ended in
-    by.1.complete told ∙ ap (λ (b : BookView). due b.journal c.args.subscription.at) c.self.view_is
-
-pub returns-clause-told_cut : goal.returns-clause-told_cut
-returns-clause-told_cut g c = λ told.
     let same = c.into_parts-at.ensures.parts.2 in
-    let was = c.retire.ensures.cut (ap (λ (k : CursorView Alert Call OpenLane). k.lane.cut) same ∙ told.0) in
-    cut_told c.is_cut.result (λ no. c.is_cut.ensures.no no (ap (λ n. (account_of c.self.inside.log n).stand) (c.lane-lane.ensures.0) ∙ was))
+    let s = c.args.subscription in
+    let by = leaving_by _ _ _ c.into_parts-at.result.1 s c.into_parts-at.result.3 c.self.invariant.1 c.into_parts-at.ensures.kept same r.lane.0 r.given r.sound r.taken r.ended in
+    let was_cut = subst (λ (k : CursorView Alert Call OpenLane). k.lane.cut ≡ true → (account_of c.self.inside.log k.lane.number).stand ≡ cut) same r.cut in
+    subst (λ (b : BookView). HasTakenDue b s) c.self.view_is (has_taken _ _ _ s by.0 c.self.invariant.1 by.1 (λ told. was_cut told.0))

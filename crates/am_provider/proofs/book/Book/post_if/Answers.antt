@@ -12,8 +12,7 @@ returns-in-Ok-clause-posted g c =
     let judged = c.in_ok-accepted.ensures.judged in
     let posted = c.in-Ok.ensures in (
       kept,
-      judged.0,
-      judged.1,
+      judged,
       c.in_ok-accepted.ensures.faults,
       subst (λ (b : BookView). Puts b c.post.new.self c.args.pass.now c.post.new.pass c.args.now kept c.in-Ok.posted) c.judge.ensures.same (record {
         journal = posted.journal;
@@ -32,8 +31,7 @@ returns-in-Err-clause-refused g c =
     inr (
       kept,
       c.in_ok-accepted.refused.items,
-      judged.0,
-      judged.1,
+      judged,
       subst (λ (b : BookView). IsPutCause b c.post.new.self (length kept) c.in-Err.fault) c.judge.ensures.same c.in-Err.ensures.refused,
     )
 
@@ -41,5 +39,5 @@ pub returns-in_err-accepted-clause-refused : goal.returns-in_err-accepted-clause
 returns-in_err-accepted-clause-refused g c =
     let fault = c.in_err-accepted.field-0.0 in
     let refused : c.from_residual.result ≡ Err fault = search rules in
-    subst (λ (r : Result PostedIf PutFault). IfErr r (IsPutIfCause g.F.FnMut c.args.accepts c.args.self.now c.judge.new.self c.args.now c.args.post)) (sym refused)
-    (inl (subst (λ (b : BookView). IsPutCause c.args.self.now b 0 fault) (sym c.judge.ensures.same) c.in_err-accepted.ensures.refused))
+    subst (λ (r : Result PostedIf PutFault). IfErr r (IsPutIfCause g.F.FnMut c.args.accepts.now c.judge.new.accepts c.args.self.now c.judge.new.self c.args.now c.args.post)) (sym refused)
+    (inl (subst (λ (b : BookView). IsPutCause c.args.self.now b 0 fault) (sym c.judge.ensures.same) c.in_err-accepted.ensures.refused, c.in_err-accepted.ensures.asked))

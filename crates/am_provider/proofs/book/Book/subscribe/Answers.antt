@@ -45,7 +45,7 @@ invariant_of-self-2 g c =
     let roomy : length c.reserve-2.new.self.endings + 8 ≤ length c.reserve-2.new.self.endings + c.reserve-2.new.self.room = omega (arith, c.in_ok-reserve-2.ensures.room) in (
       c.self.invariant.0,
       kept_subscribed _ _ _ _ _ c.in-Ok.cursor.lane.number one kept c.in-Ok.ensures.open (lowest_free _ _ _ c.in-Ok.cursor.lane.number kept k.0 k.1 k.2) (grown g c) at opening
-          refl c.in-Ok.ensures.tail own.0 (own.2 ∙ ap Some c.of.ensures) own.3 c.in-Ok.ensures.others (ap (λ l. set c.self.inside.lanes l (Some one)) c.lane-lane.ensures.0) refl ends.same.0 ends.same.1 gone room roomy,
+          refl c.in-Ok.ensures.tail own.0 (own.2 ∙ ap Some c.of.ensures) own.3 own.4 c.in-Ok.ensures.others (ap (λ l. set c.self.inside.lanes l (Some one)) c.lane-lane.ensures.0) refl ends.same.0 ends.same.1 gone room roomy,
       c.self.invariant.2,
       c.self.invariant.3,
       still_endings_of _ _ _ _ c.self.invariant.4 ends.from.0 ends.from.1 (ap (λ (j : JournalView). j.before) (grown g c)) gone,

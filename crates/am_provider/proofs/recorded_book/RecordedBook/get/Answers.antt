@@ -1,7 +1,7 @@
-use Rattle.std.proofs.Common.{◌≡◌, refl, subst, List}
+use Rattle.std.proofs.Common.{◌≡◌, ◌≢◌, None, refl, subst, List}
 use Rattle.std.specs.Arc.{arc_value}
 use Rattle.std.specs.Option.{option_map}
-use Rattle.std.specs.Prelude.{IfOk}
+use Rattle.std.specs.Prelude.{IfOk, OnErr}
 use Rattle.am_alert.specs.declared.alert.Alert.{Alert}
 use Rattle.am_store.specs.AlertList.{lookup}
 use Rattle.am_provider.proofs.Answering.{sees_none}
@@ -11,5 +11,8 @@ use Rattle.am_provider.proofs.recorded_book.RecordedBook.get.Goals as goal
 pub returns-clause-sees : goal.returns-clause-sees
 returns-clause-sees g c =
     let whole = stored_whole c.self.inside.book c.self.inside.history c.self.invariant.0 c.kept.ensures in
-    sees_none c.args.caller.now.front c.show.new.to c.self.inside.history _ c.show.ensures.seen c.show.ensures.to
-    (subst (λ (stored : List Alert). IfOk c.get.result (λ found. option_map arc_value found ≡ lookup c.args.labels.now stored)) whole c.get.ensures, refl)
+    sees_none c.args.caller.now.front c.show.new.to c.self.inside.history _ c.show.ensures.seen c.show.ensures.to (
+      subst (λ (stored : List Alert). IfOk c.get.result (λ found. option_map arc_value found ≡ lookup c.args.labels.now stored)) whole c.get.ensures.found,
+      subst (λ (stored : List Alert). OnErr c.get.result (lookup c.args.labels.now stored ≢ None)) whole c.get.ensures.stored,
+      refl,
+    )

@@ -1,14 +1,12 @@
 use Rattle.std.proofs.Common.{◌≡◌, ◌↔◌, ◌∙◌, Bool, true, false, IsTrue, [], ◌∷◌, ◌++◌, ◌≤◌, Some, refl, sym, ap, subst, arith}
 use Rattle.am_cast.specs.declared.views.Tail.{Tail}
 use Rattle.am_store.specs.declared.call.Call.TheVariants.{Left}
-use Rattle.am_store.specs.Broadcast.{IsFront}
 use Rattle.am_store.proofs.Opens.{lane_low}
 use Rattle.am_provider.specs.Batches.{Batch}
 use Rattle.am_provider.specs.Histories.{Accepted, is_cut}
-use Rattle.am_provider.specs.Subscriptions.{taken}
 use Rattle.am_provider.specs.inside.Records.{IsRecorded}
-use Rattle.am_provider.proofs.Answering.{sees_called}
-use Rattle.am_provider.proofs.Recording.{cuts_one, open_whole, prefix_same, recorded_more, same, tells_of}
+use Rattle.am_provider.proofs.Answering.{due_whole, sees_called}
+use Rattle.am_provider.proofs.Recording.{cuts_one, prefix_same, recorded_more, tells_of}
 use Rattle.am_provider.proofs.recorded_book.RecordedBook.leave.Goals as goal
 
 pub invariant_of-self : goal.invariant_of-self
@@ -19,7 +17,7 @@ invariant_of-self g c =
     let left = c.leave-ended.ensures in
     let number = c.args.subscription.cursor.lane.number in
     let idles = left.lane in
-    let begun = left.open.begun in
+    let begun = left.due.lane.begun in
     let low : old.journal.before ≤ c.leave-ended.result.at = omega (arith, begun, left.at) in (
       subst (IsRecorded g.N.Recorded.policy g.N.Recorded.places new) (sym (c.record.ensures.longer ∙ ap (λ lane. entries ++ Accepted (Left lane) 0 (Some c.leave-ended.result) ∷ []) c.lane.ensures))
           (recorded_more old new entries (Left number) 0 (Some c.leave-ended.result) c.self.invariant.0 c.kept.ensures c.kept-2.ensures left.journal
@@ -42,20 +40,14 @@ returns-clause-sees g c =
     let left = c.leave-ended.ensures in
     let s = c.args.subscription in
     let number = s.cursor.lane.number in
-    let lane = open_whole old entries c.self.invariant.0 number s.at left.open in
-    let begun = left.open.begun in
-    let owed = (same old entries c.self.invariant.0).due s.at begun in
-    let tells = tells_of old entries c.self.invariant.0 number (lane_low old.journal number s.at c.kept.ensures.journal.legal left.open) in
+    let tells = tells_of old entries c.self.invariant.0 number (lane_low old.journal number s.at c.kept.ensures.journal.legal left.due.lane) in
     sees_called c.args.caller.now.front c.record.new.caller.front entries c.record.new.history (Left c.lane.result) (Left number) 0 (Some c.leave-ended.result) _
     (ap Left c.lane.ensures) c.record.ensures.longer c.record.ensures.known c.record.ensures.seen c.record.ensures.made c.record.ensures.looked
     (record {
-      lane = lane;
+      due = due_whole old entries c.self.invariant.0 c.kept.ensures s left.due;
       at = left.at;
       count = left.taken;
       closed = left.closed;
       cut = one_flag c.leave-ended.result.cut (is_cut entries number) left.cut tells.yes tells.no;
-      told_cut = λ told. left.told_cut told;
-      front = subst (IsFront (taken s)) owed left.front;
-      complete = λ told. left.complete told ∙ owed;
       entry = refl;
     })

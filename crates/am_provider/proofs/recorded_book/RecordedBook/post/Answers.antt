@@ -1,11 +1,12 @@
-use Rattle.std.proofs.Common.{◌≡◌, ◌∙◌, cond, nat_eq, [], ◌∷◌, ◌++◌, None, Some, length, refl, sym, ap, subst}
+use Rattle.std.proofs.Common.{◌≡◌, ◌∙◌, ℕ, ◌+◌, ◌<◌, true, cond, nat_eq, [], ◌∷◌, ◌++◌, None, Some, length, refl, sym, ap, subst}
 use Rattle.am_cast.specs.Seats.{account_of}
 use Rattle.am_cast.specs.Writers.{IsCutAs}
+use Rattle.am_store.specs.LaneSets.{has_lane}
 use Rattle.am_store.specs.declared.call.Call.TheVariants.{Posted}
 use Rattle.am_provider.specs.BookView.{batches}
 use Rattle.am_provider.specs.Histories.{Accepted}
 use Rattle.am_provider.specs.inside.Records.{IsRecorded}
-use Rattle.am_provider.proofs.Answering.{last_is, live_lane, put_refusal, sees_called, sees_none}
+use Rattle.am_provider.proofs.Answering.{last_is, live_lane, put_refusal, sent_since, sees_called, sees_none}
 use Rattle.am_provider.proofs.Recording.{cuts_posted, may_whole, recorded_more, same_places}
 use Rattle.am_provider.proofs.recorded_book.RecordedBook.post.Goals as goal
 
@@ -33,6 +34,8 @@ returns-clause-sees g c =
     let call = Posted c.args.now c.args.post.valid in
     let bits = c.in-Ok.posted.cut in
     let last : c.last_call.result.now ≡ call = last_is old.journal new.journal call c.last_call.result.now posted.journal c.last_call.ensures in
+    let was_cut = λ (lane : ℕ) (small : lane < 8) (yes : has_lane bits lane ≡ true).
+    subst (IsCutAs (length (batches old)) old.log.tail.places (account_of old.log lane) (account_of new.log lane)) yes (posted.cut.cuts lane small) in
     sees_called c.args.caller.now.front c.record.new.caller.front entries c.record.new.history c.last_call.result.now call bits None _
     last c.record.ensures.longer c.record.ensures.known c.record.ensures.seen c.record.ensures.made c.record.ensures.looked
     (record {
@@ -40,9 +43,12 @@ returns-clause-sees g c =
       valid = posted.valid;
       faults = posted.faults;
       place = posted.place ∙ ap (λ n. cond (nat_eq (length c.args.post.valid) 0) None (Some n)) (sym (same_places old entries c.self.invariant.0));
-      cuts = λ lane small yes.
-          live_lane old entries c.self.invariant.0 c.kept.ensures lane small
-          (subst (IsCutAs (length (batches old)) old.log.tail.places (account_of old.log lane) (account_of new.log lane)) yes (posted.cut.cuts lane small)).0;
+      cuts = λ lane small yes. live_lane old entries c.self.invariant.0 c.kept.ensures lane small (was_cut lane small yes).0;
+      late = λ lane small yes.
+          let cut = was_cut lane small yes in
+          let live = live_lane old entries c.self.invariant.0 c.kept.ensures lane small cut.0 in
+          sent_since old entries c.self.invariant.0 c.kept.ensures lane (account_of new.log lane).known g.N.Recorded.places small live.0 (posted.cut.lanes lane small).4
+          (cut.2 ∙ ap (λ n. (account_of new.log lane).known + n) c.self.invariant.0.limits.1);
       refuses = λ refuse. posted.cut.none (c.self.invariant.0.limits.0 ∙ refuse);
       entry = refl;
     })
