@@ -3,6 +3,7 @@ pub mod Named
 pub mod Notifying
 pub mod Owed
 pub mod Results
+pub mod Reading
 pub mod Taking
 pub mod Turning
 pub mod Putting

@@ -229,8 +229,8 @@ module _ (law : StaysFrontOfDue) (entries : List EntryView) where
       let sees = leaves.sees in
       let answered = sees.answers in
       let longer = before_of old.front new.front (AnswersLeave leaves.one.subscription ending) sees it.seen in
-      let inside = slice_get_within (calls_of sees.before) _ _ answered.lane.entry in
-      let owes : IsOwed leaves.one = law sees.before entries leaves.one.subscription.at (taken leaves.one.subscription) longer (omega (arith, inside)) answered.front in
+      let inside = slice_get_within (calls_of sees.before) _ _ answered.due.lane.entry in
+      let owes : IsOwed leaves.one = law sees.before entries leaves.one.subscription.at (taken leaves.one.subscription) longer (omega (arith, inside)) answered.due.front in
       record {
         seen = seen_before old.front new.front (AnswersLeave leaves.one.subscription ending) sees it.seen;
         owed = λ j one there. elim (removed old.opened index j one there) [
@@ -281,10 +281,11 @@ module _ (law : StaysFrontOfDue) (entries : List EntryView) where
     owed = λ j other there. owed.owed j other (append_there old.opened (one ∷ []) j other there);
   }
   does_back config setting old new command given (does.subscribe_refused {front = front} sees) owed = same_opened old (record old { front = front }) _ sees refl owed
-  does_back config setting old new command given (does.read {name = name} {max = max} {answers = answers} {opened = opened} it) owed = record {
-    seen = owed.seen;
-    owed = on_named name verb.Read _ old.opened opened answers (read_back max) it owed.owed;
+  does_back config setting old new command given (does.read {name = name} {max = max} {index = index} {answers = answers} here it) owed = record {
+    seen = seen_before old.front new.front _ it.sees owed.seen;
+    owed = one_changed old.opened index it.before it.after it.there (read_back max it.before it.after answers it.reads) (subst (AreOwed entries) it.opened owed.owed);
   }
+  does_back config setting old new command given (does.nothing_to_read none) owed = owed
   does_back config setting old new command given (does.left {index = index} {ended = ending} here leaves) owed = left_one index old new ending leaves owed
   does_back config setting old new command given (does.nothing_to_leave none) owed = owed
   does_back config setting old new command given (does.collected {front = front} sees) owed = same_opened old (record old { front = front }) _ sees refl owed

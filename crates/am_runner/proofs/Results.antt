@@ -8,6 +8,11 @@ pub if_ok_map : {T E : Type 0} {P Q : T → Type 0} (r : Result T E) → IfOk r 
 if_ok_map (Ok x) holds f = f x holds
 if_ok_map (Err e) holds f = tt
 
+-- the same from two things that hold of it
+pub if_ok_both : {T E : Type 0} {P Q R : T → Type 0} (r : Result T E) → IfOk r P → IfOk r Q → ((x : T) → P x → Q x → R x) → IfOk r R
+if_ok_both (Ok x) one other f = f x one other
+if_ok_both (Err e) one other f = tt
+
 -- what holds at all holds of an error
 pub on_err : {T E R : Type 0} (r : Result T E) → R → OnErr r R
 on_err (Ok x) holds = tt

@@ -1,7 +1,15 @@
 -- What is done between the lines of a live run: the journal is compacted, if it has become long.
-use Rattle.std.specs.Prelude.{List}
+use Rattle.std.specs.Prelude.{List, [], ◌∷◌, ◌++◌}
+use Rattle.am_alert.specs.declared.alert.Alert.{Alert}
+use Rattle.am_cast.specs.Posters.{PassView}
+use Rattle.am_history.specs.Fronts.{FrontView}
+use Rattle.am_store.specs.declared.call.Call.{Call}
 use Rattle.am_config.specs.declared.config.Config.{Config}
+use Rattle.am_provider.specs.Callers.{KnowsAllSent, SeesCall}
+use Rattle.am_provider.specs.Headline.{AnswersVouch}
+use Rattle.am_provider.specs.Histories.{EntryView}
 use Rattle.am_script.specs.declared.command.Command.TheVariants.{Compact, StoredPage}
+use Rattle.am_runner.specs.Reading.{OpenView}
 use Rattle.am_runner.specs.Sessions.{Setting, SessionView, Does}
 use Rattle.am_runner.specs.declared.answer.Answer.{Answer}
 
@@ -9,8 +17,19 @@ use Rattle.am_runner.specs.declared.answer.Answer.{Answer}
 abbrev pub CountsStored : Config → Setting → SessionView → SessionView → Type 0
 CountsStored config setting old new = (told : List Answer) × Does config setting old (StoredPage 0 0) told new
 
--- nothing is done; or the journal is compacted, and then the stored alerts are counted
+-- the provider says of these open subscriptions, one after another, that each has taken its due so far: each
+-- at a place of its own in the history
+pub data Vouches (was : SessionView) : List OpenView → SessionView → Type 0 where
+  nobody : Vouches was [] was
+  one_more : {some : List OpenView} {mid : SessionView} {pass : PassView Alert Call}
+      {front : FrontView EntryView} (one : OpenView) → Vouches was some mid
+      → SeesCall mid.front front (AnswersVouch one.subscription) → KnowsAllSent mid.pass pass front
+      → Vouches was (some ++ one ∷ []) (record mid { pass = pass; front = front })
+
+-- nothing is done; or the journal is compacted, then the stored alerts are counted, and then each open
+-- subscription is shown to have taken its due
 pub data CompactsIfDue (config : Config) (setting : Setting) (old : SessionView) : SessionView → Type 0 where
   not_due : CompactsIfDue config setting old old
-  compacts : {mid new : SessionView} {given : List Answer} → Does config setting old Compact given mid
-      → CountsStored config setting mid new → CompactsIfDue config setting old new
+  compacts : {mid counted new : SessionView} {given : List Answer} → Does config setting old Compact given mid
+      → CountsStored config setting mid counted → Vouches counted counted.opened new
+      → CompactsIfDue config setting old new

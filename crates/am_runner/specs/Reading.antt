@@ -1,7 +1,9 @@
 -- An open subscription with the consumer beside it, and what reading it answers.
 use Rattle.std.specs.Prelude.{◌≡◌, ℕ, ◌+◌, ◌<◌, Bool, true, false, List, [], ◌∷◌, ◌++◌, Option, Some, None}
 use Rattle.std.specs.Prelude.{IfSome}
+use mathlib.Core.List.{IsPrefix}
 use Rattle.am_alert.specs.declared.alert.Alert.{Alert}
+use Rattle.am_provider.specs.Batches.{Batch}
 use Rattle.am_provider.specs.Subscriptions.{SubscriptionView, taken}
 use Rattle.am_provider.specs.Showings.{ShowsItem, Shows}
 use Rattle.am_provider.specs.declared.answers.Step.TheVariants as step
@@ -75,6 +77,18 @@ pub data ReadAnswers (old : OpenView) (max : ℕ) : List Answer → OpenView →
   ended : {count : ℕ} {before answers : List Answer} {mid new : OpenView} → count < max
       → ReadsSome old count before mid → ReadsOne mid before false answers new
       → ReadAnswers old max answers new
+
+-- the answers end with Pending: nothing is left for now
+abbrev pub EndsPending : List Answer → Type 0
+EndsPending answers = (before : List Answer) × (answers ≡ before ++ answer.Pending ∷ [])
+
+-- a subscription that was read says that nothing is left, once it has seen all that was noted of the log
+pub record SaysPendingPast (noted : List Batch) (was new : SubscriptionView) : Type 0 where
+  pub old : SubscriptionView
+  pub opening : old.opening ≡ was.opening
+  pub start : old.cursor.lane.start ≡ was.cursor.lane.start
+  pub shows : Shows old step.Pending new
+  pub past : IsPrefix noted new.cursor.lane.front
 
 -- what is answered of the groups of the dispatcher beside a subscription, at a moment if one is given
 abbrev pub groups_beside : Option ℕ → Option Consumer → List Answer

@@ -11,17 +11,19 @@ use Rattle.std.specs.declared.time.Duration.{Duration}
 use Rattle.am_alert.specs.declared.alert.Alert.{Alert}
 use Rattle.am_alert.specs.declared.body.Body.{Body}
 use Rattle.am_store.specs.declared.call.Call.{Call}
+use Rattle.am_store.specs.Broadcast.{due, IsFront}
 use Rattle.am_store.specs.LaneSets.{has_lane}
 use Rattle.std.specs.declared.alloc.AllocError.{AllocError}
 use Rattle.am_cast.specs.Posters.{PassView}
 use Rattle.am_cast.specs.declared.faults.AlreadyClosed.{AlreadyClosed}
 use Rattle.am_history.specs.Fronts.{FrontView}
 use Rattle.am_provider.specs.Posts.{HasMet}
-use Rattle.am_provider.specs.Callers.{SeesCall}
+use Rattle.am_provider.specs.Callers.{KnowsAllSent, SeesCall}
 use Rattle.am_provider.specs.Headline.{AnswersSubscribe, AnswersLeave, AnswersCollect, AnswersClose}
 use Rattle.am_provider.specs.Headline.{AnswersCompact, AnswersGet, AnswersPage, AnswersStored, AnswersTake}
-use Rattle.am_provider.specs.Headline.{AnswersTrim}
-use Rattle.am_provider.specs.Histories.{EntryView}
+use Rattle.am_provider.specs.Headline.{AnswersTrim, AnswersVouch}
+use Rattle.am_provider.specs.Histories.{EntryView, whole}
+use Rattle.am_provider.specs.Subscriptions.{taken}
 use Rattle.am_provider.specs.declared.answers.Policy.{Policy}
 use Rattle.am_provider.specs.declared.answers.Ended.{Ended}
 use Rattle.am_provider.specs.declared.answers.Page.{Page}
@@ -44,7 +46,7 @@ use Rattle.am_script.specs.declared.command.Verb.TheVariants as verb
 use Rattle.am_runner.specs.Asking.{AsksTree, ShowsTree}
 use Rattle.am_runner.specs.Consuming.{fresh_consumer, IsAsked, IsSwept, sweep_word}
 use Rattle.am_runner.specs.Putting.{AnswersPosted, AnswersPut}
-use Rattle.am_runner.specs.Reading.{OpenView, ReadAnswers, Asks, groups_beside, is_notifier}
+use Rattle.am_runner.specs.Reading.{OpenView, ReadAnswers, EndsPending, Asks, groups_beside, is_notifier}
 use Rattle.am_runner.specs.declared.answer.Answer.{Answer}
 use Rattle.am_runner.specs.declared.answer.Answer.TheVariants as answer
 use Rattle.am_runner.specs.declared.consumer.Half.{Half}
@@ -142,10 +144,20 @@ pub data LeavesAll : SessionView → SessionView → Type 0 where
 pub data IsOne (does : Answer → Type 0) : List Answer → Type 0 where
   just : {given : Answer} → does given → IsOne does (given ∷ [])
 
--- the subscription of a name is read
-abbrev pub ReadsNamed : List ℕ → ℕ → List OpenView → List Answer → List OpenView → Type 0
-ReadsNamed name max old answers new =
-    OnNamed name verb.Read (λ before given after. ReadAnswers before max given after) old answers new
+-- The subscription at an index is read, once the provider was asked what it is owed. At that place in the
+-- history it had taken its due so far; and if it is answered Pending then, it has taken all that it was owed
+-- there: so whoever posted before the line is read by it
+pub record ReadsAt (index max : ℕ) (old : SessionView) (answers : List Answer) (new : SessionView)
+    : Type 0 where
+  pub before : OpenView
+  pub after : OpenView
+  pub there : slice_get old.opened index ≡ Some before
+  pub opened : new.opened ≡ slice_set old.opened index after
+  pub reads : ReadAnswers before max answers after
+  pub sees : SeesCall old.front new.front (AnswersVouch before.subscription)
+  pub pass : KnowsAllSent old.pass new.pass new.front
+  pub all : EndsPending answers
+      → IsFront (due (whole sees.before) before.subscription.at) (taken after.subscription)
 
 -- what is answered of the groups of the dispatcher beside a subscription, if there is that, at a moment if
 -- one is given
@@ -220,9 +232,11 @@ pub data Does (config : Config) (setting : Setting) (old : SessionView)
       → SeesCall old.front front (AnswersSubscribe (Err why))
       → Does config setting old (Subscribe name kind) (answer.SubscribeRefused why ∷ [])
       (record old { front = front })
-  read : {name : List ℕ} {max : ℕ} {answers : List Answer} {opened : List OpenView}
-      → ReadsNamed name max old.opened answers opened
-      → Does config setting old (Read name max) answers (record old { opened = opened })
+  read : {name : List ℕ} {max index : ℕ} {answers : List Answer} {new : SessionView}
+      → index_named name old.opened ≡ Some index → ReadsAt index max old answers new
+      → Does config setting old (Read name max) answers new
+  nothing_to_read : {name : List ℕ} {max : ℕ} → index_named name old.opened ≡ None
+      → Does config setting old (Read name max) (answer.NotOpen verb.Read ∷ []) old
   left : {name : List ℕ} {index : ℕ} {ended : Ended} {new : SessionView}
       → index_named name old.opened ≡ Some index → LeavesAt index old ended new
       → Does config setting old (Leave name)

@@ -10,6 +10,7 @@ use Rattle.am_runner.specs.declared.answer.Answer.{Answer}
 -- whether a command only asks: what is lost with its answer can be asked again
 abbrev pub is_question : Command → Bool
 is_question (Groups name at) = true
+is_question (Mutes name at labels) = true
 is_question Stored = true
 is_question (StoredPage from max) = true
 is_question (Get labels) = true
@@ -24,7 +25,6 @@ loses_nothing (Post at body) = false
 loses_nothing (Put at alerts) = false
 loses_nothing (Read name max) = false
 loses_nothing (Take at) = false
-loses_nothing (Mutes name at labels) = false
 loses_nothing _ = true
 
 -- a command was done, whatever it answered

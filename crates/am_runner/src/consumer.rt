@@ -3,7 +3,7 @@
 
 ghost use Rattle.std.specs.Prelude.{◌≡◌, ◌⊎◌, ◌++◌, ◌∷◌, [], List, IfOk, OnOk, OnErr, flat_map, length, map};
 ghost use Rattle.am_runner.specs.Consuming.{answers_of_group, answers_of_groups, fresh_consumer, sweep_word};
-ghost use Rattle.am_runner.specs.Consuming.{AsksInhibitor, HasTaken, IsAsked, IsSwept, TakesAlert, muting_at};
+ghost use Rattle.am_runner.specs.Consuming.{AsksInhibitor, HasTaken, IsAsked, IsSwept, TakesAlert, having_answered, muting_at};
 ghost use Rattle.am_runner.specs.Notifiers.{unasked};
 ghost use Rattle.am_alert.specs.declared.alert.Alert.{Alert};
 
@@ -116,9 +116,10 @@ impl<'c> Consumer<'c> {
         }
     }
 
-    /// By what an inhibitor mutes a target.
+    /// By what an inhibitor mutes a target. If memory runs out for the answer, it was asked.
     pub fn mutes(&mut self, labels: &LabelSet, now: Moment) -> Result<Answer, AllocError>
         ensures asked { IfOk result (IsAsked labels.now now self.old self.new) }
+        ensures lost { OnErr result ((answer : Answer) × IsAsked labels.now now self.old self.new answer) }
         ensures took { (alerts : List Alert) → HasTaken alerts self.old → HasTaken alerts self.new }
     {
         match self {
@@ -138,6 +139,7 @@ pub(crate) fn muting_answer(
     ensures asks { IfOk result (AsksInhibitor labels.now now inhibitor.old inhibitor.new) }
     ensures answer { IfOk result (λ answer. (answer ≡ Answer.MutesRefused)
         ⊎ (answer ≡ muting_at inhibitor.old now labels.now)) }
+    ensures lost { OnErr result (inhibitor.new ≡ having_answered labels.now now inhibitor.old) }
     ensures same { unasked inhibitor.new ≡ unasked inhibitor.old }
 {
     match inhibitor.mutes(labels, now) {

@@ -30,7 +30,7 @@ mod open_subscription;
 mod pace;
 mod prepared_config;
 mod register;
-mod room;
+mod room_for_answer;
 mod session;
 mod start;
 mod threads;

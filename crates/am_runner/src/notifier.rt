@@ -106,6 +106,8 @@ impl<'c> Notifier<'c> {
     pub fn mutes(&mut self, labels: &LabelSet, now: Moment) -> Result<Answer, AllocError>
         ensures asked { IfOk result (IsAsked labels.now now
             (consumer.Notifier self.old) (consumer.Notifier self.new)) }
+        ensures lost { OnErr result ((answer : Answer) × IsAsked labels.now now
+            (consumer.Notifier self.old) (consumer.Notifier self.new) answer) }
         ensures same { self.new ≡ self.old }
     {
         muting_answer(&mut self.inhibitor, labels, now)

@@ -2,11 +2,14 @@
 
 ghost use Rattle.std.specs.Prelude.{◌≡◌, ◌∷◌, ℕ, List, false, true, [], IfOk, IfSome, OnErr, OnOk};
 ghost use Rattle.std.specs.Str.{bytes_eq};
+ghost use mathlib.Core.List.{IsPrefix};
+ghost use Rattle.am_provider.specs.Callers.{KnowsAllSent, SeesCall};
+ghost use Rattle.am_provider.specs.Headline.{AnswersVouch};
 ghost use Rattle.am_provider.specs.Subscriptions.{taken};
 ghost use Rattle.am_runner.specs.Consuming.{HasTaken, IsAsked, IsSwept, sweep_word};
 ghost use Rattle.am_alert.specs.declared.alert.Alert.{Alert};
 ghost use Rattle.am_runner.specs.Answers.{is_item};
-ghost use Rattle.am_runner.specs.Reading.{Asks, AsksBeside, IsTaken, NextIs, ReadAnswers};
+ghost use Rattle.am_runner.specs.Reading.{Asks, AsksBeside, EndsPending, IsTaken, NextIs, ReadAnswers, SaysPendingPast};
 ghost use Rattle.am_runner.specs.Reading.{ReadsOne, TakenBeside, TookAll, groups_beside, is_notifier};
 
 use crate::answer::{Answer, one};
@@ -14,10 +17,11 @@ use crate::consumer::{Consumer, Half};
 use am_alert::{Alert, Moment};
 use am_inhibit::kept_laws;
 use am_labels::{LabelSet, Text};
-use am_provider::{Origin, Step, Subscription};
+use am_provider::{Caller, Origin, Pass, Provider, Recorded, Step, Subscription};
 use am_script::Verb;
 use std::alloc::{AllocError, Global};
 use std::marker::Model;
+use std::sync::Wait;
 
 /// An open subscription with its name, and what stands beside it. Contracts see all of it: unless an
 /// alert was missed, the consumer took what the subscription has taken, and nothing else.
@@ -93,13 +97,22 @@ impl<'p, 'c, N: Origin> OpenSubscription<'p, 'c, N> {
         }
     }
 
-    /// What at most this many reads answer. Any answer that isn't an alert ends them.
-    pub fn read(&mut self, alloc: Global, max: u32) -> Result<Vec<Answer>, AllocError>
-        ensures { IfOk result (λ answers. ReadAnswers self.old max answers.items self.new) }
+    /// What at most this many reads answer. Any answer that isn't an alert ends them. They don't end with Pending before
+    /// all that the pass knows of the log was shown.
+    pub fn read(
+        &mut self,
+        alloc: Global,
+        max: u32,
+        pass: &mut Pass<N>,
+    ) -> Result<Vec<Answer>, AllocError>
+        ensures reads { IfOk result (λ answers. ReadAnswers self.old max answers.items self.new) }
+        ensures past { IfOk result (λ answers. EndsPending answers.items
+            → SaysPendingPast pass.old.noted self.old.subscription self.new.subscription) }
+        ensures pass { pass.new ≡ pass.old }
     {
         let mut answers = Vec::new(alloc);
         for _shown in 0..max {
-            if !self.read_one(&mut answers)? {
+            if !self.read_one(&mut answers, pass)? {
                 return Ok(answers);
             }
         }
@@ -107,15 +120,23 @@ impl<'p, 'c, N: Origin> OpenSubscription<'p, 'c, N> {
     }
 
     // Reads once, and answers whether there may be more.
-    fn read_one(&mut self, answers: &mut Vec<Answer>) -> Result<bool, AllocError>
-        ensures { IfOk result
+    fn read_one(
+        &mut self,
+        answers: &mut Vec<Answer>,
+        pass: &mut Pass<N>,
+    ) -> Result<bool, AllocError>
+        ensures reads { IfOk result
             (λ goes_on. ReadsOne self.old answers.old.items goes_on answers.new.items self.new) }
+        ensures past { OnOk result (EndsPending answers.new.items
+            → IsPrefix pass.old.noted self.new.subscription.cursor.lane.front) }
+        ensures pass { pass.new ≡ pass.old }
     {
         read_beside(
             &mut self.subscription,
             &mut self.consumer,
             &mut self.missed,
             answers,
+            pass,
         )
     }
 
@@ -136,12 +157,25 @@ impl<'p, 'c, N: Origin> OpenSubscription<'p, 'c, N> {
         sweep_beside(&mut self.consumer, half, now)
     }
 
-    /// By what the inhibitor beside it mutes a target.
+    /// By what the inhibitor beside it mutes a target. If memory runs out for the answer, it was asked.
     pub fn mutes(&mut self, labels: &LabelSet, now: Moment) -> Result<Answer, AllocError>
-        ensures { IfOk result (λ answer. Asks (IsAsked labels.now now)
+        ensures asks { IfOk result (λ answer. Asks (IsAsked labels.now now)
+            (Answer.NotOpen Verb.Mutes) self.old answer self.new) }
+        ensures lost { OnErr result ((answer : Answer) × Asks (IsAsked labels.now now)
             (Answer.NotOpen Verb.Mutes) self.old answer self.new) }
     {
         ask_beside(&mut self.consumer, labels, now)
+    }
+
+    /// The provider says that the subscription has taken its due so far, and what has been sent so far.
+    pub fn vouch<R: Wait>(&mut self, rt: &R, provider: &Provider<N>, caller: &mut Caller<N>)
+    where
+        N: Recorded,
+        ensures sees { SeesCall caller.old.front caller.new.front (AnswersVouch self.old.subscription) }
+        ensures pass { KnowsAllSent caller.old.pass caller.new.pass caller.new.front }
+        ensures same { self.new ≡ self.old }
+    {
+        provider.vouch(rt, caller, &mut self.subscription);
     }
 
     /// The subscription, to be given back. What stood beside it goes.
@@ -164,6 +198,7 @@ fn read_beside<N: Origin>(
     consumer: &mut Option<Consumer<'_>>,
     missed: &mut bool,
     answers: &mut Vec<Answer>,
+    pass: &mut Pass<N>,
 ) -> Result<bool, AllocError>
     ensures took { TookAll subscription.old consumer.old missed.old
         → TookAll subscription.new consumer.new missed.new }
@@ -171,9 +206,12 @@ fn read_beside<N: Origin>(
         (record { name = name; subscription = subscription.old; consumer = consumer.old; missed = missed.old })
         answers.old.items goes_on answers.new.items
         (record { name = name; subscription = subscription.new; consumer = consumer.new; missed = missed.new })) }
+    ensures past { OnOk result (EndsPending answers.new.items
+        → IsPrefix pass.old.noted subscription.new.cursor.lane.front) }
+    ensures pass { pass.new ≡ pass.old }
 {
     kept_laws();
-    let answer = match next_answer(subscription) {
+    let answer = match next_answer(subscription, pass) {
         Ok(answer) => answer,
         Err(error) => {
             *missed = true;
@@ -239,6 +277,8 @@ fn ask_beside(
 ) -> Result<Answer, AllocError>
     ensures answer { IfOk result (λ answer. AsksBeside (IsAsked labels.now now)
         (Answer.NotOpen Verb.Mutes) consumer.old answer consumer.new) }
+    ensures lost { OnErr result ((answer : Answer) × AsksBeside (IsAsked labels.now now)
+        (Answer.NotOpen Verb.Mutes) consumer.old answer consumer.new) }
     ensures took { (alerts : List Alert) → IfSome consumer.old (HasTaken alerts)
         → IfSome consumer.new (HasTaken alerts) }
 {
@@ -248,10 +288,16 @@ fn ask_beside(
     }
 }
 
-fn next_answer<N: Origin>(subscription: &mut Subscription<'_, N>) -> Result<Answer, AllocError>
-    ensures { IfOk result (λ answer. NextIs subscription.old answer subscription.new) }
+fn next_answer<N: Origin>(
+    subscription: &mut Subscription<'_, N>,
+    pass: &mut Pass<N>,
+) -> Result<Answer, AllocError>
+    ensures next { IfOk result (λ answer. NextIs subscription.old answer subscription.new) }
+    ensures past { IfOk result (λ answer. answer ≡ Answer.Pending
+        → IsPrefix pass.old.noted subscription.new.cursor.lane.front) }
+    ensures pass { pass.new ≡ pass.old }
 {
-    let answer = match subscription.next() {
+    let answer = match subscription.next_past(pass) {
         Step::Item(alert) => Answer::Item(alert.copy()?),
         Step::Pending => Answer::Pending,
         Step::Closed => Answer::SawClosed,

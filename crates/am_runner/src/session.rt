@@ -1,20 +1,20 @@
 //! What a thread of a script has: its right to call the provider, and the subscriptions that its lines
 //! opened.
 
-ghost use Rattle.std.specs.Prelude.{◌≡◌, ◌<◌, ◌++◌, ◌∷◌, [], IfOk, OnErr, OnOk, true, is_some, length, map, option_map};
+ghost use Rattle.std.specs.Prelude.{◌≡◌, ◌<◌, ◌⊎◌, ◌++◌, ◌∷◌, [], IfOk, List, OnErr, OnOk, true, is_some, length, map, option_map};
 ghost use Rattle.std.specs.Arc.{arc_value};
 ghost use Rattle.am_store.specs.Shared.{alerts_in};
 ghost use Rattle.am_runner.specs.Putting.{AnswersRead};
 ghost use Rattle.am_config.specs.RouteLists.{root_of};
 ghost use Rattle.am_config.specs.declared.config.Config.{Config};
 ghost use Rattle.am_runner.specs.Asking.{AsksTree, ShowsTree};
-ghost use Rattle.am_runner.specs.Sessions.{AsksNamed, Does, LeavesAll, LeavesAt, ReadsNamed, Setting};
+ghost use Rattle.am_runner.specs.Sessions.{AsksNamed, Does, LeavesAll, LeavesAt, ReadsAt, Setting};
 ghost use Rattle.am_runner.specs.Sessions.{SweepsNamed, cut_below, groups_told, named_in, setting_of};
 ghost use Rattle.am_runner.specs.Sessions.{has_notifier, sweep_command};
 ghost use Rattle.am_runner.specs.Turning.{Begins, Ends};
 ghost use Rattle.am_runner.specs.Sessions.{found_answer, index_named, posted_answers, stored_answers};
 ghost use Rattle.am_runner.specs.Sessions.{page_answers, taken_answers};
-ghost use Rattle.am_runner.specs.Compacting.{CompactsIfDue, CountsStored};
+ghost use Rattle.am_runner.specs.Compacting.{CompactsIfDue, CountsStored, Vouches};
 ghost use Rattle.am_runner.specs.Unanswered.{IsDone, IsUnanswered, loses_nothing};
 ghost use Rattle.am_provider.specs.Callers.{SeesCall};
 ghost use Rattle.am_provider.specs.Headline.{AnswersPage};
@@ -26,13 +26,13 @@ use crate::open_subscription::OpenSubscription;
 use crate::pace::Pace;
 use crate::prepared_config::PreparedConfig;
 use crate::register::{Register, TurnsSeen};
-use crate::room::Room;
+use crate::room_for_answer::RoomForAnswer;
 use crate::turns::{Turn, Turns};
 use am_alert::{AlertFault, Body, Moment, Post, PostFault};
 use am_config::RouteTree;
 use am_history::Timeline;
 use am_labels::{LabelSet, Text};
-use am_provider::{Caller, Ended, Gate, Page, PostRefused, Posted, Recorded};
+use am_provider::{Caller, Ended, Gate, Page, PostRefused, Posted, Recorded, history_laws};
 use am_routes::{ListedRoute, MatchedRoute, list_routes};
 use am_script::{Command, GivenMoment, Kind, PutAlerts, Verb};
 use am_store::{LaneSet, SharedAlert};
@@ -178,22 +178,28 @@ impl<'p, 'c, N: Recorded> Session<'p, 'c, N> {
             Command::Post { at, body } => self.post(context, *at, body),
             Command::Put { at, alerts } => self.put(context, *at, alerts),
             Command::Subscribe { name, kind } => {
-                Ok(Room::make(alloc)?.filled(self.subscribe(context, name, *kind)?))
+                Ok(RoomForAnswer::make(alloc)?.filled(self.subscribe(context, name, *kind)?))
             }
-            Command::Read { name, max } => self.read(alloc, name, *max),
-            Command::Leave { name } => Ok(Room::make(alloc)?.filled(self.leave(context, name))),
-            Command::Collect { at } => Ok(Room::make(alloc)?.filled(self.collect(context, *at))),
+            Command::Read { name, max } => self.read(context, name, *max),
+            Command::Leave { name } => Ok(RoomForAnswer::make(alloc)?.filled(self.leave(
+                context, name,
+            ))),
+            Command::Collect { at } => Ok(RoomForAnswer::make(alloc)?.filled(self.collect(
+                context, *at,
+            ))),
             Command::Take { at } => self.take(context, *at),
-            Command::Close => Ok(Room::make(alloc)?.filled(self.close(context))),
-            Command::Trim => Ok(Room::make(alloc)?.filled(self.trim(context))),
-            Command::Compact => Ok(Room::make(alloc)?.filled(self.compact(context))),
+            Command::Close => Ok(RoomForAnswer::make(alloc)?.filled(self.close(context))),
+            Command::Trim => Ok(RoomForAnswer::make(alloc)?.filled(self.trim(context))),
+            Command::Compact => Ok(RoomForAnswer::make(alloc)?.filled(self.compact(context))),
             Command::Groups { name, at } => self.groups(alloc, name, *at),
             Command::Sweep { name, at } => self.sweep(alloc, Half::Dispatcher, name, *at),
             Command::Forget { name, at } => self.sweep(alloc, Half::Inhibitor, name, *at),
             Command::Mutes { name, at, labels } => self.mutes(alloc, name, labels, *at),
             Command::Stored => self.stored(context),
             Command::StoredPage { from, max } => self.stored_page(context, *from, *max),
-            Command::Get { labels } => Ok(Room::make(alloc)?.filled(self.get(context, labels)?)),
+            Command::Get { labels } => Ok(RoomForAnswer::make(alloc)?.filled(self.get(
+                context, labels,
+            )?)),
             Command::Routes => show_tree(alloc, &context.config.config().tree),
             Command::Route { labels } => ask_tree(alloc, &mut context.config, labels),
         }
@@ -262,11 +268,31 @@ impl<'p, 'c, N: Recorded> Session<'p, 'c, N> {
         }
     }
 
-    fn read(&mut self, alloc: Global, name: &Text, max: u32) -> Result<Vec<Answer>, AllocError>
+    fn read<R: Wait, G>(
+        &mut self,
+        context: &Context<'p, 'c, N, R, G>,
+        name: &Text,
+        max: u32,
+    ) -> Result<Vec<Answer>, AllocError>
         ensures { IfOk result (λ answers. (config : Config) (setting : Setting) → Does config setting
             self.old (Command.Read name.now max) answers.items self.new) }
     {
-        read_named(&mut self.opened, alloc, name, max)
+        match index_named(&self.opened, name) {
+            Some(index) => self.read_at(context, index, max),
+            None => one(context.alloc, Answer::NotOpen(Verb::Read)),
+        }
+    }
+
+    fn read_at<R: Wait, G>(
+        &mut self,
+        context: &Context<'p, 'c, N, R, G>,
+        index: usize,
+        max: u32,
+    ) -> Result<Vec<Answer>, AllocError>
+        requires { index < length self.old.opened }
+        ensures { IfOk result (λ answers. ReadsAt index max self.old answers.items self.new) }
+    {
+        read_one(context, &mut self.caller, &mut self.opened, index, max)
     }
 
     fn leave<R: Wait, G>(&mut self, context: &Context<'p, 'c, N, R, G>, name: &Text) -> Answer
@@ -329,8 +355,10 @@ impl<'p, 'c, N: Recorded> Session<'p, 'c, N> {
         labels: &LabelSet,
         at: Moment,
     ) -> Result<Vec<Answer>, AllocError>
-        ensures { IfOk result (λ answers. (config : Config) (setting : Setting) → Does config setting
+        ensures does { IfOk result (λ answers. (config : Config) (setting : Setting) → Does config setting
             self.old (Command.Mutes name.now at labels.now) answers.items self.new) }
+        ensures unanswered { OnErr result ((config : Config) (setting : Setting) → IsUnanswered config setting
+            self.old (Command.Mutes name.now at labels.now) self.new) }
     {
         ask_named(&mut self.opened, alloc, name, labels, at)
     }
@@ -396,7 +424,8 @@ impl<'p, 'c, N: Recorded> Session<'p, 'c, N> {
     }
 
     /// What is done between the lines of a live run: if the journal has become long beside the store, its calls are
-    /// taken out of memory. The same call decides that for every line, so that each pays for its own alerts alone.
+    /// taken out of memory. The same call decides that for every line, so that each pays for its own alerts alone. Then
+    /// each open subscription, which may never leave, is shown to have taken its due so far.
     pub fn compact_if_due<R: Wait, G>(&mut self, context: &Context<'p, 'c, N, R, G>)
         ensures { (config : Config) (setting : Setting) → CompactsIfDue config setting self.old self.new }
     {
@@ -406,6 +435,13 @@ impl<'p, 'c, N: Recorded> Session<'p, 'c, N> {
         let _dropped = self.compact(context);
         let stored = self.count_stored(context);
         self.pace.restart(stored);
+        self.vouch(context);
+    }
+
+    fn vouch<R: Wait, G>(&mut self, context: &Context<'p, 'c, N, R, G>)
+        ensures { Vouches self.old self.old.opened self.new }
+    {
+        vouch_for_all(context, &mut self.caller, &mut self.opened);
     }
 
     // How many alerts are stored, which a page of none of them says.
@@ -544,19 +580,38 @@ fn leave_one<'p, 'c, N: Recorded, R: Wait, G>(
     context.provider.leave(context.rt, caller, subscription)
 }
 
-fn read_named<N: Recorded>(
-    opened: &mut [OpenSubscription<'_, '_, N>],
-    alloc: Global,
-    name: &Text,
+// The provider says of each subscription that it has taken its due.
+fn vouch_for_all<'p, 'c, N: Recorded, R: Wait, G>(
+    context: &Context<'p, 'c, N, R, G>,
+    caller: &mut Caller<N>,
+    opened: &mut Vec<OpenSubscription<'p, 'c, N>>,
+)
+    ensures vouches { Vouches
+        (record { pass = caller.old.pass; front = caller.old.front; opened = opened.old.items }) opened.old.items
+        (record { pass = caller.new.pass; front = caller.new.front; opened = opened.old.items }) }
+    ensures same { opened.new.items ≡ opened.old.items }
+{
+    for index in 0..opened.len() {
+        opened[index].vouch(context.rt, context.provider, caller);
+    }
+}
+
+// Reads the subscription at an index, once the provider was asked what it is owed.
+fn read_one<'p, 'c, N: Recorded, R: Wait, G>(
+    context: &Context<'p, 'c, N, R, G>,
+    caller: &mut Caller<N>,
+    opened: &mut Vec<OpenSubscription<'p, 'c, N>>,
+    index: usize,
     max: u32,
 ) -> Result<Vec<Answer>, AllocError>
-    ensures { IfOk result (λ answers.
-        ReadsNamed name.now max opened.old answers.items opened.new) }
+    requires { index < length opened.old.items }
+    ensures { IfOk result (λ answers. ReadsAt index max
+        (record { pass = caller.old.pass; front = caller.old.front; opened = opened.old.items }) answers.items
+        (record { pass = caller.new.pass; front = caller.new.front; opened = opened.new.items })) }
 {
-    match index_named(opened, name) {
-        Some(index) => opened[index].read(alloc, max),
-        None => one(alloc, Answer::NotOpen(Verb::Read)),
-    }
+    history_laws();
+    opened[index].vouch(context.rt, context.provider, caller);
+    opened[index].read(context.alloc, max, &mut caller.pass)
 }
 
 fn groups_named<N: Recorded>(
@@ -587,7 +642,7 @@ fn sweep_named<N: Recorded>(
     ensures err { OnErr result (opened.new ≡ opened.old) }
 {
     match index_named(opened, name) {
-        Some(index) => Ok(Room::make(alloc)?.filled(opened[index].sweep(half, at))),
+        Some(index) => Ok(RoomForAnswer::make(alloc)?.filled(opened[index].sweep(half, at))),
         None => one(alloc, Answer::NotOpen(half.sweep_word())),
     }
 }
@@ -599,11 +654,13 @@ fn ask_named<N: Recorded>(
     labels: &LabelSet,
     at: Moment,
 ) -> Result<Vec<Answer>, AllocError>
-    ensures { IfOk result (λ answers.
+    ensures asks { IfOk result (λ answers.
         AsksNamed name.now labels.now at opened.old answers.items opened.new) }
+    ensures lost { OnErr result ((opened.new ≡ opened.old)
+        ⊎ ((answers : List Answer) × AsksNamed name.now labels.now at opened.old answers opened.new)) }
 {
     match index_named(opened, name) {
-        Some(index) => one(alloc, opened[index].mutes(labels, at)?),
+        Some(index) => Ok(RoomForAnswer::make(alloc)?.filled(opened[index].mutes(labels, at)?)),
         None => one(alloc, Answer::NotOpen(Verb::Mutes)),
     }
 }

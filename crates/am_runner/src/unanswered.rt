@@ -12,6 +12,7 @@ pub fn is_question(command: &Command) -> bool
     matches!(
         command,
         Command::Groups { .. }
+            | Command::Mutes { .. }
             | Command::Stored
             | Command::StoredPage { .. }
             | Command::Get { .. }
@@ -27,10 +28,6 @@ pub fn loses_nothing(command: &Command) -> bool
 {
     !matches!(
         command,
-        Command::Post { .. }
-            | Command::Put { .. }
-            | Command::Read { .. }
-            | Command::Take { .. }
-            | Command::Mutes { .. }
+        Command::Post { .. } | Command::Put { .. } | Command::Read { .. } | Command::Take { .. }
     )
 }

@@ -1,17 +1,18 @@
-use Rattle.std.proofs.Common.{◌≡◌, ◌∙◌, List, ap, sym, subst, length}
-use Rattle.std.proofs.lemmas.List.{with_items_is}
-use Rattle.am_runner.specs.Reading.{OpenView, ReadAnswers}
-use Rattle.am_runner.specs.Sessions.{SessionView, Does, read, ReadsNamed}
+use Rattle.std.proofs.Common.{◌≡◌, ◌∙◌, List, Some, None, ap, sym, subst}
+use Rattle.am_runner.specs.Sessions.{SessionView, Does, read, nothing_to_read, index_named}
+use Rattle.am_runner.specs.declared.answer.Answer.{Answer}
 use Rattle.am_script.specs.declared.command.Command.TheVariants.{Read}
-use Rattle.am_script.specs.declared.command.Verb.TheVariants as verb
-use Rattle.am_runner.proofs.Named.{as_many}
 use Rattle.am_runner.proofs.Results.{if_ok_map}
 use Rattle.am_runner.proofs.session.Session.read.Goals as goal
 
-pub returns : goal.returns
-returns g c =
-    if_ok_map c.read_named.result c.read_named.ensures (λ answers does config setting.
-    let many : length c.read_named.new.opened ≡ c.self.inside.opened.len = as_many c.args.name.now verb.Read (λ before given after. ReadAnswers before c.args.max given after) c.deref_mut.result.now c.read_named.new.opened answers.items does ∙ (ap length c.deref_mut.ensures.value ∙ sym c.self.inside.opened.ok.0) in
-    subst (λ (opened : List OpenView). Does config setting c.args.self.now (Read c.args.name.now c.args.max) answers.items (record { pass = c.self.inside.caller.pass; front = c.self.inside.caller.front; opened = opened })) (sym (with_items_is c.self.inside.opened c.read_named.new.opened many))
-    (subst (λ (old : SessionView). Does config setting old (Read c.args.name.now c.args.max) answers.items (record { pass = c.self.inside.caller.pass; front = c.self.inside.caller.front; opened = c.read_named.new.opened })) c.self.view_is
-    (read (subst (λ (opened : List OpenView). ReadsNamed c.args.name.now c.args.max opened answers.items c.read_named.new.opened) c.deref_mut.ensures.value does))))
+pub returns-in-Some : goal.returns-in-Some
+returns-in-Some g c =
+    let here : index_named c.args.name.now c.args.self.now.opened ≡ Some c.in-Some.index =
+    ap (λ (s : SessionView). index_named c.args.name.now s.opened) (sym c.self.view_is) ∙ (ap (index_named c.args.name.now) (sym c.deref.ensures.value) ∙ (sym c.index_named.ensures ∙ c.in-Some.is)) in
+    if_ok_map c.read_at.result c.read_at.ensures (λ answers reads config setting. read here reads)
+
+pub returns-in-None : goal.returns-in-None
+returns-in-None g c =
+    let none : index_named c.args.name.now c.args.self.now.opened ≡ None = ap (λ (s : SessionView). index_named c.args.name.now s.opened) (sym c.self.view_is) ∙ (ap (index_named c.args.name.now) (sym c.deref.ensures.value) ∙ (sym c.index_named.ensures ∙ c.in-None.is)) in
+    if_ok_map c.one.result c.one.ensures (λ answers are config setting.
+    subst (λ (given : List Answer). Does config setting c.args.self.now (Read c.args.name.now c.args.max) given c.args.self.now) (sym are) (nothing_to_read none))

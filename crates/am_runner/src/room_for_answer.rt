@@ -7,15 +7,15 @@ use std::alloc::{AllocError, Global};
 
 /// Room for one answer. What is done once there is room can be answered, however little memory is left.
 #[derive(Drop)]
-pub(crate) struct Room {
+pub(crate) struct RoomForAnswer {
     answers: Vec<Answer>,
     ghost empty: { (answers.items ≡ []) × (0 < vec_capacity answers) },
 }
 
-impl Room {
-    pub(crate) fn make(alloc: Global) -> Result<Room, AllocError> {
+impl RoomForAnswer {
+    pub(crate) fn make(alloc: Global) -> Result<RoomForAnswer, AllocError> {
         let answers = Vec::with_capacity(alloc, 1)?;
-        Ok(Room { answers })
+        Ok(RoomForAnswer { answers })
     }
 
     /// The answer, as a list.
