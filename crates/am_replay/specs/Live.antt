@@ -10,7 +10,7 @@ use Rattle.am_provider.specs.declared.answers.Counts.{Counts}
 use Rattle.am_provider.specs.declared.settled.Settled.{Settled}
 use Rattle.am_runner.specs.Sessions.{Setting, SessionView, LeavesAll, new_session, setting_of}
 use Rattle.am_runner.specs.declared.form.Form.{Form}
-use Rattle.am_serve.specs.Reading.{IsNext, IsReadAs}
+use Rattle.am_serve.specs.Reading.{IsNext, IsInputOf}
 use Rattle.am_serve.specs.Serving.{IsServed, IsServedInPart}
 use Rattle.am_serve.specs.declared.reading.InputLine.{InputLine}
 use Rattle.am_replay.specs.FirstLines.{IsFirstLine}
@@ -32,7 +32,7 @@ line_or_empty (Some bytes) = bytes
 -- what was read as the first line: nothing at the input's end
 abbrev pub IsFirstAs : Option (List ℕ) → Option InputLine → Type 0
 IsFirstAs None None = Unit {0}
-IsFirstAs (Some bytes) (Some line) = All (λ byte. byte ≢ 10) bytes × IsReadAs bytes line
+IsFirstAs (Some bytes) (Some line) = All (λ byte. byte ≢ 10) bytes × IsInputOf bytes line
 IsFirstAs bytes line = ⊥
 
 -- what is told of a first line that is no configuration

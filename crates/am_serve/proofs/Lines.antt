@@ -8,7 +8,7 @@ use Rattle.std.proofs.lemmas.List.{length_push, get_or_push, take_more}
 use Rattle.std.proofs.lemmas.List.Elements.{All-append, All-from_get_or}
 use Rattle.std.proofs.lemmas.Bool.Decides.{Decides-ltb}
 use Rattle.memchr.specs.Find.{is_byte, Nowhere, Passes}
-use Rattle.am_serve.specs.Reading.{IsNext, IsNextAs, IsReadAs}
+use Rattle.am_serve.specs.Reading.{IsNext, IsNextAs, IsInputOf}
 use Rattle.am_serve.specs.inside.Buffered.{Gives, GoesOn, feed_of}
 use Rattle.am_serve.specs.declared.reading.InputLine.{InputLine}
 use Rattle.am_serve.specs.declared.reading.Met.{Met}
@@ -105,13 +105,13 @@ consumes_kept (Some text) (Some rest) kept = sym kept
 pub gives_none : (a c : Option (List ℕ)) (line : InputLine) (taken : InputLine × Met) → Keeps a c → taken.0 ≡ line → taken.1 ≡ Neither → Gives line a c taken
 gives_none a c line taken kept same met =
     subst (λ (new : InputLine). Gives line a c (new, taken.1)) (sym same) (subst (λ (m : Met). Gives line a c (line, m)) (sym met)
-    (gives_all a c line line [] (λ k d below. absurd (omega (arith, below))) (λ bytes is. subst (λ (l : List ℕ). IsReadAs l line) (sym (append-nil bytes)) is) (consumes_kept a c kept)))
+    (gives_all a c line line [] (λ k d below. absurd (omega (arith, below))) (λ bytes is. subst (λ (l : List ℕ). IsInputOf l line) (sym (append-nil bytes)) is) (consumes_kept a c kept)))
 
 -- the line so far, of which no byte is a line feed
 pub record LineSoFar (first : Option (List ℕ)) (line : InputLine) (now : Option (List ℕ)) : Type 0 where
   pub bytes : List ℕ
   pub plain : All (λ x. x ≢ 10) bytes
-  pub read_as : IsReadAs bytes line
+  pub read_as : IsInputOf bytes line
   pub consumed : Consumes first now bytes
 
 module _ (a b c : Option (List ℕ)) (line new : InputLine) (met : Met) (so : LineSoFar a line b) (gives : Gives line b c (new, met)) where
@@ -137,11 +137,11 @@ module _ (a b c : Option (List ℕ)) (line new : InputLine) (met : Met) (so : Li
     line_ends a c (so.bytes ++ gives.more) all_plain (line_grows a b c so.bytes gives.more (10 ∷ []) so.consumed (read_with LineFeed is)),
   )
 
-  pub none_is_next : met ≡ End → ((bytes : List ℕ) → IsReadAs bytes new → length bytes ≡ 0) → IsNextAs a None c
+  pub none_is_next : met ≡ End → ((bytes : List ℕ) → IsInputOf bytes new → length bytes ≡ 0) → IsNextAs a None c
   none_is_next is empty =
       (input_ends a b c so.bytes gives.more all_plain so.consumed (read_with End is) (gives.end is)).0 (empty (so.bytes ++ gives.more) (gives.goes_on so.bytes so.read_as))
 
-  pub last_is_next : met ≡ End → ((bytes : List ℕ) → IsReadAs bytes new → length bytes ≢ 0) → IsNextAs a (Some new) c
+  pub last_is_next : met ≡ End → ((bytes : List ℕ) → IsInputOf bytes new → length bytes ≢ 0) → IsNextAs a (Some new) c
   last_is_next is some = (
     so.bytes ++ gives.more,
     all_plain,

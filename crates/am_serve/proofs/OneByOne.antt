@@ -4,13 +4,13 @@ use Rattle.std.specs.Io.KnownBytes.{Appends}
 use Rattle.std.specs.Io.BufRead.{drop_through}
 use Rattle.am_config.specs.declared.config.Config.{Config}
 use Rattle.am_script.proofs.Outputs.{appends_more, appends_none}
-use Rattle.am_runner.specs.Compacting.{CompactsIfDue, not_due, compacts}
+use Rattle.am_runner.specs.Compacting.{CompactsIfDue}
 use Rattle.am_runner.specs.Sessions.{Setting, SessionView}
 use Rattle.am_runner.specs.declared.form.Form.{Form}
 use Rattle.am_serve.specs.Answering.{Answers}
 use Rattle.am_serve.specs.Reading.{Begins, IsNext, no_lines}
 use Rattle.am_serve.specs.Reading as reading
-use Rattle.am_serve.specs.Serving.{Serves, nothing, one_more, compacted, counted, AreRead, IsBeginning, IsServed, IsServedInPart}
+use Rattle.am_serve.specs.Serving.{Serves, nothing, one_more, between, AreRead, IsBeginning, IsServed, IsServedInPart}
 
 -- a list of no length has nothing
 pub none_of : {A : Type 0} (xs : List A) → length xs ≡ 0 → xs ≡ []
@@ -67,17 +67,12 @@ module _ (config : Config) (setting : Setting) (form : Form) (first : ℕ) (begu
     written_is = appends_more out written now so.printed more so.written_is added;
   }
 
-  between : (lines : List (List ℕ)) (printed : List ℕ) (old new : SessionView) → Serves config setting form first begun lines printed old → CompactsIfDue config setting old new
-      → Serves config setting form first begun lines printed new
-  between lines printed old new serves not_due = serves
-  between lines printed old new serves (compacts does counts) = counted (compacted serves does) counts
-
   pub so_far_compacted : (number : ℕ) (old new : SessionView) (rest written : Option (List ℕ)) → SoFar config setting form first begun input out number old rest written
       → CompactsIfDue config setting old new → SoFar config setting form first begun input out number new rest written
   so_far_compacted number old new rest written so due = record {
     lines = so.lines;
     printed = so.printed;
-    serves = between so.lines so.printed old new so.serves due;
+    serves = between so.serves due;
     read = so.read;
     counted = so.counted;
     written_is = so.written_is;

@@ -14,16 +14,16 @@ IsNext old (Some bytes) new = IfSome old (λ text. (text ≢ []) × (bytes ≡ f
     × (new ≡ Some (drop_through 10 text)))
 
 -- what a line of these bytes is read as: they are kept up to the limit, unless memory for them ran out
-abbrev pub IsReadAs : List ℕ → InputLine → Type 0
-IsReadAs bytes (Read kept) = (kept.items ≡ bytes) × (length bytes ≤ LONGEST_LINE)
-IsReadAs bytes TooLong = LONGEST_LINE < length bytes
-IsReadAs bytes NoMemory = 0 < length bytes
+abbrev pub IsInputOf : List ℕ → InputLine → Type 0
+IsInputOf bytes (Read kept) = (kept.items ≡ bytes) × (length bytes ≤ LONGEST_LINE)
+IsInputOf bytes TooLong = LONGEST_LINE < length bytes
+IsInputOf bytes NoMemory = 0 < length bytes
 
 -- what is read of an input, as the line that it is read as: nothing at its end
 abbrev pub IsNextAs : Option (List ℕ) → Option InputLine → Option (List ℕ) → Type 0
 IsNextAs old None new = IsNext old None new
 IsNextAs old (Some line) new = (bytes : List ℕ) × All (λ byte. byte ≢ 10) bytes
-    × IsReadAs bytes line × IsNext old (Some bytes) new
+    × IsInputOf bytes line × IsNext old (Some bytes) new
 
 -- the first lines of a text, without their line feeds, and what follows them
 pub data Begins (text : List ℕ) : List (List ℕ) → List ℕ → Type 0 where

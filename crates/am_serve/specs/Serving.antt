@@ -2,17 +2,14 @@
 use Rattle.std.specs.Prelude.{◌≡◌, ◌⊎◌, ℕ, ◌+◌, List, [], ◌∷◌, ◌++◌, length, Option, Some, IfSome}
 use Rattle.std.specs.Io.KnownBytes.{Appends}
 use Rattle.am_config.specs.declared.config.Config.{Config}
-use Rattle.am_script.specs.declared.command.Command.TheVariants.{Compact}
-use Rattle.am_runner.specs.Compacting.{CountsStored}
-use Rattle.am_runner.specs.Sessions.{Setting, SessionView, Does}
-use Rattle.am_runner.specs.declared.answer.Answer.{Answer}
+use Rattle.am_runner.specs.Compacting.{CompactsIfDue}
+use Rattle.am_runner.specs.Sessions.{Setting, SessionView}
 use Rattle.am_runner.specs.declared.form.Form.{Form}
 use Rattle.am_serve.specs.Answering.{Answers}
 use Rattle.am_serve.specs.Reading.{Begins}
 
 -- what lines print, and what they do to a session: each what it answers, in their order. The first has this
--- number. Between two lines the journal may be compacted and the stored alerts be counted, which prints
--- nothing
+-- number. Between two lines the journal may be compacted, which prints nothing
 pub data Serves (config : Config) (setting : Setting) (form : Form) (first : ℕ) (begun : SessionView)
     : List (List ℕ) → List ℕ → SessionView → Type 0 where
   nothing : Serves config setting form first begun [] [] begun
@@ -20,11 +17,8 @@ pub data Serves (config : Config) (setting : Setting) (form : Form) (first : ℕ
       → Serves config setting form first begun lines printed old
       → Answers config setting form (first + length lines) bytes old more new
       → Serves config setting form first begun (lines ++ bytes ∷ []) (printed ++ more) new
-  compacted : {lines : List (List ℕ)} {printed : List ℕ} {old new : SessionView} {given : List Answer}
-      → Serves config setting form first begun lines printed old → Does config setting old Compact given new
-      → Serves config setting form first begun lines printed new
-  counted : {lines : List (List ℕ)} {printed : List ℕ} {old new : SessionView}
-      → Serves config setting form first begun lines printed old → CountsStored config setting old new
+  between : {lines : List (List ℕ)} {printed : List ℕ} {old new : SessionView}
+      → Serves config setting form first begun lines printed old → CompactsIfDue config setting old new
       → Serves config setting form first begun lines printed new
 
 -- lines were read of an input, if its bytes are known

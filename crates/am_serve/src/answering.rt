@@ -5,7 +5,7 @@ ghost use Rattle.am_script.specs.JsonLines.{about_line, object_line};
 ghost use Rattle.am_runner.specs.Sessions.{setting_of};
 ghost use Rattle.am_serve.specs.Answering.{Answers, Obeys, has_free_name, has_moment_if_needed};
 ghost use Rattle.am_serve.specs.Answering.{no_memory_text, refusal_members, refused_for, refused_text};
-ghost use Rattle.am_serve.specs.Reading.{IsReadAs};
+ghost use Rattle.am_serve.specs.Reading.{IsInputOf};
 
 use crate::reading::InputLine;
 use am_provider::{Gate, Recorded};
@@ -56,7 +56,7 @@ pub(crate) fn answer_input<'p, 'c, N: Recorded, R: Wait, G: Gate>(
     number: u64,
     line: &InputLine,
 ) -> Result<String, AllocError>
-    ensures answers { IfOk result (λ text. (bytes : List ℕ) → IsReadAs bytes line.now → Answers context.old.config
+    ensures answers { IfOk result (λ text. (bytes : List ℕ) → IsInputOf bytes line.now → Answers context.old.config
         (setting_of N.places N.policy context.old.provider.now.resolve_timeout) form number bytes
         session.old (string_bytes text) session.new) }
     ensures same { context.new ≡ context.old }

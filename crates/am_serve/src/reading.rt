@@ -1,7 +1,7 @@
 //! Reading one line, and no more.
 
 ghost use Rattle.std.specs.Prelude.{◌≡◌, ◌≢◌, ℕ, List, IfOk, length, true, false};
-ghost use Rattle.am_serve.specs.Reading.{IsNextAs, IsReadAs};
+ghost use Rattle.am_serve.specs.Reading.{IsNextAs, IsInputOf};
 ghost use Rattle.am_serve.specs.inside.Buffered.{Gives, GoesOn};
 
 use am_script::{Failure, LONGEST_LINE};
@@ -34,8 +34,8 @@ impl InputLine {
 
     // Whether it has no byte.
     fn is_empty(&self) -> bool
-        ensures none { result ≡ true → (bytes : List ℕ) → IsReadAs bytes self.now → length bytes ≡ 0 }
-        ensures some { result ≡ false → (bytes : List ℕ) → IsReadAs bytes self.now → length bytes ≢ 0 }
+        ensures none { result ≡ true → (bytes : List ℕ) → IsInputOf bytes self.now → length bytes ≡ 0 }
+        ensures some { result ≡ false → (bytes : List ℕ) → IsInputOf bytes self.now → length bytes ≢ 0 }
     {
         match self {
             InputLine::Read(bytes) => bytes.is_empty(),

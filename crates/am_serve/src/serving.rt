@@ -4,7 +4,7 @@ ghost use Rattle.std.specs.Prelude.{◌≡◌, ℕ, List, OnErr, OnOk, IfOk};
 ghost use Rattle.std.specs.Io.KnownBytes.{Appends};
 ghost use Rattle.am_runner.specs.Sessions.{setting_of};
 ghost use Rattle.am_serve.specs.Answering.{Answers};
-ghost use Rattle.am_serve.specs.Reading.{IsReadAs};
+ghost use Rattle.am_serve.specs.Reading.{IsInputOf};
 ghost use Rattle.am_serve.specs.Serving.{IsBeginning, IsServed, IsServedInPart};
 
 use crate::answering::answer_input;
@@ -55,11 +55,11 @@ fn serve_line<'p, 'c, N: Recorded, R: Wait, G: Gate, O: Write>(
     line: &InputLine,
     out: &mut O,
 ) -> Result<(), Failure>
-    ensures answers { OnOk result ((bytes : List ℕ) → IsReadAs bytes line.now → (more : List ℕ)
+    ensures answers { OnOk result ((bytes : List ℕ) → IsInputOf bytes line.now → (more : List ℕ)
         × Answers context.old.config
         (setting_of N.places N.policy context.old.provider.now.resolve_timeout) form number bytes
         session.old more session.new × Appends (O.contents out.old) (O.contents out.new) more) }
-    ensures err { OnErr result ((bytes : List ℕ) → IsReadAs bytes line.now → (beginning : List ℕ)
+    ensures err { OnErr result ((bytes : List ℕ) → IsInputOf bytes line.now → (beginning : List ℕ)
         × IsBeginning context.old.config
         (setting_of N.places N.policy context.old.provider.now.resolve_timeout) form number session.old
         beginning × Appends (O.contents out.old) (O.contents out.new) beginning) }

@@ -1,7 +1,7 @@
 -- What an input's buffer gives of a line.
 use Rattle.std.specs.Prelude.{◌≡◌, ◌≢◌, ℕ, List, [], ◌∷◌, ◌++◌, All, Option, OnSome}
 use Rattle.std.specs.Io.KnownBytes.{Consumes, IsAtEnd}
-use Rattle.am_serve.specs.Reading.{IsReadAs}
+use Rattle.am_serve.specs.Reading.{IsInputOf}
 use Rattle.am_serve.specs.declared.reading.InputLine.{InputLine}
 use Rattle.am_serve.specs.declared.reading.Met.{Met}
 use Rattle.am_serve.specs.declared.reading.Met.TheVariants.{LineFeed, End, Neither}
@@ -14,7 +14,7 @@ feed_of Neither = []
 
 -- what a line is read as, if these bytes come after those that it has
 abbrev pub GoesOn : InputLine → List ℕ → InputLine → Type 0
-GoesOn old more new = (bytes : List ℕ) → IsReadAs bytes old → IsReadAs (bytes ++ more) new
+GoesOn old more new = (bytes : List ℕ) → IsInputOf bytes old → IsInputOf (bytes ++ more) new
 
 -- what a buffer gave of a line: bytes that are no line feed, which were consumed with what was met after them
 pub record Gives (line : InputLine) (old new : Option (List ℕ)) (taken : InputLine × Met) : Type 0 where

@@ -2,7 +2,7 @@ use Rattle.std.proofs.Common.{inr, List, ℕ, [], sym, subst, append-nil}
 use Rattle.am_script.proofs.Outputs.{appends_kept}
 use Rattle.am_runner.specs.Sessions.{setting_of}
 use Rattle.am_serve.specs.Answering.{Answers}
-use Rattle.am_serve.specs.Reading.{IsReadAs}
+use Rattle.am_serve.specs.Reading.{IsInputOf}
 use Rattle.am_serve.proofs.OneByOne.{on_err_of}
 use Rattle.am_serve.proofs.serving.serve_line.Goals as goal
 
@@ -10,7 +10,7 @@ pub returns-in_err-write_text-clause-err : goal.returns-in_err-write_text-clause
 returns-in_err-write_text-clause-err g c =
     let part = c.in_err-write_text.ensures.written in
     let text = c.as_bytes.result.now in
-    on_err_of c.from_residual-in_err-write_text.result (λ (bytes : List ℕ) (read : IsReadAs bytes c.args.line.now).
+    on_err_of c.from_residual-in_err-write_text.result (λ (bytes : List ℕ) (read : IsInputOf bytes c.args.line.now).
     let answered : Answers c.args.context.now.config (setting_of g.N.Recorded.places g.N.Recorded.policy c.args.context.now.provider.now.resolve_timeout) c.args.form c.args.number bytes c.args.session.now text c.answer_input.new.session =
     subst (λ (printed : List ℕ). Answers c.args.context.now.config (setting_of g.N.Recorded.places g.N.Recorded.policy c.args.context.now.provider.now.resolve_timeout) c.args.form c.args.number bytes c.args.session.now printed c.answer_input.new.session) (sym c.as_bytes.ensures.value) (c.in_ok-text.ensures.answers bytes read) in (
       part.written,
