@@ -40,11 +40,24 @@ import (
 // Options say how the program is run.
 type Options = program.Options
 
-// A PutError says which alerts of a Put weren't stored. The others were.
-type PutError = program.PutError
+// A PutError says why one alert of a Put wasn't stored, and PutErrors says what of a Put wasn't.
+type (
+	PutError  = program.PutError
+	PutErrors = program.PutErrors
+)
 
-// ErrClosed is what calls end with after Close.
-var ErrClosed = program.ErrClosed
+// What calls end with, as package sinnoraku/program says.
+var (
+	ErrClosed   = program.ErrClosed
+	ErrDied     = program.ErrDied
+	ErrSilent   = program.ErrSilent
+	ErrEnded    = program.ErrEnded
+	ErrFull     = program.ErrFull
+	ErrNoMemory = program.ErrNoMemory
+	ErrTooLarge = program.ErrTooLarge
+	ErrText     = program.ErrText
+	ErrMoment   = program.ErrMoment
+)
 
 // AlertStoreCallback is asked before an alert is stored, and notified of what is stored and removed, as provider/mem's.
 type AlertStoreCallback interface {

@@ -1,6 +1,7 @@
 package program
 
 import (
+	"errors"
 	"fmt"
 	"os"
 	"path/filepath"
@@ -42,7 +43,7 @@ func everythingFails(t *testing.T, a *watched) {
 	}
 	says := func(what string, err error) {
 		t.Helper()
-		if err == nil || !strings.Contains(err.Error(), "ended by itself") {
+		if !errors.Is(err, ErrEnded) || !errors.Is(err, ErrDied) || !strings.Contains(err.Error(), "ended by itself") {
 			t.Errorf("%s: %v", what, err)
 		}
 	}
@@ -142,7 +143,7 @@ func TestAProgramThatIsSlowIsNotKilled(t *testing.T) {
 	t.Parallel()
 	p := start(writeProgram(t, `read a; read b; for at in 1 2 3 4 5; do sleep 0.4; echo '{"line":2,"answer":"pending"}'; done
 		echo '{"line":2,"answers":5}'; read c`), nil, configuration, func() {})
-	defer p.close()
+	defer p.close(endPatience)
 	if err := p.check(1500 * time.Millisecond); err != nil {
 		t.Error(err)
 	}

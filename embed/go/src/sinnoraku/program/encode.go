@@ -1,7 +1,6 @@
 package program
 
 import (
-	"errors"
 	"fmt"
 	"sort"
 	"strconv"
@@ -51,11 +50,8 @@ func appendPutHead(line []byte, now time.Time) []byte {
 
 const putEnd = "]}\n"
 
-// Moments that can't be written, or that stand for none.
+// Moments that stand for none.
 var (
-	errBadText   = errors.New("a text isn't UTF-8")
-	errBadMoment = errors.New("a moment is out of range")
-
 	// The program's last moment stands for an end that isn't there, since Alertmanager says of it that it never comes.
 	noEnd = time.Date(9999, 12, 30, 22, 0, 0, 999_999_999, time.UTC)
 	// The moment after Go's zero time stands for a start or an update that isn't there. It is before all others.
@@ -125,16 +121,16 @@ func appendAlert(line []byte, alert *Alert) (_ []byte, from, to int, err error) 
 func checkAlert(alert *Alert) error {
 	for _, moment := range [...]time.Time{alert.StartsAt, alert.EndsAt, alert.UpdatedAt} {
 		if moment.Before(noStart) || moment.After(noEnd) {
-			return fmt.Errorf("%w: %v", errBadMoment, moment)
+			return fmt.Errorf("%w: %v", ErrMoment, moment)
 		}
 	}
 	if !utf8.ValidString(alert.GeneratorURL) {
-		return fmt.Errorf("%w: %q", errBadText, alert.GeneratorURL)
+		return fmt.Errorf("%w: %q", ErrText, alert.GeneratorURL)
 	}
 	for _, labels := range [...]model.LabelSet{alert.Labels, alert.Annotations} {
 		for name, value := range labels {
 			if !utf8.ValidString(string(name)) || !utf8.ValidString(string(value)) {
-				return fmt.Errorf("%w: %q=%q", errBadText, name, value)
+				return fmt.Errorf("%w: %q=%q", ErrText, name, value)
 			}
 		}
 	}

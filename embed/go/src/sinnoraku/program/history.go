@@ -1,7 +1,6 @@
 package program
 
 import (
-	"errors"
 	"fmt"
 	"sync"
 	"time"
@@ -47,7 +46,7 @@ func (p *Program) keep() {
 			return
 		}
 		if deaths = append(deaths, time.Now()); areTooMany(deaths) {
-			p.listener.Ended(err)
+			p.listener.Ended(h.endForGood())
 			return
 		}
 		p.listener.Died(err)
@@ -71,7 +70,7 @@ func (p *Program) replace(dead *history) {
 	close(dead.replaced)
 	select {
 	case <-p.closing: // Close may have seen the dead one only
-		next.close()
+		next.close(p.options.endPatience())
 	default:
 	}
 }
@@ -134,7 +133,7 @@ func answersFor(asked *call, word string) ([]answer, error) {
 	case len(answers) > 0 && answers[0].word == word:
 		return answers, nil
 	case len(answers) > 0 && answers[0].word == "refused":
-		return nil, errors.New("sinnoraku: refused: " + answers[0].fault)
+		return nil, &refusal{answers[0].fault}
 	}
 	return nil, fmt.Errorf("sinnoraku: no %s was answered, but %.200q", word, asked.answers)
 }
@@ -168,7 +167,7 @@ func alertsIn(asked *call) ([]*Alert, error) {
 		case "cut":
 			return alerts, errCut
 		case "refused":
-			return nil, errors.New("sinnoraku: refused: " + it.fault)
+			return nil, &refusal{it.fault}
 		default:
 			return nil, fmt.Errorf("sinnoraku: a question was answered by %q", it.word)
 		}

@@ -3,29 +3,28 @@ package program
 import (
 	"bufio"
 	"bytes"
-	"errors"
 	"fmt"
 	"io"
-	"os/exec"
 	"sync"
 	"sync/atomic"
-	"syscall"
 	"time"
 )
 
-// ErrClosed is what calls end with after Close.
-var ErrClosed = errors.New("sinnoraku: the provider is closed")
-
-// How long the program may take to end once its input has ended.
-const endPatience = 10 * time.Second
+const (
+	// How long the program may print nothing at most once its input has ended.
+	endPatience = 10 * time.Second
+	// How long what it printed is read once it has ended, if something that it started still holds its output.
+	leftPatience = 2 * time.Second
+	// The number of the first line after the configuration.
+	firstLine = 2
+)
 
 // A process is one running replay program. It runs the lines that it is given in their order, so many callers can wait
 // for their answers at once. One goroutine reads the answers and hands each to its call.
 type process struct {
+	*child
 	path    string
-	command *exec.Cmd
-	input   io.WriteCloser
-	told    tail          // the end of its error stream
+	said    tail          // the end of its error stream
 	onPut   func()        // called by the reading goroutine after each answered put
 	ended   chan struct{} // closed once the program has ended and each call has its answer or an error
 	printed atomic.Int64  // how many lines it has printed
@@ -49,33 +48,42 @@ type call struct {
 
 // start starts the program with these arguments and gives it its first line. If it can't be started, it has ended already.
 func start(path string, arguments []string, configuration string, onPut func()) *process {
-	p := &process{path: path, onPut: onPut, ended: make(chan struct{}), waiting: map[int]*call{}, last: 1}
-	p.command = exec.Command(path, arguments...)
-	p.command.Stderr = &p.told
-	// A signal of the terminal is for this process, which then ends the program in order.
-	p.command.SysProcAttr = &syscall.SysProcAttr{Setpgid: true}
-	output, err := p.launch()
-	if err != nil {
-		p.kill(fmt.Errorf("sinnoraku: %w", err))
+	p := &process{
+		child: newChild(path, arguments), path: path, onPut: onPut,
+		ended: make(chan struct{}), waiting: map[int]*call{}, last: firstLine - 1,
+	}
+	if err := p.launch(); err != nil {
+		p.refuse(&because{ErrDied, err})
 		p.end(nil)
 		return p
 	}
 	if _, err := io.WriteString(p.input, configuration+"\n"); err != nil {
 		p.kill(nil)
 	}
-	go p.read(bufio.NewReaderSize(output, 1<<16))
+	go p.keep()
 	return p
 }
 
-// launch runs the command with pipes as its input and its output.
-func (p *process) launch() (output io.Reader, err error) {
-	if p.input, err = p.command.StdinPipe(); err != nil {
-		return nil, err
-	}
-	if output, err = p.command.StdoutPipe(); err != nil {
-		return nil, err
-	}
-	return output, p.command.Start()
+// keep reads what the program prints, until it has ended.
+func (p *process) keep() {
+	var reading sync.WaitGroup
+	reading.Add(2)
+	go func() {
+		defer reading.Done()
+		if err := p.readAnswers(bufio.NewReaderSize(p.output, 1<<16)); err != nil {
+			p.kill(&because{ErrDied, err})
+		}
+	}()
+	go func() {
+		defer reading.Done()
+		_, _ = io.Copy(&p.said, p.told)
+	}()
+	p.waitForEnd()
+	p.killGroup() // what it has started ends with it
+	late := time.AfterFunc(leftPatience, p.closePipes)
+	reading.Wait()
+	late.Stop()
+	p.end(p.reap())
 }
 
 // watch checks each interval whether the program still answers, until it ends.
@@ -106,7 +114,7 @@ func (p *process) check(patience time.Duration) error {
 // answer comes after theirs. The time is counted in parts: one in which this process was stopped too is one part.
 func (p *process) killIfSilent(patience time.Duration, answered <-chan struct{}) {
 	const parts = 10
-	ticker := time.NewTicker(patience / parts)
+	ticker := time.NewTicker(patience/parts + 1)
 	defer ticker.Stop()
 	printed := p.printed.Load()
 	for silent := 0; silent < parts; silent++ {
@@ -120,7 +128,8 @@ func (p *process) killIfSilent(patience time.Duration, answered <-chan struct{})
 		}
 	}
 	text := fmt.Sprintf("it answered nothing for %v", patience)
-	p.kill(fmt.Errorf("sinnoraku: the program %s was killed: %s", p.path, withTold(text, p.told.String())))
+	silent := fmt.Errorf("%s was killed: %s", p.path, withSaid(text, p.said.String()))
+	p.kill(&because{ErrDied, &because{ErrSilent, silent}})
 }
 
 // ask writes a line and waits for its answers.
@@ -169,36 +178,27 @@ func (p *process) expect(calls []*call, arePuts bool) error {
 	return p.err
 }
 
-// read hands each answer to its call, until the program ends.
-func (p *process) read(output *bufio.Reader) {
-	if err := p.readAnswers(output); err != nil {
-		p.kill(err)
-	}
-	p.end(p.command.Wait())
-}
-
-// readAnswers reads answers to the end of the output. What can't be an answer is an error.
+// readAnswers hands each answer to its call, to the end of the output. What can't be the next answer is an error.
 func (p *process) readAnswers(output *bufio.Reader) error {
 	var current *call
-	number := 0
-	for {
+	for next := firstLine; ; {
 		line, err := readLine(output)
 		if err != nil {
 			return nil
 		}
 		p.printed.Add(1)
-		at, kind := headOf(line)
+		number, kind := headOf(line)
 		switch {
 		case kind == isFirst || kind == isLast:
 			p.note(line)
 			continue
 		case kind == isNone:
-			return fmt.Errorf("sinnoraku: the program printed what is no answer: %.200q", line)
-		case at != number || current == nil:
-			number, current = at, p.waitingFor(at)
+			return fmt.Errorf("%s printed what is no answer: %.200q", p.path, line)
+		case current == nil:
+			current = p.waitingFor(next)
 		}
-		if current == nil {
-			return fmt.Errorf("sinnoraku: the program answered a line that nobody waits for: %.200q", line)
+		if number != next || current == nil {
+			return fmt.Errorf("%s answered a line that nobody waits for, or not the next one: %.200q", p.path, line)
 		}
 		if kind == isAnswer {
 			current.count++
@@ -206,10 +206,10 @@ func (p *process) readAnswers(output *bufio.Reader) error {
 			continue
 		}
 		if count := closingCount(line); count != current.count {
-			return fmt.Errorf("sinnoraku: line %d has %d answers where %d were announced", number, current.count, count)
+			return fmt.Errorf("%s gave line %d %d answers where %d were announced", p.path, next, current.count, count)
 		}
-		p.answered(number)
-		current = nil
+		p.answered(next)
+		next, current = next+1, nil
 	}
 }
 
@@ -245,7 +245,7 @@ func (p *process) answered(number int) {
 // note keeps a refusal of the configuration as why the program ended.
 func (p *process) note(line []byte) {
 	if refused, err := parseAnswer(line); err == nil && refused.word == "refused" {
-		_, _ = fmt.Fprintf(&p.told, "%s refused: %s", refused.do, refused.fault)
+		_, _ = fmt.Fprintf(&p.said, "%s refused: %s", refused.do, refused.fault)
 	}
 }
 
@@ -253,7 +253,7 @@ func (p *process) note(line []byte) {
 func (p *process) end(exit error) {
 	p.mutex.Lock()
 	if p.err == nil {
-		p.err = fmt.Errorf("sinnoraku: the program %s ended by itself: %s", p.path, withTold(endText(exit), p.told.String()))
+		p.err = &because{ErrDied, fmt.Errorf("%s ended by itself: %s", p.path, withSaid(endText(exit), p.said.String()))}
 	}
 	err, left := p.err, p.waiting
 	p.waiting = nil
@@ -272,12 +272,12 @@ func endText(exit error) string {
 	return exit.Error()
 }
 
-// withTold is a text followed by what the program told on its error stream.
-func withTold(text, told string) string {
-	if told == "" {
+// withSaid is a text followed by what the program said on its error stream.
+func withSaid(text, said string) string {
+	if said == "" {
 		return text
 	}
-	return text + ": " + told
+	return text + ": " + said
 }
 
 // why says why the program takes no more calls; nil while it does.
@@ -287,12 +287,12 @@ func (p *process) why() error {
 	return p.err
 }
 
-// close ends the program's input, and waits until the program has answered what was asked before and has ended.
-func (p *process) close() {
+// close ends the program's input, and waits until the program has answered what was asked before and has ended. One that
+// prints nothing for that long is killed.
+func (p *process) close(patience time.Duration) {
 	p.refuse(ErrClosed)
 	// A writer that is stuck is freed by the program's end.
-	late := time.AfterFunc(endPatience, func() { p.kill(nil) })
-	defer late.Stop()
+	go p.killIfSilent(patience, p.ended)
 	p.writing.Lock()
 	if p.input != nil {
 		_ = p.input.Close()
@@ -304,9 +304,15 @@ func (p *process) close() {
 // kill kills the program with what it has started. Without a reason calls end with how it ended.
 func (p *process) kill(reason error) {
 	p.refuse(reason)
-	if p.command.Process != nil {
-		_ = syscall.Kill(-p.command.Process.Pid, syscall.SIGKILL)
-	}
+	p.killGroup()
+}
+
+// endForGood says to all calls from now on that no other program starts, and returns what they end with.
+func (p *process) endForGood() error {
+	p.mutex.Lock()
+	defer p.mutex.Unlock()
+	p.err = &because{ErrEnded, p.err}
+	return p.err
 }
 
 // refuse takes no more calls. The first reason counts.

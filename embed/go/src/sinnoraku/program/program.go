@@ -37,7 +37,8 @@ type Options struct {
 	Refuse bool
 	// Interval is how often the program is asked whether it still answers; 0 is 5 s.
 	Interval time.Duration
-	// Patience is how long it may print nothing while it is asked something. Then it is killed. 0 is 30 s.
+	// Patience is how long it may print nothing while it is asked something. Then it is killed, and all calls that wait
+	// return ErrSilent. So each returns within the interval and the patience, if the program hangs. 0 is 30 s.
 	Patience time.Duration
 }
 
@@ -46,13 +47,21 @@ func (o Options) withDefaults() Options {
 	if o.Places == 0 {
 		o.Places = 256
 	}
-	if o.Interval == 0 {
+	if o.Interval <= 0 {
 		o.Interval = 5 * time.Second
 	}
-	if o.Patience == 0 {
+	if o.Patience <= 0 {
 		o.Patience = 30 * time.Second
 	}
 	return o
+}
+
+// endPatience is how long the program may print nothing once its input has ended.
+func (o Options) endPatience() time.Duration {
+	if o.Patience < endPatience {
+		return o.Patience
+	}
+	return endPatience
 }
 
 func (o Options) arguments() []string {
@@ -127,18 +136,19 @@ func Start(options Options, listener Listener, callback Callback) (*Program, err
 	return p, nil
 }
 
-// Close ends the program once it has answered what was asked before, and waits for its end. Iterators of subscriptions
-// stay open.
+// Close ends the program once it has answered what was asked before, and waits for its end. One that prints nothing for
+// Options.Patience, or for 10 s if that is less, is killed. Iterators of subscriptions stay open.
 func (p *Program) Close() {
 	p.once.Do(func() { close(p.closing) })
-	p.current.Load().close()
+	p.current.Load().close(p.options.endPatience())
 	<-p.done
 }
 
 // Done is closed once no program runs any more, by Close or because too many have died.
 func (p *Program) Done() <-chan struct{} { return p.done }
 
-// Err says why no calls are taken, and is nil while they are. Until Done is closed another program may take some.
+// Err says why no calls are taken, and is nil while they are. Until Done is closed another program may take some. Then it
+// is ErrClosed or ErrEnded.
 func (p *Program) Err() error { return p.current.Load().why() }
 
 // Get returns the stored alert of a fingerprint, and nil if there is none.

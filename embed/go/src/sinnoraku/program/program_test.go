@@ -1,6 +1,7 @@
 package program
 
 import (
+	"errors"
 	"fmt"
 	"os"
 	"path/filepath"
@@ -223,8 +224,8 @@ func TestWhatCannotBeStoredIsNamedAndTheRestIsStored(t *testing.T) {
 		alerts = append(alerts, it, firing(len(alerts)))
 	}
 	err := a.Put(alerts...)
-	failed, isPutError := err.(*PutError)
-	if !isPutError || len(failed.Faults) != len(faulty) {
+	var failed *PutErrors
+	if !errors.As(err, &failed) || len(failed.Alerts) != len(faulty) || len(failed.Others) != 0 {
 		t.Fatalf("%v", err)
 	}
 	for fault, it := range faulty {

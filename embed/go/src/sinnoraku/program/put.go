@@ -2,7 +2,6 @@ package program
 
 import (
 	"fmt"
-	"strings"
 	"sync"
 	"time"
 
@@ -15,62 +14,45 @@ const (
 	mostBytes  = 8 << 20
 )
 
-// A PutError says which alerts of a Put weren't stored. The others were.
-type PutError struct {
-	// Faults has an entry for each alert that wasn't stored, or for all of up to 1,024 that were refused together.
-	Faults []string
-}
-
-func (e *PutError) Error() string {
-	return "sinnoraku: not stored: " + strings.Join(e.Faults, "; ")
-}
-
-func (e *PutError) add(alert *Alert, fault string) {
-	e.Faults = append(e.Faults, fmt.Sprintf("%v: %s", alert.Labels, fault))
-}
-
-func (e *PutError) orNil() error {
-	if len(e.Faults) == 0 {
-		return nil
-	}
-	return e
-}
-
 // Put stores alerts, each merged with the stored one of its labels. Up to 1,024 alerts of one Put are stored together,
-// and they reach each subscriber in their order. An error names those that weren't stored.
+// and they reach each subscriber in their order. An error names those that weren't stored, each by a PutError.
 func (p *Program) Put(alerts ...*Alert) error {
+	var failed PutErrors
 	if p.callback != nil {
 		p.gate.Lock()
 		defer p.gate.Unlock()
-		return p.putOneByOne(p.current.Load(), alerts)
+		p.putOneByOne(p.current.Load(), alerts, &failed)
+		return failed.orNil()
 	}
 	p.gate.RLock()
 	defer p.gate.RUnlock()
-	return p.current.Load().put(alerts)
+	p.current.Load().put(alerts, 0, &failed)
+	return failed.orNil()
 }
 
 // putOneByOne asks the callback about each alert, and notifies it before the next one. It has the gate alone, so that
 // nothing changes between the question and the put.
-func (p *Program) putOneByOne(h *history, alerts []*Alert) error {
-	var failed PutError
-	for _, alert := range alerts {
+func (p *Program) putOneByOne(h *history, alerts []*Alert, failed *PutErrors) {
+	for at, alert := range alerts {
 		merged, existing, err := h.merged(alert, p.callback.Merge)
-		if err != nil {
-			return err
-		}
-		if p.callback.PreStore(merged, existing) != nil {
+		switch {
+		case err != nil && h.why() != nil:
+			failed.stop(err)
+			return
+		case err != nil:
+			failed.add(at, alert, err)
+			continue
+		case p.callback.PreStore(merged, existing) != nil:
 			continue
 		}
-		if err := h.put([]*Alert{merged}); err != nil {
-			if h.why() != nil {
-				return err
-			}
-			failed.Faults = append(failed.Faults, err.Error())
-			continue
+		before := len(failed.Alerts)
+		if h.put([]*Alert{merged}, at, failed); len(failed.Others) > 0 {
+			return
 		}
-		p.callback.PostStore(merged, existing)
+		if len(failed.Alerts) == before {
+			p.callback.PostStore(merged, existing)
+		}
 	}
-	return failed.orNil()
 }
 
 // merged is the alert as it would be stored, and whether one of its labels is.
@@ -98,19 +80,18 @@ func overlap(old, new *Alert) bool {
 		new.StartsAt.After(old.StartsAt) && new.StartsAt.Before(old.EndsAt)
 }
 
-// put writes the lines of all alerts, and then waits for the answers.
-func (h *history) put(alerts []*Alert) error {
-	var failed PutError
+// put writes the lines of all alerts, and then waits for the answers of each. The first alert has this index in its call.
+func (h *history) put(alerts []*Alert, index int, failed *PutErrors) {
 	room := rooms.Get().(*[]byte)
 	w := writer{text: (*room)[:0], now: time.Now()}
-	for _, alert := range alerts {
-		if err := w.add(alert); err != nil {
-			failed.add(alert, err.Error())
+	for at, alert := range alerts {
+		if err := w.add(alert, index+at); err != nil {
+			failed.add(index+at, alert, err)
 		}
 	}
 	lines := w.finish()
 	if len(lines) == 0 {
-		return failed.orNil()
+		return
 	}
 	calls := h.sendPuts(lines)
 	// The program works on them meanwhile.
@@ -120,11 +101,10 @@ func (h *history) put(alerts []*Alert) error {
 	*room = w.text
 	rooms.Put(room)
 	for at, it := range w.lines {
-		if err := h.take(calls[at], it, &failed); err != nil {
-			return err
+		if err := h.take(calls[at], it, failed); err != nil {
+			failed.stop(err)
 		}
 	}
-	return failed.orNil()
 }
 
 // sendPuts writes the lines of a put, at once as many as the readers' part of the log has room for.
@@ -156,6 +136,7 @@ type line struct {
 // A written alert, with the part of the text that has its labels.
 type written struct {
 	alert    *Alert
+	index    int // in the call
 	from, to int
 	// What will be known of it once it is stored. The labels are empty if they are known already.
 	fingerprint model.Fingerprint
@@ -163,7 +144,7 @@ type written struct {
 }
 
 // add writes an alert into the last line, or into a new one if that is full. If it can't be written, nothing is.
-func (w *writer) add(alert *Alert) error {
+func (w *writer) add(alert *Alert, index int) error {
 	last := w.last()
 	before := len(w.text)
 	text := w.text
@@ -179,12 +160,12 @@ func (w *writer) add(alert *Alert) error {
 	if size := len(text) - last.from + len(putEnd); size > mostBytes {
 		w.text = text[:before]
 		if len(last.alerts) == 0 {
-			return fmt.Errorf("it takes %d bytes", size)
+			return fmt.Errorf("%w: it takes %d bytes", ErrTooLarge, size)
 		}
 		w.end(last)
-		return w.add(alert)
+		return w.add(alert, index)
 	}
-	last.alerts = append(last.alerts, written{alert: alert, from: from, to: to})
+	last.alerts = append(last.alerts, written{alert: alert, index: index, from: from, to: to})
 	if len(last.alerts) == mostAlerts {
 		w.end(last)
 	}
@@ -255,7 +236,7 @@ func withValues(labels model.LabelSet) model.LabelSet {
 }
 
 // take waits for a line's answers, and notes what was stored and what wasn't.
-func (h *history) take(asked *call, l *line, failed *PutError) error {
+func (h *history) take(asked *call, l *line, failed *PutErrors) error {
 	if err := asked.wait(); err != nil {
 		return err
 	}
@@ -269,11 +250,15 @@ func (h *history) take(asked *call, l *line, failed *PutError) error {
 		case it.word == "post":
 			isPosted = true
 		case it.word == "refused":
-			failed.Faults = append(failed.Faults, h.readers.named(it.fault))
+			refused := &refusal{h.readers.named(it.fault)}
+			for _, one := range l.alerts {
+				failed.add(one.index, one.alert, refused)
+			}
 			return nil
 		case it.word == "invalid" && it.index < len(l.alerts):
-			failed.add(l.alerts[it.index].alert, it.fault)
-			l.alerts[it.index].labels = ""
+			one := &l.alerts[it.index]
+			failed.add(one.index, one.alert, &refusal{it.fault})
+			one.labels = ""
 		}
 	}
 	if !isPosted {
