@@ -10,6 +10,7 @@ import socket
 import subprocess
 import threading
 import time
+import urllib.error
 import urllib.request
 
 
@@ -137,6 +138,14 @@ class Alertmanager:
     def get(self, path):
         with urllib.request.urlopen(self.url + path, timeout=60) as answer:
             return answer.read().decode()
+
+    def status_of(self, path):
+        """The status of an answer, also of one that refuses."""
+        try:
+            with urllib.request.urlopen(self.url + path, timeout=60) as answer:
+                return answer.status
+        except urllib.error.HTTPError as refusal:
+            return refusal.code
 
     def metric(self, name):
         """The value of a metric, which is named with its labels; none if it isn't there."""

@@ -204,13 +204,25 @@ def of_pages(server):
         yield f"the metric {name}", None if value == 0 else f"it is {value} where 0 is wanted"
 
 
+def killed_while_asked(server):
+    """Whether there was a program to kill, and what both versions of the API answer to who asks for its alerts just then."""
+    if found := server.program():
+        os.kill(found, signal.SIGSTOP)
+    with concurrent.futures.ThreadPoolExecutor(2) as pool:
+        asked = [pool.submit(server.status_of, f"/api/{version}/alerts") for version in ("v1", "v2")]
+        time.sleep(1)
+        died = server.kill_program()
+    return died, [it.result() for it in asked]
+
+
 def of_deaths(room, command):
     """What becomes of a command whose program dies: another one goes on, and after the third death the command ends."""
     with Webhook() as hook, started(room, "deaths", command, hook) as server:
         yield from of_pages(server)
         silenced = server.amtool("silence", "add", "alertname=Silenced", "--comment=kept", "--author=test").returncode
         for turn in range(2):
-            died = server.kill_program()
+            died, statuses = killed_while_asked(server)
+            yield f"lists at death {turn + 1}", None if statuses == [500, 500] else f"the API answered {statuses}"
             another = wait_until(lambda: server.program(), 20)
             yield f"death {turn + 1}", None if died and another else f"one was killed: {died}, another one started: {another}"
             name = f"After{turn}"

@@ -190,11 +190,13 @@ func callerName() string {
 }
 
 // GetPending returns an iterator over what is stored. Puts go on while it is read, so each alert is as it was at its turn.
-// If the program fails, one empty alert comes while Err says why: Alertmanager's API looks for an error only when it gets an
-// alert.
+// If the program fails, nothing of what is stored comes, but one empty alert does, and Err says why. So look at Err before
+// each alert.
 func (a *Alerts) GetPending() provider.AlertIterator {
 	alerts, err := a.stored()
 	if err != nil {
+		// Both versions of Alertmanager's API look at Err only once they have taken an alert. Without one they would answer
+		// 200 and an empty list, as if nothing were stored. They don't look at the alert then.
 		alerts = []*types.Alert{{}}
 	}
 	return program.Over(alerts, err)

@@ -2,6 +2,7 @@ package sinnoraku
 
 import (
 	"context"
+	"errors"
 	"fmt"
 	"os"
 	"path/filepath"
@@ -246,8 +247,8 @@ func noted(t *testing.T) (path, file string) {
 	return path, file
 }
 
-// kill kills the process that a file names.
-func kill(t *testing.T, file string) {
+// signalProgram signals the process that a file names.
+func signalProgram(t *testing.T, file string, it syscall.Signal) {
 	t.Helper()
 	text, err := os.ReadFile(file)
 	if err != nil {
@@ -255,7 +256,7 @@ func kill(t *testing.T, file string) {
 	}
 	var process int
 	fmt.Sscan(string(text), &process)
-	if err := syscall.Kill(process, syscall.SIGKILL); err != nil {
+	if err := syscall.Kill(process, it); err != nil {
 		t.Fatal(err)
 	}
 }
@@ -268,7 +269,7 @@ func TestDeathsAreCountedAndTheThirdEndsTheProvider(t *testing.T) {
 	lost := firing(0).Fingerprint()
 	a.marker.SetActiveOrSilenced(lost, 1, []string{"1"}, nil)
 	for deaths := 1; deaths <= 2; deaths++ {
-		kill(t, file)
+		signalProgram(t, file, syscall.SIGKILL)
 		waitUntil(t, "another program takes puts", func() bool {
 			return testutil.ToFloat64(a.restarts) == float64(deaths) && a.Put(firing(deaths)) == nil
 		})
@@ -279,11 +280,11 @@ func TestDeathsAreCountedAndTheThirdEndsTheProvider(t *testing.T) {
 			t.Errorf("the mark of what was lost is %v", state)
 		}
 	}
-	kill(t, file)
+	signalProgram(t, file, syscall.SIGKILL)
 	<-a.Done()
 	says := func(what string, err error) {
 		t.Helper()
-		if err == nil || !strings.Contains(err.Error(), "ended by itself") {
+		if !errors.Is(err, ErrEnded) || !errors.Is(err, ErrDied) || !strings.Contains(err.Error(), "ended by itself") {
 			t.Errorf("%s: %v", what, err)
 		}
 	}
