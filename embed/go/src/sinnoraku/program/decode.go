@@ -137,8 +137,12 @@ func parseAnswer(line []byte) (answer, error) {
 type scanner struct {
 	text   string
 	at     int
+	depth  int // how many objects and lists it is in
 	failed bool
 }
+
+// What the program prints has four levels.
+const mostDepth = 16
 
 func (s *scanner) fail() { s.failed, s.at = true, len(s.text) }
 
@@ -173,12 +177,21 @@ func (s *scanner) has(word string) bool {
 	return true
 }
 
+// deeper begins an object or a list, and says whether there may be another one within the others.
+func (s *scanner) deeper() bool {
+	if s.depth++; s.depth > mostDepth {
+		s.fail()
+	}
+	return !s.failed
+}
+
 // object reads an object, whose members' values the given function reads.
 func (s *scanner) object(value func(name string)) {
 	s.wants('{')
-	if s.takes('}') {
+	if s.takes('}') || !s.deeper() {
 		return
 	}
+	defer func() { s.depth-- }()
 	for !s.failed {
 		name := s.string()
 		s.wants(':')
@@ -220,14 +233,26 @@ func (s *scanner) skip() {
 	case it == '{':
 		s.object(func(string) { s.skip() })
 	case it == '[':
-		s.at++
-		for !s.failed && !s.takes(']') {
-			s.skip()
-			s.takes(',')
-		}
+		s.list()
 	case s.has("null"), s.has("true"), s.has("false"):
 	default:
 		s.number()
+	}
+}
+
+// list passes over a list.
+func (s *scanner) list() {
+	s.wants('[')
+	if s.takes(']') || !s.deeper() {
+		return
+	}
+	defer func() { s.depth-- }()
+	for !s.failed {
+		s.skip()
+		if s.takes(']') {
+			return
+		}
+		s.wants(',')
 	}
 }
 

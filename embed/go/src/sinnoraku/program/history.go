@@ -162,6 +162,9 @@ func alertsIn(asked *call) ([]*Alert, error) {
 	for _, it := range answers {
 		switch it.word {
 		case "alert", "item":
+			if it.alert == nil {
+				return nil, fmt.Errorf("sinnoraku: an %s has no alert", it.word)
+			}
 			alerts = append(alerts, it.alert)
 		case "stored", "no_alert", "pending":
 		case "cut":

@@ -17,6 +17,8 @@ const (
 	readsOfFullLog = 256 * mostAlerts / longestRead
 	// How many alerts wait for a reader before no more are read ahead for it.
 	mostWaiting = 16 * mostRead
+	// How many alerts no store can hold.
+	mostStored = 1 << 32
 )
 
 // A lane is one subscription of the program. Its goroutine reads it ahead as things come, and deals them to its members:
@@ -107,7 +109,7 @@ func (l *lane) begin(asked *call) (stored int, _ error) {
 	if err != nil {
 		return 0, err
 	}
-	if len(answers) != 1 || answers[0].word != "subscribe" {
+	if len(answers) != 1 || answers[0].word != "subscribe" || answers[0].opening > mostStored {
 		return 0, fmt.Errorf("sinnoraku: a subscribe was answered by %q", asked.answers)
 	}
 	l.readers.mutex.Lock()
