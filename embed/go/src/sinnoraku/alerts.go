@@ -154,7 +154,7 @@ func (a *Alerts) Done() <-chan struct{} { return a.program.Done() }
 func (a *Alerts) Err() error { return a.program.Err() }
 
 // Put stores alerts, each merged with the stored one of its labels. Up to 1,024 alerts of one Put are stored together,
-// and they reach each subscriber in their order. An error names those that weren't stored.
+// and they reach each subscriber in their order. An error names those that weren't stored, each by a PutError.
 func (a *Alerts) Put(alerts ...*types.Alert) error {
 	ours := make([]*program.Alert, len(alerts))
 	for at, it := range alerts {

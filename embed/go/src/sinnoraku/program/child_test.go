@@ -2,7 +2,10 @@ package program
 
 import (
 	"errors"
+	"os"
 	"os/exec"
+	"path/filepath"
+	"strings"
 	"sync"
 	"sync/atomic"
 	"syscall"
@@ -85,4 +88,20 @@ func TestAProgramThatIsNotThereIsNotKilled(t *testing.T) {
 		t.Error("it was started")
 	}
 	c.killGroup()
+}
+
+// What a program has started, and what is in its group, ends with it.
+func TestAGroupEndsWithItsLeader(t *testing.T) {
+	file := filepath.Join(t.TempDir(), "process")
+	p := start(writeProgram(t, "sleep 60 & echo $! >"+file+"; exit 3"), nil, configuration, func() {})
+	<-p.ended
+	text, err := os.ReadFile(file)
+	if err != nil {
+		t.Fatal(err)
+	}
+	stat := filepath.Join("/proc", strings.TrimSpace(string(text)), "stat")
+	waitUntil(t, "it has ended", func() bool {
+		text, err := os.ReadFile(stat)
+		return err != nil || strings.Contains(string(text), ") Z ") // its new parent may never reap it
+	})
 }

@@ -126,7 +126,7 @@ func TestAProgramThatStopsIsReplaced(t *testing.T) {
 	go func() { _, err := a.Stored(); failures <- err }()
 	go func() { subscribed <- a.Subscribe() }()
 	for at := 0; at < cap(failures); at++ {
-		if err := <-failures; err == nil || !strings.Contains(err.Error(), "answered nothing for 2s") {
+		if err := <-failures; !errors.Is(err, ErrSilent) || !strings.Contains(err.Error(), "killed after 2s") {
 			t.Errorf("%v", err)
 		}
 	}

@@ -39,7 +39,7 @@ func TestNoCallWaitsForAProgramThatHangs(t *testing.T) {
 			return a.Put(firing(1))
 		},
 	} {
-		call := call
+		name, call := name, call
 		t.Run(name, func(t *testing.T) {
 			t.Parallel()
 			a := startWith(t, impatient)
@@ -96,6 +96,14 @@ func TestCloseDoesNotWaitForAProgramThatHangs(t *testing.T) {
 	t.Parallel()
 	a := startWith(t, impatient)
 	a.current.Load().signal(t, syscall.SIGSTOP)
+	endsSoon(t, "Close", a.Close)
+}
+
+// The put has more to write than a pipe holds, and so holds the lock that Close needs.
+func TestCloseDoesNotWaitForAPutThatHangs(t *testing.T) {
+	t.Parallel()
+	a := startWith(t, impatient)
+	a.current.Load().signal(t, syscall.SIGSTOP)
 	failed := make(chan error, 1)
 	go func() { failed <- a.Put(firings(0, 10*mostAlerts)...) }()
 	time.Sleep(50 * time.Millisecond)
@@ -144,6 +152,11 @@ func TestOptionsHaveDefaults(t *testing.T) {
 	for _, given := range []Options{{}, {Interval: -1, Patience: -1}} {
 		if got := given.withDefaults(); got != want {
 			t.Errorf("%v of %v", got, given)
+		}
+	}
+	for patience, want := range map[time.Duration]time.Duration{time.Second: time.Second, time.Minute: endPatience} {
+		if got := (Options{Patience: patience}).endPatience(); got != want {
+			t.Errorf("a program that is to end has %v of %v", got, patience)
 		}
 	}
 }

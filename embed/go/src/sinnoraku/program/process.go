@@ -3,6 +3,7 @@ package program
 import (
 	"bufio"
 	"bytes"
+	"errors"
 	"fmt"
 	"io"
 	"sync"
@@ -127,9 +128,8 @@ func (p *process) killIfSilent(patience time.Duration, answered <-chan struct{})
 			printed, silent = now, -1
 		}
 	}
-	text := fmt.Sprintf("it answered nothing for %v", patience)
-	silent := fmt.Errorf("%s was killed: %s", p.path, withSaid(text, p.said.String()))
-	p.kill(&because{ErrDied, &because{ErrSilent, silent}})
+	killed := errors.New(withSaid(fmt.Sprintf("%s was killed after %v", p.path, patience), p.said.String()))
+	p.kill(&because{ErrDied, &because{ErrSilent, killed}})
 }
 
 // ask writes a line and waits for its answers.
