@@ -28,7 +28,7 @@ pub record HasTakenDue (book : BookView) (subscription : SubscriptionView) : Typ
       → (account_of book.log subscription.cursor.lane.number).stand ≡ cut
 
 -- a pass, which owns what it did, knows the whole log of a Book
-pub record IsTold (book : BookView) (was is : PassView Alert Call) : Type 0 where
+pub record KnowsWholeLog (book : BookView) (was is : PassView Alert Call) : Type 0 where
   pub own : is.own ≡ was.own
   pub noted : is.noted ≡ batches book
   pub more : IsPrefix was.noted is.noted

@@ -32,7 +32,7 @@ ghost use Rattle.am_provider.specs.Settling.{IsOwn, IsSettled, own_in, own_of, p
 ghost use Rattle.am_provider.specs.Posts.{AddsOwn, IsCutBy, IsCutTo, PutsIf, IsPutCause, IsPutIfCause};
 ghost use Rattle.am_provider.specs.Posts.{IsAsBefore, Loads, WasAskedBefore};
 ghost use Rattle.am_provider.specs.Posts.{HasSameLimits};
-ghost use Rattle.am_provider.specs.Vouching.{HasTakenDue, IsTold};
+ghost use Rattle.am_provider.specs.Vouching.{HasTakenDue, KnowsWholeLog};
 
 use crate::answers::{Counts, Ended, Page, Policy, Posted, PostedIf};
 use crate::faults::{PutFault, SubFault};
@@ -565,7 +565,7 @@ impl<N: Origin> Book<N> {
     )
         ensures same { (self.new ≡ self.old) × (subscription.new ≡ subscription.old) }
         ensures due { HasTakenDue self.old subscription.old }
-        ensures told { IsTold self.old pass.old pass.new }
+        ensures told { KnowsWholeLog self.old pass.old pass.new }
     {
         self.log.tell(cast, &mut pass.pass);
         subscription.vouch(cast, &mut self.log);
