@@ -209,6 +209,7 @@ module _ {B K A : Type 0} (key : B → ℕ → K) where
         halves = λ _. omega arith;
         cuts = λ e. absurd (true≢false (sym e));
         keeps = λ e. absurd (omega arith);
+        lags = λ e. absurd (omega arith);
       };
       word = all_gone l small;
       keys = λ i x a b _ _ _. absurd (omega arith);

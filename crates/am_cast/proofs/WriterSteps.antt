@@ -52,7 +52,7 @@ module _ {B K A : Type 0} where
 module _ {B K A : Type 0} (key : B → ℕ → K) where
   pub lane_loaded : (t : Tail B) (b : Account K A) (v : LaneView B A) (words words' : List ℕ) (homes : Homes K) (l : ℕ) → get_or words' (lane_word l) 0 ≡ get_or words (lane_word l) 0 → LaneOk key t b v words homes l → LaneOk key t (loaded b) v words' homes l
   lane_loaded t b v words words' homes l same ok = let sd = ok.sound in record {
-    sound = record { seen = sd.seen; counts = counts_loaded t b sd.counts; turn = sd.turn; note = sd.note; start = sd.start; idles = sd.idles; vacates = sd.vacates; mid = sd.mid; halves = sd.halves; cuts = sd.cuts; keeps = sd.keeps };
+    sound = record { seen = sd.seen; counts = counts_loaded t b sd.counts; turn = sd.turn; note = sd.note; start = sd.start; idles = sd.idles; vacates = sd.vacates; mid = sd.mid; halves = sd.halves; cuts = sd.cuts; keeps = sd.keeps; lags = sd.lags };
     word = same ∙ ok.word;
     keys = ok.keys;
     empty = ok.empty;

@@ -131,6 +131,8 @@ pub record Sound {B K A : Type 0} (t : Tail B) (b : Account K A) (v : LaneView B
   pub cuts : v.cut ≡ true → (b.stand ≢ live) × (b.stand ≢ vacated)
   -- the key in the hand of a cut lane is the one that the writer knows to be away
   pub keeps : b.stand ≡ cut → v.held ≡ true → (b.away ≡ true) × (v.passed ≡ b.known)
+  -- the cursor of a cut lane passes no place but the one that its word showed in its hand when it was cut
+  pub lags : b.stand ≡ cut → v.passed + bit v.held ≤ b.half / 2 + b.half % 2
 
 -- one lane's word and slots show it
 pub record LaneOk {B K A : Type 0} (key : B → ℕ → K) (t : Tail B) (b : Account K A) (v : LaneView B A)

@@ -49,6 +49,7 @@ module _ {B K A : Type 0} (key : B → ℕ → K) where
                 halves = λ _. (let e : 2 * n ≤ 2 * n + 0 = omega arith in e);
                 cuts = λ e. absurd (true≢false (sym e));
                 keeps = λ e. absurd (omega arith);
+                lags = λ e. absurd (omega arith);
               };
               word = get_or-set_same s.words at_word new 0 (omega arith) ∙ (let e : new ≡ 4 * n + 2 * 0 + 0 = omega arith in e);
               keys = λ i x a d _ _ _. absurd (omega arith);

@@ -50,6 +50,7 @@ module _ {B K A : Type 0} (key : B → ℕ → K) where
             halves = sd.halves;
             cuts = sd.cuts;
             keeps = sd.keeps;
+            lags = sd.lags;
           };
           word = same ∙ ok.word;
           keys = λ i y a d e f z. beside i (omega arith) (omega arith) (λ z. omega arith) ∙ ok.keys i y (omega arith) d e (λ z. omega arith) z;

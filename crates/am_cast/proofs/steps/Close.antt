@@ -51,6 +51,7 @@ module _ {B K A : Type 0} (key : B → ℕ → K) where
               halves = sd.halves;
               cuts = sd.cuts;
               keeps = sd.keeps;
+              lags = sd.lags;
             };
             word = get_or-set_other s.words 0 (lane_word m) new 0 (λ e. omega arith) ∙ ok.word;
             keys = ok.keys;

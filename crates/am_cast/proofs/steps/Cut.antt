@@ -67,6 +67,7 @@ module _ {B K A : Type 0} (key : B → ℕ → K) where
           halves = sd.halves;
           cuts = λ _. ((λ z. omega arith), (λ z. omega arith));
           keeps = λ _ _. (refl, omega arith);
+          lags = λ _. (let h : bit v.held ≡ 1 = ap bit e in omega arith);
         };
         word = word_now true e (omega arith);
         keys = λ i x a c d f g. ok.keys i x (omega arith) c d f g;
@@ -92,6 +93,7 @@ module _ {B K A : Type 0} (key : B → ℕ → K) where
           halves = sd.halves;
           cuts = λ _. ((λ z. omega arith), (λ z. omega arith));
           keeps = λ _ z. absurd (true≢false (sym z ∙ e));
+          lags = λ _. (let h : bit v.held ≡ 0 = ap bit e in omega arith);
         };
         word = word_now false e (omega arith);
         keys = λ i x a c d f g. ok.keys i x (omega arith) c d f g;

@@ -40,6 +40,7 @@ module _ {B K A : Type 0} (key : B → ℕ → K) where
           halves = sd.halves;
           cuts = λ e. absurd ((sd.cuts e).0 alive);
           keeps = λ z. absurd (omega arith);
+          lags = λ z. absurd (omega arith);
         };
         word = same ∙ ok.word ∙ (λ i. shown (away_from i) (4 * v.passed + 2 * bit v.held + b.stand / 2)) ∙ (λ i. shown (sym away_from i) (4 * v.passed + 2 * bit v.held + 1));
         keys = ok.keys;
@@ -71,6 +72,7 @@ module _ {B K A : Type 0} (key : B → ℕ → K) where
           halves = λ _. (let e : n / 2 ≡ 2 * v.passed + bit v.held = omega arith in omega arith);
           cuts = sd.cuts;
           keeps = λ e. absurd (omega arith);
+          lags = λ e. absurd (omega arith);
         };
         word = same ∙ ok.word;
         keys = ok.keys;

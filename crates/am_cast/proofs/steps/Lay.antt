@@ -48,6 +48,7 @@ module _ {B K A : Type 0} (key : B → ℕ → K) where
             halves = sd.halves;
             cuts = sd.cuts;
             keeps = sd.keeps;
+            lags = sd.lags;
           };
           word = same ∙ ok.word;
           keys = λ i y a d e f g. beside i a (omega arith) (λ z. omega arith) ∙ ok.keys i y a d e (λ z. omega arith) g;

@@ -1,5 +1,5 @@
 -- A lane is left, with a key in hand or with none.
-use Rattle.std.proofs.Common.{[], ◌≡◌, ℕ, List, ◌∷◌, set, sym, refl, ap, ◌∙◌, subst, arith, Option, Some, Bool, true, false, true≢false, length-set, get_or-set_other, get_or-set_same}
+use Rattle.std.proofs.Common.{[], ◌≡◌, ℕ, ◌+◌, ◌/◌, ◌%◌, ◌≤◌, List, ◌∷◌, set, sym, refl, ap, ◌∙◌, subst, arith, Option, Some, Bool, true, false, true≢false, length-set, get_or-set_other, get_or-set_same}
 use mathlib.Core.Option.{none, some}
 use lib.ListN.{get_elem?}
 use Rattle.atomic_table.specs.Table.{step, Act, keeps, gives, rest, stepped, carried_after, Valid, Allows}
@@ -9,7 +9,7 @@ use Rattle.am_cast.specs.declared.views.Account.{Account}
 use Rattle.am_cast.specs.declared.views.LaneView.{LaneView}
 use Rattle.am_cast.specs.declared.views.View.{View}
 use Rattle.am_cast.specs.Core.{poster_behind}
-use Rattle.am_cast.specs.Rule.{gone, Homes, slot, lane_word, Ruled}
+use Rattle.am_cast.specs.Rule.{gone, Homes, slot, lane_word, bit, Ruled}
 use Rattle.am_cast.specs.Changes.{with_lane, left, laid_down}
 use Rattle.am_steps.specs.declared.event.Event.TheVariants as does
 use Rattle.am_cast.proofs.Events.{behind, Event, leave, AllowsEvent}
@@ -44,6 +44,7 @@ module _ {B K A : Type 0} (key : B → ℕ → K) where
             halves = λ e. absurd (true≢false (sym e));
             cuts = sd.cuts;
             keeps = λ _ e. absurd (true≢false (sym e));
+            lags = λ e. (let h : v.passed + bit v.held ≤ b.half / 2 + b.half % 2 = sd.lags e in omega arith);
           };
           word = get_or-set_same s.words at_word new 0 (omega arith) ∙ new_is;
           keys = λ i y a c d e f. all.keys i y a c d e;
@@ -84,6 +85,7 @@ module _ {B K A : Type 0} (key : B → ℕ → K) where
                 halves = λ e. absurd (true≢false (sym e));
                 cuts = sd.cuts;
                 keeps = λ _ e. absurd (true≢false (sym e));
+                lags = λ e. (let h : v.passed + bit v.held ≤ b.half / 2 + b.half % 2 = sd.lags e in omega arith);
               };
               word = get_or-set_same s.words at_word new 0 (omega arith) ∙ new_is;
               keys = λ i y a c d e f. all.keys i y a c d e;

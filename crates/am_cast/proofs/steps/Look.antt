@@ -40,6 +40,7 @@ module _ {B K A : Type 0} (key : B → ℕ → K) where
             halves = sd.halves;
             cuts = sd.cuts;
             keeps = sd.keeps;
+            lags = sd.lags;
           };
           word = ap (λ (l : List ℕ). get_or l (lane_word v.number) 0) same ∙ ok.word;
           keys = ok.keys;

@@ -51,6 +51,7 @@ module _ {B K A : Type 0} (key : B → ℕ → K) where
                 halves = λ _. (let h : b.half ≤ 2 * v.passed + 1 = subst (λ (x : Bool). b.half ≤ 2 * v.passed + bit x) held (sd.halves here) in omega arith);
                 cuts = λ e. ((λ alive. let even : n % 2 ≡ 0 = omega arith in absurd (true≢false (sym e ∙ ap (λ (m : ℕ). nat_eq m 1) even))), (λ vacant. true≢false (sym here ∙ sd.vacates vacant)));
                 keeps = λ _ e. absurd (true≢false (sym e));
+                lags = λ e. (let h : v.passed + 1 ≤ b.half / 2 + b.half % 2 = subst (λ (x : Bool). v.passed + bit x ≤ b.half / 2 + b.half % 2) held (sd.lags e) in omega arith);
               };
               word = get_or-set_same s.words at_word new 0 (omega arith) ∙ (let e : new ≡ 4 * (v.passed + 1) + 2 * 0 + b.stand / 2 = omega arith in e) ∙ (λ i. shown (sym here i) (4 * (v.passed + 1) + 2 * 0 + b.stand / 2));
               keys = λ i y a c d e f. all.keys i y a c d e;

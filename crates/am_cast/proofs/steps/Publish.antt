@@ -61,6 +61,7 @@ module _ {B K A : Type 0} (key : B → ℕ → K) where
           halves = sd.halves;
           cuts = sd.cuts;
           keeps = sd.keeps;
+          lags = sd.lags;
         };
         word = same ∙ ok.word;
         keys = λ i y a d e g h. ⊎_elim (λ (old : get_elem? t.log i ≡ some y). let inside = at_length t.log i y old in ok.keys i y a (omega arith) old g h)
@@ -83,6 +84,7 @@ module _ {B K A : Type 0} (key : B → ℕ → K) where
           halves = sd.halves;
           cuts = sd.cuts;
           keeps = sd.keeps;
+          lags = sd.lags;
         };
         word = same ∙ ok.word;
         keys = λ i y a d e g h. ⊎_elim (λ (old : get_elem? t.log i ≡ some y). ok.keys i y a d old g h) (λ (z : (i ≡ n) × (x ≡ y)). let z₀ = z.0 in absurd (omega arith)) (at_end t.log x y i e);

@@ -41,6 +41,7 @@ module _ {B K A : Type 0} (key : B → ℕ → K) where
             halves = sd.halves;
             cuts = sd.cuts;
             keeps = sd.keeps;
+            lags = sd.lags;
           };
           word = same ∙ ok.word;
           keys = λ i x a d e f g. beside i a (omega arith) (λ z. omega arith) ∙ ok.keys i x a d e (λ z. omega arith) g;

@@ -46,6 +46,7 @@ module _ {B K A : Type 0} (key : B → ℕ → K) where
           halves = sd.halves;
           cuts = sd.cuts;
           keeps = λ _ z. absurd (true≢false (sym z ∙ bare_hand));
+          lags = sd.lags;
         };
         word = same ∙ ok.word;
         keys = λ i x a c d _ _. let is : i ≡ b.known = omega arith in ap (λ (i : ℕ). get_elem? s.homes (slot p l i)) is ∙ ok.away is_away x (ap (get_elem? r.tail.log) (sym is) ∙ d) bare_hand;

@@ -64,6 +64,7 @@ module _ {B K A : Type 0} (key : B → ℕ → K) where
           halves = sd.halves;
           cuts = λ _. ((λ z. omega arith), (λ z. omega arith));
           keeps = λ z. absurd (omega arith);
+          lags = λ z. absurd (omega arith);
         };
         word = ap (λ (ws : List ℕ). get_or ws at_word 0) same ∙ word ∙ (λ i. shown (sym away_from i) (4 * v.passed + 2 * bit v.held + 0));
         keys = λ i x a d f _ _. let is : i ≡ b.known = omega arith in ap (λ (i : ℕ). get_elem? s.homes (slot p l i)) is ∙ ok.away e x (ap (get_elem? t.log) (sym is) ∙ f) bare_hand;
@@ -86,6 +87,7 @@ module _ {B K A : Type 0} (key : B → ℕ → K) where
           halves = sd.halves;
           cuts = λ _. ((λ z. omega arith), (λ z. omega arith));
           keeps = λ z. absurd (omega arith);
+          lags = λ z. absurd (omega arith);
         };
         word = ap (λ (ws : List ℕ). get_or ws at_word 0) same ∙ word ∙ (λ i. shown (sym away_from i) (4 * v.passed + 2 * bit v.held + 0));
         keys = ok.keys;

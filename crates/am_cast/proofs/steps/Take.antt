@@ -62,6 +62,7 @@ module _ {B K A : Type 0} (key : B → ℕ → K) where
                 halves = λ _. (let h : b.half ≤ 2 * v.passed + 0 = subst (λ (x : Bool). b.half ≤ 2 * v.passed + bit x) held (sd.halves here) in omega arith);
                 cuts = sd.cuts;
                 keeps = λ e _. absurd (omega arith);
+                lags = λ e. absurd (omega arith);
               };
               word = get_or-set_same s.words at_word new 0 (omega arith) ∙ (let e : new ≡ 4 * v.passed + 2 * 1 + b.stand / 2 = omega arith in e) ∙ (λ i. shown (sym here i) (4 * v.passed + 2 * 1 + b.stand / 2));
               keys = λ i y a c d e f. beside i a (omega arith) (f refl) ∙ ok.keys i y a c d e (λ h. absurd (true≢false (sym h ∙ held)));
@@ -103,6 +104,7 @@ module _ {B K A : Type 0} (key : B → ℕ → K) where
             halves = sd.halves;
             cuts = λ _. (was_cut, (λ e. true≢false (sym here ∙ sd.vacates e)));
             keeps = sd.keeps;
+            lags = sd.lags;
           };
           word = ap (λ (l : List ℕ). get_or l at_word 0) same ∙ ok.word;
           keys = ok.keys;
