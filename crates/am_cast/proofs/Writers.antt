@@ -73,10 +73,10 @@ map_length : {X Y : Type 0} (f : X → Y) (xs : List X) → length (map f xs) �
 map_length f [] = refl
 map_length f (x ∷ xs) = ap suc (map_length f xs)
 
-grown_fields : {K A : Type 0} (n : ℕ) (b : Account K A) → ((grown_as n b).turn ≡ b.turn) × ((grown_as n b).note ≡ b.note) × ((grown_as n b).start ≡ b.start) × ((grown_as n b).loads ≡ b.loads) × ((grown_as n b).stand ≡ b.stand) × ((grown_as n b).known ≡ b.known)
-grown_fields zero b = (refl, refl, refl, refl, refl, refl)
-grown_fields (suc zero) b = (refl, refl, refl, refl, refl, refl)
-grown_fields (suc (suc n)) b = (refl, refl, refl, refl, refl, refl)
+grown_fields : {K A : Type 0} (n : ℕ) (b : Account K A) → ((grown_as n b).turn ≡ b.turn) × ((grown_as n b).note ≡ b.note) × ((grown_as n b).start ≡ b.start) × ((grown_as n b).loads ≡ b.loads) × ((grown_as n b).stand ≡ b.stand) × ((grown_as n b).known ≡ b.known) × ((grown_as n b).half ≡ b.half)
+grown_fields zero b = (refl, refl, refl, refl, refl, refl, refl)
+grown_fields (suc zero) b = (refl, refl, refl, refl, refl, refl, refl)
+grown_fields (suc (suc n)) b = (refl, refl, refl, refl, refl, refl, refl)
 
 module _ {B K A : Type 0} (key : B → ℕ → K) where
   pub filled_else : (n : ℕ) (x : B) (l : ℕ) (b : Account K A) → n ≢ live → filled_as key n x l b ≡ b
@@ -84,10 +84,10 @@ module _ {B K A : Type 0} (key : B → ℕ → K) where
   filled_else (suc zero) x l b ne = absurd (ne refl)
   filled_else (suc (suc n)) x l b ne = refl
 
-  filled_fields : (n : ℕ) (x : B) (l : ℕ) (b : Account K A) → ((filled_as key n x l b).turn ≡ b.turn) × ((filled_as key n x l b).note ≡ b.note) × ((filled_as key n x l b).start ≡ b.start) × ((filled_as key n x l b).loads ≡ b.loads) × ((filled_as key n x l b).stand ≡ b.stand) × ((filled_as key n x l b).known ≡ b.known)
-  filled_fields zero x l b = (refl, refl, refl, refl, refl, refl)
-  filled_fields (suc zero) x l b = (refl, refl, refl, refl, refl, refl)
-  filled_fields (suc (suc n)) x l b = (refl, refl, refl, refl, refl, refl)
+  filled_fields : (n : ℕ) (x : B) (l : ℕ) (b : Account K A) → ((filled_as key n x l b).turn ≡ b.turn) × ((filled_as key n x l b).note ≡ b.note) × ((filled_as key n x l b).start ≡ b.start) × ((filled_as key n x l b).loads ≡ b.loads) × ((filled_as key n x l b).stand ≡ b.stand) × ((filled_as key n x l b).known ≡ b.known) × ((filled_as key n x l b).half ≡ b.half)
+  filled_fields zero x l b = (refl, refl, refl, refl, refl, refl, refl)
+  filled_fields (suc zero) x l b = (refl, refl, refl, refl, refl, refl, refl)
+  filled_fields (suc (suc n)) x l b = (refl, refl, refl, refl, refl, refl, refl)
 
   pub all_laid : (q q' : WriterView B K A) (x : B) → Calm q → FilledTo key q x 8 q' → AllLaid key q' x
   all_laid q q' x c f l h = let all = f.1 in let small : l < 8 = omega arith in let b : Account K A = account_of q l in let calm = c.1 l small in
@@ -130,13 +130,13 @@ module _ {B K A : Type 0} (key : B → ℕ → K) where
   )
 
   -- a publish counts no load, and admits nobody
-  pub longer_same : (q q' : WriterView B K A) (x : B) → FilledTo key q x 8 q' → (l : ℕ) → l < 8 → SameAdmission (account_of q l) (account_of (longer x q') l) × ((account_of (longer x q') l).stand ≡ (account_of q l).stand) × ((account_of (longer x q') l).known ≡ (account_of q l).known)
+  pub longer_same : (q q' : WriterView B K A) (x : B) → FilledTo key q x 8 q' → (l : ℕ) → l < 8 → SameAdmission (account_of q l) (account_of (longer x q') l) × ((account_of (longer x q') l).stand ≡ (account_of q l).stand) × ((account_of (longer x q') l).known ≡ (account_of q l).known) × ((account_of (longer x q') l).half ≡ (account_of q l).half)
   longer_same q q' x f l small = let all = f.1 in let b : Account K A = account_of q l in
       let is : account_of (longer x q') l ≡ grown (filled_as key b.stand x l b) = account_longer q' x l (omega arith) ∙ ap (λ (b : Account K A). grown b) ((f.2 l small).0 small) in
       let g = grown_fields (filled_as key b.stand x l b).stand (filled_as key b.stand x l b) in let h = filled_fields b.stand x l b in
       let loads : (account_of (longer x q') l).loads ≡ b.loads = ap (λ (b : Account K A). b.loads) is ∙ g.3 ∙ h.3 in
       let known : (account_of (longer x q') l).known ≡ b.known = ap (λ (b : Account K A). b.known) is ∙ g.5 ∙ h.5 in
-      ((ap (λ (b : Account K A). b.turn) is ∙ g.0 ∙ h.0, ap (λ (b : Account K A). b.note) is ∙ g.1 ∙ h.1, ap (λ (b : Account K A). b.start) is ∙ g.2 ∙ h.2, omega arith, omega arith), ap (λ (b : Account K A). b.stand) is ∙ g.4 ∙ h.4, known)
+      ((ap (λ (b : Account K A). b.turn) is ∙ g.0 ∙ h.0, ap (λ (b : Account K A). b.note) is ∙ g.1 ∙ h.1, ap (λ (b : Account K A). b.start) is ∙ g.2 ∙ h.2, omega arith, omega arith), ap (λ (b : Account K A). b.stand) is ∙ g.4 ∙ h.4, known, ap (λ (b : Account K A). b.half) is ∙ g.6 ∙ h.6)
 
 module _ {K A : Type 0} where
   pub retired_known : (b : Account K A) → (retired b).known ≡ b.known

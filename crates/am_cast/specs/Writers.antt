@@ -23,18 +23,22 @@ abbrev pub SameAdmission : {K A : Type 0} → Account K A → Account K A → Ty
 SameAdmission b c = (c.turn ≡ b.turn) × (c.note ≡ b.note) × (c.start ≡ b.start) × (b.loads ≤ c.loads)
     × (b.known ≤ c.known)
 
--- a lane stands as before, except that a live one may be found vacated
+-- a lane stands as before, except that a live one may be found vacated. A cut one keeps the word at which it
+-- was cut
 abbrev pub StandsOn : {K A : Type 0} → Account K A → Account K A → Type 0
 StandsOn b c = (c.stand ≢ b.stand → (b.stand ≡ live) × (c.stand ≡ vacated))
+    × (b.stand ≡ cut → c.half ≡ b.half)
 
 -- the same admission, and the lane stands on
 abbrev pub StaysAs : {K A : Type 0} → Account K A → Account K A → Type 0
 StaysAs b c = SameAdmission b c × StandsOn b c
 
 -- whether the lane was cut between two moments, in a log of n places: only if it was as many places behind as
--- there are. It is the lag that tokio's `broadcast::Receiver` reports as `Lagged`
+-- there are, by the word at which it was cut. It is the lag that tokio's `broadcast::Receiver` reports as
+-- `Lagged`
 abbrev pub IsCutAs : {K A : Type 0} → ℕ → ℕ → Account K A → Account K A → Bool → Type 0
 IsCutAs n places b c true = (b.stand ≡ live) × (c.stand ≡ cut) × (n ≡ c.known + places)
+    × (c.half / 2 ≡ c.known)
 IsCutAs n places b c false = StandsOn b c
 
 module _ {B K A : Type 0} where

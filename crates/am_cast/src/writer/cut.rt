@@ -166,7 +166,8 @@ impl<T: Drop, P, A, N: Feed> WriterState<T, P, A, N> {
         ensures rows { KeepsRoom self.old.rows self.new.rows }
         ensures same { SameAdmission (account_of self.old.known lane) (account_of self.new.known lane) }
         ensures cut { result ≡ word → ((account_of self.new.known lane).stand ≡ cut)
-            × ((account_of self.new.known lane).known ≡ (account_of self.old.known lane).known) }
+            × ((account_of self.new.known lane).known ≡ (account_of self.old.known lane).known)
+            × ((account_of self.new.known lane).half ≡ (account_of self.old.known lane).half) }
         ensures gone { result ≡ gone → (account_of self.new.known lane).stand ≡ vacated }
         ensures found { result ≢ word → result ≢ gone
             → ((account_of self.new.known lane).stand ≡ live)

@@ -138,7 +138,7 @@ impl<T: Drop, P, A, N: Feed> WriterState<T, P, A, N> {
             (account_of self.new.known lane) }
         ensures account { let b = account_of self.old.known lane in
             let c = account_of self.new.known lane in SameAdmission b c × (c.stand ≡ b.stand)
-            × (b.loads < c.loads) }
+            × (c.half ≡ b.half) × (b.loads < c.loads) }
     {
         let place = self.known_of(lane);
         if self.recover(cast, lane) {

@@ -147,7 +147,8 @@ impl<T: Drop, P, A, N: Feed> WriterState<T, P, A, N> {
         ensures same { (l : ℕ) → l < LANES
             → SameAdmission (account_of self.old.known l) (account_of self.new.known l)
             × ((account_of self.new.known l).stand ≡ (account_of self.old.known l).stand)
-            × ((account_of self.new.known l).known ≡ (account_of self.old.known l).known) }
+            × ((account_of self.new.known l).known ≡ (account_of self.old.known l).known)
+            × ((account_of self.new.known l).half ≡ (account_of self.old.known l).half) }
         ensures place { (x : BatchView T P) × (x.post ≡ post.value) × (batch_items x ≡ batch.items)
             × (self.new.known.tail ≡ longer_tail x self.old.known.tail)
             × (to.new.table_id ≡ to.old.table_id) × (to.new.me.1 ≡ to.old.me.1)

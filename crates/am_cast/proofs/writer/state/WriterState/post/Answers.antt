@@ -33,7 +33,7 @@ returns-clause-calm g c = let r = c.requires.writer in subst (λ (q : WriterView
     (calm_longer key_of c.args.self.now.known c.fill-row.new.self.known (batch_of_tag c.tag_batch-tag.result) r.2 r.3 c.fill-row.ensures.writer)
 
 pub returns-clause-same : goal.returns-clause-same
-returns-clause-same g c l small = subst (λ (q : WriterView (BatchView g.row.T.Denot g.row.P.Denot) (KeyView g.row.T.Denot) g.row.A.Denot). SameAdmission (account_of c.args.self.now.known l) (account_of q l) × ((account_of q l).stand ≡ (account_of c.args.self.now.known l).stand) × ((account_of q l).known ≡ (account_of c.args.self.now.known l).known)) (sym c.store.ensures.writer)
+returns-clause-same g c l small = subst (λ (q : WriterView (BatchView g.row.T.Denot g.row.P.Denot) (KeyView g.row.T.Denot) g.row.A.Denot). SameAdmission (account_of c.args.self.now.known l) (account_of q l) × ((account_of q l).stand ≡ (account_of c.args.self.now.known l).stand) × ((account_of q l).known ≡ (account_of c.args.self.now.known l).known) × ((account_of q l).half ≡ (account_of c.args.self.now.known l).half)) (sym c.store.ensures.writer)
     (longer_same key_of c.args.self.now.known c.fill-row.new.self.known (batch_of_tag c.tag_batch-tag.result) c.fill-row.ensures.writer l small)
 
 pub returns-clause-place : goal.returns-clause-place
