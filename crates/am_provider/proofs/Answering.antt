@@ -40,7 +40,7 @@ use Rattle.am_store.proofs.Trims.{sent_until}
 use Rattle.am_store.specs.Broadcast.{items_of, IsFront}
 use Rattle.am_provider.specs.Subscriptions.{SubscriptionView, taken}
 use Rattle.am_provider.specs.Vouching.{HasTakenDue}
-use Rattle.am_provider.proofs.Recording.{open_whole, same, same_closed, same_open, same_places, tells_of}
+use Rattle.am_provider.proofs.Recording.{lagged_within, open_whole, same, same_closed, same_open, same_places, tells_of}
 
 -- ---- a caller that has seen its call
 
@@ -190,6 +190,12 @@ module _ {policy : Policy} {places : ℕ} (book : BookView) (entries : List Entr
         complete = λ told. it.complete told ∙ owed;
         told_closed = λ told. same_closed book entries of ∙ it.told_closed told;
         told_cut = λ told. was_cut (is_cut entries number) refl (it.told_cut told);
+        lagged = λ severed.
+            let small = lane_low book.journal number s.at kept.journal.legal it.lane in
+            let had = of.lags number small severed _ ((kept.lanes number small).note s.at it.lane) in
+            let most = it.lags ((tells_of book entries of number small).yes severed) in
+            let few = it.places in
+            lagged_within entries had (omega (arith, most, few, of.limits.1));
       }
     where
       was_cut : (b : Bool) → is_cut entries s.cursor.lane.number ≡ b → (account_of book.log s.cursor.lane.number).stand ≡ cut → is_cut entries s.cursor.lane.number ≡ true
@@ -225,7 +231,7 @@ put_refusal {policy} {places} a b entries count (put.Full lane passed) of kept s
     (same_closed a entries of ∙ why.0, why.1, omega (arith, long, room), sym of.limits.0 ∙ why.2.0, small, opened.0, opened.1, omega (arith, long, log, limit, known, most, of.limits.1), sent_since a entries of kept lane passed places small opened.0 (omega (arith, known, moved.4)) (omega (arith, log, limit, known, most, of.limits.1)))
   where
     was_live : (was is : Account (KeyView Alert) OpenLane) → StaysAs was is → is.stand ≡ live → was.stand ≡ live
-    was_live was is on lives = dite (ℕ_discrete is.stand was.stand) (λ e. sym e ∙ lives) (λ ne. let moved = on.1 ne in absurd (omega (arith, moved.1, lives)))
+    was_live was is on lives = dite (ℕ_discrete is.stand was.stand) (λ e. sym e ∙ lives) (λ ne. let moved = on.1.0 ne in absurd (omega (arith, moved.1, lives)))
 
 -- a refusal before the filter was asked of all
 pub judge_refusal : {policy : Policy} {places : ℕ} (a : BookView) (entries : List EntryView) (fault : PutFault) → IsRecorded policy places a entries

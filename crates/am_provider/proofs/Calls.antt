@@ -1,5 +1,5 @@
 -- A Book's fields as each kind of call comes.
-use Rattle.std.proofs.Common.{◌≡◌, ◌≢◌, ℕ, zero, suc, ◌+◌, ◌-◌, ◌*◌, ◌%◌, ◌^◌, ◌<◌, ◌≤◌, Bool, true, false, cond, nat_eq, ◌||◌, ◌⊎◌, List, [], ◌∷◌, ◌++◌, length, take, drop, map, filter, set, Option, None, Some, All, refl, sym, ap, subst, ◌∙◌, arith, length-append, length-drop, inl, inr, ⊎_elim}
+use Rattle.std.proofs.Common.{◌≡◌, ◌≢◌, ℕ, zero, suc, ◌+◌, ◌-◌, ◌*◌, ◌/◌, ◌%◌, ◌^◌, ◌<◌, ◌≤◌, Bool, true, false, cond, nat_eq, ◌||◌, ◌⊎◌, List, [], ◌∷◌, ◌++◌, length, take, drop, map, filter, set, Option, None, Some, All, refl, sym, ap, subst, ◌∙◌, arith, length-append, length-drop, inl, inr, ⊎_elim}
 use mathlib.Core.List.{IsPrefix}
 use Rattle.std.specs.Option.{is_some, IfSome, IsSome}
 use Rattle.std.proofs.lemmas.List.{length-map, append-nil, append_assoc, map-append, drop-map, take_all, take-append-drop}
@@ -319,14 +319,17 @@ leaving_by a counted places count s cursor kept of same small ne sound began end
 
 -- it has taken its due, by the Book that it leaves or in which it goes on
 pub has_taken : (a : Shelf) (counted places : ℕ) (s : SubscriptionView) (one : OpenLane) → IsKeptBook a counted places → Leaving a s one
-    → (HasCut s.cursor → (account_of a.log s.cursor.lane.number).stand ≡ cut) → HasTakenDue (view_of a) s
-has_taken a counted places s one kept by was_cut = record {
+    → (HasCut s.cursor → (account_of a.log s.cursor.lane.number).stand ≡ cut) → s.cursor.lane.places ≡ a.log.tail.places
+    → ((account_of a.log s.cursor.lane.number).stand ≡ cut → s.cursor.lane.passed ≤ (account_of a.log s.cursor.lane.number).half / 2 + 1) → HasTakenDue (view_of a) s
+has_taken a counted places s one kept by was_cut same lags = record {
   lane = subst (IsOpenSubscription a.journal.journal s.cursor.lane.number) (sym by.at) by.its.given;
   owes = by.owes;
   front = by.front;
   complete = by.complete;
   told_closed = λ told. sym kept.pages.closed ∙ by.closed told;
   told_cut = was_cut;
+  places = same;
+  lags = lags;
 }
 
 is_given : (a : Shelf) (s : SubscriptionView) (one : OpenLane) → Leaving a s one → is_some (lane_at a.lanes s.cursor.lane.number) ≡ true

@@ -1,5 +1,5 @@
 -- A history grows as the journal does.
-use Rattle.std.proofs.Common.{◌≡◌, ◌≢◌, ℕ, ◌+◌, ◌-◌, ◌≤◌, ◌<◌, max, add_assoc, add-zero, Bool, true, false, ◌||◌, cond, nat_eq, nat_le, List, [], ◌∷◌, ◌++◌, Option, Some, None, length, get_or, take, drop, filter, refl, sym, ap, subst, ◌∙◌, arith, length-append, length-drop, inl, inr}
+use Rattle.std.proofs.Common.{◌≡◌, ◌≢◌, ℕ, ◌+◌, ◌-◌, ◌/◌, ◌≤◌, ◌<◌, max, add_assoc, add-zero, Bool, true, false, ◌||◌, cond, nat_eq, nat_le, List, [], ◌∷◌, ◌++◌, Option, Some, None, length, get_or, take, drop, filter, refl, sym, ap, subst, ◌∙◌, arith, length-append, length-drop, inl, inr}
 use mathlib.Core.List.{IsPrefix}
 use mathlib.Core.Logic.{dite}
 use native.Mathlib.Decide.{ℕ_discrete}
@@ -12,7 +12,7 @@ use Rattle.am_alert.specs.declared.alert.Alert.{Alert}
 use Rattle.am_segment.specs.Segments.{KeyView}
 use Rattle.am_cast.specs.declared.views.Account.{Account}
 use Rattle.am_cast.specs.Rule.{idle, live, cut, vacated}
-use Rattle.am_cast.specs.Seats.{account_of}
+use Rattle.am_cast.specs.Seats.{account_of, some_or}
 use Rattle.am_cast.specs.Writers.{StandsOn, IsCutAs}
 use Rattle.am_store.specs.LaneSets.{has_lane}
 use Rattle.am_store.specs.declared.call.Call.{Call}
@@ -26,6 +26,7 @@ use Rattle.am_store.specs.Laws.{GiveTheSame}
 use Rattle.am_store.proofs.Journals.{get_end, get_drop, first_stays, first_all, broadcast_last, legal_last}
 use Rattle.am_store.proofs.Trims.{trimmed_gives_the_same, trimmed_grows, trimmed_twice, moved, since_same}
 use Rattle.am_provider.specs.declared.answers.Policy.{Policy}
+use Rattle.am_provider.specs.Headline.{HasLagged}
 use Rattle.am_provider.specs.Batches.{Batch, LogView, sent_in}
 use Rattle.am_provider.specs.BookView.{BookView, batches, IsEndingOf, IsFaithful}
 use Rattle.am_provider.specs.declared.answers.Ended.{Ended}
@@ -203,13 +204,53 @@ tells_stand flag was is e it = record { yes = λ y. e ∙ it.yes y; no = λ n c.
 -- a lane that stands on is cut if it was
 tells_on : (flag : Bool) (was is : Account (KeyView Alert) OpenLane) → StandsOn was is → Tells flag was → Tells flag is
 tells_on flag was is on it = record {
-  yes = λ y. dite (ℕ_discrete is.stand was.stand) (λ e. e ∙ it.yes y) (λ ne. let moved = on ne in let stood = it.yes y in absurd (omega (arith, moved.0, stood)));
-  no = λ n c. dite (ℕ_discrete is.stand was.stand) (λ e. it.no n (sym e ∙ c)) (λ ne. let moved = on ne in absurd (omega (arith, moved.1, c)));
+  yes = λ y. dite (ℕ_discrete is.stand was.stand) (λ e. e ∙ it.yes y) (λ ne. let moved = on.0 ne in let stood = it.yes y in absurd (omega (arith, moved.0, stood)));
+  no = λ n c. dite (ℕ_discrete is.stand was.stand) (λ e. it.no n (sym e ∙ c)) (λ ne. let moved = on.0 ne in absurd (omega (arith, moved.1, c)));
 }
 
 -- each account goes on as the call says
 abbrev pub CutsAs : BookView → BookView → Call → ℕ → Type 0
 CutsAs a b call bits = (lane : ℕ) → lane < 8 → (was : Bool) → Tells was (account_of a.log lane) → Tells (cut_after lane was call bits) (account_of b.log lane)
+
+-- ---- how far the readers of cut lanes are
+
+-- a reader of a cut lane had lagged, and has by the longer history
+lagged_more : {places lane at passed : ℕ} (before more : List EntryView) → HasLagged places lane at passed before → HasLagged places lane at passed (before ++ more)
+lagged_more before more it = record {
+  first = it.first;
+  rest = it.rest ++ more;
+  now = it.now;
+  alerts = it.alerts;
+  cut = it.cut;
+  entries = ap (λ (entries : List EntryView). entries ++ more) it.entries ∙ append_assoc it.first (Accepted (Posted it.now it.alerts) it.cut None ∷ it.rest) more;
+  still_open = it.still_open;
+  cuts = it.cuts;
+  late = it.late;
+}
+
+-- one that has passed as many or fewer had lagged too
+pub lagged_within : {places some lane at passed most : ℕ} (before : List EntryView) → HasLagged some lane at most before → passed + places ≤ most + some → HasLagged places lane at passed before
+lagged_within before it less = record {
+  first = it.first;
+  rest = it.rest;
+  now = it.now;
+  alerts = it.alerts;
+  cut = it.cut;
+  entries = it.entries;
+  still_open = it.still_open;
+  cuts = it.cuts;
+  late = omega (arith, it.late, less);
+}
+
+-- by a Book, the readers of its cut lanes had lagged
+abbrev pub LagsAs : ℕ → BookView → List EntryView → Type 0
+LagsAs places b entries = (lane : ℕ) → lane < 8 → is_cut entries lane ≡ true → (one : OpenLane) → (account_of b.log lane).note ≡ Some one → HasLagged places lane one.at ((account_of b.log lane).half / 2 + 1) entries
+
+-- one that was cut before still has its note and its word
+lags_on : {policy : Policy} {places : ℕ} (a : BookView) (entries more : List EntryView) (lane : ℕ) (is : Account (KeyView Alert) OpenLane) (one : OpenLane) → IsRecorded policy places a entries → lane < 8 → is_cut entries lane ≡ true
+    → is.note ≡ (account_of a.log lane).note → is.half ≡ (account_of a.log lane).half → is.note ≡ Some one → HasLagged places lane one.at (is.half / 2 + 1) (entries ++ more)
+lags_on {places = places} a entries more lane is one of small severed note half has =
+    subst (λ (n : ℕ). HasLagged places lane one.at (n / 2 + 1) (entries ++ more)) (sym half) (lagged_more entries more (of.lags lane small severed one (sym note ∙ has)))
 
 -- ---- the endings
 
@@ -253,8 +294,8 @@ may_whole a b entries call of new journal =
     may a entries of call (subst (λ j. MayFollow j call) (first_stays a.journal call (length a.journal.calls) (omega arith) ∙ first_all a.journal) (legal (length a.journal.calls) call (get_end a.journal.calls call)))
 
 pub recorded_more : {policy : Policy} {places : ℕ} (a b : BookView) (entries : List EntryView) (call : Call) (bits : ℕ) (ended : Option Ended) → IsRecorded policy places a entries → IsFaithful a → IsFaithful b
-    → b.journal ≡ with_call a.journal call → IsPrefix (batches a) (batches b) → HasSameLimits a b → CutsAs a b call bits → EndsAs a b ended → b.gone ≡ a.gone → IsRecorded policy places b (entries ++ Accepted call bits ended ∷ [])
-recorded_more {policy} {places} a b entries call bits ended of old new journal longer limits cuts ends gone =
+    → b.journal ≡ with_call a.journal call → IsPrefix (batches a) (batches b) → HasSameLimits a b → CutsAs a b call bits → LagsAs places b (entries ++ Accepted call bits ended ∷ []) → EndsAs a b ended → b.gone ≡ a.gone → IsRecorded policy places b (entries ++ Accepted call bits ended ∷ [])
+recorded_more {policy} {places} a b entries call bits ended of old new journal longer limits cuts lags ends gone =
     let is = whole_more entries call bits ended in
     let count = trimmed_by entries in
     let trimmed : IsTrimmed (with_call (whole entries) call) count (with_call a.journal call) = trimmed_grows (whole entries) a.journal count call of.few of.journal in
@@ -272,6 +313,7 @@ recorded_more {policy} {places} a b entries call bits ended of old new journal l
       sent = sent_more a b entries call count of.sent old new journal longer grown ∙ ap broadcast (sym is);
       cuts = λ lane small. (tells lane small).yes;
       spares = λ lane small. (tells lane small).no;
+      lags = lags;
       endings = (ends_more a b entries call bits ended of ends).0;
       early = (ends_more a b entries call bits ended of ends).1;
       limits = (limits.0 ∙ of.limits.0, limits.1 ∙ of.limits.1);
@@ -287,6 +329,61 @@ cuts_posted a b now alerts bits by lane small was tells = posted was (has_lane b
     posted false true it how = record { yes = λ y. how.1; no = λ n. absurd (let no : true ≡ false = n in cc) }
     posted true false it how = tells_on true (account_of a.log lane) (account_of b.log lane) how it
     posted false false it how = tells_on false (account_of a.log lane) (account_of b.log lane) how it
+
+-- one that the post cut lagged then by as many batches as the log has places
+pub lags_posted : {policy : Policy} {places : ℕ} (a b : BookView) (entries : List EntryView) (now : ℕ) (alerts : List Alert) (bits : ℕ) → IsRecorded policy places a entries → IsFaithful a → IsCutBy a b bits → LagsAs places b (entries ++ Accepted (Posted now alerts) bits None ∷ [])
+lags_posted {places = places} a b entries now alerts bits of kept by lane small severed one has =
+    go (is_cut entries lane) (has_lane bits lane) refl refl (sym (cut_more lane false entries (Posted now alerts) bits None) ∙ severed) (by.cuts lane small)
+  where
+    was : Account (KeyView Alert) OpenLane
+    was = account_of a.log lane
+
+    is : Account (KeyView Alert) OpenLane
+    is = account_of b.log lane
+
+    opened : (flag : Bool) → is_open a.journal lane ≡ flag → was.stand ≡ live → is_open a.journal lane ≡ true
+    opened true e lives = e
+    opened false e lives = absurd (let stands = (kept.lanes lane small).shut e in omega (arith, stands, lives))
+
+    go : (before bit : Bool) → is_cut entries lane ≡ before → has_lane bits lane ≡ bit → before || bit ≡ true → IsCutAs (length (batches a)) a.log.tail.places was is bit
+        → HasLagged places lane one.at (is.half / 2 + 1) (entries ++ Accepted (Posted now alerts) bits None ∷ [])
+    go before true e f some how =
+        let begun = (kept.lanes lane small).begun (opened (is_open a.journal lane) refl how.0) in
+        let note : Some one ≡ Some (record { at = begun.0; opening = _ }) = sym has ∙ ((by.lanes lane small).1 ∙ (kept.lanes lane small).note begun.0 begun.1) in
+        let at : one.at ≡ begun.0 = ap (λ (o : Option OpenLane). (some_or one o).at) note in
+        let long = same_places a entries of in
+        record {
+          first = entries;
+          rest = [];
+          now = now;
+          alerts = alerts;
+          cut = bits;
+          entries = refl;
+          still_open = subst (IsOpenSubscription (whole entries) lane) (sym at) (open_whole a entries of lane begun.0 begun.1);
+          cuts = f;
+          late = omega (arith, how.2, how.3, long, of.limits.1);
+        }
+    go true false e f some how = lags_on a entries (Accepted (Posted now alerts) bits None ∷ []) lane is one of small e (by.lanes lane small).1 (how.1 (of.cuts lane small e)) has
+    go false false e f some how = absurd (let no : false ≡ true = some in cc)
+
+pub lags_same : {policy : Policy} {places : ℕ} (a b : BookView) (entries : List EntryView) (call : Call) (bits : ℕ) (ended : Option Ended) → IsRecorded policy places a entries → ((lane : ℕ) (was : Bool) → cut_after lane was call bits ≡ was) → b.log.accounts ≡ a.log.accounts
+    → LagsAs places b (entries ++ Accepted call bits ended ∷ [])
+lags_same a b entries call bits ended of quiet accounts lane small severed one has =
+    let same : account_of b.log lane ≡ account_of a.log lane = ap (λ (q : List (Account (KeyView Alert) OpenLane)). Rattle.std.specs.Prelude.slice_index_or q lane Rattle.am_cast.specs.Rule.first_account) accounts in
+    lags_on a entries (Accepted call bits ended ∷ []) lane (account_of b.log lane) one of small (sym (quiet lane (is_cut entries lane)) ∙ (sym (cut_more lane false entries call bits ended) ∙ severed))
+    (ap (λ (x : Account (KeyView Alert) OpenLane). x.note) same) (ap (λ (x : Account (KeyView Alert) OpenLane). x.half) same) has
+
+pub lags_one : {policy : Policy} {places : ℕ} (a b : BookView) (entries : List EntryView) (call : Call) (bits : ℕ) (ended : Option Ended) (number : ℕ) → IsRecorded policy places a entries → ((lane : ℕ) (was : Bool) → cut_after lane was call bits ≡ cond (nat_eq number lane) false was)
+    → ((lane : ℕ) → lane ≢ number → account_of b.log lane ≡ account_of a.log lane) → LagsAs places b (entries ++ Accepted call bits ended ∷ [])
+lags_one a b entries call bits ended number of tells_so others lane small severed one has =
+    let still : cond (nat_eq number lane) false (is_cut entries lane) ≡ true = sym (tells_so lane (is_cut entries lane)) ∙ (sym (cut_more lane false entries call bits ended) ∙ severed) in
+    elim (eqb_tells number lane) [
+      | inl e ↦ absurd (let no : false ≡ true = ap (λ (t : Bool). cond t false (is_cut entries lane)) (sym e.0) ∙ still in cc)
+      | inr e ↦
+          (let same = others lane (λ same. e.1 (sym same)) in
+          lags_on a entries (Accepted call bits ended ∷ []) lane (account_of b.log lane) one of small (ap (λ (t : Bool). cond t false (is_cut entries lane)) (sym e.0) ∙ still)
+          (ap (λ (x : Account (KeyView Alert) OpenLane). x.note) same) (ap (λ (x : Account (KeyView Alert) OpenLane). x.half) same) has)
+    ]
 
 pub cuts_same : (a b : BookView) (call : Call) (bits : ℕ) → ((lane : ℕ) (was : Bool) → cut_after lane was call bits ≡ was) → b.log.accounts ≡ a.log.accounts → CutsAs a b call bits
 cuts_same a b call bits quiet accounts lane small was tells =
@@ -329,6 +426,10 @@ recorded_trimmed {policy} {places} a b entries count of drops trimmed log limits
       sent = ap (λ (q : LogView). sent_in q.tail.log) log ∙ (of.sent ∙ ap broadcast (sym is));
       cuts = λ lane small yes. ap (λ (q : LogView). (account_of q lane).stand) log ∙ of.cuts lane small (sym (cut_trimmed lane false entries count) ∙ yes);
       spares = λ lane small no c. of.spares lane small (sym (cut_trimmed lane false entries count) ∙ no) (ap (λ (q : LogView). (account_of q lane).stand) (sym log) ∙ c);
+      lags = λ lane small severed one has.
+          let same : account_of b.log lane ≡ account_of a.log lane = ap (λ (q : LogView). account_of q lane) log in
+          lags_on a entries (Trimmed count ∷ []) lane (account_of b.log lane) one of small (sym (cut_trimmed lane false entries count) ∙ severed)
+          (ap (λ (x : Account (KeyView Alert) OpenLane). x.note) same) (ap (λ (x : Account (KeyView Alert) OpenLane). x.half) same) has;
       endings = kept ∙ (ap (filter (is_since b.journal.before)) of.endings ∙ (kept_twice (trimmed_by entries) b.journal.before further (endings_of entries)
           ∙ (ap (λ n. filter (is_since n) (endings_of entries)) now ∙ ap (filter (is_since (trimmed_by (entries ++ Trimmed count ∷ [])))) (sym ends))));
       early = omega (arith, early, of.early, ap length ends);
@@ -357,6 +458,7 @@ recorded_compacted {policy} {places} a b entries count of same gone =
       sent = of.sent ∙ ap broadcast (sym is);
       cuts = λ lane small yes. of.cuts lane small (sym (cut_compacted lane false entries count) ∙ yes);
       spares = λ lane small no. of.spares lane small (sym (cut_compacted lane false entries count) ∙ no);
+      lags = λ lane small severed one has. lagged_more entries (Compacted count ∷ []) (of.lags lane small (sym (cut_compacted lane false entries count) ∙ severed) one has);
       endings = of.endings ∙ (ap (λ n. filter (is_since n) (endings_of entries)) (sym trims) ∙ ap (filter (is_since (trimmed_by (entries ++ Compacted count ∷ [])))) (sym ends));
       early = omega (arith, of.early, ap length ends);
       limits = of.limits;

@@ -135,8 +135,8 @@ pub stays_as : (was is : Account (KeyView Alert) OpenLane) → StaysAs was is �
 stays_as was is stays = record {
   note = stays.0.1;
   start = stays.0.2;
-  shut = λ e. dite (ℕ_discrete is.stand was.stand) (λ same. same ∙ e) (λ other. absurd (omega (arith, (stays.1 other).0, e)));
-  given = λ ne e. dite (ℕ_discrete is.stand was.stand) (λ same. ne (sym same ∙ e)) (λ other. absurd (omega (arith, (stays.1 other).1, e)));
+  shut = λ e. dite (ℕ_discrete is.stand was.stand) (λ same. same ∙ e) (λ other. absurd (omega (arith, (stays.1.0 other).0, e)));
+  given = λ ne e. dite (ℕ_discrete is.stand was.stand) (λ same. ne (sym same ∙ e)) (λ other. absurd (omega (arith, (stays.1.0 other).1, e)));
   low = λ h. omega (arith, stays.0.2, stays.0.4, h);
 }
 

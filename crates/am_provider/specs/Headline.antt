@@ -101,9 +101,23 @@ abbrev pub AnswersSubscribe : Result SubscriptionView SubFault → List EntryVie
 AnswersSubscribe (Ok made) before added = IsSubscribed made before added
 AnswersSubscribe (Err fault) before added = IsSubRefusal before fault × (added ≡ [])
 
+-- a post cut the subscription of a lane that came at a call: it was open then, and its reader, which has
+-- passed so many batches, lagged then by as many as the log has places. It passed one more since at most, the
+-- one in its hand
+pub record HasLagged (places lane at passed : ℕ) (before : List EntryView) : Type 0 where
+  pub first : List EntryView
+  pub rest : List EntryView
+  pub now : ℕ
+  pub alerts : List Alert
+  pub cut : ℕ
+  pub entries : before ≡ first ++ Accepted (Posted now alerts) cut None ∷ rest
+  pub still_open : IsOpenSubscription (whole first) lane at
+  pub cuts : has_lane cut lane ≡ true
+  pub late : passed + places ≤ length (sent_by first) + 1
+
 -- what a subscription has taken: it begins what the history owes it, and is all of that if it was told that
--- no more would come, which it is of a closed log alone. One that was told Cut was cut. It is owed what was
--- stored when it came, and each batch since
+-- no more would come, which it is of a closed log alone. One that was told Cut was cut, and one that was cut
+-- had lagged. It is owed what was stored when it came, and each batch since
 pub record TakesItsDue (subscription : SubscriptionView) (before : List EntryView) : Type 0 where
   pub lane : IsOpenSubscription (whole before) subscription.cursor.lane.number subscription.at
   pub owes : due (whole before) subscription.at
@@ -112,6 +126,8 @@ pub record TakesItsDue (subscription : SubscriptionView) (before : List EntryVie
   pub complete : subscription.closed_told ≡ true → taken subscription ≡ due (whole before) subscription.at
   pub told_closed : subscription.closed_told ≡ true → is_closed (whole before) ≡ true
   pub told_cut : HasCut subscription.cursor → is_cut before subscription.cursor.lane.number ≡ true
+  pub lagged : let v = subscription.cursor.lane in is_cut before v.number ≡ true
+      → HasLagged v.places v.number subscription.at v.passed before
 
 -- a subscription that goes on: so far it has taken its due. It adds no entry
 abbrev pub AnswersVouch : SubscriptionView → List EntryView → List EntryView → Type 0

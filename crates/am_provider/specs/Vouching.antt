@@ -1,5 +1,5 @@
 -- What a Book says of a subscription, while it reads and as it is given back.
-use Rattle.std.specs.Prelude.{◌≡◌, true, ◌++◌, drop}
+use Rattle.std.specs.Prelude.{◌≡◌, ◌+◌, ◌/◌, ◌≤◌, true, ◌++◌, drop}
 use mathlib.Core.List.{IsPrefix}
 use Rattle.am_alert.specs.declared.alert.Alert.{Alert}
 use Rattle.am_cast.specs.Changes.{AreInLog}
@@ -15,8 +15,9 @@ use Rattle.am_provider.specs.BookView.{BookView, batches}
 use Rattle.am_provider.specs.Subscriptions.{SubscriptionView, taken}
 
 -- an open subscription has taken what begins its due by the journal, and all of it if it was told that no
--- more would come, which it is of a closed log alone. One that was told Cut was cut. Its due is what was
--- stored when it came, and what the log has from there on
+-- more would come, which it is of a closed log alone. One that was told Cut was cut. One that was cut has
+-- passed no batch since but the one in its hand. Its due is what was stored when it came, and what the log
+-- has from there on
 pub record HasTakenDue (book : BookView) (subscription : SubscriptionView) : Type 0 where
   pub lane : IsOpenSubscription book.journal subscription.cursor.lane.number subscription.at
   pub owes : due book.journal subscription.at
@@ -26,6 +27,9 @@ pub record HasTakenDue (book : BookView) (subscription : SubscriptionView) : Typ
   pub told_closed : subscription.closed_told ≡ true → is_closed book.journal ≡ true
   pub told_cut : HasCut subscription.cursor
       → (account_of book.log subscription.cursor.lane.number).stand ≡ cut
+  pub places : subscription.cursor.lane.places ≡ book.log.tail.places
+  pub lags : let account = account_of book.log subscription.cursor.lane.number in account.stand ≡ cut
+      → subscription.cursor.lane.passed ≤ account.half / 2 + 1
 
 -- a pass, which owns what it did, knows the whole log of a Book
 pub record KnowsWholeLog (book : BookView) (was is : PassView Alert Call) : Type 0 where

@@ -167,6 +167,7 @@ impl<N: Recorded> RecordedBook<N> {
     ) -> Ended
         ensures sees { SeesCall caller.old.front caller.new.front
             (AnswersLeave subscription.entry result) }
+        ensures places { subscription.entry.cursor.lane.places ≡ N.places }
         ensures pass { caller.new.pass ≡ caller.old.pass }
     {
         self.book.kept();
@@ -193,6 +194,7 @@ impl<N: Recorded> RecordedBook<N> {
         subscription: &mut Subscription<'_, N>,
     )
         ensures sees { SeesCall caller.old.front caller.new.front (AnswersVouch subscription.old) }
+        ensures places { subscription.old.cursor.lane.places ≡ N.places }
         ensures pass { KnowsAllSent caller.old.pass caller.new.pass caller.new.front }
         ensures same { subscription.new ≡ subscription.old }
     {

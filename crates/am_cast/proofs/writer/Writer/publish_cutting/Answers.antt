@@ -43,12 +43,12 @@ cut_later n m places size b c d e true on is stand known half log same =
     (was, stand ∙ is.1, sym log ∙ (is.2 ∙ (ap (λ (k : ℕ). k + places) (sym known) ∙ ap (λ (p : ℕ). e.known + p) same)), ap (λ (k : ℕ). k / 2) half ∙ (is.3 ∙ sym known))
 cut_later n m places size b c d e false on is stand known half log same = (
   λ other.
-  dite (ℕ_discrete c.stand b.stand)
-  (λ (same_as : c.stand ≡ b.stand). let moved = is.0 (λ (still : d.stand ≡ c.stand). other (stand ∙ (still ∙ same_as))) in (sym same_as ∙ moved.0, stand ∙ moved.1))
-  (λ (no : c.stand ≢ b.stand).
-  dite (ℕ_discrete d.stand c.stand)
-  (λ (still : d.stand ≡ c.stand). ((on.0 no).0, stand ∙ (still ∙ (on.0 no).1)))
-  (λ (moved : d.stand ≢ c.stand). ((on.0 no).0, stand ∙ (is.0 moved).1))),
+      dite (ℕ_discrete c.stand b.stand)
+      (λ (same_as : c.stand ≡ b.stand). let moved = is.0 (λ (still : d.stand ≡ c.stand). other (stand ∙ (still ∙ same_as))) in (sym same_as ∙ moved.0, stand ∙ moved.1))
+      (λ (no : c.stand ≢ b.stand).
+      dite (ℕ_discrete d.stand c.stand)
+      (λ (still : d.stand ≡ c.stand). ((on.0 no).0, stand ∙ (still ∙ (on.0 no).1)))
+      (λ (moved : d.stand ≢ c.stand). ((on.0 no).0, stand ∙ (is.0 moved).1))),
   λ severed. half ∙ (is.1 (still_cut severed) ∙ on.1 severed),
 )
   where

@@ -5,7 +5,8 @@ use Rattle.am_store.specs.Journal.{JournalView, with_call}
 use Rattle.am_alert.specs.declared.alert.Alert.{Alert}
 use Rattle.am_store.specs.declared.lanes.OpenLane.{OpenLane}
 use Rattle.am_cast.specs.Cursors.{CursorView}
-use Rattle.am_cast.specs.Rule.{cut}
+use Rattle.am_cast.specs.Changes.{left}
+use Rattle.am_cast.specs.Rule.{Sound, cut}
 use Rattle.am_cast.specs.Seats.{account_of}
 use Rattle.am_provider.specs.declared.answers.Ended.{Ended}
 use Rattle.am_provider.specs.BookView.{BookView}
@@ -74,4 +75,5 @@ returns-clause-due g c =
     let s = c.args.subscription in
     let by = leaving_by _ _ _ c.into_parts-at.result.1 s c.into_parts-at.result.3 c.self.invariant.1 c.into_parts-at.ensures.kept same r.lane.0 r.given r.sound r.taken r.ended in
     let was_cut = subst (λ (k : CursorView Alert Call OpenLane). k.lane.cut ≡ true → (account_of c.self.inside.log k.lane.number).stand ≡ cut) same r.cut in
-    subst (λ (b : BookView). HasTakenDue b s) c.self.view_is (has_taken _ _ _ s by.0 c.self.invariant.1 by.1 (λ told. was_cut told.0))
+    let here = subst (λ (k : CursorView Alert Call OpenLane). Sound c.self.inside.log.tail (account_of c.self.inside.log k.lane.number) (left k.lane) k.lane.number) same r.sound in
+    subst (λ (b : BookView). HasTakenDue b s) c.self.view_is (has_taken _ _ _ s by.0 c.self.invariant.1 by.1 (λ told. was_cut told.0) here.seen.places (λ severed. let most = here.lags severed in omega arith))

@@ -4,7 +4,7 @@ use Rattle.am_provider.specs.Batches.{LogView}
 use Rattle.am_provider.specs.Histories.{Accepted}
 use Rattle.am_provider.specs.inside.Records.{IsRecorded}
 use Rattle.am_provider.proofs.Answering.{sees_added, sees_none}
-use Rattle.am_provider.proofs.Recording.{cuts_same, may_whole, prefix_same, recorded_more, same_closed}
+use Rattle.am_provider.proofs.Recording.{cuts_same, lags_same, may_whole, prefix_same, recorded_more, same_closed}
 use Rattle.am_provider.proofs.recorded_book.RecordedBook.close.Goals as goal
 
 pub invariant_of-self-2 : goal.invariant_of-self-2
@@ -15,7 +15,7 @@ invariant_of-self-2 g c =
       subst (IsRecorded g.N.Recorded.policy g.N.Recorded.places new) (sym c.record.ensures.longer)
           (recorded_more old new c.self.inside.history Closed 0 None c.self.invariant.0 c.kept.ensures c.kept-2.ensures c.in-Ok.ensures.journal
           (prefix_same _ _ (ap (λ (q : LogView). q.tail.log) log)) c.in-Ok.ensures.limits
-          (cuts_same old new Closed 0 (λ lane was. refl) (ap (λ (q : LogView). q.accounts) log)) c.in-Ok.ensures.endings c.in-Ok.ensures.gone),
+          (cuts_same old new Closed 0 (λ lane was. refl) (ap (λ (q : LogView). q.accounts) log)) (lags_same old new c.self.inside.history Closed 0 None c.self.invariant.0 (λ lane was. refl) (ap (λ (q : LogView). q.accounts) log)) c.in-Ok.ensures.endings c.in-Ok.ensures.gone),
       c.self.invariant.1,
     )
 

@@ -5,7 +5,7 @@ use Rattle.am_provider.specs.Batches.{LogView}
 use Rattle.am_provider.specs.Histories.{Accepted}
 use Rattle.am_provider.specs.inside.Records.{IsRecorded}
 use Rattle.am_provider.proofs.Answering.{sees_added, sees_none}
-use Rattle.am_provider.proofs.Recording.{cuts_same, prefix_same, recorded_more, stored_whole}
+use Rattle.am_provider.proofs.Recording.{cuts_same, lags_same, prefix_same, recorded_more, stored_whole}
 use Rattle.am_provider.proofs.recorded_book.RecordedBook.collect_resolved.Goals as goal
 
 pub invariant_of-self-2 : goal.invariant_of-self-2
@@ -16,7 +16,7 @@ invariant_of-self-2 g c =
       subst (IsRecorded g.N.Recorded.policy g.N.Recorded.places new) (sym c.record.ensures.longer)
           (recorded_more old new c.self.inside.history (Collected c.args.now) 0 None c.self.invariant.0 c.kept.ensures c.kept-2.ensures c.in-Ok.ensures.journal
           (prefix_same _ _ (ap (λ (q : LogView). q.tail.log) log)) c.in-Ok.ensures.limits
-          (cuts_same old new (Collected c.args.now) 0 (λ lane was. refl) (ap (λ (q : LogView). q.accounts) log)) c.in-Ok.ensures.endings c.in-Ok.ensures.gone),
+          (cuts_same old new (Collected c.args.now) 0 (λ lane was. refl) (ap (λ (q : LogView). q.accounts) log)) (lags_same old new c.self.inside.history (Collected c.args.now) 0 None c.self.invariant.0 (λ lane was. refl) (ap (λ (q : LogView). q.accounts) log)) c.in-Ok.ensures.endings c.in-Ok.ensures.gone),
       c.self.invariant.1,
     )
 

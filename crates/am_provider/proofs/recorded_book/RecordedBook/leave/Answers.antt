@@ -6,7 +6,7 @@ use Rattle.am_provider.specs.Batches.{Batch}
 use Rattle.am_provider.specs.Histories.{Accepted, is_cut}
 use Rattle.am_provider.specs.inside.Records.{IsRecorded}
 use Rattle.am_provider.proofs.Answering.{due_whole, sees_called}
-use Rattle.am_provider.proofs.Recording.{cuts_one, prefix_same, recorded_more, tells_of}
+use Rattle.am_provider.proofs.Recording.{cuts_one, lags_one, prefix_same, recorded_more, tells_of}
 use Rattle.am_provider.proofs.recorded_book.RecordedBook.leave.Goals as goal
 
 pub invariant_of-self : goal.invariant_of-self
@@ -22,7 +22,7 @@ invariant_of-self g c =
       subst (IsRecorded g.N.Recorded.policy g.N.Recorded.places new) (sym (c.record.ensures.longer ∙ ap (λ lane. entries ++ Accepted (Left lane) 0 (Some c.leave-ended.result) ∷ []) c.lane.ensures))
           (recorded_more old new entries (Left number) 0 (Some c.leave-ended.result) c.self.invariant.0 c.kept.ensures c.kept-2.ensures left.journal
           (prefix_same _ _ (ap (λ (t : Tail Batch). t.log) left.log)) left.limits
-          (cuts_one old new (Left number) 0 number (λ lane was. refl) (λ stands. omega (arith, idles, stands)) left.others) (left.endings.0, left.endings.1, low) left.gone),
+          (cuts_one old new (Left number) 0 number (λ lane was. refl) (λ stands. omega (arith, idles, stands)) left.others) (lags_one old new entries (Left number) 0 (Some c.leave-ended.result) number c.self.invariant.0 (λ lane was. refl) left.others) (left.endings.0, left.endings.1, low) left.gone),
       c.self.invariant.1,
     )
 
@@ -51,3 +51,6 @@ returns-clause-sees g c =
       cut = one_flag c.leave-ended.result.cut (is_cut entries number) left.cut tells.yes tells.no;
       entry = refl;
     })
+
+pub returns-clause-places : goal.returns-clause-places
+returns-clause-places g c = c.leave-ended.ensures.due.places ∙ c.self.invariant.0.limits.1

@@ -7,7 +7,7 @@ use Rattle.am_provider.specs.BookView.{batches}
 use Rattle.am_provider.specs.Histories.{Accepted}
 use Rattle.am_provider.specs.inside.Records.{IsRecorded}
 use Rattle.am_provider.proofs.Answering.{last_is, live_lane, put_refusal, sent_since, sees_called, sees_none}
-use Rattle.am_provider.proofs.Recording.{cuts_posted, may_whole, recorded_more, same_places}
+use Rattle.am_provider.proofs.Recording.{cuts_posted, lags_posted, may_whole, recorded_more, same_places}
 use Rattle.am_provider.proofs.recorded_book.RecordedBook.post.Goals as goal
 
 pub invariant_of-self-2 : goal.invariant_of-self-2
@@ -21,7 +21,7 @@ invariant_of-self-2 g c =
     let last : c.last_call.result.now ≡ call = last_is old.journal new.journal call c.last_call.result.now posted.journal c.last_call.ensures in (
       subst (IsRecorded g.N.Recorded.policy g.N.Recorded.places new) (sym (c.record.ensures.longer ∙ ap (λ one. entries ++ Accepted one bits None ∷ []) last))
           (recorded_more old new entries call bits None c.self.invariant.0 c.kept.ensures c.kept-2.ensures posted.journal
-          posted.log posted.limits (cuts_posted old new c.args.now c.args.post.valid bits posted.cut) posted.endings posted.gone),
+          posted.log posted.limits (cuts_posted old new c.args.now c.args.post.valid bits posted.cut) (lags_posted old new entries c.args.now c.args.post.valid bits c.self.invariant.0 c.kept.ensures posted.cut) posted.endings posted.gone),
       c.self.invariant.1,
     )
 

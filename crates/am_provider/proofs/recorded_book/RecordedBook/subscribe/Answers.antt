@@ -5,7 +5,7 @@ use Rattle.am_provider.specs.Batches.{Batch}
 use Rattle.am_provider.specs.Histories.{Accepted}
 use Rattle.am_provider.specs.inside.Records.{IsRecorded}
 use Rattle.am_provider.proofs.Answering.{sees_called, sees_none, sub_refusal}
-use Rattle.am_provider.proofs.Recording.{call_number, cuts_one, may_whole, prefix_same, recorded_more, same_places, stored_whole}
+use Rattle.am_provider.proofs.Recording.{call_number, cuts_one, lags_one, may_whole, prefix_same, recorded_more, same_places, stored_whole}
 use Rattle.am_provider.proofs.recorded_book.RecordedBook.subscribe.Goals as goal
 
 pub invariant_of-self-2 : goal.invariant_of-self-2
@@ -19,7 +19,7 @@ invariant_of-self-2 g c =
       subst (IsRecorded g.N.Recorded.policy g.N.Recorded.places new) (sym (c.record.ensures.longer ∙ ap (λ lane. entries ++ Accepted (Subscribed lane) 0 None ∷ []) c.lane.ensures))
           (recorded_more old new entries (Subscribed number) 0 None c.self.invariant.0 c.kept.ensures c.kept-2.ensures made.journal
           (prefix_same _ _ (ap (λ (t : Tail Batch). t.log) made.log)) made.limits
-          (cuts_one old new (Subscribed number) 0 number (λ lane was. refl) (λ stands. omega (arith, lives, stands)) made.others) made.endings made.gone),
+          (cuts_one old new (Subscribed number) 0 number (λ lane was. refl) (λ stands. omega (arith, lives, stands)) made.others) (lags_one old new entries (Subscribed number) 0 None number c.self.invariant.0 (λ lane was. refl) made.others) made.endings made.gone),
       c.self.invariant.1,
     )
 

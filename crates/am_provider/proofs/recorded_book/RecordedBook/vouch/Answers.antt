@@ -19,3 +19,6 @@ returns-clause-pass g c =
       known = told.known;
       sent = ap sent_in told.noted ∙ (c.self.invariant.0.sent ∙ ap (λ (f : FrontView EntryView). sent_by f.seen) (sym c.show.ensures.to));
     }
+
+pub returns-clause-places : goal.returns-clause-places
+returns-clause-places g c = c.vouch.ensures.due.places ∙ c.self.invariant.0.limits.1
