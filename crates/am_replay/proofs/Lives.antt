@@ -1,5 +1,5 @@
 -- What a live run comes to.
-use Rattle.std.proofs.Common.{◌≡◌, ◌≢◌, ◌<◌, ◌∙◌, ℕ, cond, ne_eqb, List, [], ◌∷◌, ◌++◌, length, Option, Some, None, Result, Ok, Err, IfOk, String, string_bytes, refl, sym, ap, subst, arith, length-append, append-nil}
+use Rattle.std.proofs.Common.{◌≡◌, ◌≢◌, ◌<◌, ◌∙◌, ℕ, Bool, cond, ne_eqb, List, [], ◌∷◌, ◌++◌, length, Option, Some, None, Result, Ok, Err, IfOk, String, string_bytes, refl, sym, ap, subst, arith, length-append, append-nil}
 use Rattle.std.specs.List.{All, onto_first}
 use Rattle.std.proofs.lemmas.List.Elements.{All-head, All-tail}
 use Rattle.std.specs.declared.alloc.Global.{Global}
@@ -80,15 +80,15 @@ some_counts : (form : Form) (counts : Counts) → counts_line form counts ≢ []
 some_counts forms.Text counts none = some_line (counts_text counts) none
 some_counts forms.Json counts none = some_line (print (json_tokens (object (counts_members counts)))) none
 
-pub counts_told : (setting : Setting) (form : Form) (config : Config) (input rest old mid new : Option (List ℕ)) (counts : Counts) (status : Status) → IsLived config setting form input rest old mid counts → IsEnd form counts mid status new → LivesUnder setting form config input old status new
-counts_told setting form config input rest old mid new counts Done is told = lived counts is told
-counts_told setting form config input rest old mid new counts WriteFailed is told = last_line_cut_short counts is not_written told
-counts_told setting form config input rest old mid new counts OutOfMemory is told = last_line_cut_short counts is no_memory (record { written = []; rest = counts_line form counts; whole = refl; some = some_counts form counts; appended = appends_kept_none mid new told })
-counts_told setting form config input rest old mid new counts BadArguments is told = absurd told
-counts_told setting form config input rest old mid new counts Refused is told = absurd told
-counts_told setting form config input rest old mid new counts CallOutOfMemory is told = absurd told
-counts_told setting form config input rest old mid new counts NoThread is told = absurd told
-counts_told setting form config input rest old mid new counts ReadFailed is told = absurd told
+pub counts_told : (setting : Setting) (form : Form) (follows : Bool) (config : Config) (input rest old mid new : Option (List ℕ)) (counts : Counts) (status : Status) → IsLived config setting form follows input rest old mid counts → IsEnd form counts mid status new → LivesUnder setting form follows config input old status new
+counts_told setting form follows config input rest old mid new counts Done is told = lived counts is told
+counts_told setting form follows config input rest old mid new counts WriteFailed is told = last_line_cut_short counts is not_written told
+counts_told setting form follows config input rest old mid new counts OutOfMemory is told = last_line_cut_short counts is no_memory (record { written = []; rest = counts_line form counts; whole = refl; some = some_counts form counts; appended = appends_kept_none mid new told })
+counts_told setting form follows config input rest old mid new counts BadArguments is told = absurd told
+counts_told setting form follows config input rest old mid new counts Refused is told = absurd told
+counts_told setting form follows config input rest old mid new counts CallOutOfMemory is told = absurd told
+counts_told setting form follows config input rest old mid new counts NoThread is told = absurd told
+counts_told setting form follows config input rest old mid new counts ReadFailed is told = absurd told
 
 -- the last of a list of one is the only one
 pub none_before : {A : Type 0} (left : List A) (last : A) (all : List A) → all ≡ left ++ last ∷ [] → length all ≡ 1 → left ≡ []

@@ -25,7 +25,7 @@ use Rattle.clap.proofs.WalkLemmas.{list_any-map}
 use Rattle.am_provider.specs.declared.answers.Policy.TheVariants.{Refuse, Cut}
 use Rattle.am_cast.specs.declared.limits.TheConstants.{MAX_PLACES}
 use Rattle.am_replay.specs.Options.{AreModes, ArePolicies, HasOptions, IsCommandOf, IsFlag, IsOption, Choices, mode_name, options_of, policy_name}
-use Rattle.am_replay.specs.declared.arguments.Mode.TheVariants.{Ordered, Free, Live}
+use Rattle.am_replay.specs.declared.arguments.Mode.TheVariants.{Ordered, Free, Live, Follow}
 
 -- a list with an element that passes has a first one
 find_some : {X : Type 0} (p : X → Bool) (xs : List X) (i : ℕ) → i < length xs → ((d : X) → p (slice_index_or xs i d) ≡ true)
@@ -155,18 +155,20 @@ one_of_two names first second text are accepted =
     go false false e f h = cc
 
 -- a value among three names is one of them
-pub one_of_three : (names : Choices) (first second third text : Text) → texts names.now ≡ first ∷ second ∷ third ∷ [] → Accepts false (value.Names names) text
-    → (text ≡ first) ⊎ ((text ≡ second) ⊎ (text ≡ third))
-one_of_three names first second third text are accepted =
-    let among : list_any (λ t. bytes_eq t text) (first ∷ second ∷ third ∷ []) ≡ true =
+pub one_of_four : (names : Choices) (first second third fourth text : Text) → texts names.now ≡ first ∷ second ∷ third ∷ fourth ∷ [] → Accepts false (value.Names names) text
+    → (text ≡ first) ⊎ ((text ≡ second) ⊎ ((text ≡ third) ⊎ (text ≡ fourth)))
+one_of_four names first second third fourth text are accepted =
+    let among : list_any (λ t. bytes_eq t text) (first ∷ second ∷ third ∷ fourth ∷ []) ≡ true =
     subst (λ ts. list_any (λ t. bytes_eq t text) ts ≡ true) are (sym (list_any-map (λ t. bytes_eq t text) (λ (s : Bor Text). s.now) names.now) ∙ accepted) in
-    go (bytes_eq first text) (bytes_eq second text) (bytes_eq third text) refl refl refl among
+    go (bytes_eq first text) (bytes_eq second text) (bytes_eq third text) (bytes_eq fourth text) refl refl refl refl among
   where
-    go : (a b c : Bool) → bytes_eq first text ≡ a → bytes_eq second text ≡ b → bytes_eq third text ≡ c → (a || (b || (c || false))) ≡ true → (text ≡ first) ⊎ ((text ≡ second) ⊎ (text ≡ third))
-    go true b c e f g h = inl (sym ((bytes_eq-Decides first text).0 e))
-    go false true c e f g h = inr (inl (sym ((bytes_eq-Decides second text).0 f)))
-    go false false true e f g h = inr (inr (sym ((bytes_eq-Decides third text).0 g)))
-    go false false false e f g h = cc
+    go : (a b c d : Bool) → bytes_eq first text ≡ a → bytes_eq second text ≡ b → bytes_eq third text ≡ c → bytes_eq fourth text ≡ d → (a || (b || (c || (d || false)))) ≡ true
+        → (text ≡ first) ⊎ ((text ≡ second) ⊎ ((text ≡ third) ⊎ (text ≡ fourth)))
+    go true b c d e f g k h = inl (sym ((bytes_eq-Decides first text).0 e))
+    go false true c d e f g k h = inr (inl (sym ((bytes_eq-Decides second text).0 f)))
+    go false false true d e f g k h = inr (inr (inl (sym ((bytes_eq-Decides third text).0 g))))
+    go false false false true e f g k h = inr (inr (inr (sym ((bytes_eq-Decides fourth text).0 k))))
+    go false false false false e f g k h = cc
 
 abbrev option_names : List Text
 option_names = codes "mode" ∷ codes "places" ∷ codes "full" ∷ codes "json" ∷ []
@@ -272,10 +274,11 @@ module _ (start one two three four : Command) (mode places full json : Arg) (mod
       let of_places = found_at m p 1 mode (value.Unsigned 1 MAX_PLACES) (omega arith) (keeps _ _ _ _ _ is_places second.rules) in
       let of_full = found_at m p 2 mode (value.Names policies) (omega arith) (keeps _ _ _ _ _ is_full third.rules) in
       record {
-        mode = elim (one_of_three modes _ _ _ of_mode.0 mode_names of_mode.3) [
+        mode = elim (one_of_four modes _ _ _ _ of_mode.0 mode_names of_mode.3) [
           | inl e ↦ (Ordered, (of_mode.1 ∙ ap (λ t. Some t) e, of_mode.2 ∙ ap (λ t. Some t) e))
           | inr (inl e) ↦ (Free, (of_mode.1 ∙ ap (λ t. Some t) e, of_mode.2 ∙ ap (λ t. Some t) e))
-          | inr (inr e) ↦ (Live, (of_mode.1 ∙ ap (λ t. Some t) e, of_mode.2 ∙ ap (λ t. Some t) e))
+          | inr (inr (inl e)) ↦ (Live, (of_mode.1 ∙ ap (λ t. Some t) e, of_mode.2 ∙ ap (λ t. Some t) e))
+          | inr (inr (inr e)) ↦ (Follow, (of_mode.1 ∙ ap (λ t. Some t) e, of_mode.2 ∙ ap (λ t. Some t) e))
         ];
         places = (of_places.0, (of_places.1, of_places.2), of_places.3);
         full = elim (one_of_two policies _ _ of_full.0 policy_names of_full.3) [

@@ -1,6 +1,6 @@
 -- A live run: what the lines so far answer is written, whatever comes later.
-use Rattle.std.specs.Prelude.{◌≡◌, ◌≢◌, ℕ, true, All, List, [], ◌∷◌, Option, Some, None, Result, Ok, Err}
-use Rattle.std.specs.Prelude.{String, string_bytes}
+use Rattle.std.specs.Prelude.{◌≡◌, ◌≢◌, ℕ, Bool, false, true, All, List, [], ◌∷◌, Option, Some, None}
+use Rattle.std.specs.Prelude.{Result, Ok, Err, String, string_bytes}
 use Rattle.std.specs.declared.alloc.Global.{Global}
 use Rattle.std.specs.Io.KnownBytes.{Appends, Keeps}
 use Rattle.am_config.specs.declared.config.Config.{Config}
@@ -12,17 +12,25 @@ use Rattle.am_runner.specs.Sessions.{Setting, SessionView, LeavesAll, new_sessio
 use Rattle.am_runner.specs.declared.form.Form.{Form}
 use Rattle.am_serve.specs.Reading.{IsNext, IsInputOf}
 use Rattle.am_serve.specs.Serving.{IsServed, IsServedInPart}
+use Rattle.am_serve.specs.Standing.{RunView, new_run}
 use Rattle.am_serve.specs.declared.reading.InputLine.{InputLine}
 use Rattle.am_replay.specs.FirstLines.{IsFirstLine}
 use Rattle.am_replay.specs.Printing.{counts_line}
 use Rattle.am_replay.specs.Refusals.{first_line_too_large, refused_config, refused_script}
 use Rattle.am_replay.specs.Runs.{AreCountsOf}
 use Rattle.am_replay.specs.declared.arguments.Arguments.{Arguments}
+use Rattle.am_replay.specs.declared.arguments.Mode.{Mode}
+use Rattle.am_replay.specs.declared.arguments.Mode.TheVariants.{Follow}
 use Rattle.am_replay.specs.declared.first_line.FirstLine.{FirstLine}
 use Rattle.am_replay.specs.declared.first_line.FirstLine.TheVariants as first_line
 use Rattle.am_replay.specs.declared.status.Status.{Status}
 use Rattle.am_replay.specs.declared.status.Status.TheVariants.{Done, Refused, OutOfMemory, ReadFailed}
 use Rattle.am_replay.specs.declared.status.Status.TheVariants.{WriteFailed}
+
+-- whether reads go on in a mode
+abbrev pub is_following : Mode → Bool
+is_following Follow = true
+is_following mode = false
 
 -- the line that was read, or an empty one at the input's end
 abbrev pub line_or_empty : Option (List ℕ) → List ℕ
@@ -41,17 +49,18 @@ IsRefusedAs form first_line.TooLong text = text ≡ refused_script form first_li
 IsRefusedAs form (first_line.Refused fault) text = text ≡ refused_config form fault
 IsRefusedAs form (first_line.Read config) text = ⊥
 
--- all lines after the first were served on one provider, in a session of its one caller; then its
--- subscriptions were left, and it ended: its one history has what the lines, the compactions between them and
--- these leaves added, and nothing else
-pub record IsLived (config : Config) (setting : Setting) (form : Form)
+-- all lines after the first were served on one provider, in a session of its one caller whose reads go on or
+-- not; then its subscriptions were left, and it ended: its one history has what the lines, the compactions
+-- between them and these leaves added, and nothing else
+pub record IsLived (config : Config) (setting : Setting) (form : Form) (follows : Bool)
     (input rest out written : Option (List ℕ)) (counts : Counts) : Type 0 where
   pub seat : ℕ
-  pub end : SessionView
+  pub end : RunView
   pub left : SessionView
   pub settled : Settled
-  pub served : IsServed config setting form 2 (new_session seat) input rest out written end
-  pub leaves : LeavesAll end left
+  pub served : IsServed config setting form 2 (new_run (new_session seat) follows) input rest out written
+      end
+  pub leaves : LeavesAll end.session left
   pub ended : IsSettledFrom (left.pass ∷ []) (left.front ∷ []) settled
   pub complete : settled.complete ≡ true
   pub counts_are : AreCountsOf settled counts
@@ -64,20 +73,20 @@ pub data IsFailure : Status → Type 0 where
 
 -- what the lines after the configuration come to: they are served, and the last line printed has the counts.
 -- Where something fails, a beginning of that was printed
-pub data LivesUnder (setting : Setting) (form : Form) (config : Config) (input old : Option (List ℕ))
-    : Status → Option (List ℕ) → Type 0 where
+pub data LivesUnder (setting : Setting) (form : Form) (follows : Bool) (config : Config)
+    (input old : Option (List ℕ)) : Status → Option (List ℕ) → Type 0 where
   not_begun : {new : Option (List ℕ)} → Keeps old new
-      → LivesUnder setting form config input old OutOfMemory new
+      → LivesUnder setting form follows config input old OutOfMemory new
   lived : {rest mid new : Option (List ℕ)} (counts : Counts)
-      → IsLived config setting form input rest old mid counts
-      → Appends mid new (counts_line form counts) → LivesUnder setting form config input old Done new
+      → IsLived config setting form follows input rest old mid counts
+      → Appends mid new (counts_line form counts) → LivesUnder setting form follows config input old Done new
   last_line_cut_short : {rest mid new : Option (List ℕ)} {status : Status} (counts : Counts)
-      → IsLived config setting form input rest old mid counts
+      → IsLived config setting form follows input rest old mid counts
       → IsFailure status → AppendsBeginning mid new (counts_line form counts)
-      → LivesUnder setting form config input old status new
+      → LivesUnder setting form follows config input old status new
   cut_short : {new : Option (List ℕ)} {status : Status} {seat : ℕ} → IsFailure status
-      → IsServedInPart config setting form 2 (new_session seat) input old new
-      → LivesUnder setting form config input old status new
+      → IsServedInPart config setting form 2 (new_run (new_session seat) follows) input old new
+      → LivesUnder setting form follows config input old status new
 
 -- what comes of printing the counts
 abbrev pub IsEnd : Form → Counts → Option (List ℕ) → Status → Option (List ℕ) → Type 0
@@ -111,6 +120,6 @@ pub data IsLive (arguments : Arguments) (input old : Option (List ℕ))
       → AppendsBeginning old new text → IsLive arguments input old WriteFailed new
   ran : {status : Status} {new : Option (List ℕ)} (line rest : Option (List ℕ)) (config : Config)
       → IsNext input line rest → IsFirstLine (line_or_empty line) (first_line.Read config)
-      → LivesUnder (setting_of arguments.places arguments.full config.resolve_timeout) arguments.form config
-      rest old status new
+      → LivesUnder (setting_of arguments.places arguments.full config.resolve_timeout) arguments.form
+      (is_following arguments.mode) config rest old status new
       → IsLive arguments input old status new

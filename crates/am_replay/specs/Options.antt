@@ -22,13 +22,14 @@ use Rattle.am_cast.specs.declared.limits.TheConstants.{MAX_PLACES}
 use Rattle.am_runner.specs.declared.form.Form.{Form}
 use Rattle.am_runner.specs.declared.form.Form.TheVariants as form
 use Rattle.am_replay.specs.declared.arguments.Mode.{Mode}
-use Rattle.am_replay.specs.declared.arguments.Mode.TheVariants.{Ordered, Free, Live}
+use Rattle.am_replay.specs.declared.arguments.Mode.TheVariants.{Ordered, Free, Live, Follow}
 
 -- the name of a mode
 abbrev pub mode_name : Mode → Text
 mode_name Ordered = codes "ordered"
 mode_name Free = codes "free"
 mode_name Live = codes "live"
+mode_name Follow = codes "follow"
 
 -- the name of a policy
 abbrev pub policy_name : Policy → Text
@@ -41,7 +42,8 @@ Choices = Bor (List (Bor Text))
 
 -- the names of the modes
 abbrev pub AreModes : Choices → Type 0
-AreModes names = texts names.now ≡ mode_name Ordered ∷ mode_name Free ∷ mode_name Live ∷ []
+AreModes names =
+    texts names.now ≡ mode_name Ordered ∷ mode_name Free ∷ mode_name Live ∷ mode_name Follow ∷ []
 
 -- the names of the policies
 abbrev pub ArePolicies : Choices → Type 0
@@ -71,8 +73,8 @@ options_of modes policies =
     (option_rule (codes "full") (policy_name Refuse) (value.Names policies)))
     (flag_rule (codes "json"))
 
--- the program's options: `--mode` ordered, free or live, `--places` 1 to the most, `--full` refuse or cut,
--- and the flag `--json`
+-- the program's options: `--mode` ordered, free, live or follow, `--places` 1 to the most, `--full` refuse or
+-- cut, and the flag `--json`
 pub record AreOptions (options : App) : Type 0 where
   pub modes : Choices
   pub policies : Choices

@@ -7,7 +7,7 @@ use Rattle.am_replay.specs.Live.{IsLive}
 use Rattle.am_replay.specs.Replays.{IsReplay}
 use Rattle.am_replay.specs.declared.arguments.Arguments.{Arguments}
 use Rattle.am_replay.specs.declared.arguments.Mode.{Mode}
-use Rattle.am_replay.specs.declared.arguments.Mode.TheVariants.{Ordered, Free, Live}
+use Rattle.am_replay.specs.declared.arguments.Mode.TheVariants.{Ordered, Free, Live, Follow}
 use Rattle.am_replay.specs.declared.status.Status.{Status}
 use Rattle.am_replay.specs.declared.status.Status.TheVariants.{Done, BadArguments, Refused, CallOutOfMemory}
 use Rattle.am_replay.specs.declared.status.Status.TheVariants.{OutOfMemory, NoThread, ReadFailed, WriteFailed}
@@ -28,6 +28,7 @@ abbrev pub RunsIn : Mode → Arguments → Option (List ℕ) → Option (List �
 RunsIn Ordered arguments input old status new = IsReplay arguments input old status new
 RunsIn Free arguments input old status new = IsReplay arguments input old status new
 RunsIn Live arguments input old status new = IsLive arguments input old status new
+RunsIn Follow arguments input old status new = IsLive arguments input old status new
 
 abbrev pub IsRunAs : Arguments → Option (List ℕ) → Option (List ℕ) → Status → Option (List ℕ) → Type 0
 IsRunAs arguments input old status new = RunsIn arguments.mode arguments input old status new

@@ -23,6 +23,9 @@ pub enum Mode {
     Free,
     /// Each line is run and answered before the next one is read, in one thread.
     Live,
+    /// The same, and a read that finds nothing more goes on: what comes for its subscription is printed after the
+    /// lines that follow.
+    Follow,
 }
 
 /// What the command line asks for.
@@ -56,7 +59,7 @@ impl From<AllocError> for ArgumentsFault {
     }
 }
 
-static MODES: [&str; 3] = ["ordered", "free", "live"];
+static MODES: [&str; 4] = ["ordered", "free", "live", "follow"];
 
 static POLICIES: [&str; 2] = ["refuse", "cut"];
 
@@ -84,6 +87,7 @@ impl Arguments {
             mode: match matches.get_str("mode") {
                 Some("free") => Mode::Free,
                 Some("live") => Mode::Live,
+                Some("follow") => Mode::Follow,
                 _ => Mode::Ordered,
             },
             form: match matches.get_str("json") {
@@ -148,7 +152,8 @@ if it is missing. `max` is from 1 to 65536, and 1 if it is missing; `stored` the
 prints all. `from` is the index of a page's first alert, and 0 if it is missing.
 
 With --mode live the lines are answered one by one as they come, `thread` isn't
-needed, and a line that can't be read is answered by its fault.";
+needed, and a line that can't be read is answered by its fault. With --mode follow a
+read goes on: what comes for it later, up to its `max`, is printed after other lines.";
 
 // The command with the program's options.
 fn command<'a>(

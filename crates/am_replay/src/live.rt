@@ -2,12 +2,13 @@
 
 ghost use Rattle.std.specs.Prelude.{◌≡◌, ℕ, List, ◌++◌, ◌∷◌, [], Option, IfOk, OnErr, OnOk, string_bytes};
 ghost use Rattle.am_replay.specs.FirstLines.{IsFirstLine};
-ghost use Rattle.am_replay.specs.Live.{IsEnd, IsFailure, IsFirstAs, IsLive, IsTold, LivesUnder, line_or_empty};
-ghost use Rattle.am_runner.specs.Sessions.{LeavesAll, SessionView, setting_of};
+ghost use Rattle.am_replay.specs.Live.{IsEnd, IsFailure, IsFirstAs, IsLive, IsTold, LivesUnder, is_following, line_or_empty};
+ghost use Rattle.am_runner.specs.Sessions.{LeavesAll, setting_of};
 ghost use Rattle.am_serve.specs.Serving.{IsServed, IsServedInPart};
+ghost use Rattle.am_serve.specs.Standing.{RunView, new_run};
 
 use crate::advice::fault_advice;
-use crate::arguments::Arguments;
+use crate::arguments::{Arguments, Mode};
 use crate::first_line::FirstLine;
 use crate::refusals::{FIRST_LINE_TOO_LARGE, advise, refused_config, refused_script};
 use crate::status::Status;
@@ -16,7 +17,7 @@ use am_config::Config;
 use am_provider::{Caller, Counts, Parts, Provider, Recorded};
 use am_runner::{Context, Form, Freely, PreparedConfig, Session};
 use am_script::{Failure, script_advice, write_text};
-use am_serve::{InputLine, next_line, serve};
+use am_serve::{InputLine, Run, next_line, serve};
 use std::alloc::{AllocError, Global};
 use std::io::{BufRead, Write};
 use std::marker::Brand;
@@ -116,8 +117,8 @@ fn live_under<R: Wait, I: BufRead, O: Write>(
     input: &mut I,
     out: &mut O,
 ) -> Status
-    ensures { LivesUnder (setting_of arguments.places arguments.full config.now.resolve_timeout) arguments.form config.now
-        (I.remaining input.old) (O.contents out.old) result (O.contents out.new) }
+    ensures { LivesUnder (setting_of arguments.places arguments.full config.now.resolve_timeout) arguments.form
+        (is_following arguments.mode) config.now (I.remaining input.old) (O.contents out.old) result (O.contents out.new) }
 {
     match Parts::make(alloc, arguments.places, 1) {
         Ok(parts) => { live_on::<Brand, R, I, O>(rt, alloc, arguments, config, input, out, parts) }
@@ -142,8 +143,8 @@ fn live_on<N: Recorded, R: Wait, I: BufRead, O: Write>(
     requires limits { (parts.log.places ≡ N.places)
         × (arguments.places ≡ N.places) × (arguments.full ≡ N.policy) }
     requires posters { (parts.posters ≡ 1) × (N.parts ≡ 1) }
-    ensures { LivesUnder (setting_of arguments.places arguments.full config.now.resolve_timeout) arguments.form config.now
-        (I.remaining input.old) (O.contents out.old) result (O.contents out.new) }
+    ensures { LivesUnder (setting_of arguments.places arguments.full config.now.resolve_timeout) arguments.form
+        (is_following arguments.mode) config.now (I.remaining input.old) (O.contents out.old) result (O.contents out.new) }
 {
     let begun = Provider::<N>::begin(alloc, parts, arguments.full, config.resolve_timeout);
     let Ok((provider, mut callers)) = begun else {
@@ -152,16 +153,7 @@ fn live_on<N: Recorded, R: Wait, I: BufRead, O: Write>(
     let Some(caller) = callers.pop() else {
         unreachable!()
     };
-    let (served, caller) = serve_all(
-        rt,
-        alloc,
-        &provider,
-        config,
-        caller,
-        arguments.form,
-        input,
-        out,
-    );
+    let (served, caller) = serve_all(rt, alloc, &provider, config, caller, arguments, input, out);
     callers.push_reserved(caller);
     let settled = provider.settle(rt, callers);
     match served {
@@ -177,18 +169,18 @@ fn serve_all<'p, 'c, N: Recorded, R: Wait, I: BufRead, O: Write>(
     provider: &'p Provider<N>,
     config: &'c Config,
     caller: Caller<N>,
-    form: Form,
+    arguments: Arguments,
     input: &mut I,
     out: &mut O,
 ) -> (Result<(), Failure>, Caller<N>)
-    ensures served { OnOk result.0 ((end : SessionView) × IsServed config.now
-        (setting_of N.places N.policy provider.now.resolve_timeout) form 2
-        (record { pass = caller.pass; front = caller.front; opened = [] })
+    ensures served { OnOk result.0 ((end : RunView) × IsServed config.now
+        (setting_of N.places N.policy provider.now.resolve_timeout) arguments.form 2
+        (new_run (record { pass = caller.pass; front = caller.front; opened = [] }) (is_following arguments.mode))
         (I.remaining input.old) (I.remaining input.new) (O.contents out.old) (O.contents out.new) end
-        × LeavesAll end (record { pass = result.1.pass; front = result.1.front; opened = [] })) }
+        × LeavesAll end.session (record { pass = result.1.pass; front = result.1.front; opened = [] })) }
     ensures err { OnErr result.0 (IsServedInPart config.now
-        (setting_of N.places N.policy provider.now.resolve_timeout) form 2
-        (record { pass = caller.pass; front = caller.front; opened = [] })
+        (setting_of N.places N.policy provider.now.resolve_timeout) arguments.form 2
+        (new_run (record { pass = caller.pass; front = caller.front; opened = [] }) (is_following arguments.mode))
         (I.remaining input.old) (O.contents out.old) (O.contents out.new)) }
 {
     let mut context = Context {
@@ -198,9 +190,10 @@ fn serve_all<'p, 'c, N: Recorded, R: Wait, I: BufRead, O: Write>(
         config: PreparedConfig::new(config),
         turns: &Freely,
     };
-    let mut session = Session::begin(alloc, caller);
-    let served = serve(&mut context, &mut session, form, 2, input, out);
-    (served, session.end(&context))
+    let session = Session::begin(alloc, caller);
+    let mut run = Run::begin(alloc, session, arguments.mode == Mode::Follow);
+    let served = serve(&mut context, &mut run, arguments.form, 2, input, out);
+    (served, run.into_session().end(&context))
 }
 
 // Prints the last line.

@@ -54,7 +54,7 @@ fn obey<R: Threads + Wait + Sync, I: Read, O: Write, E: Write>(
 ) -> Status
     ensures { IsRunAs arguments (I.remaining input.old) (O.contents out.old) result (O.contents out.new) }
 {
-    if arguments.mode != Mode::Live {
+    if !matches!(arguments.mode, Mode::Live | Mode::Follow) {
         return replay(rt, alloc, arguments, input, out, err);
     }
     match BufReader::new(alloc, input) {

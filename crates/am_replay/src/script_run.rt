@@ -51,7 +51,7 @@ pub fn run_script<R: Threads + Wait + Sync>(
             let turns = InOrder::new(settings.alloc, &lines)?;
             run_in(settings, lines, &turns)
         }
-        Mode::Free | Mode::Live => run_in(settings, lines, &Freely),
+        Mode::Free | Mode::Live | Mode::Follow => run_in(settings, lines, &Freely),
     }
 }
 

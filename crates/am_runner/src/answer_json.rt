@@ -54,8 +54,8 @@ pub fn write_count(text: &mut String, number: u64, answers: u64) -> Result<(), A
     line.end(text)
 }
 
-// The members of an answer. The brace that closes them is still to come.
-fn write_members(line: &mut JsonLine, answer: &Answer) -> Result<(), AllocError>
+/// Writes the members of an answer. The brace that closes them is still to come.
+pub fn write_members(line: &mut JsonLine, answer: &Answer) -> Result<(), AllocError>
     ensures { OnOk result
         (line.new ++ end_object ∷ [] ≡ line.old ++ members_tokens (answer_members answer.now)) }
 {

@@ -39,7 +39,7 @@ mod unanswered;
 mod work;
 
 pub use answer::{Answer, write_answers};
-pub use answer_json::write_count;
+pub use answer_json::{write_count, write_members};
 pub use consumer::{Consumer, Half};
 pub use context::Context;
 pub use form::Form;

@@ -5,9 +5,10 @@ use Rattle.std.specs.Io.BufRead.{drop_through}
 use Rattle.am_config.specs.declared.config.Config.{Config}
 use Rattle.am_script.proofs.Outputs.{appends_more, appends_none}
 use Rattle.am_runner.specs.Compacting.{CompactsIfDue}
-use Rattle.am_runner.specs.Sessions.{Setting, SessionView}
+use Rattle.am_runner.specs.Sessions.{Setting}
 use Rattle.am_runner.specs.declared.form.Form.{Form}
 use Rattle.am_serve.specs.Answering.{Answers}
+use Rattle.am_serve.specs.Standing.{RunView}
 use Rattle.am_serve.specs.Reading.{Begins, IsNext, no_lines}
 use Rattle.am_serve.specs.Reading as reading
 use Rattle.am_serve.specs.Serving.{Serves, nothing, one_more, between, AreRead, IsBeginning, IsServed, IsServedInPart}
@@ -23,7 +24,7 @@ on_err_of (Ok x) holds = tt
 on_err_of (Err e) holds = holds
 
 -- what was served before the line of a number
-pub record SoFar (config : Config) (setting : Setting) (form : Form) (first : ℕ) (begun : SessionView) (input out : Option (List ℕ)) (number : ℕ) (now : SessionView) (rest written : Option (List ℕ)) : Type 0 where
+pub record SoFar (config : Config) (setting : Setting) (form : Form) (first : ℕ) (begun : RunView) (input out : Option (List ℕ)) (number : ℕ) (now : RunView) (rest written : Option (List ℕ)) : Type 0 where
   pub lines : List (List ℕ)
   pub printed : List ℕ
   pub serves : Serves config setting form first begun lines printed now
@@ -52,11 +53,11 @@ at_end (Some text) rest new lines read next =
     let gone : read.0 ≡ [] = it.0 in
     ((read.0, read.1, it.1 ∙ ap (λ (l : List ℕ). Some l) (sym gone)), subst (λ (o : Option (List ℕ)). IfSome o (λ left. left ≡ [])) (sym it.1) refl)
 
-module _ (config : Config) (setting : Setting) (form : Form) (first : ℕ) (begun : SessionView) (input out : Option (List ℕ)) where
+module _ (config : Config) (setting : Setting) (form : Form) (first : ℕ) (begun : RunView) (input out : Option (List ℕ)) where
   pub so_far_none : SoFar config setting form first begun input out first begun input out
   so_far_none = record { lines = []; printed = []; serves = nothing; read = none_read input; counted = omega arith; written_is = appends_none out }
 
-  pub so_far_more : (number : ℕ) (old new : SessionView) (rest left written now : Option (List ℕ)) (bytes more : List ℕ) → SoFar config setting form first begun input out number old rest written
+  pub so_far_more : (number : ℕ) (old new : RunView) (rest left written now : Option (List ℕ)) (bytes more : List ℕ) → SoFar config setting form first begun input out number old rest written
       → IsNext rest (Some bytes) left → Answers config setting form number bytes old more new → Appends written now more → SoFar config setting form first begun input out (number + 1) new left now
   so_far_more number old new rest left written now bytes more so next answers added = record {
     lines = so.lines ++ bytes ∷ [];
@@ -67,18 +68,18 @@ module _ (config : Config) (setting : Setting) (form : Form) (first : ℕ) (begu
     written_is = appends_more out written now so.printed more so.written_is added;
   }
 
-  pub so_far_compacted : (number : ℕ) (old new : SessionView) (rest written : Option (List ℕ)) → SoFar config setting form first begun input out number old rest written
-      → CompactsIfDue config setting old new → SoFar config setting form first begun input out number new rest written
+  pub so_far_compacted : (number : ℕ) (old new : RunView) (rest written : Option (List ℕ)) → SoFar config setting form first begun input out number old rest written
+      → CompactsIfDue config setting old.session new.session × (new ≡ record old { session = new.session }) → SoFar config setting form first begun input out number new rest written
   so_far_compacted number old new rest written so due = record {
     lines = so.lines;
     printed = so.printed;
-    serves = between so.serves due;
+    serves = subst (λ (run : RunView). Serves config setting form first begun so.lines so.printed run) (sym due.1) (between so.serves due.0);
     read = so.read;
     counted = so.counted;
     written_is = so.written_is;
   }
 
-  pub served : (number : ℕ) (now : SessionView) (rest left written : Option (List ℕ)) → SoFar config setting form first begun input out number now rest written
+  pub served : (number : ℕ) (now : RunView) (rest left written : Option (List ℕ)) → SoFar config setting form first begun input out number now rest written
       → IsNext rest None left → IsServed config setting form first begun input left out written now
   served number now rest left written so next =
       let ended = at_end input rest left so.lines so.read next in record {
@@ -90,7 +91,7 @@ module _ (config : Config) (setting : Setting) (form : Form) (first : ℕ) (begu
         written_is = so.written_is;
       }
 
-  pub in_part : (number : ℕ) (now : SessionView) (rest written after : Option (List ℕ)) (beginning : List ℕ) → SoFar config setting form first begun input out number now rest written
+  pub in_part : (number : ℕ) (now : RunView) (rest written after : Option (List ℕ)) (beginning : List ℕ) → SoFar config setting form first begun input out number now rest written
       → IsBeginning config setting form number now beginning → Appends written after beginning → IsServedInPart config setting form first begun input out after
   in_part number now rest written after beginning so next added = record {
     lines = so.lines;
@@ -104,5 +105,5 @@ module _ (config : Config) (setting : Setting) (form : Form) (first : ℕ) (begu
   }
 
   -- nothing more was written
-  pub in_part_so : (number : ℕ) (now : SessionView) (rest written : Option (List ℕ)) → SoFar config setting form first begun input out number now rest written → IsServedInPart config setting form first begun input out written
+  pub in_part_so : (number : ℕ) (now : RunView) (rest written : Option (List ℕ)) → SoFar config setting form first begun input out number now rest written → IsServedInPart config setting form first begun input out written
   in_part_so number now rest written so = in_part number now rest written written [] so (inl refl) (appends_none written)

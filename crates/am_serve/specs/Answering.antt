@@ -22,6 +22,8 @@ use Rattle.am_runner.specs.Reading.{OpenView}
 use Rattle.am_runner.specs.Sessions.{Setting, SessionView, Does, has_notifier, index_named}
 use Rattle.am_runner.specs.Unanswered.{IsUnanswered}
 use Rattle.am_runner.specs.declared.answer.Answer.{Answer}
+use Rattle.am_serve.specs.Standing.{ReadOn, RunView, alerts_put, stands_after}
+use Rattle.am_serve.specs.declared.standing.StandingRead.{StandingRead}
 
 -- a line is refused, for what has this text
 abbrev pub refusal_members : List ℕ → Members
@@ -51,25 +53,31 @@ abbrev pub has_moment_if_needed : Command → List OpenView → Bool
 has_moment_if_needed (Groups name Unread) opened = not (has_notifier name opened)
 has_moment_if_needed _ opened = true
 
--- what a command of the line of this number prints, and what it does to a session: nothing, if it
--- subscribes a name that is open or its moment isn't one; else what it answers, or that there was no memory
--- for its answer, if it only asks or wasn't done
+-- what a command of the line of this number prints, and what it does to a run: nothing, if it subscribes a
+-- name that is open or its moment isn't one; else what it answers and what then comes for the reads that go
+-- on, or that there was no memory for its answer, if it only asks or wasn't done
 pub data Obeys (config : Config) (setting : Setting) (form : Form) (number : ℕ) (command : Command)
-    (old : SessionView) : List ℕ → SessionView → Type 0 where
-  bad_name : has_free_name command old.opened ≡ false
+    (old : RunView) : List ℕ → RunView → Type 0 where
+  bad_name : has_free_name command old.session.opened ≡ false
       → Obeys config setting form number command old (refused_text form number BadName) old
-  bad_moment : has_moment_if_needed command old.opened ≡ false
+  bad_moment : has_moment_if_needed command old.session.opened ≡ false
       → Obeys config setting form number command old (refused_text form number BadLine) old
-  ran : {given : List Answer} {new : SessionView} → has_free_name command old.opened ≡ true
-      → has_moment_if_needed command old.opened ≡ true → Does config setting old command given new
-      → Obeys config setting form number command old (answers_printed form number given) new
-  unanswered : {new : SessionView} → IsUnanswered config setting old command new
-      → Obeys config setting form number command old (no_memory_text form number) new
+  ran : {given : List Answer} {mid new : SessionView} {came : List ℕ} {reads : List StandingRead}
+      → has_free_name command old.session.opened ≡ true
+      → has_moment_if_needed command old.session.opened ≡ true
+      → Does config setting old.session command given mid
+      → ReadOn config setting form number (alerts_put command) mid
+      (stands_after old.follows command given old.reads) came reads new
+      → Obeys config setting form number command old (answers_printed form number given ++ came)
+      (record old { session = new; reads = reads })
+  unanswered : {new : SessionView} → IsUnanswered config setting old.session command new
+      → Obeys config setting form number command old (no_memory_text form number)
+      (record old { session = new })
 
--- What the line of this number prints, and what it does to a session: nothing, if it is empty; a refusal,
--- if it is too long, isn't a command, or memory ran out in reading it; else what its command does.
+-- What the line of this number prints, and what it does to a run: nothing, if it is empty; a refusal, if it
+-- is too long, isn't a command, or memory ran out in reading it; else what its command does.
 pub data Answers (config : Config) (setting : Setting) (form : Form) (number : ℕ) (bytes : List ℕ)
-    (old : SessionView) : List ℕ → SessionView → Type 0 where
+    (old : RunView) : List ℕ → RunView → Type 0 where
   nothing_asked : bytes ≡ [] → Answers config setting form number bytes old [] old
   too_large : LONGEST_LINE < length bytes
       → Answers config setting form number bytes old (refused_text form number TooLarge) old
@@ -78,7 +86,7 @@ pub data Answers (config : Config) (setting : Setting) (form : Form) (number : �
   bad_line : 0 < length bytes → length bytes ≤ LONGEST_LINE
       → IsCommandOf bytes (Err line_fault.BadLine)
       → Answers config setting form number bytes old (refused_text form number BadLine) old
-  obeyed : {command : Command} {printed : List ℕ} {new : SessionView}
+  obeyed : {command : Command} {printed : List ℕ} {new : RunView}
       → 0 < length bytes → length bytes ≤ LONGEST_LINE → IsCommandOf bytes (Ok command)
       → Obeys config setting form number command old printed new
       → Answers config setting form number bytes old printed new

@@ -6,20 +6,22 @@ use Rattle.am_runner.specs.Compacting.{CompactsIfDue}
 use Rattle.am_runner.specs.Sessions.{Setting, SessionView}
 use Rattle.am_runner.specs.declared.form.Form.{Form}
 use Rattle.am_serve.specs.Answering.{Answers}
+use Rattle.am_serve.specs.Standing.{RunView}
 use Rattle.am_serve.specs.Reading.{Begins}
 
--- what lines print, and what they do to a session: each what it answers, in their order. The first has this
+-- what lines print, and what they do to a run: each what it answers, in their order. The first has this
 -- number. Between two lines the journal may be compacted, which prints nothing
-pub data Serves (config : Config) (setting : Setting) (form : Form) (first : ℕ) (begun : SessionView)
-    : List (List ℕ) → List ℕ → SessionView → Type 0 where
+pub data Serves (config : Config) (setting : Setting) (form : Form) (first : ℕ) (begun : RunView)
+    : List (List ℕ) → List ℕ → RunView → Type 0 where
   nothing : Serves config setting form first begun [] [] begun
-  one_more : {lines : List (List ℕ)} {printed more : List ℕ} {old new : SessionView} (bytes : List ℕ)
+  one_more : {lines : List (List ℕ)} {printed more : List ℕ} {old new : RunView} (bytes : List ℕ)
       → Serves config setting form first begun lines printed old
       → Answers config setting form (first + length lines) bytes old more new
       → Serves config setting form first begun (lines ++ bytes ∷ []) (printed ++ more) new
-  between : {lines : List (List ℕ)} {printed : List ℕ} {old new : SessionView}
-      → Serves config setting form first begun lines printed old → CompactsIfDue config setting old new
-      → Serves config setting form first begun lines printed new
+  between : {lines : List (List ℕ)} {printed : List ℕ} {old : RunView} {new : SessionView}
+      → Serves config setting form first begun lines printed old
+      → CompactsIfDue config setting old.session new
+      → Serves config setting form first begun lines printed (record old { session = new })
 
 -- lines were read of an input, if its bytes are known
 abbrev pub AreRead : Option (List ℕ) → List (List ℕ) → Option (List ℕ) → Type 0
@@ -27,8 +29,8 @@ AreRead old lines new =
     IfSome old (λ text. (rest : List ℕ) × Begins text lines rest × (new ≡ Some rest))
 
 -- the whole input was served: each line of it, and all that they print was written
-pub record IsServed (config : Config) (setting : Setting) (form : Form) (first : ℕ) (begun : SessionView)
-    (input rest out written : Option (List ℕ)) (end : SessionView) : Type 0 where
+pub record IsServed (config : Config) (setting : Setting) (form : Form) (first : ℕ) (begun : RunView)
+    (input rest out written : Option (List ℕ)) (end : RunView) : Type 0 where
   pub lines : List (List ℕ)
   pub printed : List ℕ
   pub serves : Serves config setting form first begun lines printed end
@@ -37,18 +39,18 @@ pub record IsServed (config : Config) (setting : Setting) (form : Form) (first :
   pub written_is : Appends out written printed
 
 -- a beginning of what the line after these prints was written, or nothing of it
-abbrev pub IsBeginning : Config → Setting → Form → ℕ → SessionView → List ℕ → Type 0
+abbrev pub IsBeginning : Config → Setting → Form → ℕ → RunView → List ℕ → Type 0
 IsBeginning config setting form number old written = (written ≡ []) ⊎ ((bytes rest : List ℕ)
-    × (new : SessionView) × Answers config setting form number bytes old (written ++ rest) new)
+    × (new : RunView) × Answers config setting form number bytes old (written ++ rest) new)
 
 -- the serving failed after some lines: all that they print was written, and a beginning of what the next one
 -- prints
 pub record IsServedInPart (config : Config) (setting : Setting) (form : Form) (first : ℕ)
-    (begun : SessionView) (input out written : Option (List ℕ)) : Type 0 where
+    (begun : RunView) (input out written : Option (List ℕ)) : Type 0 where
   pub lines : List (List ℕ)
   pub printed : List ℕ
   pub beginning : List ℕ
-  pub last : SessionView
+  pub last : RunView
   pub serves : Serves config setting form first begun lines printed last
   pub read : IfSome input (λ text. (rest : List ℕ) × Begins text lines rest)
   pub next : IsBeginning config setting form (first + length lines) last beginning

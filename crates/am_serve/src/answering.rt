@@ -6,10 +6,15 @@ ghost use Rattle.am_runner.specs.Sessions.{setting_of};
 ghost use Rattle.am_serve.specs.Answering.{Answers, Obeys, has_free_name, has_moment_if_needed};
 ghost use Rattle.am_serve.specs.Answering.{no_memory_text, refusal_members, refused_for, refused_text};
 ghost use Rattle.am_serve.specs.Reading.{IsInputOf};
+ghost use Rattle.am_serve.specs.Standing.{ReadOn, alerts_put, stands_after};
 
 use crate::reading::InputLine;
+use crate::run::Run;
+use crate::standing::{alerts_put, note, read_on};
 use am_provider::{Gate, Recorded};
-use am_runner::{Context, Form, Session, is_question, loses_nothing, write_answers, write_count};
+use am_runner::{
+    Answer, Context, Form, Session, is_question, loses_nothing, write_answers, write_count,
+};
 use am_script::{Command, Fault, GivenMoment, JsonLine, LONGEST_LINE, LineFault, LineReader};
 use std::alloc::{AllocError, Global};
 use std::sync::Wait;
@@ -22,7 +27,7 @@ const SHORT: usize = 256;
 /// done. If memory runs out for another one's answer, that may have been done.
 pub fn answer_line<'p, 'c, N: Recorded, R: Wait, G: Gate>(
     context: &mut Context<'p, 'c, N, R, G>,
-    session: &mut Session<'p, 'c, N>,
+    run: &mut Run<'p, 'c, N>,
     reader: &mut LineReader,
     form: Form,
     number: u64,
@@ -30,7 +35,7 @@ pub fn answer_line<'p, 'c, N: Recorded, R: Wait, G: Gate>(
 ) -> Result<String, AllocError>
     ensures answers { IfOk result (λ text. Answers context.old.config
         (setting_of N.places N.policy context.old.provider.now.resolve_timeout) form number bytes.now
-        session.old (string_bytes text) session.new) }
+        run.old (string_bytes text) run.new) }
     ensures same { context.new ≡ context.old }
 {
     let alloc = context.alloc;
@@ -41,7 +46,7 @@ pub fn answer_line<'p, 'c, N: Recorded, R: Wait, G: Gate>(
         return refused(alloc, form, number, Fault::TooLarge);
     }
     match reader.read_command(bytes) {
-        Ok(command) => obey(context, session, form, number, &command),
+        Ok(command) => obey(context, run, form, number, &command),
         Err(LineFault::BadLine) => refused(alloc, form, number, Fault::BadLine),
         Err(LineFault::NoMemory) => no_memory(alloc, form, number),
     }
@@ -50,7 +55,7 @@ pub fn answer_line<'p, 'c, N: Recorded, R: Wait, G: Gate>(
 /// Does the same with a line as it was read.
 pub(crate) fn answer_input<'p, 'c, N: Recorded, R: Wait, G: Gate>(
     context: &mut Context<'p, 'c, N, R, G>,
-    session: &mut Session<'p, 'c, N>,
+    run: &mut Run<'p, 'c, N>,
     reader: &mut LineReader,
     form: Form,
     number: u64,
@@ -58,11 +63,11 @@ pub(crate) fn answer_input<'p, 'c, N: Recorded, R: Wait, G: Gate>(
 ) -> Result<String, AllocError>
     ensures answers { IfOk result (λ text. (bytes : List ℕ) → IsInputOf bytes line.now → Answers context.old.config
         (setting_of N.places N.policy context.old.provider.now.resolve_timeout) form number bytes
-        session.old (string_bytes text) session.new) }
+        run.old (string_bytes text) run.new) }
     ensures same { context.new ≡ context.old }
 {
     match line {
-        InputLine::Read(bytes) => answer_line(context, session, reader, form, number, bytes),
+        InputLine::Read(bytes) => answer_line(context, run, reader, form, number, bytes),
         InputLine::TooLong => refused(context.alloc, form, number, Fault::TooLarge),
         InputLine::NoMemory => no_memory(context.alloc, form, number),
     }
@@ -71,54 +76,83 @@ pub(crate) fn answer_input<'p, 'c, N: Recorded, R: Wait, G: Gate>(
 // Does what a command asks for, unless its name is taken or its moment isn't one.
 fn obey<'p, 'c, N: Recorded, R: Wait, G: Gate>(
     context: &mut Context<'p, 'c, N, R, G>,
-    session: &mut Session<'p, 'c, N>,
+    run: &mut Run<'p, 'c, N>,
     form: Form,
     number: u64,
     command: &Command,
 ) -> Result<String, AllocError>
     ensures obeys { IfOk result (λ text. Obeys context.old.config
         (setting_of N.places N.policy context.old.provider.now.resolve_timeout) form number command.now
-        session.old (string_bytes text) session.new) }
+        run.old (string_bytes text) run.new) }
     ensures same { context.new ≡ context.old }
 {
-    if !has_free_name(session, command) {
+    if !has_free_name(&run.session, command) {
         return refused(context.alloc, form, number, Fault::BadName);
     }
-    if !has_moment_if_needed(session, command) {
+    if !has_moment_if_needed(&run.session, command) {
         return refused(context.alloc, form, number, Fault::BadLine);
     }
-    run_command(context, session, form, number, command)
+    run_command(context, run, form, number, command)
 }
 
 // Does what a command asks for, and returns what is to be printed of it. No memory for the answer is answered too,
 // unless something was done whose answer is lost.
 fn run_command<'p, 'c, N: Recorded, R: Wait, G: Gate>(
     context: &mut Context<'p, 'c, N, R, G>,
-    session: &mut Session<'p, 'c, N>,
+    run: &mut Run<'p, 'c, N>,
     form: Form,
     number: u64,
     command: &Command,
 ) -> Result<String, AllocError>
-    requires name { has_free_name command.now session.old.opened ≡ true }
-    requires moment { has_moment_if_needed command.now session.old.opened ≡ true }
+    requires name { has_free_name command.now run.old.session.opened ≡ true }
+    requires moment { has_moment_if_needed command.now run.old.session.opened ≡ true }
     ensures obeys { IfOk result (λ text. Obeys context.old.config
         (setting_of N.places N.policy context.old.provider.now.resolve_timeout) form number command.now
-        session.old (string_bytes text) session.new) }
+        run.old (string_bytes text) run.new) }
     ensures same { context.new ≡ context.old }
 {
     let alloc = context.alloc;
     let Ok(mut text) = String::with_capacity(alloc, SHORT) else {
         return no_memory(alloc, form, number);
     };
-    match session.run(context, command) {
+    match run.session.run(context, command) {
         Ok(given) => match write_answers(&mut text, form, number, &given) {
-            Ok(()) => Ok(text),
+            Ok(()) => with_what_came(context, run, form, number, command, &given, text),
             Err(_) if is_question(command) => no_memory(alloc, form, number),
             Err(error) => Err(error),
         },
         Err(_) if loses_nothing(command) => no_memory(alloc, form, number),
         Err(error) => Err(error),
     }
+}
+
+// What is printed of a command's answers, followed by what then came for the reads that go on.
+fn with_what_came<'p, 'c, N: Recorded, R: Wait, G: Gate>(
+    context: &mut Context<'p, 'c, N, R, G>,
+    run: &mut Run<'p, 'c, N>,
+    form: Form,
+    number: u64,
+    command: &Command,
+    given: &[Answer],
+    mut text: String,
+) -> Result<String, AllocError>
+    ensures read { IfOk result (λ whole. (came : List ℕ) × (string_bytes whole ≡ string_bytes text.entry ++ came)
+        × ReadOn context.old.config (setting_of N.places N.policy context.old.provider.now.resolve_timeout)
+        form number (alerts_put command.now) run.old.session
+        (stands_after run.old.follows command.now given.now run.old.reads) came run.new.reads run.new.session) }
+    ensures same { (context.new ≡ context.old) × (run.new.follows ≡ run.old.follows) }
+{
+    note(&mut run.reads, run.follows, command, given)?;
+    read_on(
+        context,
+        &mut run.session,
+        &mut run.reads,
+        form,
+        number,
+        alerts_put(command),
+        &mut text,
+    )?;
+    Ok(text)
 }
 
 // Whether the command subscribes no name that an open subscription has.

@@ -9,8 +9,9 @@ ghost use Rattle.am_serve.specs.Serving.{IsBeginning, IsServed, IsServedInPart};
 
 use crate::answering::answer_input;
 use crate::reading::{InputLine, next_line};
+use crate::run::Run;
 use am_provider::{Gate, Recorded};
-use am_runner::{Context, Form, Session};
+use am_runner::{Context, Form};
 use am_script::{Failure, LineReader, write_text};
 use std::io::{BufRead, Write};
 use std::sync::Wait;
@@ -21,17 +22,17 @@ use std::sync::Wait;
 /// compaction costs no more than a few times that, so over many lines a line costs what its own alerts do.
 pub fn serve<'p, 'c, N: Recorded, R: Wait, G: Gate, I: BufRead, O: Write>(
     context: &mut Context<'p, 'c, N, R, G>,
-    session: &mut Session<'p, 'c, N>,
+    run: &mut Run<'p, 'c, N>,
     form: Form,
     first: u64,
     input: &mut I,
     out: &mut O,
 ) -> Result<(), Failure>
     ensures served { OnOk result (IsServed context.old.config
-        (setting_of N.places N.policy context.old.provider.now.resolve_timeout) form first session.old
-        (I.remaining input.old) (I.remaining input.new) (O.contents out.old) (O.contents out.new) session.new) }
+        (setting_of N.places N.policy context.old.provider.now.resolve_timeout) form first run.old
+        (I.remaining input.old) (I.remaining input.new) (O.contents out.old) (O.contents out.new) run.new) }
     ensures err { OnErr result (IsServedInPart context.old.config
-        (setting_of N.places N.policy context.old.provider.now.resolve_timeout) form first session.old
+        (setting_of N.places N.policy context.old.provider.now.resolve_timeout) form first run.old
         (I.remaining input.old) (O.contents out.old) (O.contents out.new)) }
 {
     let mut reader = LineReader::new(context.alloc);
@@ -39,8 +40,8 @@ pub fn serve<'p, 'c, N: Recorded, R: Wait, G: Gate, I: BufRead, O: Write>(
         let Some(line) = next_line(context.alloc, input)? else {
             return Ok(());
         };
-        serve_line(context, session, &mut reader, form, number, &line, out)?;
-        session.compact_if_due(context);
+        serve_line(context, run, &mut reader, form, number, &line, out)?;
+        run.compact_if_due(context);
     }
     Err(Failure::Read)
 }
@@ -48,7 +49,7 @@ pub fn serve<'p, 'c, N: Recorded, R: Wait, G: Gate, I: BufRead, O: Write>(
 // Answers one line.
 fn serve_line<'p, 'c, N: Recorded, R: Wait, G: Gate, O: Write>(
     context: &mut Context<'p, 'c, N, R, G>,
-    session: &mut Session<'p, 'c, N>,
+    run: &mut Run<'p, 'c, N>,
     reader: &mut LineReader,
     form: Form,
     number: u64,
@@ -58,14 +59,14 @@ fn serve_line<'p, 'c, N: Recorded, R: Wait, G: Gate, O: Write>(
     ensures answers { OnOk result ((bytes : List ℕ) → IsInputOf bytes line.now → (more : List ℕ)
         × Answers context.old.config
         (setting_of N.places N.policy context.old.provider.now.resolve_timeout) form number bytes
-        session.old more session.new × Appends (O.contents out.old) (O.contents out.new) more) }
+        run.old more run.new × Appends (O.contents out.old) (O.contents out.new) more) }
     ensures err { OnErr result ((bytes : List ℕ) → IsInputOf bytes line.now → (beginning : List ℕ)
         × IsBeginning context.old.config
-        (setting_of N.places N.policy context.old.provider.now.resolve_timeout) form number session.old
+        (setting_of N.places N.policy context.old.provider.now.resolve_timeout) form number run.old
         beginning × Appends (O.contents out.old) (O.contents out.new) beginning) }
     ensures same { context.new ≡ context.old }
 {
-    let text = answer_input(context, session, reader, form, number, line)?;
+    let text = answer_input(context, run, reader, form, number, line)?;
     write_text(out, text.as_bytes())?;
     match out.flush() {
         Ok(()) => Ok(()),

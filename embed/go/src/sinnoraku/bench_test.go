@@ -103,6 +103,10 @@ func BenchmarkPutOf100With1Listener(b *testing.B) {
 	onBoth(b, func(b *testing.B, alerts provider.Alerts) { putEach(b, alerts, 100, 1) })
 }
 
+func BenchmarkPutOf100With2Listeners(b *testing.B) {
+	onBoth(b, func(b *testing.B, alerts provider.Alerts) { putEach(b, alerts, 100, 2) })
+}
+
 func BenchmarkPutOf100With8Listeners(b *testing.B) {
 	onBoth(b, func(b *testing.B, alerts provider.Alerts) { putEach(b, alerts, 100, 8) })
 }

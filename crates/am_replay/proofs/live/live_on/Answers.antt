@@ -10,7 +10,8 @@ use Rattle.am_provider.specs.declared.answers.Policy.{Policy}
 use Rattle.std.specs.declared.time.Duration.{Duration}
 use Rattle.am_runner.specs.Sessions.{Setting, SessionView, new_session, setting_of}
 use Rattle.am_serve.specs.Serving.{IsServed, IsServedInPart}
-use Rattle.am_replay.specs.Live.{LivesUnder, cut_short}
+use Rattle.am_serve.specs.Standing.{new_run}
+use Rattle.am_replay.specs.Live.{LivesUnder, cut_short, is_following}
 use Rattle.am_replay.proofs.Lives.{counts_told, last_holds, none_before}
 use Rattle.am_replay.proofs.Replays.{keeps_same}
 use Rattle.am_replay.proofs.live.live_on.Goals as goal
@@ -51,14 +52,14 @@ returns-in-Ok-served g c =
     same_setting c.args.arguments.places g.N.Recorded.places c.args.arguments.full g.N.Recorded.policy c.args.config.now.resolve_timeout c.in-Ok.provider.resolve_timeout c.requires.limits.1 c.requires.limits.2 c.in-Ok.ensures.timeout in
     let done = when_ok c.serve_all-served.result.0 _ c.in-Ok-served.is c.serve_all-served.ensures.served in
     let all : c.push_reserved.new.self.items ≡ c.serve_all-served.result.1 ∷ [] = c.push_reserved.ensures.items ∙ ap (λ l. l ++ c.serve_all-served.result.1 ∷ []) none in
-    counts_told setting c.args.arguments.form c.args.config.now (g.I.Read.remaining c.args.input.now) (g.I.Read.remaining c.serve_all-served.new.input) (g.O.Write.contents c.args.out.now) (g.O.Write.contents c.serve_all-served.new.out) (g.O.Write.contents c.print_counts.new.out) c.counts.result c.print_counts.result
+    counts_told setting c.args.arguments.form (is_following c.args.arguments.mode) c.args.config.now (g.I.Read.remaining c.args.input.now) (g.I.Read.remaining c.serve_all-served.new.input) (g.O.Write.contents c.args.out.now) (g.O.Write.contents c.serve_all-served.new.out) (g.O.Write.contents c.print_counts.new.out) c.counts.result c.print_counts.result
     (record {
       seat = caller.front.seat;
       end = done.0;
       left = record { pass = c.serve_all-served.result.1.pass; front = c.serve_all-served.result.1.front; opened = [] };
       settled = c.settle-settled.result;
-      served = subst (λ (first : SessionView). IsServed c.args.config.now setting c.args.arguments.form 2 first (g.I.Read.remaining c.args.input.now) (g.I.Read.remaining c.serve_all-served.new.input) (g.O.Write.contents c.args.out.now) (g.O.Write.contents c.serve_all-served.new.out) done.0) begun
-          (subst (λ (s : Setting). IsServed c.args.config.now s c.args.arguments.form 2 begin (g.I.Read.remaining c.args.input.now) (g.I.Read.remaining c.serve_all-served.new.input) (g.O.Write.contents c.args.out.now) (g.O.Write.contents c.serve_all-served.new.out) done.0) same done.1);
+      served = subst (λ (first : SessionView). IsServed c.args.config.now setting c.args.arguments.form 2 (new_run first (is_following c.args.arguments.mode)) (g.I.Read.remaining c.args.input.now) (g.I.Read.remaining c.serve_all-served.new.input) (g.O.Write.contents c.args.out.now) (g.O.Write.contents c.serve_all-served.new.out) done.0) begun
+          (subst (λ (s : Setting). IsServed c.args.config.now s c.args.arguments.form 2 (new_run begin (is_following c.args.arguments.mode)) (g.I.Read.remaining c.args.input.now) (g.I.Read.remaining c.serve_all-served.new.input) (g.O.Write.contents c.args.out.now) (g.O.Write.contents c.serve_all-served.new.out) done.0) same done.1);
       leaves = done.2;
       ended = subst (λ l. IsSettledFrom (map (λ one. one.pass) l) (map (λ one. one.front) l) c.settle-settled.result) all c.settle-settled.ensures.settled;
       complete = c.settle-settled.ensures.complete.1 (ap length all ∙ sym c.requires.posters.1);
@@ -79,5 +80,5 @@ returns g c =
     let same : setting_of g.N.Recorded.places g.N.Recorded.policy c.in-Ok.provider.resolve_timeout ≡ setting =
     same_setting c.args.arguments.places g.N.Recorded.places c.args.arguments.full g.N.Recorded.policy c.args.config.now.resolve_timeout c.in-Ok.provider.resolve_timeout c.requires.limits.1 c.requires.limits.2 c.in-Ok.ensures.timeout in
     cut_short c.status_of.ensures
-    (subst (λ (first : SessionView). IsServedInPart c.args.config.now setting c.args.arguments.form 2 first (g.I.Read.remaining c.args.input.now) (g.O.Write.contents c.args.out.now) (g.O.Write.contents c.serve_all-served.new.out)) begun
-    (subst (λ (s : Setting). IsServedInPart c.args.config.now s c.args.arguments.form 2 begin (g.I.Read.remaining c.args.input.now) (g.O.Write.contents c.args.out.now) (g.O.Write.contents c.serve_all-served.new.out)) same (when_err c.serve_all-served.result.0 _ c.in-Err.is c.serve_all-served.ensures.err)))
+    (subst (λ (first : SessionView). IsServedInPart c.args.config.now setting c.args.arguments.form 2 (new_run first (is_following c.args.arguments.mode)) (g.I.Read.remaining c.args.input.now) (g.O.Write.contents c.args.out.now) (g.O.Write.contents c.serve_all-served.new.out)) begun
+    (subst (λ (s : Setting). IsServedInPart c.args.config.now s c.args.arguments.form 2 (new_run begin (is_following c.args.arguments.mode)) (g.I.Read.remaining c.args.input.now) (g.O.Write.contents c.args.out.now) (g.O.Write.contents c.serve_all-served.new.out)) same (when_err c.serve_all-served.result.0 _ c.in-Err.is c.serve_all-served.ensures.err)))

@@ -11,20 +11,20 @@ returns-then-is_empty-clause-answers g c =
     let zero : length c.args.bytes.now ≡ 0 = search rules in
     let none : c.args.bytes.now ≡ [] = none_of c.args.bytes.now zero in
     let printed : string_bytes c.new.result ≡ [] = search rules in
-    subst (λ (text : List ℕ). Answers c.args.context.now.config (setting_of g.N.Recorded.places g.N.Recorded.policy c.args.context.now.provider.now.resolve_timeout) c.args.form c.args.number c.args.bytes.now c.args.session.now text c.args.session.now) (sym printed) (nothing_asked none)
+    subst (λ (text : List ℕ). Answers c.args.context.now.config (setting_of g.N.Recorded.places g.N.Recorded.policy c.args.context.now.provider.now.resolve_timeout) c.args.form c.args.number c.args.bytes.now c.args.run.now text c.args.run.now) (sym printed) (nothing_asked none)
 
 pub returns-then-bytes-gt-LONGEST_LINE-clause-answers : goal.returns-then-bytes-gt-LONGEST_LINE-clause-answers
 returns-then-bytes-gt-LONGEST_LINE-clause-answers g c =
     let long : LONGEST_LINE < length c.args.bytes.now = search rules in
     IfOk-weaker c.refused.result _ _ (λ text is.
-    subst (λ (printed : List ℕ). Answers c.args.context.now.config (setting_of g.N.Recorded.places g.N.Recorded.policy c.args.context.now.provider.now.resolve_timeout) c.args.form c.args.number c.args.bytes.now c.args.session.now printed c.args.session.now) (sym is) (too_large long)) c.refused.ensures
+    subst (λ (printed : List ℕ). Answers c.args.context.now.config (setting_of g.N.Recorded.places g.N.Recorded.policy c.args.context.now.provider.now.resolve_timeout) c.args.form c.args.number c.args.bytes.now c.args.run.now printed c.args.run.now) (sym is) (too_large long)) c.refused.ensures
 
 pub returns-in-Err-BadLine-clause-answers : goal.returns-in-Err-BadLine-clause-answers
 returns-in-Err-BadLine-clause-answers g c =
     let some : 0 < length c.args.bytes.now = search rules in
     let short : length c.args.bytes.now ≤ LONGEST_LINE = search rules in
     IfOk-weaker c.refused-in-Err-BadLine.result _ _ (λ text is.
-    subst (λ (printed : List ℕ). Answers c.args.context.now.config (setting_of g.N.Recorded.places g.N.Recorded.policy c.args.context.now.provider.now.resolve_timeout) c.args.form c.args.number c.args.bytes.now c.args.session.now printed c.args.session.now) (sym is)
+    subst (λ (printed : List ℕ). Answers c.args.context.now.config (setting_of g.N.Recorded.places g.N.Recorded.policy c.args.context.now.provider.now.resolve_timeout) c.args.form c.args.number c.args.bytes.now c.args.run.now printed c.args.run.now) (sym is)
     (bad_line some short (rw c.in-Err-BadLine.field-0-is at c.in-Err-BadLine.ensures))) c.refused-in-Err-BadLine.ensures
 
 pub returns-in-Ok-clause-answers : goal.returns-in-Ok-clause-answers
@@ -37,4 +37,4 @@ pub returns-in-Err-NoMemory-clause-answers : goal.returns-in-Err-NoMemory-clause
 returns-in-Err-NoMemory-clause-answers g c =
     let some : 0 < length c.args.bytes.now = search rules in
     IfOk-weaker c.no_memory.result _ _ (λ text is.
-    subst (λ (printed : List ℕ). Answers c.args.context.now.config (setting_of g.N.Recorded.places g.N.Recorded.policy c.args.context.now.provider.now.resolve_timeout) c.args.form c.args.number c.args.bytes.now c.args.session.now printed c.args.session.now) (sym is) (no_memory some)) c.no_memory.ensures
+    subst (λ (printed : List ℕ). Answers c.args.context.now.config (setting_of g.N.Recorded.places g.N.Recorded.policy c.args.context.now.provider.now.resolve_timeout) c.args.form c.args.number c.args.bytes.now c.args.run.now printed c.args.run.now) (sym is) (no_memory some)) c.no_memory.ensures

@@ -6,12 +6,12 @@ use Rattle.am_serve.proofs.answering.obey.Goals as goal
 
 pub returns-then-not-has_free_name-clause-obeys : goal.returns-then-not-has_free_name-clause-obeys
 returns-then-not-has_free_name-clause-obeys g c =
-    let taken : has_free_name c.args.command.now c.args.session.now.opened ≡ false = search rules in
+    let taken : has_free_name c.args.command.now c.args.run.now.session.opened ≡ false = search rules in
     IfOk-weaker c.refused.result _ _ (λ text is.
-    subst (λ (printed : List ℕ). Obeys c.args.context.now.config (setting_of g.N.Recorded.places g.N.Recorded.policy c.args.context.now.provider.now.resolve_timeout) c.args.form c.args.number c.args.command.now c.args.session.now printed c.args.session.now) (sym is) (bad_name taken)) c.refused.ensures
+    subst (λ (printed : List ℕ). Obeys c.args.context.now.config (setting_of g.N.Recorded.places g.N.Recorded.policy c.args.context.now.provider.now.resolve_timeout) c.args.form c.args.number c.args.command.now c.args.run.now printed c.args.run.now) (sym is) (bad_name taken)) c.refused.ensures
 
 pub returns-then-not-has_moment_if_needed-clause-obeys : goal.returns-then-not-has_moment_if_needed-clause-obeys
 returns-then-not-has_moment_if_needed-clause-obeys g c =
-    let unread : has_moment_if_needed c.args.command.now c.args.session.now.opened ≡ false = search rules in
+    let unread : has_moment_if_needed c.args.command.now c.args.run.now.session.opened ≡ false = search rules in
     IfOk-weaker c.refused-then-not-has_moment_if_needed.result _ _ (λ text is.
-    subst (λ (printed : List ℕ). Obeys c.args.context.now.config (setting_of g.N.Recorded.places g.N.Recorded.policy c.args.context.now.provider.now.resolve_timeout) c.args.form c.args.number c.args.command.now c.args.session.now printed c.args.session.now) (sym is) (bad_moment unread)) c.refused-then-not-has_moment_if_needed.ensures
+    subst (λ (printed : List ℕ). Obeys c.args.context.now.config (setting_of g.N.Recorded.places g.N.Recorded.policy c.args.context.now.provider.now.resolve_timeout) c.args.form c.args.number c.args.command.now c.args.run.now printed c.args.run.now) (sym is) (bad_moment unread)) c.refused-then-not-has_moment_if_needed.ensures

@@ -7,5 +7,5 @@ use Rattle.am_serve.proofs.serving.serve.Given as goal
 abbrev pub invariant-loop-number : goal.invariant-loop-number
 invariant-loop-number g l =
     (l.context ≡ l.initial.context)
-    × SoFar l.initial.context.config (setting_of g.N.Recorded.places g.N.Recorded.policy l.initial.context.provider.now.resolve_timeout) l.form l.first l.initial.session (g.I.Read.remaining l.initial.input) (g.O.Write.contents l.initial.out)
-    l.number l.session (g.I.Read.remaining l.input) (g.O.Write.contents l.out)
+    × SoFar l.initial.context.config (setting_of g.N.Recorded.places g.N.Recorded.policy l.initial.context.provider.now.resolve_timeout) l.form l.first l.initial.run (g.I.Read.remaining l.initial.input) (g.O.Write.contents l.initial.out)
+    l.number l.run (g.I.Read.remaining l.input) (g.O.Write.contents l.out)

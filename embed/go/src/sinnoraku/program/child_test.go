@@ -64,7 +64,7 @@ func TestOnlyAGroupThatIsThereIsKilled(t *testing.T) {
 }
 
 func TestAProgramThatHasEndedIsNotKilled(t *testing.T) {
-	p := start(writeProgram(t, "exit 3"), nil, configuration, func() {})
+	p := start(writeProgram(t, "exit 3"), nil, configuration, &readers{})
 	<-p.ended
 	p.signalGroup = func(int, syscall.Signal) error {
 		t.Error("its group was signalled")
@@ -93,7 +93,7 @@ func TestAProgramThatIsNotThereIsNotKilled(t *testing.T) {
 // What a program has started, and what is in its group, ends with it.
 func TestAGroupEndsWithItsLeader(t *testing.T) {
 	file := filepath.Join(t.TempDir(), "process")
-	p := start(writeProgram(t, "sleep 60 & echo $! >"+file+"; exit 3"), nil, configuration, func() {})
+	p := start(writeProgram(t, "sleep 60 & echo $! >"+file+"; exit 3"), nil, configuration, &readers{})
 	<-p.ended
 	text, err := os.ReadFile(file)
 	if err != nil {

@@ -142,7 +142,7 @@ func TestAProgramThatStopsIsReplaced(t *testing.T) {
 func TestAProgramThatIsSlowIsNotKilled(t *testing.T) {
 	t.Parallel()
 	p := start(writeProgram(t, `read a; read b; for at in 1 2 3 4 5; do sleep 0.4; echo '{"line":2,"answer":"pending"}'; done
-		echo '{"line":2,"answers":5}'; read c`), nil, configuration, func() {})
+		echo '{"line":2,"answers":5}'; read c`), nil, configuration, &readers{})
 	defer p.close(endPatience)
 	if err := p.check(1500 * time.Millisecond); err != nil {
 		t.Error(err)
@@ -202,7 +202,7 @@ func TestOnlyDeathsWithinAMinuteCount(t *testing.T) {
 
 // What waits for a reader when the program dies still comes, and so it does when the provider ends.
 func TestWhatWaitsComesAfterADeath(t *testing.T) {
-	const count = mostRead // one read has them all
+	const count = mostAlerts // one put has them all
 	a := startPlain(t)
 	it := a.Subscribe()
 	put(t, a, firings(0, count)...)
@@ -379,7 +379,7 @@ func TestAPutWithoutAnAnswer(t *testing.T) {
 func TestAProgramThatDoesNotAnswer(t *testing.T) {
 	path := writeProgram(t, "echo sleeping >&2; sleep 60; sleep 60")
 	begun := time.Now()
-	p := start(path, nil, configuration, func() {})
+	p := start(path, nil, configuration, &readers{})
 	err := p.check(300 * time.Millisecond)
 	<-p.ended
 	if err == nil || !strings.Contains(err.Error(), "sleeping") || time.Since(begun) > 20*time.Second {

@@ -19,6 +19,7 @@ const (
 	isNone    kind = iota
 	isAnswer       // one answer of a line
 	isClosing      // what follows a line's answers: how many there are
+	isCame         // what came for a subscription after a line
 	isFirst        // a refusal of the configuration
 	isLast         // the counts at the end
 )
@@ -27,6 +28,8 @@ var (
 	lineHead    = []byte(`{"line":`)
 	answerHead  = []byte(`,"answer":`)
 	closingHead = []byte(`,"answers":`)
+	cameHead    = []byte(`,"sub":"`)
+	asPutHead   = []byte(`","answer":"as_put","index":`)
 	endHead     = []byte(`{"answer":"end"`)
 	refusedHead = []byte(`{"answer":"refused"`)
 )
@@ -47,8 +50,24 @@ func headOf(text []byte) (number int, _ kind) {
 		return number, isAnswer
 	case bytes.HasPrefix(rest, closingHead):
 		return number, isClosing
+	case bytes.HasPrefix(rest, cameHead):
+		return number, isCame
 	}
 	return 0, isNone
+}
+
+// cameOf is the subscription that something came for, and if that is an alert as a put gives it, its index there.
+func cameOf(text []byte) (name string, index int, isPut bool) {
+	_, rest := leadingNumber(text[len(lineHead):])
+	rest = rest[len(cameHead):]
+	if end := bytes.IndexByte(rest, '"'); end >= 0 {
+		name, rest = string(rest[:end]), rest[end:]
+	}
+	if !bytes.HasPrefix(rest, asPutHead) {
+		return name, 0, false
+	}
+	index, _ = leadingNumber(rest[len(asPutHead):])
+	return name, index, true
 }
 
 // closingCount is how many answers the closing object of a line announces.

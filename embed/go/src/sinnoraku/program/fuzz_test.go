@@ -91,9 +91,9 @@ func FuzzAnyBytesAreReadOrRefused(f *testing.F) {
 		f.Add([]byte(text))
 	}
 	f.Fuzz(func(t *testing.T, text []byte) {
-		calls := []*call{{done: make(chan struct{})}, {done: make(chan struct{}), isPut: true}}
+		calls := []*call{{done: make(chan struct{})}, {done: make(chan struct{}), request: request{put: &line{shown: []*Alert{{}}}}}}
 		p := &process{
-			child: newChild("program", nil), onPut: func() {},
+			child: newChild("program", nil), readers: &readers{},
 			waiting: map[int]*call{firstLine: calls[0], firstLine + 1: calls[1]},
 		}
 		_ = p.readAnswers(bufio.NewReaderSize(bytes.NewReader(text), 16))

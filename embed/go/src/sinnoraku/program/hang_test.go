@@ -121,7 +121,7 @@ func TestNoCallWaitsForWhatAProgramHasStarted(t *testing.T) {
 		left := left
 		t.Run(name, func(t *testing.T) {
 			t.Parallel()
-			p := start(writeProgram(t, left+" sleep 0.3; read a; read b; exit 3"), nil, configuration, func() {})
+			p := start(writeProgram(t, left+" sleep 0.3; read a; read b; exit 3"), nil, configuration, &readers{})
 			endsSoon(t, "a call", func() {
 				if _, err := p.ask(getRoutes); !errors.Is(err, ErrDied) {
 					t.Error(err)
@@ -136,8 +136,8 @@ func TestNoCallWaitsForWhatAProgramHasStarted(t *testing.T) {
 func TestAProgramThatLeavesOutALine(t *testing.T) {
 	t.Parallel()
 	script := fmt.Sprintf(`read a; read b; read c; echo '{"line":%d,"answers":0}'; sleep 60`, firstLine+1)
-	p := start(writeProgram(t, script), nil, configuration, func() {})
-	for at, it := range p.send(false, getStored, getStored) {
+	p := start(writeProgram(t, script), nil, configuration, &readers{})
+	for at, it := range p.send(request{text: getStored}, request{text: getStored}) {
 		it := it
 		endsSoon(t, fmt.Sprint("call ", at), func() {
 			if err := it.wait(); !errors.Is(err, ErrDied) {

@@ -28,8 +28,7 @@ func (p *Program) begin() *history {
 	h := &history{replaced: make(chan struct{})}
 	h.known.texts = map[model.Fingerprint]string{}
 	h.readers.init(p.options.Places)
-	h.process = start(p.options.Program, p.options.arguments(), configuration, h.readers.wake)
-	h.readers.process = h.process
+	h.process = start(p.options.Program, p.options.arguments(), configuration, &h.readers)
 	go h.watch(p.options.Interval, p.options.Patience)
 	return h
 }
@@ -77,7 +76,7 @@ func (p *Program) replace(dead *history) {
 
 // get asks for the stored alert of these labels, and is nil if there is none.
 func (h *history) get(labels string) (*Alert, error) {
-	alerts, err := alertsIn(h.send(false, getLine(labels))[0])
+	alerts, err := alertsIn(h.send(request{text: getLine(labels)})[0])
 	if err != nil || len(alerts) == 0 {
 		return nil, err
 	}
@@ -87,30 +86,35 @@ func (h *history) get(labels string) (*Alert, error) {
 // How many alerts are asked for at once. Other lines come between two pages, so no put waits for a whole store.
 const pageLength = 500
 
-// stored asks for all stored alerts, page by page. Each is as it was when its page was read. New ones come at the end, so
-// none is missed while no collection comes.
+// stored asks for all stored alerts, page by page, some of them at once so that the program prints the next ones while
+// these are decoded. Each alert is as it was when its page was read. New ones come at the end, so none is missed while no
+// collection comes.
 func (h *history) stored() (all []*Alert, _ error) {
-	for {
-		alerts, stored, err := h.page(len(all))
-		all = append(all, alerts...)
-		if err != nil || len(alerts) == 0 || len(all) >= stored {
+	var away []*call
+	stored := pageLength // as far as is known: each page says how many there are
+	for asked := 0; ; {
+		for asked < stored && len(away) < pagesAway {
+			most := stored - asked
+			if most > pageLength {
+				most = pageLength
+			}
+			away = append(away, h.send(request{text: pageLine(asked, most)})[0])
+			asked += most
+		}
+		if len(away) == 0 {
+			return all, nil
+		}
+		answers, err := answersFor(away[0], "page")
+		if err != nil {
 			return all, err
 		}
+		all, away, stored = append(all, alertsOf(answers[1:])...), away[1:], answers[0].stored
 	}
-}
-
-// page asks for the stored alerts from an index on, and how many are stored in all.
-func (h *history) page(from int) (alerts []*Alert, stored int, _ error) {
-	answers, err := answersFor(h.send(false, pageLine(from, pageLength))[0], "page")
-	if err != nil {
-		return nil, 0, err
-	}
-	return alertsOf(answers[1:]), answers[0].stored, nil
 }
 
 // takeResolved has what is resolved removed, and returns it.
 func (h *history) takeResolved(now time.Time) ([]*Alert, error) {
-	answers, err := answersFor(h.send(false, takeLine(now))[0], "take")
+	answers, err := answersFor(h.send(request{text: takeLine(now)})[0], "take")
 	if err != nil {
 		return nil, err
 	}
@@ -158,6 +162,11 @@ func alertsIn(asked *call) ([]*Alert, error) {
 	if err != nil {
 		return nil, err
 	}
+	return alertsOfAnswers(answers)
+}
+
+// alertsOfAnswers are the alerts that a question's answers show. If they end with a cut, that is errCut.
+func alertsOfAnswers(answers []answer) ([]*Alert, error) {
 	alerts := make([]*Alert, 0, len(answers))
 	for _, it := range answers {
 		switch it.word {

@@ -10,76 +10,89 @@ import (
 )
 
 const (
-	// How many alerts one line reads, and how many it can read at most.
-	mostRead    = 1024
+	// How many alerts one line reads of what was stored at a subscription, and how many such lines are on their way at once,
+	// so that the program prints the next ones while these are decoded.
+	pageRead  = 256
+	pagesAway = 4
+	// How many alerts may come to a lane without being asked for, and how few they are when more are asked for.
+	mostComing = 8192
+	fewComing  = mostComing / 2
+	// How many alerts one line can read at most.
 	longestRead = 65_536
 	// So many of the longest reads reach the end of a full log, whose places hold 1,024 alerts each.
 	readsOfFullLog = 256 * mostAlerts / longestRead
-	// How many alerts wait for a reader before no more are read ahead for it.
-	mostWaiting = 16 * mostRead
+	// How many alerts wait for a reader before no more are asked for.
+	mostWaiting = 16 * mostAlerts
 	// How many alerts no store can hold.
 	mostStored = 1 << 32
 )
 
-// A lane is one subscription of the program. Its goroutine reads it ahead as things come, and deals them to its members:
-// the reader that has it alone, or all that share it. If one that has it alone is full, the lane isn't read, and the
-// program judges who is too slow. One that shares it is cut off here, and holds up no other.
+// A lane is one subscription of the program, which shows what comes for it after each line, as many alerts as its last read
+// has left. Its goroutine deals what the program has printed to the lane's members: the reader that has it alone, or all that
+// share it. If one that has it alone is full, no more is asked for, and the program judges who is too slow. One that shares
+// it is cut off here, and holds up no other.
 type lane struct {
 	readers  *readers
 	reader   string
 	name     string
 	number   int
 	isShared bool
-	woken    chan struct{} // has a token if something came since, or if there is room again
+	woken    chan struct{} // has a token if something is to be done
 	left     chan struct{} // closed once no member is left
-	lag      atomic.Int64  // about how many batches have come since it was last read to its end
+	coming   atomic.Int64  // how many alerts may still come without being asked for
+	drained  atomic.Int64  // after how many puts all that came was printed, as far as is known
 
-	mutex   sync.Mutex // held while the lane is read and what was read is dealt out
+	queueing sync.Mutex
+	queue    []event // what was printed and isn't dealt out yet
+
+	mutex   sync.Mutex // held while it is dealt out
 	members map[*member]struct{}
+	pages   int // how many lines are still to read what was stored at the subscription
+	away    int // how many reads that its goroutine has asked for aren't answered yet
+}
+
+// An event is what the program has printed of a lane, in its order: a read's answers, an alert that came by itself, another
+// line that came so, or the place in that order where a member joins.
+type event struct {
+	read  *call
+	alert *Alert
+	line  []byte
+	joins *member
 }
 
 // A member is one who has a lane or shares it.
 type member struct {
 	lane    *lane
-	opening chan *call    // answers with what was stored when it came, closed after the last; it takes them first
+	opening *call         // answers with what was stored when it joined; nil if it needn't
 	filled  chan struct{} // has a token if something came since
+	isIn    bool          // whether it gets what is dealt out; guarded by the lane's mutex
 
 	mutex   sync.Mutex
 	waiting []*Alert
 	err     error // why no more come
 }
 
-// openLane subscribes, for a first member. The lane stays locked until what is stored has been read: so nothing else of it
-// is read before, and a put that finds too much of the log unread waits for that.
+// openLane subscribes, for a first member, and begins to read what is stored.
 func (r *readers) openLane(reader string, isShared bool) (*lane, *member, error) {
 	l := r.newLane(reader, isShared)
-	l.mutex.Lock()
-	calls := r.process.send(false, subscribeLine(l.name), readLineOf(l.name, mostRead))
-	stored, err := l.begin(calls[0])
+	l.away = 1
+	asked := r.process.send(request{text: subscribeLine(l.name)}, l.readOf(pageRead))[0]
+	stored, err := l.begin(asked)
 	if err != nil {
-		l.mutex.Unlock()
 		close(l.left)
 		r.forget(l)
 		return nil, nil, err
 	}
-	first := l.add(make(chan *call, stored/mostRead+1))
-	go func() {
-		l.readOpening(first, calls[1], stored)
-		l.mutex.Unlock()
-		l.run()
-	}()
+	l.pages = (stored+pageRead-1)/pageRead - 1
+	first := l.add(nil)
+	first.isIn = true
+	go l.run()
 	return l, first, nil
 }
 
-// readOpening reads what is stored in pages, of which the first has been asked for, so that puts come between.
-func (l *lane) readOpening(first *member, page *call, stored int) {
-	defer close(first.opening)
-	first.opening <- page
-	for left := stored - mostRead; left > 0 && page.wait() == nil; left -= mostRead {
-		page = l.readers.process.send(false, readLineOf(l.name, mostRead))[0]
-		first.opening <- page
-	}
-	poke(l.woken)
+// readOf is a line that reads so many alerts.
+func (l *lane) readOf(most int) request {
+	return request{text: readLineOf(l.name, most), to: l, most: most}
 }
 
 func (r *readers) newLane(reader string, isShared bool) *lane {
@@ -90,14 +103,15 @@ func (r *readers) newLane(reader string, isShared bool) *lane {
 		readers: r, reader: reader, name: "s" + strconv.Itoa(r.count), number: -1, isShared: isShared,
 		woken: make(chan struct{}, 1), left: make(chan struct{}), members: map[*member]struct{}{},
 	}
-	r.open[l] = struct{}{}
+	l.drained.Store(r.process.puts.Load())
+	r.open[l.name] = l
 	return l
 }
 
 func (r *readers) forget(it *lane) {
 	r.mutex.Lock()
 	defer r.mutex.Unlock()
-	delete(r.open, it)
+	delete(r.open, it.name)
 }
 
 // begin notes the lane's number, and says how much is stored.
@@ -109,6 +123,9 @@ func (l *lane) begin(asked *call) (stored int, _ error) {
 	if err != nil {
 		return 0, err
 	}
+	if len(answers) == 1 && answers[0].word == "refused" {
+		return 0, &refusal{answers[0].fault}
+	}
 	if len(answers) != 1 || answers[0].word != "subscribe" || answers[0].opening > mostStored {
 		return 0, fmt.Errorf("sinnoraku: a subscribe was answered by %q", asked.answers)
 	}
@@ -118,8 +135,8 @@ func (l *lane) begin(asked *call) (stored int, _ error) {
 	return answers[0].opening, nil
 }
 
-// add adds a member that has this opening.
-func (l *lane) add(opening chan *call) *member {
+// add adds a member.
+func (l *lane) add(opening *call) *member {
 	it := &member{lane: l, opening: opening, filled: make(chan struct{}, 1)}
 	l.members[it] = struct{}{}
 	return it
@@ -133,21 +150,16 @@ func (l *lane) join() (*member, error) {
 	if l.isLeft() {
 		return nil, errCut
 	}
-	var lines [][]byte
+	var lines []request
 	for len(lines) < readsOfFullLog {
-		lines = append(lines, readLineOf(l.name, longestRead))
+		lines = append(lines, l.readOf(longestRead))
 	}
-	calls := l.readers.process.send(false, append(lines, getStored)...)
-	for _, read := range calls[:readsOfFullLog] {
-		if err := l.deal(read); err != nil {
-			l.end(err)
-			return nil, err
-		}
-	}
-	opening := make(chan *call, 1)
-	opening <- calls[readsOfFullLog]
-	close(opening)
-	return l.add(opening), nil
+	it := l.add(nil)
+	lines = append(lines, l.readOf(mostComing), request{text: getStored, to: l, joins: it})
+	l.away += readsOfFullLog + 1
+	calls := l.readers.process.send(lines...)
+	it.opening = calls[len(calls)-1]
+	return it, nil
 }
 
 func (l *lane) isLeft() bool {
@@ -159,16 +171,52 @@ func (l *lane) isLeft() bool {
 	}
 }
 
-// run reads the lane as things come, until it is left.
+// answered notes an answered read, in the order of what is printed.
+func (l *lane) answered(read *call) {
+	if read.joins != nil {
+		l.push(event{joins: read.joins})
+		return
+	}
+	if isPending(read) {
+		l.coming.Store(int64(read.most - (read.count - 1)))
+		l.drained.Store(read.puts)
+	} else {
+		l.coming.Store(0)
+	}
+	l.push(event{read: read})
+}
+
+// came notes what came without being asked for.
+func (l *lane) came(it event) {
+	l.coming.Add(-1)
+	l.push(it)
+}
+
+func (l *lane) push(it event) {
+	l.queueing.Lock()
+	l.queue = append(l.queue, it)
+	l.queueing.Unlock()
+	poke(l.woken)
+}
+
+func (l *lane) take() []event {
+	l.queueing.Lock()
+	defer l.queueing.Unlock()
+	taken := l.queue
+	l.queue = nil
+	return taken
+}
+
+// run deals out what comes, until the lane is left.
 func (l *lane) run() {
 	for {
 		select {
 		case <-l.woken:
-			for l.readOn() {
-			}
+			l.work()
 		case <-l.left:
 			return
 		case <-l.readers.process.ended:
+			l.work()
 			l.mutex.Lock()
 			l.end(l.readers.process.why())
 			l.mutex.Unlock()
@@ -177,26 +225,96 @@ func (l *lane) run() {
 	}
 }
 
-// readOn reads once, and says whether there may be more.
-func (l *lane) readOn() bool {
+// work deals out what was printed, and asks for more if little more comes by itself.
+func (l *lane) work() {
 	l.mutex.Lock()
 	defer l.mutex.Unlock()
-	if l.isLeft() || !l.hasRoom() {
-		return false
+	if l.isLeft() {
+		return
 	}
-	lag := l.lag.Load()
-	read := l.readers.process.send(false, readLineOf(l.name, mostRead))[0]
-	if err := l.deal(read); err != nil {
+	if err := l.dealAll(l.take()); err != nil {
 		l.end(err)
-		return false
+		return
 	}
 	l.leaveIfAlone()
-	if !isPending(read) {
-		return true
+	l.askForMore()
+}
+
+// askForMore asks for the next pages of what was stored, and once they are there for what comes.
+func (l *lane) askForMore() {
+	if l.isLeft() || !l.hasRoom() {
+		return
 	}
-	// What came before the read has been read. Until here it counts, so that puts wait if the read is late.
-	l.lag.Add(-lag)
-	return false
+	var lines []request
+	for ; l.pages > 0 && l.away < pagesAway; l.pages-- {
+		lines = append(lines, l.readOf(pageRead))
+		l.away++
+	}
+	if l.away == 0 && l.coming.Load() < fewComing {
+		lines = append(lines, l.readOf(mostComing))
+		l.away++
+	}
+	if len(lines) > 0 {
+		l.readers.process.send(lines...)
+	}
+}
+
+// dealAll deals out what events have, alerts that follow each other together.
+func (l *lane) dealAll(events []event) error {
+	var together []*Alert
+	for _, it := range events {
+		if it.alert != nil {
+			together = append(together, it.alert)
+			continue
+		}
+		l.deal(together)
+		together = nil
+		if it.joins != nil {
+			it.joins.isIn = true
+			poke(it.joins.filled)
+			continue
+		}
+		alerts, err := it.alerts()
+		l.deal(alerts)
+		if it.read != nil && l.away > 0 {
+			l.away--
+		}
+		if err != nil {
+			return err
+		}
+	}
+	l.deal(together)
+	return nil
+}
+
+// alerts are those that an event shows. If no more come, the error says why.
+func (it *event) alerts() ([]*Alert, error) {
+	if it.read != nil {
+		return alertsIn(it.read)
+	}
+	found, err := parseAnswer(it.line)
+	if err != nil {
+		return nil, err
+	}
+	return alertsOfAnswers([]answer{found})
+}
+
+// catchUp has all printed that came to the lane, unless its reader is full.
+func (l *lane) catchUp() {
+	for {
+		l.mutex.Lock()
+		if l.isLeft() || !l.hasRoom() {
+			l.mutex.Unlock()
+			return
+		}
+		l.away++
+		read := l.readers.process.send(l.readOf(mostComing))[0]
+		l.mutex.Unlock()
+		if read.wait() != nil || isPending(read) {
+			return
+		}
+		l.work()
+	}
 }
 
 // hasRoom says whether the lane is to be read.
@@ -214,13 +332,15 @@ func isPending(read *call) bool {
 	return bytes.HasSuffix(read.answers, []byte(`"answer":"pending"}`+"\n"))
 }
 
-// deal gives what a read is answered by to each member. Of those that share a lane it cuts off who is full.
-func (l *lane) deal(read *call) error {
-	alerts, err := alertsIn(read)
+// deal gives alerts to each member that is in. Of those that share a lane it cuts off who is full.
+func (l *lane) deal(alerts []*Alert) {
 	if len(alerts) == 0 {
-		return err
+		return
 	}
 	for it := range l.members {
+		if !it.isIn {
+			continue
+		}
 		if l.isShared && it.isFull() {
 			it.end(errCut)
 			delete(l.members, it)
@@ -228,7 +348,6 @@ func (l *lane) deal(read *call) error {
 		}
 		it.give(alerts)
 	}
-	return err
 }
 
 // end ends each member, and leaves the lane.
@@ -247,7 +366,7 @@ func (l *lane) leaveIfAlone() {
 	}
 	close(l.left)
 	l.readers.forget(l)
-	go l.leaveAgain(l.readers.process.send(false, leaveLine(l.name))[0])
+	go l.leaveAgain(l.readers.process.send(request{text: leaveLine(l.name)})[0])
 	if !l.isShared {
 		<-l.readers.own
 	}
@@ -258,7 +377,7 @@ func (l *lane) leaveAgain(asked *call) {
 	for isRefused(asked) {
 		select {
 		case <-time.After(refusedPause):
-			asked = l.readers.process.send(false, leaveLine(l.name))[0]
+			asked = l.readers.process.send(request{text: leaveLine(l.name)})[0]
 		case <-l.readers.process.ended:
 			return
 		}
@@ -297,13 +416,14 @@ func (m *member) end(err error) {
 
 // next waits until there are alerts, or until the iterator is closed. With an error no more come.
 func (m *member) next(closed <-chan struct{}) ([]*Alert, error) {
-	select {
-	case page, is := <-m.opening:
-		if is {
-			return alertsIn(page)
+	if opening := m.opening; opening != nil {
+		m.opening = nil
+		select {
+		case <-opening.done:
+			return alertsIn(opening)
+		case <-closed:
+			return nil, errClosed
 		}
-	case <-closed:
-		return nil, errClosed
 	}
 	select {
 	case <-m.filled:

@@ -26,9 +26,10 @@ type process struct {
 	*child
 	path    string
 	said    tail          // the end of its error stream
-	onPut   func()        // called by the reading goroutine after each answered put
+	readers *readers      // what comes for subscriptions is theirs
 	ended   chan struct{} // closed once the program has ended and each call has its answer or an error
 	printed atomic.Int64  // how many lines it has printed
+	puts    atomic.Int64  // how many puts were written
 
 	writing sync.Mutex // held while lines are numbered and written, so that numbers are in the order of the lines
 	last    int        // the number of the last line
@@ -38,9 +39,19 @@ type process struct {
 	err     error // why no more calls are taken
 }
 
-// A call is a line that was written, with its answers once they are there.
+// A request is a line to be written, with its line feed.
+type request struct {
+	text  []byte
+	put   *line   // the alerts that it puts, if it does
+	to    *lane   // whose read it is, if it is one
+	most  int     // how many alerts that reads
+	joins *member // who joins the lane where this is answered
+}
+
+// A call is a request that was written, with its answers once they are there.
 type call struct {
-	isPut   bool
+	request
+	puts    int64  // how many puts were written up to it
 	count   int    // how many answers there are
 	answers []byte // one object a line
 	err     error
@@ -48,11 +59,12 @@ type call struct {
 }
 
 // start starts the program with these arguments and gives it its first line. If it can't be started, it has ended already.
-func start(path string, arguments []string, configuration string, onPut func()) *process {
+func start(path string, arguments []string, configuration string, its *readers) *process {
 	p := &process{
-		child: newChild(path, arguments), path: path, onPut: onPut,
+		child: newChild(path, arguments), path: path, readers: its,
 		ended: make(chan struct{}), waiting: map[int]*call{}, last: firstLine - 1,
 	}
+	its.process = p
 	if err := p.launch(); err != nil {
 		p.refuse(&because{ErrDied, err})
 		p.end(nil)
@@ -134,7 +146,7 @@ func (p *process) killIfSilent(patience time.Duration, answered <-chan struct{})
 
 // ask writes a line and waits for its answers.
 func (p *process) ask(line []byte) (*call, error) {
-	asked := p.send(false, line)[0]
+	asked := p.send(request{text: line})[0]
 	return asked, asked.wait()
 }
 
@@ -144,16 +156,20 @@ func (c *call) wait() error {
 }
 
 // send writes lines, each with its line feed, so that none comes between them. It doesn't wait for their answers.
-func (p *process) send(arePuts bool, lines ...[]byte) []*call {
+func (p *process) send(lines ...request) []*call {
 	calls := make([]*call, len(lines))
 	p.writing.Lock()
 	defer p.writing.Unlock()
-	if err := p.expect(calls, arePuts); err != nil {
+	if err := p.expect(calls, lines); err != nil {
 		return calls
 	}
-	text := lines[0]
+	text := lines[0].text
 	if len(lines) > 1 {
-		text = bytes.Join(lines, nil)
+		var texts [][]byte
+		for _, it := range lines {
+			texts = append(texts, it.text)
+		}
+		text = bytes.Join(texts, nil)
 	}
 	if _, err := p.input.Write(text); err != nil {
 		// The reading goroutine finds the end of the answers, and then ends each call.
@@ -163,11 +179,14 @@ func (p *process) send(arePuts bool, lines ...[]byte) []*call {
 }
 
 // expect makes the calls of the next lines. If no more are taken, they have ended already.
-func (p *process) expect(calls []*call, arePuts bool) error {
+func (p *process) expect(calls []*call, lines []request) error {
 	p.mutex.Lock()
 	defer p.mutex.Unlock()
 	for at := range calls {
-		calls[at] = &call{isPut: arePuts, err: p.err, done: make(chan struct{})}
+		if lines[at].put != nil {
+			p.puts.Add(1)
+		}
+		calls[at] = &call{request: lines[at], puts: p.puts.Load(), err: p.err, done: make(chan struct{})}
 		if p.err != nil {
 			close(calls[at].done)
 			continue
@@ -180,7 +199,7 @@ func (p *process) expect(calls []*call, arePuts bool) error {
 
 // readAnswers hands each answer to its call, to the end of the output. What can't be the next answer is an error.
 func (p *process) readAnswers(output *bufio.Reader) error {
-	var current *call
+	var current, before *call
 	for next := firstLine; ; {
 		line, err := readLine(output)
 		if err != nil {
@@ -194,6 +213,11 @@ func (p *process) readAnswers(output *bufio.Reader) error {
 			continue
 		case kind == isNone:
 			return fmt.Errorf("%s printed what is no answer: %.200q", p.path, line)
+		case kind == isCame:
+			if err := p.came(line, number == next-1, before); err != nil {
+				return err
+			}
+			continue
 		case current == nil:
 			current = p.waitingFor(next)
 		}
@@ -209,7 +233,7 @@ func (p *process) readAnswers(output *bufio.Reader) error {
 			return fmt.Errorf("%s gave line %d %d answers where %d were announced", p.path, next, current.count, count)
 		}
 		p.answered(next)
-		next, current = next+1, nil
+		next, before, current = next+1, current, nil
 	}
 }
 
@@ -236,10 +260,23 @@ func (p *process) answered(number int) {
 	answered := p.waiting[number]
 	delete(p.waiting, number)
 	p.mutex.Unlock()
-	close(answered.done)
-	if answered.isPut {
-		p.onPut()
+	if answered.to != nil {
+		answered.to.answered(answered)
 	}
+	close(answered.done)
+}
+
+// came hands what came for a subscription after a line to its lane.
+func (p *process) came(text []byte, isAfterLast bool, last *call) error {
+	name, index, isPut := cameOf(text)
+	it := event{line: append([]byte(nil), text...)}
+	if isPut && isAfterLast && last != nil && last.put != nil && index < len(last.put.shown) {
+		it = event{alert: last.put.shown[index]}
+	} else if isPut || !isAfterLast {
+		return fmt.Errorf("%s showed an alert that no put has: %.200q", p.path, text)
+	}
+	p.readers.came(name, it)
+	return nil
 }
 
 // note keeps a refusal of the configuration as why the program ended.

@@ -69,7 +69,7 @@ func (o Options) arguments() []string {
 	if o.Refuse {
 		full = "refuse"
 	}
-	return []string{"--json", "--mode", "live", "--places", fmt.Sprint(o.Places), "--full", full}
+	return []string{"--json", "--mode", "follow", "--places", fmt.Sprint(o.Places), "--full", full}
 }
 
 // The program's routes aren't asked: Alertmanager's own dispatcher reads its own configuration.

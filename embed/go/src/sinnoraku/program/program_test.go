@@ -375,15 +375,15 @@ func TestAReaderThatTakesNothingIsCutAlone(t *testing.T) {
 	slow, quick := a.Subscribe(), a.Subscribe()
 	defer slow.Close()
 	defer quick.Close()
-	const count = mostWaiting + 5*mostRead
-	for at := 0; at < count; at += mostRead {
-		put(t, a, firings(at, at+mostRead)...)
-		take(t, quick, mostRead)
+	const count = mostWaiting + mostComing + 5*mostAlerts
+	for at := 0; at < count; at += mostAlerts {
+		put(t, a, firings(at, at+mostAlerts)...)
+		take(t, quick, mostAlerts)
 		waitUntil(t, "the channel is full", func() bool { return len(slow.Next()) == ChannelLength })
 	}
 	for _, it := range a.current.Load().readers.members() {
 		it.mutex.Lock()
-		if room := mostWaiting + mostRead; len(it.waiting) > room {
+		if room := mostWaiting + mostComing; len(it.waiting) > room {
 			t.Errorf("%d alerts wait where %d have room", len(it.waiting), room)
 		}
 		it.mutex.Unlock()
@@ -423,7 +423,7 @@ func (r *readers) members() (members []*member) {
 func (r *readers) lanes() (lanes []*lane) {
 	r.mutex.Lock()
 	defer r.mutex.Unlock()
-	for it := range r.open {
+	for _, it := range r.open {
 		lanes = append(lanes, it)
 	}
 	return lanes
@@ -536,11 +536,11 @@ func TestASharedReaderThatStandsStillHoldsUpNobody(t *testing.T) {
 		iterators = append(iterators, it)
 	}
 	slow, quick := iterators[ownLanes], iterators[ownLanes+1:]
-	count := 2*mostWaiting + mostRead
-	for at := 0; at < count; at += mostRead {
-		put(t, a, firings(at, at+mostRead)...)
+	count := 2*mostWaiting + mostAlerts
+	for at := 0; at < count; at += mostAlerts {
+		put(t, a, firings(at, at+mostAlerts)...)
 		for _, it := range quick {
-			take(t, it, mostRead)
+			take(t, it, mostAlerts)
 		}
 	}
 	for _, it := range quick {

@@ -93,6 +93,9 @@ func (h *history) put(alerts []*Alert, index int, failed *PutErrors) {
 	if len(lines) == 0 {
 		return
 	}
+	if h.readers.areOpen() {
+		w.show()
+	}
 	calls := h.sendPuts(lines)
 	// The program works on them meanwhile.
 	for _, it := range w.lines {
@@ -108,10 +111,10 @@ func (h *history) put(alerts []*Alert, index int, failed *PutErrors) {
 }
 
 // sendPuts writes the lines of a put, at once as many as the readers' part of the log has room for.
-func (h *history) sendPuts(lines [][]byte) (calls []*call) {
+func (h *history) sendPuts(lines []request) (calls []*call) {
 	for len(lines) > 0 {
 		count := h.readers.makeWay(len(lines))
-		calls = append(calls, h.send(true, lines[:count]...)...)
+		calls = append(calls, h.send(lines[:count]...)...)
 		lines = lines[count:]
 	}
 	return calls
@@ -131,6 +134,7 @@ type writer struct {
 type line struct {
 	from, to int
 	alerts   []written
+	shown    []*Alert // the alerts as the program prints them, if anybody reads
 }
 
 // A written alert, with the part of the text that has its labels.
@@ -188,8 +192,8 @@ func (w *writer) end(last *line) {
 	last.to = len(w.text)
 }
 
-// finish ends the last line, and is what was written of each.
-func (w *writer) finish() [][]byte {
+// finish ends the last line, and is what is to be sent of each.
+func (w *writer) finish() []request {
 	if count := len(w.lines); count > 0 && w.lines[count-1].to == 0 {
 		if last := w.lines[count-1]; len(last.alerts) > 0 {
 			w.end(last)
@@ -197,11 +201,39 @@ func (w *writer) finish() [][]byte {
 			w.lines = w.lines[:count-1]
 		}
 	}
-	texts := make([][]byte, len(w.lines))
+	requests := make([]request, len(w.lines))
 	for at, it := range w.lines {
-		texts[at] = w.text[it.from:it.to]
+		requests[at] = request{text: w.text[it.from:it.to], put: it}
 	}
-	return texts
+	return requests
+}
+
+// show notes the alerts as the program prints them.
+func (w *writer) show() {
+	for _, it := range w.lines {
+		it.shown = make([]*Alert, len(it.alerts))
+		for at := range it.alerts {
+			it.shown[at] = asPrinted(it.alerts[at].alert)
+		}
+	}
+}
+
+// asPrinted is an alert as it is when it has been written, stored as it is, printed and read. It shares the alert's labels
+// and annotations.
+func asPrinted(alert *Alert) *Alert {
+	it := timed(alert)
+	it.StartsAt, it.EndsAt, it.UpdatedAt = it.StartsAt.Round(0).UTC(), it.EndsAt.Round(0).UTC(), it.UpdatedAt.Round(0).UTC()
+	untime(&it)
+	for _, value := range it.Labels {
+		if value == "" {
+			it.Labels = withValues(it.Labels)
+			break
+		}
+	}
+	if it.Annotations == nil {
+		it.Annotations = model.LabelSet{}
+	}
+	return &it
 }
 
 // identify computes what will be known of a line's alerts.

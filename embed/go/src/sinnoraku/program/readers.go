@@ -32,48 +32,66 @@ type readers struct {
 
 	mutex sync.Mutex
 	count int // of the lanes that were ever opened
-	open  map[*lane]struct{}
+	open  map[string]*lane
 }
 
 // init is called with how many batches the log holds. A half is left to puts that come at the same time.
 func (r *readers) init(places int) {
 	r.mostLag = (places + 1) / 2
 	r.own = make(chan struct{}, ownLanes)
-	r.open = map[*lane]struct{}{}
+	r.open = map[string]*lane{}
 }
 
-// wake lets each lane look whether something came.
-func (r *readers) wake() {
+// came hands what came for a subscription to its lane, if that is open.
+func (r *readers) came(name string, it event) {
 	r.mutex.Lock()
 	defer r.mutex.Unlock()
-	for it := range r.open {
-		poke(it.woken)
+	if to, is := r.open[name]; is {
+		to.came(it)
 	}
 }
 
-// makeWay is called before batches are put, and says how many can be put at once. It reads the lanes whose readers might
-// be cut off by them. So no reader is cut off while there is room for it in memory, however fast others put.
+// afterPut notes a put that was answered: all that it brought to a lane was printed, if more may come to that by itself.
+func (r *readers) afterPut(puts int64) {
+	r.mutex.Lock()
+	defer r.mutex.Unlock()
+	for _, it := range r.open {
+		if it.coming.Load() > 0 {
+			it.drained.Store(puts)
+		}
+	}
+}
+
+// makeWay is called before batches are put, and says how many can be put at once. It has all printed of the lanes whose
+// readers might be cut off by them. So no reader is cut off while there is room for it in memory, however fast others put.
 func (r *readers) makeWay(batches int) int {
 	if batches > r.mostLag {
 		batches = r.mostLag
 	}
 	for _, it := range r.lagging(batches) {
-		for it.readOn() {
-		}
+		it.catchUp()
 	}
 	return batches
 }
 
-// lagging counts batches that are put, and returns the lanes that have too many then.
+// lagging are the lanes that have too many batches unread once so many more are put.
 func (r *readers) lagging(batches int) (lanes []*lane) {
 	r.mutex.Lock()
 	defer r.mutex.Unlock()
-	for it := range r.open {
-		if it.lag.Add(int64(batches)) > int64(r.mostLag) {
+	most := r.process.puts.Load() + int64(batches-r.mostLag)
+	for _, it := range r.open {
+		if it.drained.Load() < most {
 			lanes = append(lanes, it)
 		}
 	}
 	return lanes
+}
+
+// areOpen says whether anybody reads.
+func (r *readers) areOpen() bool {
+	r.mutex.Lock()
+	defer r.mutex.Unlock()
+	return len(r.open) > 0
 }
 
 // poke leaves a token, unless one is there.
@@ -95,7 +113,7 @@ func (r *readers) named(fault string) string {
 	number, _ := strconv.Atoi(found[1])
 	r.mutex.Lock()
 	defer r.mutex.Unlock()
-	for it := range r.open {
+	for _, it := range r.open {
 		if it.number == number {
 			return fmt.Sprintf("%s (its reader is %s)", fault, it.reader)
 		}

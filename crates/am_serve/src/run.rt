@@ -1,0 +1,76 @@
+//! What a run of lines has: its session, and the reads that go on.
+
+ghost use Rattle.std.specs.Prelude.{◌≡◌, []};
+ghost use Rattle.am_runner.specs.Compacting.{CompactsIfDue};
+ghost use Rattle.am_config.specs.declared.config.Config.{Config};
+ghost use Rattle.am_runner.specs.Sessions.{Setting};
+
+use crate::standing::StandingRead;
+use am_provider::Recorded;
+use am_runner::{Context, Session};
+use std::alloc::Global;
+use std::marker::Model;
+use std::sync::Wait;
+
+/// A session whose lines are answered one after another. In a run that follows, a read that finds nothing more goes
+/// on: what comes for its subscription is printed after the lines that follow, up to the read's `max`.
+pub struct Run<'p, 'c, N: Recorded> {
+    pub(crate) session: Session<'p, 'c, N>,
+    pub(crate) follows: bool,
+    pub(crate) reads: Vec<StandingRead>,
+}
+
+impl<'p, 'c, N: Recorded> Model for Run<'p, 'c, N> {
+    ghost use Rattle.std.specs.Coded.{codes};
+    ghost use Rattle.am_alert.specs.Alerts.{coded_alert};
+    ghost use Rattle.am_store.specs.contracts.call.Call as call;
+    ghost use Rattle.am_store.specs.contracts.lanes.OpenLane as lane;
+    ghost use Rattle.am_runner.specs.contracts.consumer.Consumer as beside;
+    ghost use Rattle.std.specs.Prelude.{[]};
+    ghost use mir.Syntax.{named};
+    ghost use Rattle.am_serve.specs.Standing.{RunView};
+
+    ghost Value = { RunView };
+
+    ghost coded = { Prim.hlevel (codes, coded_alert, call.the_row.coded, lane.the_row.coded, (beside.the_row (record { mir = named 0; lft = [] })).coded) };
+
+    ghost view = { λ r. record {
+      session = r.session;
+      follows = r.follows;
+      reads = r.reads.items;
+    } };
+}
+
+impl<'p, 'c, N: Recorded> Run<'p, 'c, N> {
+    /// A run that begins in a session. No read goes on yet.
+    pub fn begin(alloc: Global, session: Session<'p, 'c, N>, follows: bool) -> Run<'p, 'c, N>
+        ensures { result ≡ record { session = session; follows = follows; reads = [] } }
+    {
+        Run {
+            session,
+            follows,
+            reads: Vec::new(alloc),
+        }
+    }
+
+    /// What is done between two lines: [`Session::compact_if_due`].
+    pub fn compact_if_due<R: Wait, G>(&mut self, context: &Context<'p, 'c, N, R, G>)
+        ensures { (config : Config) (setting : Setting)
+            → CompactsIfDue config setting self.old.session self.new.session
+            × (self.new ≡ record self.old { session = self.new.session }) }
+    {
+        self.session.compact_if_due(context);
+    }
+
+    /// The session, to be ended.
+    pub fn into_session(self) -> Session<'p, 'c, N>
+        ensures { result ≡ self.entry.session }
+    {
+        let Run {
+            session,
+            follows: _,
+            reads: _,
+        } = self;
+        session
+    }
+}

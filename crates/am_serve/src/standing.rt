@@ -1,0 +1,136 @@
+//! Reads that go on: in a run that follows, what comes for a subscription after its read was answered is
+//! shown without another line.
+//!
+//! ```text
+//! {"do":"read","sub":"s","max":100}    3 alerts and Pending: 97 may come
+//! {"do":"put",..}                      its answers, and then what came for s
+//! {"do":"put",..}                      the same
+//! {"do":"read","sub":"s","max":100}    begins anew: 100 may come
+//! ```
+
+ghost use Rattle.std.specs.Prelude.{◌≡◌, ◌++◌, ◌∷◌, ℕ, List, [], OnOk, filter, length, string_bytes};
+ghost use Rattle.am_runner.specs.Answers.{is_item};
+ghost use Rattle.am_runner.specs.Sessions.{setting_of};
+ghost use Rattle.am_serve.specs.Standing.{ReadOn, alerts_put, ends_pending, others, rest_of, stands_after};
+
+use crate::came::{is_pending, write_came};
+use am_alert::UnjudgedAlert;
+use am_labels::Text;
+use am_provider::{Gate, Recorded};
+use am_runner::{Answer, Context, Form, Session};
+use am_script::Command;
+use std::alloc::AllocError;
+use std::sync::Wait;
+
+/// A read that goes on: of the subscription of this name it may show so many alerts yet.
+#[derive(Debug, Drop)]
+pub(crate) struct StandingRead {
+    name: Text,
+    left: u32,
+}
+
+/// Notes a command that was answered so, in a run that follows or not.
+pub(crate) fn note(
+    reads: &mut Vec<StandingRead>,
+    follows: bool,
+    command: &Command,
+    given: &[Answer],
+) -> Result<(), AllocError>
+    ensures { OnOk result
+        (reads.new.items ≡ stands_after follows command.now given.now reads.old.items) }
+{
+    match command {
+        Command::Read { name, max } if follows => {
+            keep_others(reads, name);
+            add_rest(reads, name, *max, given)
+        }
+        Command::Leave { name } if follows => {
+            keep_others(reads, name);
+            Ok(())
+        }
+        _ => Ok(()),
+    }
+}
+
+/// Reads on all of them, and writes what came after the line of this number, whose put gives these alerts.
+pub(crate) fn read_on<'p, 'c, N: Recorded, R: Wait, G: Gate>(
+    context: &mut Context<'p, 'c, N, R, G>,
+    session: &mut Session<'p, 'c, N>,
+    reads: &mut Vec<StandingRead>,
+    form: Form,
+    number: u64,
+    put: &[UnjudgedAlert],
+    text: &mut String,
+) -> Result<(), AllocError>
+    ensures read { OnOk result ((came : List ℕ) × (string_bytes text.new ≡ string_bytes text.old ++ came)
+        × ReadOn context.old.config (setting_of N.places N.policy context.old.provider.now.resolve_timeout)
+        form number put.now session.old reads.old.items came reads.new.items session.new) }
+    ensures same { context.new ≡ context.old }
+{
+    let mut left = Vec::new(context.alloc);
+    for at in 0..reads.len() {
+        let read = &reads[at];
+        let command = Command::Read {
+            name: read.name.copy()?,
+            max: read.left,
+        };
+        let given = session.run(context, &command)?;
+        write_came(text, form, number, &read.name, put, &given)?;
+        add_rest(&mut left, &read.name, read.left, &given)?;
+    }
+    *reads = left;
+    Ok(())
+}
+
+/// The alerts that a put gives.
+pub(crate) fn alerts_put(command: &Command) -> &[UnjudgedAlert]
+    ensures { result.now ≡ alerts_put command.now }
+{
+    match command {
+        Command::Put { at: _, alerts } => alerts.as_slice(),
+        _ => &[],
+    }
+}
+
+fn keep_others(reads: &mut Vec<StandingRead>, name: &Text)
+    ensures { reads.new.items ≡ others name.now reads.old.items }
+{
+    reads.retain(|one| one.name != *name);
+}
+
+// Adds what goes on of a read of at most so many alerts that was answered so.
+fn add_rest(
+    reads: &mut Vec<StandingRead>,
+    name: &Text,
+    max: u32,
+    given: &[Answer],
+) -> Result<(), AllocError>
+    ensures { OnOk result (reads.new.items ≡ reads.old.items ++ rest_of name.now max given.now) }
+{
+    if !ends_pending(given) {
+        return Ok(());
+    }
+    let shown = count_items(given);
+    reads.push(StandingRead {
+        name: name.copy()?,
+        left: max.saturating_sub(shown),
+    })?;
+    Ok(())
+}
+
+// Whether there was nothing more for now.
+fn ends_pending(given: &[Answer]) -> bool
+    ensures { result ≡ ends_pending given.now }
+{
+    match given.last() {
+        Some(last) => is_pending(last),
+        None => false,
+    }
+}
+
+// How many alerts were shown.
+fn count_items(given: &[Answer]) -> u32
+    ensures { result ≡ length (filter is_item given.now) }
+{
+    given.iter().filter(|one| one.is_item()).count() as u32
+}
