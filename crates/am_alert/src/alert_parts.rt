@@ -1,4 +1,7 @@
 //! Alerts from their parts, for callers that have no JSON of them, and a post of such alerts.
+//!
+//! Labels and annotations are pairs and not label sets: labels without a value have to go before the set
+//! is made.
 
 ghost use Rattle.std.specs.Prelude.{◌≡◌, ◌≤◌, IfOk, Some, length, map};
 ghost use Rattle.am_alert.specs.FromParts.{alert_of, IsAlertOf, IsPostOfAlerts, IsPostOfParts};

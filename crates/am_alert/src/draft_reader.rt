@@ -2,7 +2,7 @@
 //!
 //! It reads what Alertmanager's clients send: objects whose members are texts or objects of texts, the names of
 //! labels and of annotations in byte order. Of any other text it answers nothing, and then the text is read as a
-//! value.
+//! value. Either way the bytes mean what serde_json's `read` says, and the contract is the same.
 
 ghost use Rattle.std.specs.Prelude.{◌≡◌, ◌≢◌, ◌<◌, ℕ, IfOk, IfSome, IsTrue, codes, length};
 ghost use Rattle.am_alert.specs.inside.Streams.{AreMembersOf, ArePairsOf, AreTextsOf, BeginsWithText};

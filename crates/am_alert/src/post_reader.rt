@@ -2,6 +2,9 @@
 //! faults.
 //!
 //! For one bad element the whole post is refused; an invalid alert affects no other.
+//!
+//! A `Caller` has no reader, which would take 16 KiB in each list of callers: who posts many bodies keeps one,
+//! and calls `Provider::put`.
 
 ghost use Rattle.std.specs.Prelude.{◌<◌, ◌≤◌, IfOk, IfSome, IsUtf8, OnErr, length};
 ghost use Rattle.std.specs.Duration.{as_nanos};

@@ -1,4 +1,7 @@
 //! How much room the compact text of a value leaves of some bytes, counted while the value is looked at.
+//!
+//! The compact text of a body isn't written to be measured: six bytes are counted for each byte of a
+//! text, and only what may be above the limit is written.
 
 ghost use Rattle.std.specs.Prelude.{◌+◌, ◌≤◌, ◌≡◌, IfSome, IsTrue, length};
 ghost use Rattle.json.specs.Print.{quoted};

@@ -1,4 +1,6 @@
 //! Reading a time text.
+//!
+//! `TimeFault::NoMemory` never comes: jiff's reader takes no memory, and the contract says so.
 
 ghost use Rattle.am_alert.specs.TimeTexts.{ReadsTime};
 

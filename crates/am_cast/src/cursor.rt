@@ -1,4 +1,7 @@
 //! A lane's reader. It takes no lock and no memory.
+//!
+//! The key is read where it lies, through a slot that the seat lends by `&mut`. So nothing is written to it,
+//! and its cache line stays the writer's too.
 ghost use Rattle.std.specs.Prelude.{◌≡◌, ◌+◌, ◌<◌, ◌≤◌, true, false, drop, length, None, Some, []};
 ghost use mathlib.Core.List.{IsPrefix};
 ghost use Rattle.am_cast.specs.declared.limits.TheConstants.{LANES, WORDS};

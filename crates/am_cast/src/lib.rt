@@ -43,6 +43,9 @@
 //! has what always holds of words, slots and what each side knows, and `board.rt` the single steps,
 //! each of them an event of `am_steps`.
 //!
+//! It is one crate, with more functions than the others: a cut between its steps and its types
+//! would make the steps public.
+//!
 //! A caller:
 //!
 //! ```text

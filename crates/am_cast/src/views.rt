@@ -1,5 +1,8 @@
 //! What the seats of one log know. No value of these types is made.
 //! `B` is what is known of a batch, `K` a key of one, and `A` what a subscription notes down.
+//!
+//! A lane's seat is cut off from the writer's at its Admit and joined to it before its Retire, so the
+//! writer keeps no idle seats. Its admission number and its note are in both views meanwhile.
 use std::collections::LinkedList;
 
 /// What the tail word shows.

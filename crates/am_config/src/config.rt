@@ -1,4 +1,8 @@
 //! The configuration: what it holds, and how its JSON is read.
+//!
+//! What bytes are read as is a relation: a pattern may be refused for its size, which no definition
+//! measures. Null counts as absent for members of the older form too: `"match": null` isn't
+//! refused.
 
 use crate::fault::ConfigFault;
 use crate::inhibit_rule::InhibitRules;

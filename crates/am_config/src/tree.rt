@@ -1,4 +1,7 @@
 //! The routing tree.
+//!
+//! Contracts see routes as a `Forest`, since a definition's type can't be an item of a list within
+//! itself.
 
 use crate::route::Route;
 

@@ -1,4 +1,8 @@
 //! The inhibitor: which targets the alerts that it was given mute.
+//!
+//! A sweep moves alerts to lower indexes and needs a number for each, and takes no memory: `take`
+//! reserves 16 bytes a label set. `mutes` copies the target's values, since a map can't be asked by
+//! borrowed ones here.
 
 ghost use Rattle.std.specs.Prelude.{◌≡◌, ◌<◌, ◌≤◌, [], ◌∷◌, ◌++◌, None, Some, All, map, min, length, position};
 ghost use Rattle.std.specs.Prelude.{IfOk, OnOk, OnErr, vec_capacity};

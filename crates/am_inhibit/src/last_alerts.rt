@@ -1,4 +1,7 @@
 //! The alerts that an inhibitor knows.
+//!
+//! The last alerts of all label sets are kept, also of those that are no source of any rule:
+//! contracts see what was taken, whatever the rules are.
 
 ghost use Rattle.std.specs.Prelude.{◌≡◌, [], ◌∷◌, ◌++◌, None, Some, IfOk, OnOk, OnErr, length, position, not};
 ghost use Rattle.std.specs.List.{count_by};

@@ -1,4 +1,7 @@
 //! How the sources of a target are found.
+//!
+//! A label set is kept as the place of its last alert, with whether it matches the target side too. Neither
+//! changes while the label set stays, so an alert taken again changes no index.
 
 ghost use Rattle.std.specs.Prelude.{◌≡◌, ◌<◌, ◌&&◌, [], not, All, filter, length, IfSome, IfOk, OnOk, OnErr};
 ghost use Rattle.am_alert.specs.Merging.{is_resolved_at};

@@ -1,4 +1,8 @@
 //! Patterns that choose among a few texts, as `api|web` does: a value can be compared with these.
+//!
+//! `exact_literals` of regex_extract isn't used: its clause speaks of the first match alone, and
+//! would hold of `a` for `a|ab`, which matches `ab` once anchored. More than 16 texts, 1,024 bytes, a
+//! class or a repetition are searched for.
 
 ghost use Rattle.std.specs.Prelude.{◌≡◌, ◌++◌, ◌∷◌, [], map, true, IfOk, IfSome, OnOk};
 ghost use Rattle.regex_hir.specs.Meaning.{meaning, cat_all, alt_all};

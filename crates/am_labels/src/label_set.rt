@@ -1,4 +1,8 @@
 //! Label sets, by which Alertmanager identifies alerts.
+//!
+//! A sorted list of pairs under one `Arc`: names and values lie in one text, and a second block says
+//! where each begins. So a set takes three blocks however many labels it has, a copy none, and its hash
+//! is made once.
 
 ghost use Rattle.std.specs.Prelude.{◌≡◌, ◌==◌, IfOk};
 ghost use Rattle.std.specs.Prelude.{List, ℕ, map, option_map, Some, T};

@@ -1,4 +1,8 @@
 //! Matchers: conditions on the value of one label.
+//!
+//! A `Regex` can't be in one value with the search that borrows it, so `Matcher` keeps the pattern
+//! and a `PreparedMatcher` the search: 450 instructions and no allocation a question, where
+//! `admits` takes 45,000.
 
 ghost use Rattle.std.specs.Prelude.{◌≡◌, IfOk, OnErr, true};
 

@@ -5,6 +5,10 @@
 //! goes out as one batch, with what each of its alerts became. What a subscription has taken begins
 //! what the journal owes it, and is all of it if `next` answered `Closed`. A refused call
 //! changes nothing but how far the writer knows its readers.
+//!
+//! A post looks at the lanes before it grows anything, so that E13 is reported before E0. `end`
+//! asks that no lane is open by the journal, which a caller knows, and not by what the writer
+//! knows.
 
 ghost use Rattle.std.specs.Prelude.{◌≡◌, ◌≢◌, ◌↔◌, ◌≤◌, ◌<◌, ◌+◌, ◌++◌, ◌∷◌, IsTrue, IfOk, IfErr, OnOk, OnErr, IsErr, IsErrOf};
 ghost use Rattle.std.specs.Prelude.{ℕ, ◌-◌, None, Some, true, false, [], length, nat_eq, if◌then◌else◌, not, filter, count_by, drop, max, nat_le, slice_index_or, take};

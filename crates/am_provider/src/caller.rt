@@ -1,4 +1,8 @@
 //! The right to call a provider.
+//!
+//! A handle that holds the provider too would have to be made anew for each subscription that outlives it. A
+//! front can't be made from nothing: its part of the ledger is what makes the callers' entries together all
+//! entries.
 
 ghost use Rattle.std.specs.Prelude.{◌≡◌, ◌≤◌, [], length, map, vec_capacity};
 ghost use Rattle.std.specs.List.{All};

@@ -1,4 +1,8 @@
 //! What the history of a provider is made of.
+//!
+//! Cut lanes, trims, compactions and endings are in entries, so that `leave`, `trim`, `compact` and
+//! `settle` answer by the history. The list that a subscription took isn't: it begins what was due
+//! (`BeginningIsKnown`).
 
 ghost use Rattle.std.specs.Prelude.{◌≡◌};
 ghost use Rattle.am_provider.specs.Histories.{Accepted, Compacted, Trimmed};

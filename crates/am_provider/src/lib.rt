@@ -7,6 +7,10 @@
 //! > journal order; one that was told 'closed' has taken them all; and no segment is freed that an
 //! > open cursor has not passed.
 //!
+//! Every call that takes the lock is linearizable (Herlihy and Wing). It takes effect at one moment
+//! between its beginning and its end, at which its caller's front was shown the whole history
+//! (`looked` in `SeesCall`).
+//!
 //! # What a slow subscriber gets
 //!
 //! All of it, in its own time, as long as it lags by fewer batches than the log has places. With as
@@ -42,6 +46,15 @@
 //!     provider.post(rt, caller, &NoGate, body, now)?;
 //!     let ended = provider.leave(rt, caller, subscription);
 //!     let settled = provider.settle(rt, callers);               // when all callers are back
+//!
+//! One post, as its thread and a reader's see it:
+//!
+//! ```text
+//! poster  lock ─ look at lanes ─ merge ─ publish batch 7 ─ journal ─ entry 12 ─ unlock ─ wake
+//!                                               │ the tail's store
+//! reader          next: Pending (all shown)     │     next: Item, .. of batch 7   next: Pending
+//!             its look came before the store ◄──┴──► its look came after it
+//! ```
 #![tactic(auto)]
 
 mod answers;

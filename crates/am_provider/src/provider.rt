@@ -5,6 +5,9 @@
 //! a page; a collection, for a look at each; a trim, for the calls that it drops; a compaction, for a share of
 //! each stored alert and the calls in memory; a leave, for its places. Nothing is printed, parsed or waited
 //! for under it.
+//!
+//! Memory isn't moved out of the lock: it is held for some 1,500 instructions, and a body takes 12,500
+//! outside it. Four programs with one poster each had only 2.8 times the rate of one.
 
 ghost use Rattle.std.specs.Prelude.{◌≡◌, ◌↔◌, IsTrue, IfOk, OnErr, [], length, map};
 ghost use Rattle.std.specs.List.{All};

@@ -1,4 +1,7 @@
 //! A subscriber's place. It reads without the provider: no lock, no memory, no waiting.
+//!
+//! The opening is let go when the first alert posted since is shown, not with the opening's last: that one is lent
+//! until the next call. `next_slice` lends two kinds of slice, since one kind for both would copy them.
 
 ghost use Rattle.std.specs.Prelude.{◌≡◌, ℕ, ◌+◌, ◌<◌, ◌^◌, IfNone, IfSome, Some, false, true, [], length};
 ghost use Rattle.am_store.specs.Shared.{alerts_in};

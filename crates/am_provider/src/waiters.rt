@@ -5,6 +5,9 @@
 //! nothing is there does it sleep, and not if they were woken since it noted that. A call changes the log
 //! first and then looks whether anyone sleeps. All of this is sequentially consistent. So either the reader
 //! finds what the call changed, or the call finds the reader counted and wakes it.
+//!
+//! A list of sleepers, one a subscription, would wake no reader that isn't owed anything; but a post is for every
+//! subscription.
 
 ghost use Rattle.am_provider.specs.Showings.{StaysShown};
 

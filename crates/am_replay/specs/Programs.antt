@@ -30,6 +30,7 @@ RunsIn Free arguments input old status new = IsReplay arguments input old status
 RunsIn Live arguments input old status new = IsLive arguments input old status new
 RunsIn Follow arguments input old status new = IsLive arguments input old status new
 
+-- a run under these arguments: one in the mode that they name
 abbrev pub IsRunAs : Arguments → Option (List ℕ) → Option (List ℕ) → Status → Option (List ℕ) → Type 0
 IsRunAs arguments input old status new = RunsIn arguments.mode arguments input old status new
 

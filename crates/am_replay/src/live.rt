@@ -1,4 +1,7 @@
 //! A live run: each line of the input is answered before the next one is read.
+//!
+//! `serve_all` is apart, since its signature gives the runtime and the provider one lifetime: a context
+//! lent as `&mut` has one, and the references put into it had two.
 
 ghost use Rattle.std.specs.Prelude.{◌≡◌, ℕ, List, ◌++◌, ◌∷◌, [], Option, IfOk, OnErr, OnOk, string_bytes};
 ghost use Rattle.am_replay.specs.FirstLines.{IsFirstLine};

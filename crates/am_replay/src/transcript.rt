@@ -1,4 +1,7 @@
 //! What each line of a script answered, and how that is printed.
+//!
+//! Each thread has an entry for each line, an empty one if the line is another's. Dealing the lines
+//! out beforehand would save two percent of the instructions of a script of posts at most.
 
 ghost use Rattle.std.specs.Prelude.{◌≡◌, ◌++◌, ◌∷◌, [], IfOk, OnOk, Some, string_bytes};
 ghost use Rattle.std.specs.List.{list_any};

@@ -1,4 +1,7 @@
 //! Which of the routes below a route may match a label set, one after another.
+//!
+//! `next` looks each name of a level up again after a route that fails or continues, so it needs no
+//! memory. A level of many names that all continue costs more than a walk.
 
 ghost use Rattle.std.specs.Prelude.{◌≡◌, ◌+◌, drop, slice_get, IfSome};
 ghost use Rattle.am_config.specs.RouteLists.{forest_of};

@@ -1,4 +1,8 @@
 //! How the routes below a route are found that may match a label set.
+//!
+//! A route is filed under its first equality matcher alone: one that fails rules it out. The index
+//! only passes over routes that can't match, so no contract of an answer speaks of it; `looked`
+//! alone does.
 
 ghost use Rattle.std.specs.Prelude.{◌≡◌, IfOk};
 ghost use Rattle.am_config.specs.Routes.{no_routes};

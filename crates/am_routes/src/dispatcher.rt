@@ -1,4 +1,8 @@
 //! The dispatcher: groups alerts by the routes that they match.
+//!
+//! `take` puts an alert into one group after another; each change keeps the alert that it replaced,
+//! so that taking it back needs no memory. Contracts speak of every list of takes and sweeps whose
+//! groups it has, and it keeps no list.
 
 ghost use Rattle.std.specs.Prelude.{◌≡◌, [], filter, map, min, not, IfOk, OnOk, OnErr};
 ghost use Rattle.std.specs.List.{count_by};

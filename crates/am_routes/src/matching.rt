@@ -1,4 +1,7 @@
 //! Asking a routing tree which of its routes a label set matches.
+//!
+//! `matches_into` is for who asks often: a list's memory is a seventh of an answer. `looked` counts in
+//! a call of its own; in a field it would be a part of what `matches` leaves as it was.
 
 ghost use Rattle.std.specs.Prelude.{◌≡◌, ◌+◌, ◌<◌, [], ◌∷◌, ◌++◌, get_or, length, min, true, IfOk, OnErr, OnOk};
 ghost use Rattle.am_labels.specs.Matchers.{all_admitted};

@@ -65,6 +65,7 @@ pub record Outcome (E : Type 0) : Type 0 where
   pub pass : PassView Alert Call
   pub front : FrontView EntryView
 
+-- the outcome of these: what a thread answered, its pass and its front
 abbrev pub outcome_of : {E : Type 0} → Result (Vec (Vec Answer)) E → PassView Alert Call → FrontView EntryView
     → Outcome E
 outcome_of answers pass front = record { answers = answers; pass = pass; front = front }

@@ -1,6 +1,10 @@
 //! The consumer of a subscription of the kind `notify`: a dispatcher and an inhibitor that take the same
 //! alerts. Here Alertmanager's two halves meet, as at the flush of a group, whose pipeline asks the
 //! inhibitor of each alert of the group (`notify.MuteStage`).
+//!
+//! The dispatcher takes an alert first and keeps what it changed, so that undoing it needs no memory; a
+//! copy of either would cost all that it holds. Contracts see its inhibitor's rules and alerts, not how
+//! many sources were examined.
 
 ghost use Rattle.std.specs.Prelude.{◌≡◌, ◌++◌, IfOk, OnErr, OnOk, flat_map};
 ghost use Rattle.am_inhibit.specs.Inhibitors.{InhibitorView};

@@ -1,4 +1,7 @@
 //! An open subscription of a script, with its consumer, and what reading it answers.
+//!
+//! A `read` asks `vouch` first, and so takes the lock once a line: else `pending` would say only that a look found
+//! nothing.
 
 ghost use Rattle.std.specs.Prelude.{◌≡◌, ◌∷◌, ℕ, List, false, true, [], IfOk, IfSome, OnErr, OnOk};
 ghost use Rattle.std.specs.Str.{bytes_eq};

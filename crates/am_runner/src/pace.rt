@@ -8,6 +8,9 @@
 //!
 //! Before the next one the journal has at most half as many calls and alerts as were stored at the last, or 1,024,
 //! and those of one line more. So memory depends on what is stored, and not on how many lines there were.
+//!
+//! A trim would keep all calls since the earliest open subscription. With all instead of half a program that holds
+//! 10,000 alerts took 1.7 times what one takes that was just begun.
 
 ghost use Rattle.std.specs.Prelude.{◌≡◌, ◌+◌, ◌/◌, ◌<◌, ◌↔◌, IsTrue, min, unwrap_or};
 ghost use Rattle.am_runner.specs.inside.Paces.{growth_by, growth_of};

@@ -1,4 +1,8 @@
 //! The turns that were taken, in one list.
+//!
+//! A line's place in script order is said by this second history: entry k is the front that turn k's caller
+//! had at its end. So no caller is passed from thread to thread, at two short holds of the provider's lock a
+//! turn.
 
 ghost use Rattle.std.specs.Prelude.{◌≡◌, ◌<◌, [], List, length, take};
 ghost use Rattle.std.specs.List.{All};

@@ -1,5 +1,8 @@
 //! What a thread of a script has: its right to call the provider, and the subscriptions that its lines
 //! opened.
+//!
+//! A subscription is left by a function over the session's parts (`leave_one`): a struct that holds a reference can't
+//! be moved into a call together with `&mut self.field` of another such struct.
 
 ghost use Rattle.std.specs.Prelude.{◌≡◌, ◌<◌, ◌⊎◌, ◌++◌, ◌∷◌, [], IfOk, List, OnErr, OnOk, true, is_some, length, map, option_map};
 ghost use Rattle.std.specs.Arc.{arc_value};

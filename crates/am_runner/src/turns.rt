@@ -1,4 +1,7 @@
 //! Who may run a line when.
+//!
+//! Each thread waits at a place of its own: of eight that wait at one, seven would be woken for nothing at
+//! each line.
 
 ghost use Rattle.std.specs.Prelude.{◌<◌};
 

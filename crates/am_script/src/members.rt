@@ -1,4 +1,7 @@
 //! The members of a line: what each has to be.
+//!
+//! `thread` and `max` are JSON integers: `1.0` and `1e0` are P1, and so is `null` for `kind` or
+//! `max`.
 
 ghost use Rattle.std.specs.Prelude.{◌≡◌, ◌≤◌, IfOk, option_map};
 ghost use Rattle.serde_json.specs.Find.{get, get_member};

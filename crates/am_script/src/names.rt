@@ -1,4 +1,7 @@
 //! The names of subscriptions as a script's lines subscribe and leave them.
+//!
+//! A refused subscribe still counts as the name's subscribe: later commands on it print `none`, and its leave
+//! frees it.
 
 ghost use Rattle.std.specs.Prelude.{◌≡◌, ◌++◌, ◌∷◌, [], List, if◌then◌else◌, is_none, Some};
 ghost use Rattle.std.specs.Prelude.{IfOk, OnErr};

@@ -1,4 +1,8 @@
 //! A key to a segment's items.
+//!
+//! A key is 16 bytes and an optional one 24. With the numbers of items and places in the block's head it
+//! would be 8 and 16 (Rattle's `Option` has a tag). But the head would lie before items of any type, and each
+//! look would load from the block first.
 
 ghost use Rattle.std.specs.Prelude.{◌≡◌, length, option_copied, slice_get};
 

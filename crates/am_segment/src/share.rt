@@ -1,5 +1,8 @@
 //! What the keys of a segment have of it, and how a segment ends: its items are dropped, and its block is
 //! a builder's again.
+//!
+//! `AreAllKeys` doesn't say that the keys show the same items, so `reunite` joins what they hold, and not by
+//! `JoinedKeys::add`, which asks for that.
 
 ghost use Rattle.std.specs.Prelude.{◌≡◌, ◌≢◌, true, ◌+◌, ◌-◌, ◌^◌, ◌≤◌, ◌<◌, [], ◌∷◌, ◌++◌, length, drop};
 ghost use Rattle.am_segment.specs.inside.Shares.{HoldShares, IsBlockOf, lasts, name_of};

@@ -1,4 +1,7 @@
 //! Answering one line.
+//!
+//! A line is answered E0 only as long as nothing is lost with the answer. That of a post, a read or a `take` may
+//! be lost after it was done, so these end the run.
 
 ghost use Rattle.std.specs.Prelude.{◌≡◌, ◌++◌, ℕ, List, IfOk, OnOk, string_bytes, true};
 ghost use Rattle.am_script.specs.JsonLines.{about_line, object_line};

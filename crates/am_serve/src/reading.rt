@@ -1,4 +1,7 @@
 //! Reading one line, and no more.
+//!
+//! A line feed is found by memchr, a buffer at a time; std's `read_until` has the same contract and looks
+//! at each byte.
 
 ghost use Rattle.std.specs.Prelude.{◌≡◌, ◌≢◌, ℕ, List, IfOk, length, true, false};
 ghost use Rattle.am_serve.specs.Reading.{IsNextAs, IsInputOf};

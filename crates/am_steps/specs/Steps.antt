@@ -35,6 +35,10 @@
 --
 -- An admitted lane's word shows `passed = start` and no key in hand. Where the exchange of a cut
 -- finds another word than the last one, it is a Harvest of that word, or a Retire.
+--
+-- A lane's record keeps whether its key is out, since a cut compares the whole word that was last
+-- found. A lane that left while cut, with a key in its hand, keeps that key's batch until it is
+-- retired.
 use Rattle.std.specs.Prelude.{◌≡◌, ◌≢◌, ℕ, ◌+◌, ◌-◌, ◌<◌, Bool, true, false, ◌||◌}
 use Rattle.std.specs.Prelude.{List, [], ◌∷◌, ◌++◌, length, Option, Some, None, slice_get, if◌then◌else◌}
 use Rattle.std.specs.List.{Contains}

@@ -1,5 +1,12 @@
 //! One lane, and what each step on it makes of it. Which lane it is, and what a step does to the
 //! log and the posters, is the state's matter.
+//!
+//! ```text
+//!          Admit              Open               Leave          Retire
+//!   idle ─────────► admitted ──────► open ────────────► left ──────────► idle
+//!                     │               │ Look, Take, Pass: the cursor's
+//!                     └─ Harvest, Cut ┘ the writer's, on what it records of the lane
+//! ```
 ghost use Rattle.std.specs.Prelude.{◌≡◌, ℕ, ◌+◌, ◌<◌, ◌^◌, IfOk, OnErr, Some};
 ghost use Rattle.am_steps.specs.inside.LaneRows.{Becomes, after_admit, after_cut, after_harvest};
 ghost use Rattle.am_steps.specs.inside.LaneRows.{after_leave, after_look, after_open, after_pass};

@@ -2,6 +2,8 @@
 //! left.
 //!
 //! All of its calls are in it as past values, which take no memory: contracts read them, and no code.
+//!
+//! A ghost field can't hold them: two structs with the same ordinary fields have to be one value.
 
 ghost use Rattle.std.specs.Prelude.{◌≡◌, ◌<◌, ◌≤◌, ◌+◌, ◌-◌, IfOk, OnOk, length, max, slice_index_or};
 ghost use Rattle.am_store.specs.Journal.{journal_of, new_journal, with_call, call_count, first_calls, posts_of};

@@ -1,4 +1,6 @@
 //! The lanes of subscriptions: which are open, since when, and which to give out next.
+//!
+//! A trim looks at up to eight lanes for the earliest; keeping them sorted would cost every subscription.
 
 ghost use Rattle.std.specs.Prelude.{◌≡◌, ◌<◌, None, IsSome, IfSome, IfNone, ℕ};
 ghost use Rattle.am_store.specs.Lanes.{all_subscribed_at, lane_at, IsLowestFree, IsEarliest};

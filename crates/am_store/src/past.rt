@@ -1,4 +1,8 @@
 //! Values that were, for contracts alone.
+//!
+//! `Past` and not the library's `Snapshot`: with a `Vec<Snapshot<Call>>` in the journal the checker gives up
+//! wherever threads share the provider (`spawn_with-requires-send-F` of am_runner's `threads::run_from`). Why
+//! isn't known.
 
 ghost use Rattle.std.specs.Prelude.{◌≡◌};
 ghost use Rattle.std.specs.Borrow.{ftrue};

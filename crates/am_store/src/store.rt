@@ -1,4 +1,8 @@
 //! The stored alerts, each under its label set, in the order in which the label sets began.
+//!
+//! A post changes the map report by report and keeps what it replaced, to put it back the last
+//! change first. Computing outside the map needs a second map for reports of one label set in one
+//! post.
 
 ghost use Rattle.std.specs.Prelude.{◌≡◌, ◌≢◌, IfOk, None, OnErr, drop, filter, not, count_by, take};
 ghost use Rattle.std.specs.Arc.{arc_value};

@@ -1,6 +1,6 @@
 // Package mem is compiled in the place of Alertmanager's package provider/mem (embed/go/alertmanager does that). It has the
 // names that Alertmanager's command uses of that package, adds three flags to the command, and has its alerts stored by the
-// proved program, through package sinnoraku.
+// proved program, through package sinnoraku. A copy of Alertmanager's main would have to follow each change there.
 package mem
 
 import (

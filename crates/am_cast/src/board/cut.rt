@@ -1,4 +1,6 @@
 //! The writer cuts a lane.
+//!
+//! A cut compares with the whole word that the writer found last, as the core's does.
 ghost use Rattle.std.specs.Prelude.{None, [], length, ◌%◌, ◌+◌, ◌/◌, ◌<◌, ◌≡◌, ◌≢◌};
 ghost use Rattle.am_cast.specs.declared.limits.TheConstants.{LANES};
 ghost use Rattle.am_cast.specs.Rule.{cut, gone, live};

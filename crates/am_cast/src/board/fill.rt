@@ -1,4 +1,7 @@
 //! The writer lays a key in the slot of the next place.
+//!
+//! Slots are filled by single silent steps: one step for all lanes would change eight lanes in the
+//! table's hardest rule. Their loads are 8 of the writer's 106 instructions a lane.
 ghost use Rattle.std.specs.Prelude.{None, [], length, ◌+◌, ◌<◌, ◌≡◌};
 ghost use Rattle.am_cast.specs.declared.limits.TheConstants.{LANES};
 ghost use Rattle.am_cast.specs.Rule.{live, slot};

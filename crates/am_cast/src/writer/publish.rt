@@ -1,5 +1,9 @@
 //! Publishing, from the call down to the steps: each live lane gets its key of the next place, the
 //! other keys wait in its row, and then the place is there.
+//!
+//! All lanes' words loaded first, so that their lines come together, brought nothing. Nor does a fill
+//! exchange the new key for an old one: that would keep keys of passed places for a turn, which
+//! `Writer::freed` promises it doesn't.
 ghost use mathlib.Core.List.{IsPrefix};
 ghost use Rattle.std.specs.Prelude.{◌≡◌, ◌≢◌, ◌+◌, ◌<◌, ◌≤◌, true, false, length, None, Some, [], ℕ, IfOk, ◌++◌, ◌∷◌, IfErr, OnOk, OnErr};
 ghost use Rattle.am_segment.specs.Segments.{MayJoin};

@@ -1,4 +1,8 @@
 //! Judging the reports of a post by a filter, before any of them is stored.
+//!
+//! What a filter accepts is found over the store's own map, which is put back; then that is posted as
+//! any other post. A filter within the merge would need a log that takes a batch whose size isn't known
+//! yet.
 
 ghost use Rattle.std.specs.Prelude.{◌≡◌, ◌≤◌, [], IfOk, OnErr, is_none, length, vec_capacity};
 ghost use Rattle.am_alert.specs.declared.post.TheConstants.{MAX_ALERTS};

@@ -11,7 +11,8 @@
 // A program that dies, or that answers nothing for Options.Patience and is killed then, is replaced by another one, whose
 // store is empty. The calls that wait return an error, subscriptions go on with the new program, and the counter
 // sinnoraku_program_restarts_total says how often it happened. When three have died within a minute, the provider ends:
-// every call returns an error, and Done is closed. Iterators stay open then, as after Close.
+// every call returns an error, and Done is closed. Iterators stay open then, as after Close: Alertmanager's inhibitor reads
+// a closed one again and again.
 //
 // Moments keep their nanoseconds. An end that is Go's zero time never comes: the program has its last moment,
 // 9999-12-30T22:00:00.999999999Z, for it, and the zero time comes back. (At a merge provider/mem takes such an end as the

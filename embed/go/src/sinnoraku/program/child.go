@@ -8,6 +8,9 @@ import (
 )
 
 // A child is the program's process, which leads a group of its own, with its pipes.
+//
+// The process is waited for by waitid with WNOWAIT. Its group is killed before it is reaped, since what it started may hold
+// the pipes.
 type child struct {
 	command      *exec.Cmd
 	input        io.WriteCloser

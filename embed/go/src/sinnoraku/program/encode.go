@@ -1,3 +1,5 @@
+// Lines are written by functions of this package, and answers read so: with encoding/json both take six times as long.
+
 package program
 
 import (

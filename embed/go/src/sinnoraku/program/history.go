@@ -15,7 +15,8 @@ const (
 )
 
 // A history is what one program stores and broadcasts. If the program dies, the next one begins a history with an empty
-// store.
+// store. Putting again what it had would need a second store, which nothing proves, and Prometheus posts what fires about
+// once a minute.
 type history struct {
 	*process
 	known    labelTexts // of all stored alerts

@@ -22,6 +22,8 @@ const (
 
 // A process is one running replay program. It runs the lines that it is given in their order, so many callers can wait
 // for their answers at once. One goroutine reads the answers and hands each to its call.
+//
+// An answer that isn't the next line's kills the program. One that prints for ever isn't killed: each print is work.
 type process struct {
 	*child
 	path    string

@@ -5,6 +5,9 @@
 // store, the order of alerts and who gets what are the replay program's. Here are the encoding of alerts, their
 // fingerprints, the waiting of readers, and what becomes of all that when the process dies.
 //
+// It is a process over pipes: nothing would prove the C declarations of a library that Go calls, and `rt ci` stops at a
+// crate that lists `libc` or `os`. A collection keeps Put out until the markers are deleted.
+//
 // Nothing here is Alertmanager's: package sinnoraku makes a provider of Alertmanager of it.
 package program
 
