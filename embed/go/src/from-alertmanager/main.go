@@ -96,10 +96,10 @@ func main() {
 	if check {
 		return
 	}
-	printed := json.NewEncoder(os.Stdout)
-	printed.SetEscapeHTML(false)
+	output := json.NewEncoder(os.Stdout)
+	output.SetEscapeHTML(false)
 	for _, line := range append([]interface{}{made}, commands(posts)...) {
-		if err := printed.Encode(line); err != nil {
+		if err := output.Encode(line); err != nil {
 			refuse(err, noScript)
 		}
 	}
