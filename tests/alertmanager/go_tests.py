@@ -139,7 +139,7 @@ def tidiness():
     files = sorted([*GO.glob("**/*.go"), *TOP.glob("bench/*.go")])
     ran = subprocess.run(["gofmt", "-l", *files], capture_output=True, text=True)
     yield "gofmt -l", (ran.stdout + ran.stderr) or None
-    for words in (PACKAGES, [GO / "mem/mem.go"], [TOP / "bench/race.go", TOP / "bench/race_sinnoraku.go"]):
+    for words in (PACKAGES, ["from-alertmanager"], [GO / "mem/mem.go"], [TOP / "bench/race.go", TOP / "bench/race_sinnoraku.go"]):
         ran = go("vet", *words)
         yield f"go vet of {pathlib.Path(words[-1]).name}", ran.stderr if ran.returncode else None
     listed = go("list", "-deps", "-f", "{{.ImportPath}}", PACKAGES[1]).stdout.split()

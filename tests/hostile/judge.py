@@ -25,7 +25,7 @@ PLACED = re.compile(r"post valid (\d+) (?:place (\d+)|no place)")
 FULL = re.compile(r"post refused E13 Full lane (\d) passed (\d+)")
 SUBSCRIBED = re.compile(r"subscribe lane (\d) opening (\d+)")
 LEFT = re.compile(r"leave taken (\d+)( closed| cut)?")
-COUNTED = re.compile(r"(?:collect removed|trim dropped) (\d+)")
+COUNTED = re.compile(r"(?:collect removed|trim dropped|compact dropped) (\d+)")
 END = re.compile(r"end places (\d+) posts (\d+) stored (\d+)")
 
 
@@ -55,8 +55,9 @@ def still(is_so):
 # passed, how many alerts it has shown of the next one, which then is in its hand, how many in all, and whether it was cut.
 Lane = collections.namedtuple("Lane", "at opening passed hand taken is_cut")
 
-# Where the threads are, and what they have made of the provider. The log has the texts of its batches.
-Position = collections.namedtuple("Position", "at stored log lanes calls dropped closed holder")
+# Where the threads are, and what they have made of the provider. The log has the texts of its batches. Of the calls, trims
+# dropped some, and some aren't in memory any more.
+Position = collections.namedtuple("Position", "at stored log lanes calls dropped gone closed holder")
 
 
 def key_of(position):
@@ -66,7 +67,7 @@ def key_of(position):
 
 class Step:
     """One step of a thread. `takes` says whether it needs the lock, `shows` and `asks` what of the provider it changes for
-    others, and what it hangs on: the count of calls, the lanes, the room in the log, the trims."""
+    others, and what it hangs on: the count of calls, the lanes, the room in the log, the trims, the compactions."""
 
     takes, shows, asks = True, frozenset(), frozenset()
 
@@ -201,6 +202,18 @@ class Collect(Step):
         return position._replace(stored=kept, calls=position.calls + 1)
 
 
+class Take(Collect):
+    """A collection that answers what it removed."""
+
+    def __init__(self, now, texts):
+        super().__init__(now, len(texts))
+        self.texts = texts
+
+    def after(self, position, setting):
+        texts = [alert.text for alert in position.stored if alert.resolved_at(self.now)]
+        return super().after(position, setting) if texts == self.texts else None
+
+
 class Close(Step):
     shows = frozenset({"batches"})
 
@@ -219,7 +232,19 @@ class Trim(Step):
         end = end_of_trim(position)
         if end - position.dropped != self.dropped:
             return None
-        return position._replace(dropped=end)
+        return position._replace(dropped=end, gone=max(position.gone, end))
+
+
+class Compact(Step):
+    shows, asks = frozenset({"compactions"}), frozenset({"compactions", "trims", "calls"})
+
+    def __init__(self, dropped):
+        self.dropped = dropped
+
+    def after(self, position, setting):
+        if position.calls - position.gone != self.dropped:
+            return None
+        return position._replace(gone=position.calls)
 
 
 class Stored(Step):
@@ -405,8 +430,16 @@ class Thread:
     def collect(self, command, answers):
         self.steps.append(Collect(model.moment(command["at"]), self.count(answers, "collect removed ")))
 
+    def take(self, command, answers):
+        texts = [answer[len("alert ") :] for answer in answers[1:]]
+        must(answers == [f"take removed {len(texts)}", *("alert " + text for text in texts)], "a list of what is removed")
+        self.steps.append(Take(model.moment(command["at"]), texts))
+
     def trim(self, _command, answers):
         self.steps.append(Trim(self.count(answers, "trim dropped ")))
+
+    def compact(self, _command, answers):
+        self.steps.append(Compact(self.count(answers, "compact dropped ")))
 
     def count(self, answers, words):
         read = COUNTED.fullmatch(answers[0])
@@ -542,7 +575,7 @@ class Search:
 
     def history(self):
         """The threads whose steps make a history, one after the other, None if there is none."""
-        waiting = [(Position((0,) * len(self.threads), (), (), (None,) * model.LANES, 0, 0, False, None), ())]
+        waiting = [(Position((0,) * len(self.threads), (), (), (None,) * model.LANES, 0, 0, 0, False, None), ())]
         while waiting:
             try:
                 position, path, found = self.settled(*waiting.pop())

@@ -34,7 +34,8 @@ class Machine:
     def __init__(self, script, places, policy):
         self.places, self.policy = places, policy
         self.stored, self.batches, self.length = {}, [], 0
-        self.closed, self.posts, self.calls, self.dropped = False, 0, 0, 0
+        # Of the calls, how many trims dropped, and how many aren't in memory any more.
+        self.closed, self.posts, self.calls, self.dropped, self.gone = False, 0, 0, 0, 0
         self.lanes, self.holder = [None] * model.LANES, None
         # How many steps, as the judge reckons them, each thread has done.
         self.done, self.answers = [0] * 8, {}
@@ -207,12 +208,21 @@ class Machine:
 
     def do_collect(self, thread, _names, command, answers):
         yield LOCK
-        gone = [key for key, alert in self.stored.items() if alert.resolved_at(model.moment(command["at"]))]
-        for key in gone:
-            del self.stored[key]
-        self.calls += 1
-        answers.append(f"collect removed {len(gone)}")
+        answers.append(f"collect removed {len(self.removed(command))}")
         self.release(thread)
+
+    def do_take(self, thread, _names, command, answers):
+        yield LOCK
+        removed = self.removed(command)
+        answers.append(f"take removed {len(removed)}")
+        answers += ["alert " + alert.text for alert in removed]
+        self.release(thread)
+
+    def removed(self, command):
+        """What a collection removes."""
+        self.calls += 1
+        gone = [key for key, alert in self.stored.items() if alert.resolved_at(model.moment(command["at"]))]
+        return [self.stored.pop(key) for key in gone]
 
     def do_close(self, thread, _names, _command, answers):
         yield LOCK
@@ -225,7 +235,13 @@ class Machine:
         yield LOCK
         end = min((lane.at for lane in self.lanes if lane), default=self.calls)
         answers.append(f"trim dropped {end - self.dropped}")
-        self.dropped = end
+        self.dropped, self.gone = end, max(self.gone, end)
+        self.release(thread)
+
+    def do_compact(self, thread, _names, _command, answers):
+        yield LOCK
+        answers.append(f"compact dropped {self.calls - self.gone}")
+        self.gone = self.calls
         self.release(thread)
 
     def do_stored(self, thread, _names, _command, answers):

@@ -4,7 +4,7 @@ import random
 import re
 
 CONFIG = {"route": {"receiver": "ops"}}
-VERBS = {"post": 46, "read": 30, "subscribe": 6, "leave": 6, "collect": 3, "trim": 2, "stored": 3, "get": 4}
+VERBS = dict(post=46, read=30, subscribe=6, leave=6, collect=2, take=2, trim=2, compact=2, stored=3, get=4)
 # How many label sets are posted again and again.
 NAMES = 4
 
@@ -47,7 +47,7 @@ class Script:
     def members(self, verb, name):
         if verb == "post":
             return {"at": self.moment(), "body": self.body()}
-        if verb == "collect":
+        if verb in ("collect", "take"):
             return {"at": self.moment()}
         if verb == "get":
             return {"labels": self.labels(0.1)}
@@ -91,6 +91,9 @@ MEETINGS = (
     (256, "refuse", "0 close, 1 post, 1 subscribe a, 1 read a 1, 0 post, 1 close"),
     (256, "refuse", "0 empty, 0 trim, 1 subscribe a, 1 post, 0 trim"),
     (256, "refuse", "0 post, 0 collect, 0 stored, 1 post, 1 trim"),
+    (256, "refuse", "0 post, 0 take, 0 stored, 1 post, 1 take"),
+    (256, "refuse", "0 post, 0 compact, 0 trim, 1 subscribe a, 1 compact"),
+    (256, "refuse", "0 trim, 0 compact, 1 post, 1 trim, 1 compact"),
     (256, "cut", ", ".join(f"0 subscribe {name}" for name in "abcdefgh") + ", 1 subscribe i, 0 leave c"),
 )
 
@@ -109,7 +112,7 @@ def command_of(number, line):
     if verb in ("post", "empty"):
         alerts = [{"labels": {"alertname": f"alert{number}"}}] if verb == "post" else []
         command |= {"at": "2024-01-01T10:00:00Z", "body": alerts}
-    if verb == "collect":
+    if verb in ("collect", "take"):
         command["at"] = "2024-01-01T11:00:00Z"
     return command | dict(zip(("sub", "max"), [word if word.isalpha() else int(word) for word in words]))
 

@@ -4,9 +4,7 @@ ghost use Rattle.std.specs.Prelude.{◌≡◌, ◌≤◌};
 
 use am_config::{Config, ConfigFault};
 use am_provider::{Caller, Counts, Ended, Parts, Policy, Provider, Recorded, Settled};
-use am_runner::{
-    Answer, Form, Freely, InOrder, NotRun, ThreadOutcome, Turns, run_threads, write_answers,
-};
+use am_runner::{Answer, Form, InOrder, NotRun, ThreadOutcome, Turns, run_threads, write_answers};
 use am_script::{Line, ScriptFault, THREADS, config_line, read_script};
 use am_store::Call;
 use std::alloc::{AllocError, AllocFailed, Global};
@@ -15,8 +13,8 @@ use std::sync::Wait;
 use std::thread::Threads;
 use std::time::Duration;
 
-/// The resolve timeout of each run, which is that of a configuration that gives none.
-pub const RESOLVE_SECONDS: u64 = 300;
+// The resolve timeout of each run, which is that of a configuration that gives none.
+const RESOLVE_SECONDS: u64 = 300;
 
 /// Why a run came to nothing.
 #[derive(Clone, Copy, Debug, Drop)]
@@ -91,12 +89,12 @@ type Answers = Vec<Vec<Vec<Answer>>>;
 pub struct Run {
     lines: Vec<Line>,
     threads: Answers,
-    pub settled: Settled,
+    settled: Settled,
 }
 
 impl Run {
-    /// What a line answered in its thread, by where it stands in the script.
-    pub fn answers(&self, at: usize) -> Option<&[Answer]> {
+    // What a line answered in its thread, by where it stands in the script.
+    fn answers(&self, at: usize) -> Option<&[Answer]> {
         let thread = self.lines.get(at)?.thread.index();
         let lines = self.threads.get(thread)?;
         Some(lines.get(at)?.as_slice())
@@ -177,17 +175,6 @@ pub fn run_in_order<R: Threads + Wait + Sync>(
     let lines = read_script(alloc, text.as_bytes())?;
     let turns = InOrder::new(alloc, &lines)?;
     run_lines(rt, alloc, log, text, lines, &turns)
-}
-
-/// Runs a script, each thread as fast as it comes to its lines.
-pub fn run_freely<R: Threads + Wait + Sync>(
-    rt: &R,
-    alloc: Global,
-    log: Log,
-    text: &str,
-) -> Result<Run, Stopped> {
-    let lines = read_script(alloc, text.as_bytes())?;
-    run_lines(rt, alloc, log, text, lines, &Freely)
 }
 
 /// Runs the lines of a script, in the turns that are passed.
