@@ -1,7 +1,7 @@
 -- Reads that go on: in a run that follows, what comes for a subscription after its read was answered is shown
 -- without another line.
-use Rattle.std.specs.Prelude.{◌≡◌, ◌≢◌, ◌-◌, ℕ, Bool, true, false, not, List, [], ◌∷◌, ◌++◌, filter, length}
-use Rattle.std.specs.Prelude.{slice_get, Option, Some, None, codes, if◌then◌else◌}
+use Rattle.std.specs.Prelude.{◌≡◌, ◌≢◌, ◌-◌, ℕ, Bool, true, false, List, [], ◌∷◌, ◌++◌, filter, length}
+use Rattle.std.specs.Prelude.{position, remove, slice_get, Option, Some, None, codes, if◌then◌else◌}
 use Rattle.std.specs.Fmt.{decimal}
 use Rattle.std.specs.Str.{bytes_eq}
 use Rattle.json.specs.Json.{Members, member, no_members, string}
@@ -53,9 +53,18 @@ rest_of name max given =
     if ends_pending given
     then (record { name = name; left = max - length (filter is_item given) }) ∷ [] else []
 
+-- where the read of the subscription of a name stands
+abbrev pub index_named : List ℕ → List StandingRead → Option ℕ
+index_named name reads = position (λ one. bytes_eq one.name name) reads
+
+-- the reads without that at an index, if there is one
+abbrev pub without : Option ℕ → List StandingRead → List StandingRead
+without None reads = reads
+without (Some index) reads = remove reads index
+
 -- the reads of other subscriptions
 abbrev pub others : List ℕ → List StandingRead → List StandingRead
-others name reads = filter (λ one. not (bytes_eq one.name name)) reads
+others name reads = without (index_named name reads) reads
 
 -- what goes on once a command was answered, in a run that follows or not: a read begins anew, and a leave
 -- ends that of its subscription

@@ -139,7 +139,7 @@ fn with_what_came<'p, 'c, N: Recorded, R: Wait, G: Gate>(
     given: &[Answer],
     mut text: String,
 ) -> Result<String, AllocError>
-    ensures read { IfOk result (λ whole. (came : List ℕ) × (string_bytes whole ≡ string_bytes text.entry ++ came)
+    ensures read { IfOk result (λ whole. (came : List ℕ) × (string_bytes whole ≡ string_bytes text ++ came)
         × ReadOn context.old.config (setting_of N.places N.policy context.old.provider.now.resolve_timeout)
         form number (alerts_put command.now) run.old.session
         (stands_after run.old.follows command.now given.now run.old.reads) came run.new.reads run.new.session) }

@@ -1,6 +1,6 @@
 //! Printing what came for a subscription after a line.
 
-ghost use Rattle.std.specs.Prelude.{◌≡◌, ◌≢◌, ◌++◌, ◌∷◌, ℕ, List, [], IfOk, None, OnOk, Some, codes, false, slice_get, string_bytes, true};
+ghost use Rattle.std.specs.Prelude.{◌≡◌, ◌≢◌, ◌++◌, ◌↔◌, ◌∷◌, ℕ, List, [], IfOk, IsTrue, None, OnOk, Some, codes, false, slice_get, string_bytes, true};
 ghost use Rattle.json.specs.Json.{Members, member, string};
 ghost use Rattle.json.specs.Token.{end_object};
 ghost use Rattle.json.specs.Tree.{members_tokens};
@@ -9,7 +9,7 @@ ghost use Rattle.std.specs.Fmt.{decimal};
 ghost use Rattle.am_alert.specs.Posts.{fault_of};
 ghost use Rattle.am_labels.specs.Printing.{quoted};
 ghost use Rattle.am_runner.specs.Printing.{answer_text};
-ghost use Rattle.am_serve.specs.Standing.{ArePrinted, IsPrintedAs, IsShownAs, is_pending};
+ghost use Rattle.am_serve.specs.Standing.{ArePrinted, IsPrintedAs, IsShownAs, as_put_members, is_pending};
 
 use am_alert::{Alert, PartsFault, UnjudgedAlert};
 use am_labels::{Quoted, Text};
@@ -107,12 +107,21 @@ fn write_shown(
         × (line.new ++ end_object ∷ [] ≡ line.old ++ members_tokens members)) }
 {
     match answer {
-        Answer::Item(alert) if is_put_at(put, index, alert)? => {
-            line.text("answer", "as_put")?;
-            line.number("index", index as u64)
+        Answer::Item(alert) => {
+            if is_put_at(put, index, alert)? {
+                return write_as_put(line, index);
+            }
+            write_members(line, answer)
         }
         _ => write_members(line, answer),
     }
+}
+
+fn write_as_put(line: &mut JsonLine, index: usize) -> Result<(), AllocError>
+    ensures { OnOk result (line.new ++ end_object ∷ [] ≡ line.old ++ members_tokens (as_put_members index)) }
+{
+    line.text("answer", "as_put")?;
+    line.number("index", index as u64)
 }
 
 // Whether an alert is the one that a put gives at an index. One with a fault is none that comes.
@@ -125,8 +134,15 @@ fn is_put_at(put: &[UnjudgedAlert], index: usize, alert: &Alert) -> Result<bool,
         return Ok(false);
     }
     match put[index].judge() {
-        Ok(given) => Ok(given == *alert),
+        Ok(given) => Ok(are_same(&given, alert)),
         Err(PartsFault::Invalid(_)) => Ok(false),
         Err(PartsFault::NoMemory) => Err(AllocError),
     }
+}
+
+// Whether two alerts are the same in all their parts.
+fn are_same(one: &Alert, other: &Alert) -> bool
+    ensures { IsTrue result ↔ (one.now ≡ other.now) }
+{
+    *one == *other
 }

@@ -44,7 +44,7 @@ impl<'p, 'c, N: Recorded> Model for Run<'p, 'c, N> {
 impl<'p, 'c, N: Recorded> Run<'p, 'c, N> {
     /// A run that begins in a session. No read goes on yet.
     pub fn begin(alloc: Global, session: Session<'p, 'c, N>, follows: bool) -> Run<'p, 'c, N>
-        ensures { result ≡ record { session = session; follows = follows; reads = [] } }
+        ensures { result ≡ record { session = session.entry; follows = follows; reads = [] } }
     {
         Run {
             session,

@@ -8,10 +8,10 @@
 //! {"do":"read","sub":"s","max":100}    begins anew: 100 may come
 //! ```
 
-ghost use Rattle.std.specs.Prelude.{◌≡◌, ◌++◌, ◌∷◌, ℕ, List, [], OnOk, filter, length, string_bytes};
+ghost use Rattle.std.specs.Prelude.{◌≡◌, ◌++◌, ◌-◌, ℕ, List, IfOk, OnOk, filter, length, string_bytes};
 ghost use Rattle.am_runner.specs.Answers.{is_item};
-ghost use Rattle.am_runner.specs.Sessions.{setting_of};
-ghost use Rattle.am_serve.specs.Standing.{ReadOn, alerts_put, ends_pending, others, rest_of, stands_after};
+ghost use Rattle.am_runner.specs.Sessions.{Does, setting_of};
+ghost use Rattle.am_serve.specs.Standing.{ReadOn, alerts_put, ends_pending, index_named, others, rest_of, stands_after};
 
 use crate::came::{is_pending, write_came};
 use am_alert::UnjudgedAlert;
@@ -70,16 +70,29 @@ pub(crate) fn read_on<'p, 'c, N: Recorded, R: Wait, G: Gate>(
     let mut left = Vec::new(context.alloc);
     for at in 0..reads.len() {
         let read = &reads[at];
-        let command = Command::Read {
-            name: read.name.copy()?,
-            max: read.left,
-        };
-        let given = session.run(context, &command)?;
+        let given = read_more(context, session, read)?;
         write_came(text, form, number, &read.name, put, &given)?;
         add_rest(&mut left, &read.name, read.left, &given)?;
     }
     *reads = left;
     Ok(())
+}
+
+fn read_more<'p, 'c, N: Recorded, R: Wait, G: Gate>(
+    context: &mut Context<'p, 'c, N, R, G>,
+    session: &mut Session<'p, 'c, N>,
+    read: &StandingRead,
+) -> Result<Vec<Answer>, AllocError>
+    ensures does { IfOk result (λ given. Does context.old.config
+        (setting_of N.places N.policy context.old.provider.now.resolve_timeout)
+        session.old (Command.Read read.now.name read.now.left) given.items session.new) }
+    ensures same { context.new ≡ context.old }
+{
+    let command = Command::Read {
+        name: read.name.copy()?,
+        max: read.left,
+    };
+    session.run(context, &command)
 }
 
 /// The alerts that a put gives.
@@ -95,7 +108,22 @@ pub(crate) fn alerts_put(command: &Command) -> &[UnjudgedAlert]
 fn keep_others(reads: &mut Vec<StandingRead>, name: &Text)
     ensures { reads.new.items ≡ others name.now reads.old.items }
 {
-    reads.retain(|one| one.name != *name);
+    match index_named(reads, name) {
+        Some(index) => drop(reads.remove(index)),
+        None => {}
+    }
+}
+
+// Where the read of the subscription of a name stands.
+fn index_named(reads: &[StandingRead], name: &Text) -> Option<usize>
+    ensures { result ≡ index_named name.now reads.now }
+{
+    for index in 0..reads.len() {
+        if reads[index].name == *name {
+            return Some(index);
+        }
+    }
+    None
 }
 
 // Adds what goes on of a read of at most so many alerts that was answered so.
@@ -110,10 +138,9 @@ fn add_rest(
     if !ends_pending(given) {
         return Ok(());
     }
-    let shown = count_items(given);
     reads.push(StandingRead {
         name: name.copy()?,
-        left: max.saturating_sub(shown),
+        left: left_of(max, given),
     })?;
     Ok(())
 }
@@ -128,9 +155,15 @@ fn ends_pending(given: &[Answer]) -> bool
     }
 }
 
-// How many alerts were shown.
-fn count_items(given: &[Answer]) -> u32
-    ensures { result ≡ length (filter is_item given.now) }
+// How many alerts are left of those that may be shown.
+fn left_of(max: u32, given: &[Answer]) -> u32
+    ensures { result ≡ max - length (filter is_item given.now) }
 {
-    given.iter().filter(|one| one.is_item()).count() as u32
+    let mut left = max;
+    for at in 0..given.len() {
+        if given[at].is_item() {
+            left = left.saturating_sub(1);
+        }
+    }
+    left
 }
