@@ -1,6 +1,7 @@
 package program
 
 import (
+	"bytes"
 	"fmt"
 	"sync"
 	"time"
@@ -85,15 +86,15 @@ func (h *history) get(labels string) (*Alert, error) {
 }
 
 // How many alerts are asked for at once. Other lines come between two pages, so no put waits for a whole store.
-const pageLength = 500
+const pageLength = 250
 
 // stored asks for all stored alerts, page by page, some of them at once so that the program prints the next ones while
 // these are decoded. Each alert is as it was when its page was read. New ones come at the end, so none is missed while no
 // collection comes.
 func (h *history) stored() (all []*Alert, _ error) {
 	var away []*call
-	stored := pageLength // as far as is known: each page says how many there are
-	for asked := 0; ; {
+	asked := 0
+	askUpTo := func(stored int) {
 		for asked < stored && len(away) < pagesAway {
 			most := stored - asked
 			if most > pageLength {
@@ -102,15 +103,40 @@ func (h *history) stored() (all []*Alert, _ error) {
 			away = append(away, h.send(request{text: pageLine(asked, most)})[0])
 			asked += most
 		}
-		if len(away) == 0 {
-			return all, nil
-		}
-		answers, err := answersFor(away[0], "page")
+	}
+	askUpTo(pageLength)
+	for len(away) > 0 {
+		page := away[0]
+		away = away[1:]
+		stored, err := storedAt(page)
 		if err != nil {
 			return all, err
 		}
-		all, away, stored = append(all, alertsOf(answers[1:])...), away[1:], answers[0].stored
+		askUpTo(stored)
+		answers, err := answersOf(page)
+		if err != nil {
+			return all, err
+		}
+		all = append(all, alertsOf(answers)...)
 	}
+	return all, nil
+}
+
+// storedAt waits for a page, and is how many alerts were stored in all when it was read.
+func storedAt(page *call) (int, error) {
+	if err := page.wait(); err != nil {
+		return 0, err
+	}
+	head, err := parseAnswer(page.answers[:bytes.IndexByte(page.answers, '\n')+1])
+	switch {
+	case err != nil:
+		return 0, err
+	case head.word == "page":
+		return head.stored, nil
+	case head.word == "refused":
+		return 0, &refusal{head.fault}
+	}
+	return 0, fmt.Errorf("sinnoraku: no page was answered, but %.200q", page.answers)
 }
 
 // takeResolved has what is resolved removed, and returns it.
