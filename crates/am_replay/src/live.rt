@@ -20,7 +20,7 @@ use am_config::Config;
 use am_provider::{Caller, Counts, Parts, Provider, Recorded};
 use am_runner::{Context, Form, Freely, PreparedConfig, Session};
 use am_script::{Failure, script_advice, write_text};
-use am_serve::{InputLine, Run, next_line, serve};
+use am_serve::{InputLine, LiveRun, next_line, serve};
 use std::alloc::{AllocError, Global};
 use std::io::{BufRead, Write};
 use std::marker::Brand;
@@ -194,7 +194,7 @@ fn serve_all<'p, 'c, N: Recorded, R: Wait, I: BufRead, O: Write>(
         turns: &Freely,
     };
     let session = Session::begin(alloc, caller);
-    let mut run = Run::begin(alloc, session, arguments.mode == Mode::Follow);
+    let mut run = LiveRun::begin(alloc, session, arguments.mode == Mode::Follow);
     let served = serve(&mut context, &mut run, arguments.form, 2, input, out);
     (served, run.into_session().end(&context))
 }

@@ -48,28 +48,28 @@ ends_pending given = is_some_pending (slice_get given (length given - 1))
 
 -- what goes on of a read of at most so many alerts: those that are left of it, if there was nothing more for
 -- now
-abbrev pub rest_of : List ℕ → ℕ → List Answer → List StandingRead
-rest_of name max given =
+abbrev pub left_to_read : List ℕ → ℕ → List Answer → List StandingRead
+left_to_read name max given =
     if ends_pending given
     then (record { name = name; left = max - length (filter is_item given) }) ∷ [] else []
 
 -- where the read of the subscription of a name stands
-abbrev pub index_named : List ℕ → List StandingRead → Option ℕ
-index_named name reads = position (λ one. bytes_eq one.name name) reads
+abbrev pub index_of_read : List ℕ → List StandingRead → Option ℕ
+index_of_read name reads = position (λ one. bytes_eq one.name name) reads
 
 -- the reads without that at an index, if there is one
-abbrev pub without : Option ℕ → List StandingRead → List StandingRead
-without None reads = reads
-without (Some index) reads = remove reads index
+abbrev pub reads_without : Option ℕ → List StandingRead → List StandingRead
+reads_without None reads = reads
+reads_without (Some index) reads = remove reads index
 
 -- the reads of other subscriptions
 abbrev pub others : List ℕ → List StandingRead → List StandingRead
-others name reads = without (index_named name reads) reads
+others name reads = reads_without (index_of_read name reads) reads
 
 -- what goes on once a command was answered, in a run that follows or not: a read begins anew, and a leave
 -- ends that of its subscription
 abbrev pub stands_after : Bool → Command → List Answer → List StandingRead → List StandingRead
-stands_after true (Read name max) given reads = others name reads ++ rest_of name max given
+stands_after true (Read name max) given reads = others name reads ++ left_to_read name max given
 stands_after true (Leave name) given reads = others name reads
 stands_after follows command given reads = reads
 
@@ -122,4 +122,4 @@ pub data ReadOn (config : Config) (setting : Setting) (form : Form) (number : �
       → Does config setting mid (Read one.name one.left) given new
       → ArePrinted form number one.name put given more
       → ReadOn config setting form number put old (reads ++ one ∷ []) (text ++ more)
-      (left ++ rest_of one.name one.left given) new
+      (left ++ left_to_read one.name one.left given) new

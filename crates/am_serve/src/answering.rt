@@ -11,8 +11,8 @@ ghost use Rattle.am_serve.specs.Answering.{no_memory_text, refusal_members, refu
 ghost use Rattle.am_serve.specs.Reading.{IsInputOf};
 ghost use Rattle.am_serve.specs.Standing.{ReadOn, alerts_put, stands_after};
 
+use crate::live_run::LiveRun;
 use crate::reading::InputLine;
-use crate::run::Run;
 use crate::standing::{alerts_put, note, read_on};
 use am_provider::{Gate, Recorded};
 use am_runner::{
@@ -30,7 +30,7 @@ const SHORT: usize = 256;
 /// done. If memory runs out for another one's answer, that may have been done.
 pub fn answer_line<'p, 'c, N: Recorded, R: Wait, G: Gate>(
     context: &mut Context<'p, 'c, N, R, G>,
-    run: &mut Run<'p, 'c, N>,
+    run: &mut LiveRun<'p, 'c, N>,
     reader: &mut LineReader,
     form: Form,
     number: u64,
@@ -58,7 +58,7 @@ pub fn answer_line<'p, 'c, N: Recorded, R: Wait, G: Gate>(
 /// Does the same with a line as it was read.
 pub(crate) fn answer_input<'p, 'c, N: Recorded, R: Wait, G: Gate>(
     context: &mut Context<'p, 'c, N, R, G>,
-    run: &mut Run<'p, 'c, N>,
+    run: &mut LiveRun<'p, 'c, N>,
     reader: &mut LineReader,
     form: Form,
     number: u64,
@@ -79,7 +79,7 @@ pub(crate) fn answer_input<'p, 'c, N: Recorded, R: Wait, G: Gate>(
 // Does what a command asks for, unless its name is taken or its moment isn't one.
 fn obey<'p, 'c, N: Recorded, R: Wait, G: Gate>(
     context: &mut Context<'p, 'c, N, R, G>,
-    run: &mut Run<'p, 'c, N>,
+    run: &mut LiveRun<'p, 'c, N>,
     form: Form,
     number: u64,
     command: &Command,
@@ -102,7 +102,7 @@ fn obey<'p, 'c, N: Recorded, R: Wait, G: Gate>(
 // unless something was done whose answer is lost.
 fn run_command<'p, 'c, N: Recorded, R: Wait, G: Gate>(
     context: &mut Context<'p, 'c, N, R, G>,
-    run: &mut Run<'p, 'c, N>,
+    run: &mut LiveRun<'p, 'c, N>,
     form: Form,
     number: u64,
     command: &Command,
@@ -132,7 +132,7 @@ fn run_command<'p, 'c, N: Recorded, R: Wait, G: Gate>(
 // What is printed of a command's answers, followed by what then came for the reads that go on.
 fn with_what_came<'p, 'c, N: Recorded, R: Wait, G: Gate>(
     context: &mut Context<'p, 'c, N, R, G>,
-    run: &mut Run<'p, 'c, N>,
+    run: &mut LiveRun<'p, 'c, N>,
     form: Form,
     number: u64,
     command: &Command,

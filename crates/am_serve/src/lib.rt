@@ -11,21 +11,21 @@
 //! let (provider, mut callers) = Provider::<N>::begin(alloc, parts, policy, timeout)?;   // for one caller
 //! let config = PreparedConfig::new(&config);
 //! let mut context = Context { rt, alloc, provider: &provider, config, turns: &Freely };
-//! let mut run = Run::begin(alloc, Session::begin(alloc, caller), false);
+//! let mut run = LiveRun::begin(alloc, Session::begin(alloc, caller), false);
 //! serve(&mut context, &mut run, Form::Text, 1, &mut input, &mut output)?;
 //! ```
 //!
-//! Who has lines of its own, and no reader, calls `answer_line` for each, and then `Run::compact_if_due`.
+//! Who has lines of its own, and no reader, calls `answer_line` for each, and then `LiveRun::compact_if_due`.
 #![tactic(auto)]
 
 mod answering;
 mod came;
+mod live_run;
 mod reading;
-mod run;
 mod serving;
 mod standing;
 
 pub use answering::answer_line;
+pub use live_run::LiveRun;
 pub use reading::{InputLine, next_line};
-pub use run::Run;
 pub use serving::serve;

@@ -8,8 +8,8 @@ ghost use Rattle.am_serve.specs.Reading.{IsInputOf};
 ghost use Rattle.am_serve.specs.Serving.{IsBeginning, IsServed, IsServedInPart};
 
 use crate::answering::answer_input;
+use crate::live_run::LiveRun;
 use crate::reading::{InputLine, next_line};
-use crate::run::Run;
 use am_provider::{Gate, Recorded};
 use am_runner::{Context, Form};
 use am_script::{Failure, LineReader, write_text};
@@ -22,7 +22,7 @@ use std::sync::Wait;
 /// compaction costs no more than a few times that, so over many lines a line costs what its own alerts do.
 pub fn serve<'p, 'c, N: Recorded, R: Wait, G: Gate, I: BufRead, O: Write>(
     context: &mut Context<'p, 'c, N, R, G>,
-    run: &mut Run<'p, 'c, N>,
+    run: &mut LiveRun<'p, 'c, N>,
     form: Form,
     first: u64,
     input: &mut I,
@@ -49,7 +49,7 @@ pub fn serve<'p, 'c, N: Recorded, R: Wait, G: Gate, I: BufRead, O: Write>(
 // Answers one line.
 fn serve_line<'p, 'c, N: Recorded, R: Wait, G: Gate, O: Write>(
     context: &mut Context<'p, 'c, N, R, G>,
-    run: &mut Run<'p, 'c, N>,
+    run: &mut LiveRun<'p, 'c, N>,
     reader: &mut LineReader,
     form: Form,
     number: u64,

@@ -11,7 +11,7 @@
 ghost use Rattle.std.specs.Prelude.{◌≡◌, ◌++◌, ◌-◌, ℕ, List, IfOk, OnOk, filter, length, string_bytes};
 ghost use Rattle.am_runner.specs.Answers.{is_item};
 ghost use Rattle.am_runner.specs.Sessions.{Does, setting_of};
-ghost use Rattle.am_serve.specs.Standing.{ReadOn, alerts_put, ends_pending, index_named, others, rest_of, stands_after};
+ghost use Rattle.am_serve.specs.Standing.{ReadOn, alerts_put, ends_pending, index_of_read, others, left_to_read, stands_after};
 
 use crate::came::{is_pending, write_came};
 use am_alert::UnjudgedAlert;
@@ -108,15 +108,15 @@ pub(crate) fn alerts_put(command: &Command) -> &[UnjudgedAlert]
 fn keep_others(reads: &mut Vec<StandingRead>, name: &Text)
     ensures { reads.new.items ≡ others name.now reads.old.items }
 {
-    match index_named(reads, name) {
+    match index_of_read(reads, name) {
         Some(index) => drop(reads.remove(index)),
         None => {}
     }
 }
 
 // Where the read of the subscription of a name stands.
-fn index_named(reads: &[StandingRead], name: &Text) -> Option<usize>
-    ensures { result ≡ index_named name.now reads.now }
+fn index_of_read(reads: &[StandingRead], name: &Text) -> Option<usize>
+    ensures { result ≡ index_of_read name.now reads.now }
 {
     for index in 0..reads.len() {
         if reads[index].name == *name {
@@ -133,7 +133,7 @@ fn add_rest(
     max: u32,
     given: &[Answer],
 ) -> Result<(), AllocError>
-    ensures { OnOk result (reads.new.items ≡ reads.old.items ++ rest_of name.now max given.now) }
+    ensures { OnOk result (reads.new.items ≡ reads.old.items ++ left_to_read name.now max given.now) }
 {
     if !ends_pending(given) {
         return Ok(());

@@ -3,7 +3,7 @@ use Rattle.std.proofs.lemmas.List.{take_all, take_more}
 use Rattle.am_script.specs.declared.command.Command.TheVariants.{Read}
 use Rattle.am_runner.specs.declared.answer.Answer.{Answer}
 use Rattle.am_runner.specs.Sessions.{Setting, Does, setting_of}
-use Rattle.am_serve.specs.Standing.{ArePrinted, ReadOn, none_stands, one_more, rest_of}
+use Rattle.am_serve.specs.Standing.{ArePrinted, ReadOn, none_stands, one_more, left_to_read}
 use Rattle.am_serve.specs.declared.standing.StandingRead.{StandingRead}
 use Rattle.am_serve.proofs.standing.read_on.Goals as goal
 
@@ -39,8 +39,8 @@ loop-at-preserved g c =
     subst (λ (l : List Answer). ArePrinted c.args.form c.args.number one.name c.args.put.now l more.0) c.deref.ensures.value more.2 in
     let did : Does c.args.context.now.config setting c.loop-at.session (Read one.name one.left) given new =
     subst (λ context. Does context.config (setting_of g.N.Recorded.places g.N.Recorded.policy context.provider.now.resolve_timeout) c.loop-at.session (Read one.name one.left) given new) so.0 c.in_ok-given.ensures.does in
-    let left_is : c.add_rest.new.reads.items ≡ c.loop-at.left.items ++ rest_of one.name one.left given =
-    c.in_ok-add_rest.ensures ∙ ap (λ (l : List Answer). c.loop-at.left.items ++ rest_of one.name one.left l) c.deref-in-loop-at.ensures.value in
+    let left_is : c.add_rest.new.reads.items ≡ c.loop-at.left.items ++ left_to_read one.name one.left given =
+    c.in_ok-add_rest.ensures ∙ ap (λ (l : List Answer). c.loop-at.left.items ++ left_to_read one.name one.left l) c.deref-in-loop-at.ensures.value in
     let text = so.1.0 ++ more.0 in (
       c.in_ok-given.ensures.same ∙ so.0,
       (

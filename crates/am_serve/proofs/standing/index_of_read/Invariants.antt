@@ -1,7 +1,7 @@
 use Rattle.std.proofs.Common.{◌≡◌, ◌<◌, ℕ, false, get_or}
 use Rattle.std.specs.Str.{bytes_eq}
 use Rattle.am_serve.specs.declared.standing.StandingRead.{StandingRead}
-use Rattle.am_serve.proofs.standing.index_named.Given as goal
+use Rattle.am_serve.proofs.standing.index_of_read.Given as goal
 
 -- none of those so far has the name
 abbrev pub invariant-loop-index : goal.invariant-loop-index

@@ -2,7 +2,7 @@ use Rattle.std.proofs.Common.{◌≡◌, ◌∙◌, true, length, sym, subst, ru
 use Rattle.std.specs.Str.{bytes_eq}
 use Rattle.am_runner.proofs.Named.{first_is, none_is}
 use Rattle.am_serve.specs.declared.standing.StandingRead.{StandingRead}
-use Rattle.am_serve.proofs.standing.index_named.Goals as goal
+use Rattle.am_serve.proofs.standing.index_of_read.Goals as goal
 
 pub returns-then-eq : goal.returns-then-eq
 returns-then-eq c =

@@ -14,13 +14,13 @@ use std::sync::Wait;
 
 /// A session whose lines are answered one after another. In a run that follows, a read that finds nothing more goes
 /// on: what comes for its subscription is printed after the lines that follow, up to the read's `max`.
-pub struct Run<'p, 'c, N: Recorded> {
+pub struct LiveRun<'p, 'c, N: Recorded> {
     pub(crate) session: Session<'p, 'c, N>,
     pub(crate) follows: bool,
     pub(crate) reads: Vec<StandingRead>,
 }
 
-impl<'p, 'c, N: Recorded> Model for Run<'p, 'c, N> {
+impl<'p, 'c, N: Recorded> Model for LiveRun<'p, 'c, N> {
     ghost use Rattle.std.specs.Coded.{codes};
     ghost use Rattle.am_alert.specs.Alerts.{coded_alert};
     ghost use Rattle.am_store.specs.contracts.call.Call as call;
@@ -41,12 +41,12 @@ impl<'p, 'c, N: Recorded> Model for Run<'p, 'c, N> {
     } };
 }
 
-impl<'p, 'c, N: Recorded> Run<'p, 'c, N> {
+impl<'p, 'c, N: Recorded> LiveRun<'p, 'c, N> {
     /// A run that begins in a session. No read goes on yet.
-    pub fn begin(alloc: Global, session: Session<'p, 'c, N>, follows: bool) -> Run<'p, 'c, N>
+    pub fn begin(alloc: Global, session: Session<'p, 'c, N>, follows: bool) -> LiveRun<'p, 'c, N>
         ensures { result ≡ record { session = session.entry; follows = follows; reads = [] } }
     {
-        Run {
+        LiveRun {
             session,
             follows,
             reads: Vec::new(alloc),
@@ -66,7 +66,7 @@ impl<'p, 'c, N: Recorded> Run<'p, 'c, N> {
     pub fn into_session(self) -> Session<'p, 'c, N>
         ensures { result ≡ self.entry.session }
     {
-        let Run {
+        let LiveRun {
             session,
             follows: _,
             reads: _,
