@@ -19,7 +19,7 @@ use Rattle.am_runner.specs.PrintingJson.{count_members}
 use Rattle.am_runner.specs.declared.form.Form.{Form}
 use Rattle.am_runner.specs.declared.form.Form.TheVariants.{Text, Json}
 use Rattle.am_runner.specs.Reading.{OpenView}
-use Rattle.am_runner.specs.Sessions.{Setting, SessionView, Does, has_notifier, index_of_read}
+use Rattle.am_runner.specs.Sessions.{Setting, SessionView, Does, has_notifier, index_named}
 use Rattle.am_runner.specs.Unanswered.{IsUnanswered}
 use Rattle.am_runner.specs.declared.answer.Answer.{Answer}
 use Rattle.am_serve.specs.Standing.{ReadOn, RunView, alerts_put, stands_after}
@@ -45,7 +45,7 @@ no_memory_text form number = refused_for form number (codes "E0 NoMemory")
 
 -- whether a command subscribes no name that an open subscription has
 abbrev pub has_free_name : Command → List OpenView → Bool
-has_free_name (Subscribe name kind) opened = is_none (index_of_read name opened)
+has_free_name (Subscribe name kind) opened = is_none (index_named name opened)
 has_free_name _ opened = true
 
 -- whether the `at` of `groups` is a moment where it is a member: if the subscription has an inhibitor too
