@@ -1,11 +1,19 @@
 -- Alerts that overlap, and what becomes of a stored report and a new one of its label set.
 use Rattle.std.specs.Prelude.{ℕ, Bool, not, ◌&&◌, ◌||◌, if◌then◌else◌, nat_lt, nat_le, min}
-use Rattle.std.specs.Prelude.{Option, Some, None}
+use Rattle.std.specs.Prelude.{List, filter, Option, Some, None}
 use Rattle.am_alert.specs.declared.alert.Alert.{Alert}
 
 -- whether an alert's end isn't after the moment (`types.Alert.ResolvedAt`)
 abbrev pub is_resolved_at : ℕ → Alert → Bool
 is_resolved_at now alert = nat_le alert.end now
+
+-- an alert, unless it is resolved
+abbrev pub unless_resolved : ℕ → Alert → Option Alert
+unless_resolved now alert = if is_resolved_at now alert then None else Some alert
+
+-- the alerts that aren't resolved, in their order
+abbrev pub unresolved : ℕ → List Alert → List Alert
+unresolved now alerts = filter (λ alert. not (is_resolved_at now alert)) alerts
 
 -- whether the new report ends or begins strictly within the stored one (the test before Merge in
 -- `provider/mem`'s Put)

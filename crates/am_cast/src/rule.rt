@@ -37,11 +37,11 @@ pub type AnyTop<B, K, A, R> = Shared<Option<K>, View<B, K, A>, u64, LogRule<R>>;
 pub type AnySeat<B, K, A> = Seat<Option<K>, View<B, K, A>>;
 
 /// What a subscription notes down. A caller picks it.
-pub trait Noted<A> {
+pub trait HasNote<A> {
     ghost note: { Option A };
 }
 
-impl<A> Noted<A> for Brand {
+impl<A> HasNote<A> for Brand {
     ghost use Rattle.std.specs.Prelude.{None};
 
     ghost note = { None };

@@ -15,7 +15,7 @@ use Rattle.am_config.specs.declared.inhibit_rule.InhibitRule.{InhibitRule}
 use Rattle.am_inhibit.specs.declared.source.Source.{Source}
 use Rattle.am_inhibit.specs.declared.source_index.SourceChange.{SourceChange}
 use Rattle.am_inhibit.specs.inside.Sources.{same_values, values_equiv}
-use Rattle.am_inhibit.specs.inside.Indexes.{SourceEntries, IndexView, values_of as values_for, source_of, with_source, with_labels, listed, sources_from, IsIndexOf, AreIndexesOf, empty_indexes, rules_indexed, index_with, left_back, index_before, indexes_before}
+use Rattle.am_inhibit.specs.inside.Indexes.{SourceEntries, IndexView, values_of as values_for, source_of, with_source, with_labels, sources_listed, sources_from, IsSourceIndexOf, AreSourceIndexesOf, empty_indexes, rules_indexed, index_with, left_back, index_before, indexes_before}
 use Rattle.am_inhibit.proofs.Cases.{by_bool}
 
 pub take_last : {A : Type 0} (xs : List A) (x : A) → take (length (xs ++ x ∷ []) - 1) (xs ++ x ∷ []) ≡ xs
@@ -113,19 +113,19 @@ map_more f olds now at x early are is =
 pub same_are : (a b : List (List ℕ)) → same_values a b ≡ true → a ≡ b
 same_are a b e = (pointwise_decides (pointwise_decides unsigned_Decides) a b).0 e
 
-pub listed-with : (wanted values : List (List ℕ)) (source : Source) (entries : SourceEntries) → listed wanted (with_source values source entries) ≡ listed wanted entries ++ cond (same_values wanted values) (source ∷ []) []
-listed-with wanted values source [] =
+pub sources_listed-with : (wanted values : List (List ℕ)) (source : Source) (entries : SourceEntries) → sources_listed wanted (with_source values source entries) ≡ sources_listed wanted entries ++ cond (same_values wanted values) (source ∷ []) []
+sources_listed-with wanted values source [] =
     elim (same_values wanted values) as (λ b. unwrap_or (cond b (Some (source ∷ [])) None) [] ≡ cond b (source ∷ []) []) [ true ↦ refl | false ↦ refl ]
-listed-with wanted values source (entry ∷ entries) =
-    by_bool {P = listed wanted (with_source values source (entry ∷ entries)) ≡ listed wanted (entry ∷ entries) ++ cond (same_values wanted values) (source ∷ []) []} (same_values values entry.0)
+sources_listed-with wanted values source (entry ∷ entries) =
+    by_bool {P = sources_listed wanted (with_source values source (entry ∷ entries)) ≡ sources_listed wanted (entry ∷ entries) ++ cond (same_values wanted values) (source ∷ []) []} (same_values values entry.0)
     (λ t.
     let own : same_values wanted values ≡ same_values wanted entry.0 = ap (same_values wanted) (same_are values entry.0 t) in
-    ap (λ b. listed wanted (cond b ((entry.0, entry.1 ++ source ∷ []) ∷ entries) (entry ∷ with_source values source entries))) t
-    ∙ (elim (same_values wanted entry.0) as (λ b. unwrap_or (cond b (Some (entry.1 ++ source ∷ [])) (lookup (same_values wanted) entries)) [] ≡ unwrap_or (cond b (Some entry.1) (lookup (same_values wanted) entries)) [] ++ cond b (source ∷ []) []) [ true ↦ refl | false ↦ sym (append-nil (listed wanted entries)) ]
-    ∙ ap (λ b. listed wanted (entry ∷ entries) ++ cond b (source ∷ []) []) (sym own)))
+    ap (λ b. sources_listed wanted (cond b ((entry.0, entry.1 ++ source ∷ []) ∷ entries) (entry ∷ with_source values source entries))) t
+    ∙ (elim (same_values wanted entry.0) as (λ b. unwrap_or (cond b (Some (entry.1 ++ source ∷ [])) (lookup (same_values wanted) entries)) [] ≡ unwrap_or (cond b (Some entry.1) (lookup (same_values wanted) entries)) [] ++ cond b (source ∷ []) []) [ true ↦ refl | false ↦ sym (append-nil (sources_listed wanted entries)) ]
+    ∙ ap (λ b. sources_listed wanted (entry ∷ entries) ++ cond b (source ∷ []) []) (sym own)))
     (λ f.
-    ap (λ b. listed wanted (cond b ((entry.0, entry.1 ++ source ∷ []) ∷ entries) (entry ∷ with_source values source entries))) f
-    ∙ by_bool {P = listed wanted (entry ∷ with_source values source entries) ≡ listed wanted (entry ∷ entries) ++ cond (same_values wanted values) (source ∷ []) []} (same_values wanted entry.0)
+    ap (λ b. sources_listed wanted (cond b ((entry.0, entry.1 ++ source ∷ []) ∷ entries) (entry ∷ with_source values source entries))) f
+    ∙ by_bool {P = sources_listed wanted (entry ∷ with_source values source entries) ≡ sources_listed wanted (entry ∷ entries) ++ cond (same_values wanted values) (source ∷ []) []} (same_values wanted entry.0)
     (λ here.
     let other : same_values wanted values ≡ false = ap (λ l. same_values l values) (same_are wanted entry.0 here) ∙ (values_equiv.symm entry.0 values ∙ f) in
     ap (λ b. unwrap_or (cond b (Some entry.1) (lookup (same_values wanted) (with_source values source entries))) []) here
@@ -134,18 +134,18 @@ listed-with wanted values source (entry ∷ entries) =
     ∙ ap (λ b. unwrap_or (cond b (Some entry.1) (lookup (same_values wanted) entries)) [] ++ cond (same_values wanted values) (source ∷ []) []) (sym here))))
     (λ away.
     ap (λ b. unwrap_or (cond b (Some entry.1) (lookup (same_values wanted) (with_source values source entries))) []) away
-    ∙ (listed-with wanted values source entries
+    ∙ (sources_listed-with wanted values source entries
     ∙ ap (λ b. unwrap_or (cond b (Some entry.1) (lookup (same_values wanted) entries)) [] ++ cond (same_values wanted values) (source ∷ []) []) (sym away))))
 
-listed-labels : (rule : InhibitRule) (values : List (List ℕ)) (at : ℕ) (labels : Labels) (entries : SourceEntries)
-    → listed values (with_labels rule at labels entries) ≡ listed values entries ++ cond (all_admitted rule.source labels && same_values values (values_for rule.equal labels)) (source_of rule at labels ∷ []) []
-listed-labels rule values at labels entries =
+sources_listed-labels : (rule : InhibitRule) (values : List (List ℕ)) (at : ℕ) (labels : Labels) (entries : SourceEntries)
+    → sources_listed values (with_labels rule at labels entries) ≡ sources_listed values entries ++ cond (all_admitted rule.source labels && same_values values (values_for rule.equal labels)) (source_of rule at labels ∷ []) []
+sources_listed-labels rule values at labels entries =
     let source = source_of rule at labels in
     let own = values_for rule.equal labels in
-    let more = λ (b : Bool). listed values entries ++ cond (b && same_values values own) (source ∷ []) [] in
-    by_bool {P = listed values (with_labels rule at labels entries) ≡ more (all_admitted rule.source labels)} (all_admitted rule.source labels)
-    (λ t. ap (λ b. listed values (cond b (with_source own source entries) entries)) t ∙ (listed-with values own source entries ∙ ap more (sym t)))
-    (λ f. ap (λ b. listed values (cond b (with_source own source entries) entries)) f ∙ (sym (append-nil (listed values entries)) ∙ ap more (sym f)))
+    let more = λ (b : Bool). sources_listed values entries ++ cond (b && same_values values own) (source ∷ []) [] in
+    by_bool {P = sources_listed values (with_labels rule at labels entries) ≡ more (all_admitted rule.source labels)} (all_admitted rule.source labels)
+    (λ t. ap (λ b. sources_listed values (cond b (with_source own source entries) entries)) t ∙ (sources_listed-with values own source entries ∙ ap more (sym t)))
+    (λ f. ap (λ b. sources_listed values (cond b (with_source own source entries) entries)) f ∙ (sym (append-nil (sources_listed values entries)) ∙ ap more (sym f)))
 
 sources_from-push : (rule : InhibitRule) (values : List (List ℕ)) (at : ℕ) (sets : List Labels) (labels : Labels)
     → sources_from rule values at (sets ++ labels ∷ []) ≡ sources_from rule values at sets ++ cond (all_admitted rule.source labels && same_values values (values_for rule.equal labels)) (source_of rule (at + length sets) labels ∷ []) []
@@ -180,7 +180,7 @@ distinct-with values source (entry ∷ entries) distinct =
 
 -- ---- one alert more
 
-is_index-with : (sets : List Labels) (labels : Labels) (index : IndexView) → IsIndexOf sets index → IsIndexOf (sets ++ labels ∷ []) (index_with (length sets) labels index)
+is_index-with : (sets : List Labels) (labels : Labels) (index : IndexView) → IsSourceIndexOf sets index → IsSourceIndexOf (sets ++ labels ∷ []) (index_with (length sets) labels index)
 is_index-with sets labels index is =
     let rule = index.rule in
     let own = values_for rule.equal labels in
@@ -189,7 +189,7 @@ is_index-with sets labels index is =
       λ values.
           let last = λ (n : ℕ). cond (all_admitted rule.source labels && same_values values own) (source_of rule n labels ∷ []) [] in
           let here : length sets ≡ 0 + length sets = omega arith in
-          listed-labels rule values (length sets) labels index.entries
+          sources_listed-labels rule values (length sets) labels index.entries
           ∙ (ap (λ l. l ++ last (length sets)) (is.1 values)
           ∙ (ap (λ n. sources_from rule values 0 sets ++ last n) here
           ∙ sym (sources_from-push rule values 0 sets labels))),
@@ -199,16 +199,16 @@ rules_indexed-map : (f : IndexView → IndexView) (indexes : List IndexView) →
 rules_indexed-map f [] same = refl
 rules_indexed-map f (index ∷ indexes) same = ap (λ r. r ∷ rules_indexed (map f indexes)) (same index) ∙ ap (λ l. index.rule ∷ l) (rules_indexed-map f indexes same)
 
-all_mapped : (f : IndexView → IndexView) (olds news : List Labels) (indexes : List IndexView) → ((index : IndexView) → IsIndexOf olds index → IsIndexOf news (f index)) → AllByRecursion (IsIndexOf olds) indexes → AllByRecursion (IsIndexOf news) (map f indexes)
+all_mapped : (f : IndexView → IndexView) (olds news : List Labels) (indexes : List IndexView) → ((index : IndexView) → IsSourceIndexOf olds index → IsSourceIndexOf news (f index)) → AllByRecursion (IsSourceIndexOf olds) indexes → AllByRecursion (IsSourceIndexOf news) (map f indexes)
 all_mapped f olds news [] each all = tt
 all_mapped f olds news (index ∷ indexes) each all = (each index all.0, all_mapped f olds news indexes each all.1)
 
 -- the indexes of rules, each changed to that of other label sets
-pub are_mapped : (rules : List InhibitRule) (f : IndexView → IndexView) (olds news : List Labels) (indexes : List IndexView) → ((index : IndexView) → (f index).rule ≡ index.rule) → ((index : IndexView) → IsIndexOf olds index → IsIndexOf news (f index))
-    → AreIndexesOf rules olds indexes → AreIndexesOf rules news (map f indexes)
+pub are_mapped : (rules : List InhibitRule) (f : IndexView → IndexView) (olds news : List Labels) (indexes : List IndexView) → ((index : IndexView) → (f index).rule ≡ index.rule) → ((index : IndexView) → IsSourceIndexOf olds index → IsSourceIndexOf news (f index))
+    → AreSourceIndexesOf rules olds indexes → AreSourceIndexesOf rules news (map f indexes)
 are_mapped rules f olds news indexes same each are = (rules_indexed-map f indexes same ∙ are.0, all_mapped f olds news indexes each are.1)
 
-pub are_indexes-with : (rules : List InhibitRule) (sets : List Labels) (labels : Labels) (indexes : List IndexView) → AreIndexesOf rules sets indexes → AreIndexesOf rules (sets ++ labels ∷ []) (map (index_with (length sets) labels) indexes)
+pub are_indexes-with : (rules : List InhibitRule) (sets : List Labels) (labels : Labels) (indexes : List IndexView) → AreSourceIndexesOf rules sets indexes → AreSourceIndexesOf rules (sets ++ labels ∷ []) (map (index_with (length sets) labels) indexes)
 are_indexes-with rules sets labels indexes are =
     are_mapped rules (index_with (length sets) labels) sets (sets ++ labels ∷ []) indexes (λ index. refl) (is_index-with sets labels) are
 
@@ -216,10 +216,10 @@ rules_indexed-empty : (rules : List InhibitRule) → rules_indexed (empty_indexe
 rules_indexed-empty [] = refl
 rules_indexed-empty (rule ∷ rules) = ap (λ l. rule ∷ l) (rules_indexed-empty rules)
 
-all_empty : (rules : List InhibitRule) → AllByRecursion (IsIndexOf []) (empty_indexes rules)
+all_empty : (rules : List InhibitRule) → AllByRecursion (IsSourceIndexOf []) (empty_indexes rules)
 unfolding IsDistinct
 all_empty [] = tt
 all_empty (rule ∷ rules) = ((tt, λ values. refl), all_empty rules)
 
-pub are_empty : (rules : List InhibitRule) → AreIndexesOf rules [] (empty_indexes rules)
+pub are_empty : (rules : List InhibitRule) → AreSourceIndexesOf rules [] (empty_indexes rules)
 are_empty rules = (rules_indexed-empty rules, all_empty rules)

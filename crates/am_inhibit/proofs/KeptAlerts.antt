@@ -6,11 +6,11 @@ use Rattle.std.specs.Option.{option_map, option_and_then}
 use Rattle.am_labels.specs.LabelSets.{Labels, same_labels}
 use Rattle.am_labels.specs.LabelLaws.{labels_decide, labels_equiv}
 use Rattle.am_alert.specs.declared.alert.Alert.{Alert}
-use Rattle.am_alert.specs.Merging.{is_resolved_at}
+use Rattle.am_alert.specs.Merging.{is_resolved_at, unless_resolved, unresolved}
 use Rattle.am_inhibit.specs.LastAlerts.{last_alerts}
-use Rattle.am_inhibit.specs.KeptAlerts.{InhibitorEvent, Take, Sweep, unresolved, lasting, before_others, kept_alerts, unless_resolved, after_event, held_after}
+use Rattle.am_inhibit.specs.KeptAlerts.{InhibitorEvent, Take, Sweep, lasting, before_others, kept_alerts, after_event, held_after}
 use Rattle.am_inhibit.proofs.Cases.{by_bool, by_option}
-use Rattle.am_inhibit.proofs.LastAlerts.{has, set_last, AreApart, same_turned, same_along, has_none, apart_less, map_more, last_alerts-push, last_alerts-apart}
+use Rattle.am_inhibit.proofs.LastAlerts.{has, set_last, AreApart, same_turned, same_along, has_no_sources, apart_less, map_more, last_alerts-push, last_alerts-apart}
 
 -- alerts of other label sets
 abbrev pub without : Labels → List Alert → List Alert
@@ -142,7 +142,7 @@ kept_apart [] = tt
 kept_apart (Sweep now ∷ events) = kept_apart events
 kept_apart (Take alert ∷ events) =
     let later = kept_alerts events in
-    elim (lasting events alert) as (λ o. AreApart (before_others o later)) [ None ↦ kept_apart events | Some last ↦ (has_none last.labels later, apart_less (λ (other : Alert). not (same_labels last.labels other.labels)) later (kept_apart events)) ]
+    elim (lasting events alert) as (λ o. AreApart (before_others o later)) [ None ↦ kept_apart events | Some last ↦ (has_no_sources last.labels later, apart_less (λ (other : Alert). not (same_labels last.labels other.labels)) later (kept_apart events)) ]
 
 -- ---- one take more
 

@@ -50,13 +50,13 @@ last_of-push alerts next alert =
 
 -- ---- the first alerts
 
-pub has_none : (labels : Labels) (alerts : List Alert) → has labels (filter (λ other. not (same_labels labels other.labels)) alerts) ≡ false
-has_none labels [] = refl
-has_none labels (alert ∷ alerts) =
+pub has_no_sources : (labels : Labels) (alerts : List Alert) → has labels (filter (λ other. not (same_labels labels other.labels)) alerts) ≡ false
+has_no_sources labels [] = refl
+has_no_sources labels (alert ∷ alerts) =
     by_bool {P = has labels (filter (λ other. not (same_labels labels other.labels)) (alert ∷ alerts)) ≡ false} (same_labels labels alert.labels)
-    (λ t. ap (λ b. has labels (cond (not b) (alert ∷ filter (λ other. not (same_labels labels other.labels)) alerts) (filter (λ other. not (same_labels labels other.labels)) alerts))) t ∙ has_none labels alerts)
+    (λ t. ap (λ b. has labels (cond (not b) (alert ∷ filter (λ other. not (same_labels labels other.labels)) alerts) (filter (λ other. not (same_labels labels other.labels)) alerts))) t ∙ has_no_sources labels alerts)
     (λ f. ap (λ b. has labels (cond (not b) (alert ∷ filter (λ other. not (same_labels labels other.labels)) alerts) (filter (λ other. not (same_labels labels other.labels)) alerts))) f
-    ∙ (ap (λ b. b || has labels (filter (λ other. not (same_labels labels other.labels)) alerts)) f ∙ has_none labels alerts))
+    ∙ (ap (λ b. b || has labels (filter (λ other. not (same_labels labels other.labels)) alerts)) f ∙ has_no_sources labels alerts))
 
 -- what a test leaves has no alert that wasn't there
 has_less : (labels : Labels) (test : Alert → Bool) (alerts : List Alert) → has labels alerts ≡ false → has labels (filter test alerts) ≡ false
@@ -81,7 +81,7 @@ apart_less test (alert ∷ alerts) apart =
 pub first_alerts_apart : (alerts : List Alert) → AreApart (first_alerts alerts)
 first_alerts_apart [] = tt
 first_alerts_apart (alert ∷ alerts) =
-    (has_none alert.labels (first_alerts alerts), apart_less (λ other. not (same_labels alert.labels other.labels)) (first_alerts alerts) (first_alerts_apart alerts))
+    (has_no_sources alert.labels (first_alerts alerts), apart_less (λ other. not (same_labels alert.labels other.labels)) (first_alerts alerts) (first_alerts_apart alerts))
 
 -- what is unlike another label set stays where that one is left out
 has_still : (labels other : Labels) (alerts : List Alert) → same_labels other labels ≡ false → has labels (filter (λ alert. not (same_labels other alert.labels)) alerts) ≡ has labels alerts

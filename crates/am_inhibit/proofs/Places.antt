@@ -11,10 +11,10 @@ use Rattle.am_alert.specs.Merging.{is_resolved_at}
 use Rattle.am_config.specs.declared.inhibit_rule.InhibitRule.{InhibitRule}
 use Rattle.am_inhibit.specs.declared.source.Source.{Source}
 use Rattle.am_inhibit.specs.LastAlerts.{label_sets}
-use Rattle.am_inhibit.specs.KeptAlerts.{unresolved}
+use Rattle.am_alert.specs.Merging.{unresolved}
 use Rattle.am_inhibit.specs.inside.Sources.{same_values}
-use Rattle.am_inhibit.specs.inside.Indexes.{SourceEntries, IndexView, values_of as values_for, source_of, listed, sources_from, IsIndexOf, AreIndexesOf}
-use Rattle.am_inhibit.specs.inside.Places.{places_from, moved, moved_sources, has_none, swept_entries, index_swept}
+use Rattle.am_inhibit.specs.inside.Indexes.{SourceEntries, IndexView, values_of as values_for, source_of, sources_listed, sources_from, IsSourceIndexOf, AreSourceIndexesOf}
+use Rattle.am_inhibit.specs.inside.Places.{new_places, moved, moved_sources, has_no_sources, swept_entries, index_swept}
 use Rattle.am_inhibit.proofs.Cases.{by_bool}
 use Rattle.am_inhibit.proofs.Indexes.{same_are, are_mapped}
 use Rattle.am_inhibit.proofs.Searching.{drop_next}
@@ -22,7 +22,7 @@ use Rattle.am_inhibit.proofs.Searching.{drop_next}
 -- ---- the sources of one list
 
 -- the sources among some alerts are moved to those among the ones that stay
-moved-all : (rule : InhibitRule) (values : List (List ℕ)) (now : ℕ) (places : List (Option ℕ)) (alerts : List Alert) (at place : ℕ) → drop at places ≡ places_from place now alerts
+moved-all : (rule : InhibitRule) (values : List (List ℕ)) (now : ℕ) (places : List (Option ℕ)) (alerts : List Alert) (at place : ℕ) → drop at places ≡ new_places place now alerts
     → moved_sources places (sources_from rule values at (label_sets alerts)) ≡ sources_from rule values place (label_sets (unresolved now alerts))
 moved-all rule values now places [] at place e = refl
 moved-all rule values now places (alert ∷ alerts) at place e =
@@ -30,17 +30,17 @@ moved-all rule values now places (alert ∷ alerts) at place e =
     let source = source_of rule at alert.labels in
     let more = sources_from rule values (at + 1) (label_sets alerts) in
     let left = unresolved now alerts in
-    let later = λ (b : Bool). cond b (None ∷ places_from place now alerts) (Some place ∷ places_from (place + 1) now alerts) in
+    let later = λ (b : Bool). cond b (None ∷ new_places place now alerts) (Some place ∷ new_places (place + 1) now alerts) in
     let kept = λ (b : Bool). sources_from rule values place (label_sets (cond (not b) (alert ∷ left) left)) in
     by_bool {P = moved_sources places (cond chosen (source ∷ more) more) ≡ kept (is_resolved_at now alert)} (is_resolved_at now alert)
     (λ t.
-    let next = drop_next places at None (places_from place now alerts) (e ∙ ap later t) in
+    let next = drop_next places at None (new_places place now alerts) (e ∙ ap later t) in
     let gone : moved places source ≡ None = ap (λ o. option_map (λ n. record source { at = n }) (unwrap_or o None)) next.0 in
     let rest = moved-all rule values now places alerts (at + 1) place next.1 in
     elim chosen as (λ b. moved_sources places (cond b (source ∷ more) more) ≡ moved_sources places more) [ true ↦ ap (λ o. cons_option o (moved_sources places more)) gone | false ↦ refl ]
     ∙ (rest ∙ ap kept (sym t)))
     (λ f.
-    let next = drop_next places at (Some place) (places_from (place + 1) now alerts) (e ∙ ap later f) in
+    let next = drop_next places at (Some place) (new_places (place + 1) now alerts) (e ∙ ap later f) in
     let there = source_of rule place alert.labels in
     let stays : moved places source ≡ Some there = ap (λ o. option_map (λ n. record source { at = n }) (unwrap_or o None)) next.0 in
     let rest = moved-all rule values now places alerts (at + 1) (place + 1) next.1 in
@@ -49,7 +49,7 @@ moved-all rule values now places (alert ∷ alerts) at place e =
 
 -- ---- the entries of one index
 
-none_is : (sources : List Source) → has_none sources ≡ true → sources ≡ []
+none_is : (sources : List Source) → has_no_sources sources ≡ true → sources ≡ []
 none_is [] e = refl
 none_is (source ∷ sources) e = absurd (cc)
 
@@ -59,7 +59,7 @@ none-swept places wanted [] none = tt
 none-swept places wanted (entry ∷ entries) none =
     let here : List (List ℕ) × List Source = (entry.0, moved_sources places entry.1) in
     let rest = none-swept places wanted entries none.1 in
-    elim (has_none (moved_sources places entry.1)) as (λ b. AllByRecursion (λ other. same_values wanted other ≡ false) (keys_of (cond (not b) (here ∷ swept_entries places entries) (swept_entries places entries)))) [ true ↦ rest | false ↦ (none.0, rest) ]
+    elim (has_no_sources (moved_sources places entry.1)) as (λ b. AllByRecursion (λ other. same_values wanted other ≡ false) (keys_of (cond (not b) (here ∷ swept_entries places entries) (swept_entries places entries)))) [ true ↦ rest | false ↦ (none.0, rest) ]
 
 distinct-swept : (places : List (Option ℕ)) (entries : SourceEntries) → IsDistinct same_values (keys_of entries) → IsDistinct same_values (keys_of (swept_entries places entries))
 unfolding IsDistinct
@@ -67,67 +67,67 @@ distinct-swept places [] distinct = tt
 distinct-swept places (entry ∷ entries) distinct =
     let here : List (List ℕ) × List Source = (entry.0, moved_sources places entry.1) in
     let rest = distinct-swept places entries distinct.1 in
-    elim (has_none (moved_sources places entry.1)) as (λ b. IsDistinct same_values (keys_of (cond (not b) (here ∷ swept_entries places entries) (swept_entries places entries)))) [ true ↦ rest | false ↦ (none-swept places entry.0 entries distinct.0, rest) ]
+    elim (has_no_sources (moved_sources places entry.1)) as (λ b. IsDistinct same_values (keys_of (cond (not b) (here ∷ swept_entries places entries) (swept_entries places entries)))) [ true ↦ rest | false ↦ (none-swept places entry.0 entries distinct.0, rest) ]
 
 -- what isn't listed isn't listed after a sweep
-unlisted-swept : (places : List (Option ℕ)) (wanted : List (List ℕ)) (entries : SourceEntries) → AllByRecursion (λ other. same_values wanted other ≡ false) (keys_of entries) → listed wanted (swept_entries places entries) ≡ []
+unlisted-swept : (places : List (Option ℕ)) (wanted : List (List ℕ)) (entries : SourceEntries) → AllByRecursion (λ other. same_values wanted other ≡ false) (keys_of entries) → sources_listed wanted (swept_entries places entries) ≡ []
 unlisted-swept places wanted [] none = refl
 unlisted-swept places wanted (entry ∷ entries) none =
     let here = moved_sources places entry.1 in
     let after = swept_entries places entries in
     let rest = unlisted-swept places wanted entries none.1 in
-    elim (has_none here) as (λ b. listed wanted (cond (not b) ((entry.0, here) ∷ after) after) ≡ []) [ true ↦ rest | false ↦ ap (λ b. unwrap_or (cond b (Some here) (lookup (same_values wanted) after)) []) none.0 ∙ rest ]
+    elim (has_no_sources here) as (λ b. sources_listed wanted (cond (not b) ((entry.0, here) ∷ after) after) ≡ []) [ true ↦ rest | false ↦ ap (λ b. unwrap_or (cond b (Some here) (lookup (same_values wanted) after)) []) none.0 ∙ rest ]
 
-listed-swept : (places : List (Option ℕ)) (wanted : List (List ℕ)) (entries : SourceEntries) → IsDistinct same_values (keys_of entries) → listed wanted (swept_entries places entries) ≡ moved_sources places (listed wanted entries)
+sources_listed-swept : (places : List (Option ℕ)) (wanted : List (List ℕ)) (entries : SourceEntries) → IsDistinct same_values (keys_of entries) → sources_listed wanted (swept_entries places entries) ≡ moved_sources places (sources_listed wanted entries)
 unfolding IsDistinct
-listed-swept places wanted [] distinct = refl
-listed-swept places wanted (entry ∷ entries) distinct =
+sources_listed-swept places wanted [] distinct = refl
+sources_listed-swept places wanted (entry ∷ entries) distinct =
     let here = moved_sources places entry.1 in
     let after = swept_entries places entries in
     let old = λ (b : Bool). moved_sources places (unwrap_or (cond b (Some entry.1) (lookup (same_values wanted) entries)) []) in
     let new = λ (b : Bool). unwrap_or (cond b (Some here) (lookup (same_values wanted) after)) [] in
     let kept = λ (b : Bool). cond (not b) ((entry.0, here) ∷ after) after in
-    by_bool {P = listed wanted (kept (has_none here)) ≡ old (same_values wanted entry.0)} (same_values wanted entry.0)
+    by_bool {P = sources_listed wanted (kept (has_no_sources here)) ≡ old (same_values wanted entry.0)} (same_values wanted entry.0)
     (λ t.
-    by_bool {P = listed wanted (kept (has_none here)) ≡ old (same_values wanted entry.0)} (has_none here)
+    by_bool {P = sources_listed wanted (kept (has_no_sources here)) ≡ old (same_values wanted entry.0)} (has_no_sources here)
     (λ none.
-    ap (λ b. listed wanted (kept b)) none
-    ∙ (ap (λ w. listed w after) (same_are wanted entry.0 t)
+    ap (λ b. sources_listed wanted (kept b)) none
+    ∙ (ap (λ w. sources_listed w after) (same_are wanted entry.0 t)
     ∙ (unlisted-swept places entry.0 entries distinct.0
     ∙ (sym (none_is here none) ∙ ap old (sym t)))))
-    (λ some. ap (λ b. listed wanted (kept b)) some ∙ (ap new t ∙ ap old (sym t))))
+    (λ some. ap (λ b. sources_listed wanted (kept b)) some ∙ (ap new t ∙ ap old (sym t))))
     (λ f.
-    elim (has_none here) as (λ b. listed wanted (kept b) ≡ listed wanted after) [ true ↦ refl | false ↦ ap new f ]
-    ∙ (listed-swept places wanted entries distinct.1 ∙ ap old (sym f)))
+    elim (has_no_sources here) as (λ b. sources_listed wanted (kept b) ≡ sources_listed wanted after) [ true ↦ refl | false ↦ ap new f ]
+    ∙ (sources_listed-swept places wanted entries distinct.1 ∙ ap old (sym f)))
 
 -- ---- the indexes of all rules
 
-is_index-swept : (now : ℕ) (alerts : List Alert) (index : IndexView) → IsIndexOf (label_sets alerts) index → IsIndexOf (label_sets (unresolved now alerts)) (index_swept (places_from 0 now alerts) index)
+is_index-swept : (now : ℕ) (alerts : List Alert) (index : IndexView) → IsSourceIndexOf (label_sets alerts) index → IsSourceIndexOf (label_sets (unresolved now alerts)) (index_swept (new_places 0 now alerts) index)
 is_index-swept now alerts index is =
-    let places = places_from 0 now alerts in (
+    let places = new_places 0 now alerts in (
       distinct-swept places index.entries is.0,
       λ values.
-          listed-swept places values index.entries is.0
+          sources_listed-swept places values index.entries is.0
           ∙ (ap (moved_sources places) (is.1 values) ∙ moved-all index.rule values now places alerts 0 0 refl),
     )
 
-pub are_indexes-swept : (rules : List InhibitRule) (now : ℕ) (alerts : List Alert) (indexes : List IndexView) → AreIndexesOf rules (label_sets alerts) indexes
-    → AreIndexesOf rules (label_sets (unresolved now alerts)) (map (index_swept (places_from 0 now alerts)) indexes)
+pub are_indexes-swept : (rules : List InhibitRule) (now : ℕ) (alerts : List Alert) (indexes : List IndexView) → AreSourceIndexesOf rules (label_sets alerts) indexes
+    → AreSourceIndexesOf rules (label_sets (unresolved now alerts)) (map (index_swept (new_places 0 now alerts)) indexes)
 are_indexes-swept rules now alerts indexes are =
-    are_mapped rules (index_swept (places_from 0 now alerts)) (label_sets alerts) (label_sets (unresolved now alerts)) indexes (λ index. refl) (is_index-swept now alerts) are
+    are_mapped rules (index_swept (new_places 0 now alerts)) (label_sets alerts) (label_sets (unresolved now alerts)) indexes (λ index. refl) (is_index-swept now alerts) are
 
 -- ---- one alert more
 
-pub places_from-push : (place now : ℕ) (alerts : List Alert) (alert : Alert)
-    → places_from place now (alerts ++ alert ∷ []) ≡ places_from place now alerts ++ cond (is_resolved_at now alert) None (Some (place + length (unresolved now alerts))) ∷ []
-places_from-push place now [] alert =
+pub new_places-push : (place now : ℕ) (alerts : List Alert) (alert : Alert)
+    → new_places place now (alerts ++ alert ∷ []) ≡ new_places place now alerts ++ cond (is_resolved_at now alert) None (Some (place + length (unresolved now alerts))) ∷ []
+new_places-push place now [] alert =
     let here : place ≡ place + 0 = omega arith in
     elim (is_resolved_at now alert) as (λ b. cond b (None ∷ []) (Some place ∷ []) ≡ cond b None (Some (place + 0)) ∷ []) [ true ↦ refl | false ↦ ap (λ n. Some n ∷ []) here ]
-places_from-push place now (first ∷ alerts) alert =
+new_places-push place now (first ∷ alerts) alert =
     let last = λ (n : ℕ). cond (is_resolved_at now alert) None (Some n) ∷ [] in
     let count = length (unresolved now alerts) in
     let along : place + 1 + count ≡ place + length (first ∷ unresolved now alerts) = omega arith in
-    elim (is_resolved_at now first) as (λ b. cond b (None ∷ places_from place now (alerts ++ alert ∷ [])) (Some place ∷ places_from (place + 1) now (alerts ++ alert ∷ [])) ≡ cond b (None ∷ places_from place now alerts) (Some place ∷ places_from (place + 1) now alerts) ++ last (place + length (cond (not b) (first ∷ unresolved now alerts) (unresolved now alerts)))) [ true ↦ ap (λ l. None ∷ l) (places_from-push place now alerts alert) | false ↦ ap (λ l. Some place ∷ l) (places_from-push (place + 1) now alerts alert ∙ ap (λ n. places_from (place + 1) now alerts ++ last n) along) ]
+    elim (is_resolved_at now first) as (λ b. cond b (None ∷ new_places place now (alerts ++ alert ∷ [])) (Some place ∷ new_places (place + 1) now (alerts ++ alert ∷ [])) ≡ cond b (None ∷ new_places place now alerts) (Some place ∷ new_places (place + 1) now alerts) ++ last (place + length (cond (not b) (first ∷ unresolved now alerts) (unresolved now alerts)))) [ true ↦ ap (λ l. None ∷ l) (new_places-push place now alerts alert) | false ↦ ap (λ l. Some place ∷ l) (new_places-push (place + 1) now alerts alert ∙ ap (λ n. new_places (place + 1) now alerts ++ last n) along) ]
 
 -- ---- what closures leave
 
@@ -148,7 +148,7 @@ moved-retained T f places says (source ∷ sources) kept h =
 
 -- where each call moves the sources of an entry, and says whether some are left, the entries are swept
 pub entries-retained : {F : Type 0} (T : F → List (List ℕ) → List Source → Bool → List Source → F → Type 0) (f : F) (places : List (Option ℕ))
-    → ((values : List (List ℕ)) (sources : List Source) (b : Bool) (new : List Source) (g : F) → T f values sources b new g → (b ≡ not (has_none new)) × ((new ≡ moved_sources places sources) × (g ≡ f)))
+    → ((values : List (List ℕ)) (sources : List Source) (b : Bool) (new : List Source) (g : F) → T f values sources b new g → (b ≡ not (has_no_sources new)) × ((new ≡ moved_sources places sources) × (g ≡ f)))
     → (entries kept : SourceEntries) → RetainsPairs T f entries kept → kept ≡ swept_entries places entries
 entries-retained T f places says [] kept h = h
 entries-retained T f places says (entry ∷ entries) kept h =
@@ -156,5 +156,5 @@ entries-retained T f places says (entry ∷ entries) kept h =
     let rest = entries-retained T f places says entries h.3 (subst (λ g. RetainsPairs T g entries h.3) said.1.1 h.5) in
     h.6
     ∙ (ap (λ b. cond b ((entry.0, h.1) ∷ h.3) h.3) said.0
-    ∙ (ap (λ l. cond (not (has_none l)) ((entry.0, l) ∷ h.3) h.3) said.1.0
-    ∙ ap (λ l. cond (not (has_none (moved_sources places entry.1))) ((entry.0, moved_sources places entry.1) ∷ l) l) rest))
+    ∙ (ap (λ l. cond (not (has_no_sources l)) ((entry.0, l) ∷ h.3) h.3) said.1.0
+    ∙ ap (λ l. cond (not (has_no_sources (moved_sources places entry.1))) ((entry.0, moved_sources places entry.1) ∷ l) l) rest))

@@ -13,13 +13,13 @@ use Rattle.am_inhibit.specs.declared.source.Source.{Source}
 use Rattle.am_inhibit.specs.LastAlerts.{label_sets}
 use Rattle.am_inhibit.specs.Muting.{agree_on, is_on_both_sides, is_candidate, inhibits, count_to}
 use Rattle.am_inhibit.specs.inside.Sources.{same_values}
-use Rattle.am_inhibit.specs.inside.Indexes.{IndexView, values_of as values_for, source_of, listed, sources_from, IsIndexOf, source_inhibits}
+use Rattle.am_inhibit.specs.inside.Indexes.{IndexView, values_of as values_for, source_of, sources_listed, sources_from, IsSourceIndexOf, source_inhibits}
 use Rattle.am_inhibit.proofs.Cases.{by_bool}
 use Rattle.am_inhibit.proofs.Counting.{count_to-yes, count_to-no, find-yes, find-no}
 
 -- what is listed for a target's values are the sources among the label sets that agree with it
-pub listed_are : (index : IndexView) (labels : Labels) (sets : List Labels) (names values : List (List ℕ)) → IsIndexOf sets index → names ≡ index.rule.equal → values ≡ map (value_of labels) names
-    → listed values index.entries ≡ sources_from index.rule (values_for index.rule.equal labels) 0 sets
+pub listed_are : (index : IndexView) (labels : Labels) (sets : List Labels) (names values : List (List ℕ)) → IsSourceIndexOf sets index → names ≡ index.rule.equal → values ≡ map (value_of labels) names
+    → sources_listed values index.entries ≡ sources_from index.rule (values_for index.rule.equal labels) 0 sets
 listed_are index labels sets names values is named have =
     is.1 values ∙ ap (λ v. sources_from index.rule v 0 sets) (have ∙ ap (map (value_of labels)) named)
 

@@ -8,10 +8,10 @@ use Rattle.std.proofs.lemmas.List.Folds.{find-append}
 use Rattle.am_labels.specs.LabelSets.{Labels, same_labels}
 use Rattle.am_labels.specs.LabelLaws.{labels_decide, labels_equiv}
 use Rattle.am_alert.specs.declared.alert.Alert.{Alert}
-use Rattle.am_alert.specs.Merging.{is_resolved_at}
+use Rattle.am_alert.specs.Merging.{is_resolved_at, unless_resolved, unresolved}
 use Rattle.am_config.specs.declared.inhibit_rule.InhibitRule.{InhibitRule}
 use Rattle.am_inhibit.specs.LastAlerts.{last_alerts}
-use Rattle.am_inhibit.specs.KeptAlerts.{InhibitorEvent, Take, Sweep, unresolved, kept_alerts, unless_resolved, after_event, held_after, takes_removed}
+use Rattle.am_inhibit.specs.KeptAlerts.{InhibitorEvent, Take, Sweep, kept_alerts, after_event, held_after, takes_removed}
 use Rattle.am_inhibit.specs.Muting.{is_on_both_sides, is_candidate, inhibits, Candidate, rule_candidates, candidates, candidate_inhibits, candidates_seen, count_to, muted}
 use Rattle.am_inhibit.proofs.Cases.{by_bool}
 use Rattle.am_inhibit.proofs.LastAlerts.{has, set_last, AreApart, same_turned, last_alerts-apart}

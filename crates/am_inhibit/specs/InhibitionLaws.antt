@@ -3,11 +3,11 @@ use Rattle.std.specs.Prelude.{◌≡◌, ◌≢◌, ◌≤◌, ℕ, not, false, 
 use Rattle.std.specs.Option.{option_map}
 use Rattle.std.specs.List.{find, list_any}
 use Rattle.am_alert.specs.declared.alert.Alert.{Alert}
-use Rattle.am_alert.specs.Merging.{is_resolved_at}
+use Rattle.am_alert.specs.Merging.{is_resolved_at, unresolved}
 use Rattle.am_labels.specs.LabelSets.{Labels, same_labels}
 use Rattle.am_config.specs.declared.inhibit_rule.InhibitRule.{InhibitRule}
 use Rattle.am_inhibit.specs.LastAlerts.{last_alerts}
-use Rattle.am_inhibit.specs.KeptAlerts.{InhibitorEvent, Take, Sweep, kept_alerts, held_after, unresolved}
+use Rattle.am_inhibit.specs.KeptAlerts.{InhibitorEvent, Take, Sweep, kept_alerts, held_after}
 use Rattle.am_inhibit.specs.KeptAlerts.{takes_removed}
 use Rattle.am_inhibit.specs.Muting.{candidates, candidate_inhibits, candidates_seen, count_to, muted}
 

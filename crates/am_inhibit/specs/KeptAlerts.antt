@@ -6,17 +6,13 @@ use Rattle.std.specs.Prelude.{ℕ, Bool, false, not, if◌then◌else◌, List, 
 use Rattle.std.specs.Prelude.{None, Some}
 use Rattle.std.specs.Option.{option_and_then, option_map_or}
 use Rattle.am_alert.specs.declared.alert.Alert.{Alert}
-use Rattle.am_alert.specs.Merging.{is_resolved_at}
+use Rattle.am_alert.specs.Merging.{is_resolved_at, unless_resolved}
 use Rattle.am_labels.specs.LabelSets.{Labels, same_labels}
 
 -- what an inhibitor is given: an alert, or a sweep of what is resolved at a moment
 pub data InhibitorEvent : Type 0 where
   Take : (alert : Alert) → InhibitorEvent
   Sweep : (now : ℕ) → InhibitorEvent
-
--- what isn't resolved, in its order
-abbrev pub unresolved : ℕ → List Alert → List Alert
-unresolved now alerts = filter (λ alert. not (is_resolved_at now alert)) alerts
 
 -- an alert's label set after further events: its last alert, or nothing once a sweep has removed it
 abbrev pub lasting : List InhibitorEvent → Alert → Option Alert
@@ -38,10 +34,6 @@ abbrev pub kept_alerts : List InhibitorEvent → List Alert
 kept_alerts [] = []
 kept_alerts (Take alert ∷ events) = before_others (lasting events alert) (kept_alerts events)
 kept_alerts (Sweep now ∷ events) = kept_alerts events
-
--- an alert, unless it is resolved
-abbrev pub unless_resolved : ℕ → Alert → Option Alert
-unless_resolved now alert = if is_resolved_at now alert then None else Some alert
 
 -- what a label set holds after an event: the alert that is taken, or nothing if what it held is resolved
 abbrev pub after_event : Labels → Option Alert → InhibitorEvent → Option Alert

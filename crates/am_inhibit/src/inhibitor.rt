@@ -7,11 +7,11 @@
 ghost use Rattle.std.specs.Prelude.{◌≡◌, ◌<◌, ◌≤◌, [], ◌∷◌, ◌++◌, None, Some, All, map, min, length, position};
 ghost use Rattle.std.specs.Prelude.{IfOk, OnOk, OnErr, vec_capacity};
 ghost use Rattle.am_inhibit.specs.Muting.{candidate_inhibits, count_to};
-ghost use Rattle.am_inhibit.specs.KeptAlerts.{unresolved};
+ghost use Rattle.am_alert.specs.Merging.{unresolved};
 ghost use Rattle.am_inhibit.specs.LastAlerts.{label_sets};
-ghost use Rattle.am_inhibit.specs.inside.Indexes.{IsIndexOf, index_with, indexes_before};
+ghost use Rattle.am_inhibit.specs.inside.Indexes.{IsSourceIndexOf, index_with, indexes_before};
 ghost use Rattle.am_inhibit.specs.inside.Indexes.{empty_indexes, rules_indexed};
-ghost use Rattle.am_inhibit.specs.inside.Places.{index_swept, places_from};
+ghost use Rattle.am_inhibit.specs.inside.Places.{index_swept, new_places};
 ghost use Rattle.am_inhibit.specs.inside.Searches.{candidates_from, first_muted, StandsFor};
 
 use crate::last_alerts::LastAlerts;
@@ -218,7 +218,7 @@ fn search_all(
     labels: &LabelSet,
     now: Moment,
 ) -> Result<MutingSearch, AllocError>
-    requires { All (IsIndexOf (label_sets alerts.now)) indexes.old }
+    requires { All (IsSourceIndexOf (label_sets alerts.now)) indexes.old }
     ensures muting { IfOk result (λ search. StandsFor alerts.now search.muting
         (first_muted labels.now now (candidates_from 0 labels.now alerts.now (rules_indexed indexes.old)))) }
     ensures looked { IfOk result (λ search. search.looked ≡ min (count_to
@@ -270,7 +270,7 @@ fn add_to_all(
 // The new index of each alert in a sweep: that of an unresolved one after those before it.
 fn note_places(places: &mut Vec<Option<usize>>, alerts: &[Alert], now: Moment)
     requires { length alerts.now ≤ vec_capacity places.old }
-    ensures places { places.new.items ≡ places_from 0 now alerts.now }
+    ensures places { places.new.items ≡ new_places 0 now alerts.now }
     ensures room { vec_capacity places.new ≡ vec_capacity places.old }
 {
     places.clear();

@@ -8,7 +8,7 @@ ghost use Rattle.std.specs.List.{count_by};
 ghost use Rattle.am_alert.specs.Merging.{is_resolved_at};
 ghost use Rattle.am_labels.specs.LabelSets.{same_labels};
 ghost use Rattle.am_inhibit.specs.LastAlerts.{label_sets, last_alerts};
-ghost use Rattle.am_inhibit.specs.KeptAlerts.{unresolved};
+ghost use Rattle.am_alert.specs.Merging.{unresolved};
 
 use am_alert::{Alert, Moment};
 use am_labels::LabelSet;

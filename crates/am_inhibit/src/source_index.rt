@@ -9,9 +9,9 @@ ghost use Rattle.std.specs.List.{find, slice_get};
 ghost use Rattle.std.specs.Option.{option_and_then, option_map};
 ghost use Rattle.am_inhibit.specs.Muting.{count_to, inhibits, is_candidate};
 ghost use Rattle.am_inhibit.specs.LastAlerts.{label_sets};
-ghost use Rattle.am_inhibit.specs.inside.Indexes.{IsIndexOf, empty_index, index_with, index_before};
+ghost use Rattle.am_inhibit.specs.inside.Indexes.{IsSourceIndexOf, empty_index, index_with, index_before};
 ghost use Rattle.am_inhibit.specs.inside.Indexes.{entries_before, source_inhibits, with_source};
-ghost use Rattle.am_inhibit.specs.inside.Places.{has_none, index_swept, moved_sources};
+ghost use Rattle.am_inhibit.specs.inside.Places.{has_no_sources, index_swept, moved_sources};
 
 use crate::equal_values::EqualValues;
 use crate::source::{Source, Sources};
@@ -47,7 +47,7 @@ pub(crate) enum SourceChange {
 
 /// What a search for a rule's muting source found.
 #[derive(Clone, Copy)]
-pub(crate) struct Found {
+pub(crate) struct MutedBy {
     /// The index of the alert of that source.
     pub(crate) at: Option<usize>,
     /// How many sources the search examined.
@@ -107,7 +107,7 @@ impl<'r> SourceIndex<'r> {
         self.sources.retain(
             |_values: &EqualValues, sources: &mut Sources| -> bool
                 ensures { (sources.new ≡ moved_sources places.entry.now sources.old)
-                    × (result ≡ not (has_none sources.new)) }
+                    × (result ≡ not (has_no_sources sources.new)) }
             {
                 sources.sweep(places);
                 !sources.as_slice().is_empty()
@@ -121,8 +121,8 @@ impl<'r> SourceIndex<'r> {
         labels: &LabelSet,
         alerts: &[Alert],
         now: Moment,
-    ) -> Result<Found, AllocError>
-        requires { IsIndexOf (label_sets alerts.now) self.old }
+    ) -> Result<MutedBy, AllocError>
+        requires { IsSourceIndexOf (label_sets alerts.now) self.old }
         ensures at { IfOk result (λ found. option_and_then (slice_get alerts.now) found.at
             ≡ find (inhibits self.old.rule labels.now now)
             (filter (is_candidate self.old.rule labels.now) alerts.now)) }
@@ -133,7 +133,7 @@ impl<'r> SourceIndex<'r> {
             (filter (is_candidate self.old.rule labels.now) alerts.now)) }
         ensures same { self.new ≡ self.old }
     {
-        let none = Found {
+        let none = MutedBy {
             at: None,
             looked: 0,
         };
@@ -192,7 +192,7 @@ fn leave_out(sources: &mut SourceMap, change: SourceChange)
 
 // The first source that mutes a target, which may match the source side too. None of the leading sources that
 // match both sides mutes such a target, so they are counted without a walk over them.
-fn first_muting(sources: &Sources, is_source: bool, alerts: &[Alert], now: Moment) -> Found
+fn first_muting(sources: &Sources, is_source: bool, alerts: &[Alert], now: Moment) -> MutedBy
     requires { All (λ source. source.at < length alerts.now) sources.now }
     ensures at { result.at ≡ option_map (λ source. source.at)
         (find (source_inhibits is_source now alerts.now) sources.now) }
@@ -205,14 +205,14 @@ fn first_muting(sources: &Sources, is_source: bool, alerts: &[Alert], now: Momen
     }
     let leading = sources.leading();
     let found = first_walked(&sources.as_slice()[leading..], is_source, alerts, now);
-    Found {
+    MutedBy {
         at: found.at,
         looked: leading + found.looked,
     }
 }
 
 // The same, found by a walk over the sources.
-fn first_walked(sources: &[Source], is_source: bool, alerts: &[Alert], now: Moment) -> Found
+fn first_walked(sources: &[Source], is_source: bool, alerts: &[Alert], now: Moment) -> MutedBy
     requires { All (λ source. source.at < length alerts.now) sources.now }
     ensures at { result.at ≡ option_map (λ source. source.at)
         (find (source_inhibits is_source now alerts.now) sources.now) }
@@ -222,13 +222,13 @@ fn first_walked(sources: &[Source], is_source: bool, alerts: &[Alert], now: Mome
 {
     for (before, source) in sources.iter().enumerate() {
         if is_muting(*source, is_source, &alerts[source.at], now) {
-            return Found {
+            return MutedBy {
                 at: Some(source.at),
                 looked: before + 1,
             };
         }
     }
-    Found {
+    MutedBy {
         at: None,
         looked: sources.len(),
     }

@@ -44,7 +44,7 @@ use std::time::Duration;
 
 // How often a call tries to take the lock before its thread sleeps, as measured with four posters: fewer
 // tries posted less, and more no more.
-const TRIES: u32 = 500;
+const YIELDS: u32 = 500;
 
 /// The alert provider for threads. It is ended by `settle`.
 pub struct Provider<N: Recorded> {
@@ -375,7 +375,7 @@ impl<N: Recorded> Provider<N> {
 
     // The Book, once no other call has it.
     fn lock<R: Wait>(&self, rt: &R) -> MutexGuard<'_, RecordedBook<N>> {
-        for _try in 0..TRIES {
+        for _try in 0..YIELDS {
             if let Some(book) = self.book.try_lock() {
                 return book;
             }

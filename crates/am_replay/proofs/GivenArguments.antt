@@ -11,15 +11,15 @@ use Rattle.clap.specs.declared.error.Error.{Error}
 use Rattle.clap.specs.declared.parser.matches.ArgMatches.{ArgMatches}
 use Rattle.clap.proofs.OnLiterals.{clap_on_literals}
 use Rattle.clap.proofs.WalkLemmas.{first_value-rows}
-use Rattle.am_replay.specs.Options.{AreModes, ArePolicies, AreOptions, IsCommandOf, Choices, form_of, options_of}
-use Rattle.am_replay.specs.Arguments.{AreFound, AreRead, IsFaultOf}
+use Rattle.am_replay.specs.Options.{AreModes, ArePolicies, AreOptions, IsCommandLineOf, Choices, form_of, options_of}
+use Rattle.am_replay.specs.Arguments.{AreFound, AreArgumentsOf, IsFaultOf}
 use Rattle.am_replay.specs.ArgumentsFaults.{IsTold}
 use Rattle.am_replay.specs.declared.arguments.Arguments.{Arguments}
 use Rattle.am_replay.specs.declared.arguments.ArgumentsFault.{ArgumentsFault}
 use Rattle.am_replay.specs.declared.arguments.ArgumentsFault.TheVariants.{Refused, NoMemory}
 
 module _ (modes policies : Choices) (are_modes : AreModes modes) (are_policies : ArePolicies policies)
-    (command : Command) (is_command : IsCommandOf modes policies command) where
+    (command : Command) (is_command : IsCommandLineOf modes policies command) where
   simple : is_simple (options_of modes policies) ≡ true
   unfolding clap_on_literals
   simple = refl
@@ -46,7 +46,7 @@ module _ (modes policies : Choices) (are_modes : AreModes modes) (are_policies :
   }
 
   pub given_read : (given : List Text) (matches : ArgMatches) (arguments : Arguments) → rows_of (found_of matches) ≡ matches_of (app_of command) given
-      → fault_of (app_of command) given ≡ [] → AreFound (found_of matches) arguments → AreRead given arguments
+      → fault_of (app_of command) given ≡ [] → AreFound (found_of matches) arguments → AreArgumentsOf given arguments
   given_read given matches arguments rows accepted found =
       let value : (name : Text) → first_of name (matches_of (app_of command) given) ≡ first_value (found_of matches) name =
       λ name. ap (first_of name) (sym rows) ∙ sym (first_value-rows (found_of matches) name) in

@@ -20,7 +20,7 @@ use Rattle.am_serve.specs.declared.reading.InputLine.{InputLine}
 use Rattle.am_serve.specs.declared.reading.InputLine.TheVariants as input_line
 use Rattle.am_replay.specs.FirstLines.{IsFirstLine}
 use Rattle.am_replay.specs.declared.first_line.FirstLine.TheVariants as first_line
-use Rattle.am_replay.specs.Live.{IsEnd, IsFirstAs, IsLive, IsLived, IsRefusedAs, IsTold, LivesUnder, line_or_empty, lived, last_line_cut_short, no_memory, not_written, refused, refusal_cut_short}
+use Rattle.am_replay.specs.Live.{IsEnd, IsFirstAs, IsLive, IsLived, IsRefusedAs, IsWritten, LivesUnder, line_or_empty, lived, last_line_cut_short, no_memory, not_written, refused, refusal_cut_short}
 use Rattle.am_replay.specs.Printing.{counts_line, counts_members, counts_text}
 use Rattle.am_replay.specs.declared.arguments.Arguments.{Arguments}
 use Rattle.am_replay.specs.declared.first_line.FirstLine.{FirstLine}
@@ -54,7 +54,7 @@ appends_kept_none (Some xs) None kept = absurd kept
 appends_kept_none (Some xs) (Some ys) kept = kept ∙ sym (append-nil xs)
 
 pub refusal_told : {E : Type 0} (arguments : Arguments) (input old new line rest : Option (List ℕ)) (first : FirstLine) (wanted : List ℕ) (text : Result (String Global) E) (status : Status)
-    → IsNext input line rest → IsFirstLine (line_or_empty line) first → IsRefusedAs arguments.form first wanted → IfOk text (λ t. string_bytes t ≡ wanted) → IsTold text old status new → IsLive arguments input old status new
+    → IsNext input line rest → IsFirstLine (line_or_empty line) first → IsRefusedAs arguments.form first wanted → IfOk text (λ t. string_bytes t ≡ wanted) → IsWritten text old status new → IsLive arguments input old status new
 refusal_told arguments input old new line rest first wanted (Ok text) Refused next is as_text same told = refused line rest first wanted next is as_text (subst (Appends old new) same told)
 refusal_told arguments input old new line rest first wanted (Ok text) WriteFailed next is as_text same told = refusal_cut_short line rest first wanted next is as_text (subst (AppendsBeginning old new) same told)
 refusal_told arguments input old new line rest first wanted (Ok text) Done next is as_text same told = absurd told

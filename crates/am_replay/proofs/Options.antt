@@ -24,7 +24,7 @@ use Rattle.clap.proofs.CallerLemmas.{added_plain, default_present, entry_by_id, 
 use Rattle.clap.proofs.WalkLemmas.{list_any-map}
 use Rattle.am_provider.specs.declared.answers.Policy.TheVariants.{Refuse, Cut}
 use Rattle.am_cast.specs.declared.limits.TheConstants.{MAX_PLACES}
-use Rattle.am_replay.specs.Options.{AreModes, ArePolicies, HasOptions, IsCommandOf, IsFlag, IsOption, Choices, mode_name, options_of, policy_name}
+use Rattle.am_replay.specs.Options.{AreModes, ArePolicies, HasOptions, IsCommandLineOf, IsFlag, IsOption, Choices, mode_name, options_of, policy_name}
 use Rattle.am_replay.specs.declared.arguments.Mode.TheVariants.{Ordered, Free, Live, Follow}
 
 -- a list with an element that passes has a first one
@@ -287,5 +287,5 @@ module _ (start one two three four : Command) (mode places full json : Arg) (mod
         ];
       }
 
-  pub is_command : AreModes modes → ArePolicies policies → IsCommandOf modes policies four
+  pub is_command : AreModes modes → ArePolicies policies → IsCommandLineOf modes policies four
   is_command mode_names policy_names = record { options = has_options; finds = finds mode_names policy_names }

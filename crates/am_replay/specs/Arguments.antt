@@ -20,7 +20,7 @@ abbrev pub number_of : Text → ℕ
 number_of text = digits_value 10 (without_leading_plus text)
 
 -- clap finds no fault with what is given, and the options have these values
-pub record AreRead (given : List Text) (arguments : Arguments) : Type 0 where
+pub record AreArgumentsOf (given : List Text) (arguments : Arguments) : Type 0 where
   pub options : App
   pub are_options : AreOptions options
   pub accepted : fault_of options given ≡ []

@@ -96,12 +96,12 @@ IsEnd form counts old OutOfMemory new = Keeps old new
 IsEnd form counts old status new = ⊥
 
 -- what is told of a text that may be out of memory
-abbrev pub IsTold : {E : Type 0} → Result (String Global) E → Option (List ℕ) → Status → Option (List ℕ)
+abbrev pub IsWritten : {E : Type 0} → Result (String Global) E → Option (List ℕ) → Status → Option (List ℕ)
     → Type 0
-IsTold (Ok text) old Refused new = Appends old new (string_bytes text)
-IsTold (Ok text) old WriteFailed new = AppendsBeginning old new (string_bytes text)
-IsTold (Err error) old OutOfMemory new = Keeps old new
-IsTold given old status new = ⊥
+IsWritten (Ok text) old Refused new = Appends old new (string_bytes text)
+IsWritten (Ok text) old WriteFailed new = AppendsBeginning old new (string_bytes text)
+IsWritten (Err error) old OutOfMemory new = Keeps old new
+IsWritten given old status new = ⊥
 
 -- what a live run comes to under its arguments: its first line is refused, and nothing is run; or the lines
 -- after it are served

@@ -120,6 +120,6 @@ pub record HasOptions (found : Found) : Type 0 where
   pub full : (policy : Policy) × IsFoundAs found (codes "full") (policy_name policy)
 
 -- a command with the program's options
-pub record IsCommandOf (modes policies : Choices) (command : Command) : Type 0 where
+pub record IsCommandLineOf (modes policies : Choices) (command : Command) : Type 0 where
   pub options : app_of command ≡ options_of modes policies
   pub finds : (matches : ArgMatches) → IsParsedFrom command matches → HasOptions (found_of matches)

@@ -2,7 +2,7 @@
 use Rattle.std.specs.Prelude.{ℕ, List, Option}
 use Rattle.std.specs.Io.KnownBytes.{Appends, Keeps}
 use Rattle.am_script.specs.Outputs.{AppendsBeginning}
-use Rattle.am_replay.specs.Arguments.{AreRead, AreRefused}
+use Rattle.am_replay.specs.Arguments.{AreArgumentsOf, AreRefused}
 use Rattle.am_replay.specs.Live.{IsLive}
 use Rattle.am_replay.specs.Replays.{IsReplay}
 use Rattle.am_replay.specs.declared.arguments.Arguments.{Arguments}
@@ -38,7 +38,7 @@ IsRunAs arguments input old status new = RunsIn arguments.mode arguments input o
 -- or that ask for help. It may be out of memory before.
 pub data IsProgram (given : List (List ℕ)) (input old : Option (List ℕ))
     : Status → Option (List ℕ) → Type 0 where
-  obeyed : {status : Status} {new : Option (List ℕ)} (arguments : Arguments) → AreRead given arguments
+  obeyed : {status : Status} {new : Option (List ℕ)} (arguments : Arguments) → AreArgumentsOf given arguments
       → IsRunAs arguments input old status new → IsProgram given input old status new
   told : {status : Status} {new : Option (List ℕ)} (text : List ℕ) → AreRefused given
       → IsTelling text old status new → IsProgram given input old status new

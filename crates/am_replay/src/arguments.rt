@@ -3,7 +3,7 @@
 ghost use Rattle.std.specs.Prelude.{◌≤◌, ◌≡◌, IfOk, IfErr, map, string_bytes};
 ghost use Rattle.clap.specs.Matches.{found_of};
 ghost use Rattle.am_cast.specs.declared.limits.TheConstants.{MAX_PLACES};
-ghost use Rattle.am_replay.specs.Options.{AreModes, ArePolicies, HasOptions, IsCommandOf, IsFlag, IsOption};
+ghost use Rattle.am_replay.specs.Options.{AreModes, ArePolicies, HasOptions, IsCommandLineOf, IsFlag, IsOption};
 ghost use Rattle.am_replay.specs.ArgumentsFaults.{IsTold};
 
 use am_cast::MAX_PLACES;
@@ -64,11 +64,11 @@ static MODES: [&str; 4] = ["ordered", "free", "live", "follow"];
 static POLICIES: [&str; 2] = ["refuse", "cut"];
 
 impl Arguments {
-    ghost use Rattle.am_replay.specs.Arguments.{AreFound, AreRead, IsFaultOf};
+    ghost use Rattle.am_replay.specs.Arguments.{AreFound, AreArgumentsOf, IsFaultOf};
 
     /// Reads the arguments that a command line gives, without the program's name.
     pub fn read(alloc: Global, given: &[String]) -> Result<Arguments, ArgumentsFault>
-        ensures read { IfOk result (AreRead (map string_bytes given.now)) }
+        ensures read { IfOk result (AreArgumentsOf (map string_bytes given.now)) }
         ensures refused { IfErr result (IsFaultOf (map string_bytes given.now)) }
     {
         let command = command(alloc, MODES.as_slice(), POLICIES.as_slice())?;
@@ -163,7 +163,7 @@ fn command<'a>(
 ) -> Result<Command<'a>, AllocError>
     requires modes { AreModes modes }
     requires policies { ArePolicies policies }
-    ensures { IfOk result (IsCommandOf modes.entry policies.entry) }
+    ensures { IfOk result (IsCommandLineOf modes.entry policies.entry) }
 {
     let mode = option(alloc, "mode", "MODE", "ordered", modes.into(), MODE_HELP);
     let numbers = ValueParser::unsigned(1, MAX_PLACES);

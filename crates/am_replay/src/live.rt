@@ -5,7 +5,7 @@
 
 ghost use Rattle.std.specs.Prelude.{◌≡◌, ℕ, List, ◌++◌, ◌∷◌, [], Option, IfOk, OnErr, OnOk, string_bytes};
 ghost use Rattle.am_replay.specs.FirstLines.{IsFirstLine};
-ghost use Rattle.am_replay.specs.Live.{IsEnd, IsFailure, IsFirstAs, IsLive, IsTold, LivesUnder, is_following, line_or_empty};
+ghost use Rattle.am_replay.specs.Live.{IsEnd, IsFailure, IsFirstAs, IsLive, IsWritten, LivesUnder, is_following, line_or_empty};
 ghost use Rattle.am_runner.specs.Sessions.{LeavesAll, setting_of};
 ghost use Rattle.am_serve.specs.Serving.{IsServed, IsServedInPart};
 ghost use Rattle.am_serve.specs.Standing.{RunView, new_run};
@@ -99,7 +99,7 @@ fn status_of(failure: Failure) -> Status
 
 // Prints why the first line is no configuration.
 fn refuse<O: Write>(text: Result<String, AllocError>, out: &mut O) -> Status
-    ensures { IsTold text (O.contents out.old) result (O.contents out.new) }
+    ensures { IsWritten text (O.contents out.old) result (O.contents out.new) }
 {
     match text {
         Ok(text) => match write_text(out, text.as_bytes()) {

@@ -14,7 +14,7 @@ use Rattle.am_config.specs.RouteLists.{route_view, forest_of}
 use Rattle.am_routes.specs.declared.child_entry.ChildEntry.{ChildEntry}
 use Rattle.am_routes.specs.declared.name_index.NameIndex.{NameIndex}
 use Rattle.am_routes.specs.Looking.{is_equal, first_equality, may_match}
-use Rattle.am_routes.specs.inside.ChildIndexes.{ChildView, children_from, offsets_from, entry_of, entries_from, has_no_routes, filings, places_from, is_unfiled, is_filed, listed, has_name, is_found, is_kept, is_met, IsFirstFrom, earlier, without, places_left, IsIndexOf, AreLeftOf}
+use Rattle.am_routes.specs.inside.ChildIndexes.{ChildView, children_from, offsets_from, child_entry_of, entries_from, has_no_routes, filings, places_from, is_unfiled, is_filed, indexes_kept, has_name, is_found, is_kept, is_met, IsFirstFrom, earlier, without, places_left, IsIndexOf, AreLeftOf}
 use Rattle.am_routes.proofs.Cases.{by_bool}
 
 -- ---- places
@@ -345,21 +345,21 @@ seen offset r = record { offset = offset; first = route_view r; below = r.childr
 
 -- by what is kept of it
 pub child-at : (offset : ℕ) (rs : List Route) (at : ℕ) (r : Route) (own : ChildEntry) → at < length rs → r ≡ get_or rs at r → own ≡ get_or (entries_from offset (forest_of rs)) at own
-    → (slice_get (children_from offset (forest_of rs)) at ≡ Some (seen own.offset r)) × (own ≡ entry_of (seen own.offset r))
+    → (slice_get (children_from offset (forest_of rs)) at ≡ Some (seen own.offset r)) × (own ≡ child_entry_of (seen own.offset r))
 child-at offset [] at r own early is comes = absurd (omega arith)
 child-at offset (one ∷ rs) zero r own early is comes =
     let place : own.offset ≡ offset = ap (λ (e : ChildEntry). e.offset) comes in (
       ap (λ (r : Route). Some (seen offset r)) (sym is) ∙ ap (λ n. Some (seen n r)) (sym place),
-      comes ∙ (ap (λ (r : Route). entry_of (seen offset r)) (sym is) ∙ ap (λ n. entry_of (seen n r)) (sym place)),
+      comes ∙ (ap (λ (r : Route). child_entry_of (seen offset r)) (sym is) ∙ ap (λ n. child_entry_of (seen n r)) (sym place)),
     )
 child-at offset (one ∷ rs) (suc at) r own early is comes = child-at (offset + 1 + count_of one.children) rs at r own (omega arith) is comes
 
 -- by how far it comes after the route above it
 pub entry-at : (offset : ℕ) (rs : List Route) (at : ℕ) (r : Route) (own : ℕ) (d : ChildEntry) → at < length rs → r ≡ get_or rs at r → own ≡ get_or (offsets_from offset (forest_of rs)) at own
-    → get_or (entries_from offset (forest_of rs)) at d ≡ entry_of (seen own r)
+    → get_or (entries_from offset (forest_of rs)) at d ≡ child_entry_of (seen own r)
 entry-at offset [] at r own d early is comes = absurd (omega arith)
 entry-at offset (one ∷ rs) zero r own d early is comes =
-    ap (λ (r : Route). entry_of (seen offset r)) (sym is) ∙ ap (λ n. entry_of (seen n r)) (sym comes)
+    ap (λ (r : Route). child_entry_of (seen offset r)) (sym is) ∙ ap (λ n. child_entry_of (seen n r)) (sym comes)
 entry-at offset (one ∷ rs) (suc at) r own d early is comes = entry-at (offset + 1 + count_of one.children) rs at r own d (omega arith) is comes
 
 pub get_or-default : {X : Type 0} (xs : List X) (i : ℕ) (d e : X) → i < length xs → get_or xs i d ≡ get_or xs i e
@@ -474,8 +474,8 @@ pub kept-fails : (labels : Labels) (indexes : List NameIndex) (f : Forest) (k : 
 kept-fails labels indexes f k filing all is fails = first_fails labels indexes filing (met-may_match labels indexes f k filing all is ∙ fails)
 
 -- what the first index keeps for a label set's value
-pub kept-listed : (labels : Labels) (index : NameIndex) (all : List (Option MatcherView)) → IsIndexOf all index → listed (value_of labels index.name.now) index ≡ places_from (is_kept labels (index ∷ [])) 0 all
-kept-listed labels index all is =
+pub kept-indexes_kept : (labels : Labels) (index : NameIndex) (all : List (Option MatcherView)) → IsIndexOf all index → indexes_kept (value_of labels index.name.now) index ≡ places_from (is_kept labels (index ∷ [])) 0 all
+kept-indexes_kept labels index all is =
     is (value_of labels index.name.now)
     ∙ places-alike (is_filed index.name.now (value_of labels index.name.now)) (is_kept labels (index ∷ [])) 0 all (λ filing. sym (alone (is_filed index.name.now (value_of labels index.name.now) filing)))
   where
@@ -488,11 +488,11 @@ filed-none labels [] all none = places-none 0 all
 filed-none labels (index ∷ indexes) all none = absurd (cc)
 
 pub filed-first : (labels : Labels) (indexes : List NameIndex) (index : NameIndex) (all : List (Option MatcherView)) → slice_get indexes 0 ≡ Some index → AllByRecursion (IsIndexOf all) indexes
-    → listed (value_of labels index.name.now) index ≡ places_left (is_kept labels (take 1 indexes)) 0 all
+    → indexes_kept (value_of labels index.name.now) index ≡ places_left (is_kept labels (take 1 indexes)) 0 all
 filed-first labels [] index all some are = absurd (cc)
 filed-first labels (one ∷ indexes) index all some are =
     let same : one ≡ index = (cc) in
-    subst (λ (index : NameIndex). listed (value_of labels index.name.now) index ≡ places_from (is_kept labels (one ∷ [])) 0 all) same (kept-listed labels one all are.0)
+    subst (λ (index : NameIndex). indexes_kept (value_of labels index.name.now) index ≡ places_from (is_kept labels (one ∷ [])) 0 all) same (kept-indexes_kept labels one all are.0)
 
 -- what is left after the first one that may match
 pub left-after : (labels : Labels) (from : ℕ) (routes : Forest) (entries : List ChildEntry) (unfiled filed : List ℕ) (indexes : List NameIndex) (at : ℕ)

@@ -13,12 +13,12 @@ use Rattle.indexmap.proofs.MapLemmas.{Found-position, insert_entry-first}
 use Rattle.am_labels.specs.LabelSets.{Labels, same_labels}
 use Rattle.am_labels.specs.LabelLaws.{labels_decide}
 use Rattle.am_alert.specs.declared.alert.Alert.{Alert}
-use Rattle.am_alert.specs.Merging.{is_resolved_at}
+use Rattle.am_alert.specs.Merging.{is_resolved_at, unresolved}
 use Rattle.am_routes.specs.declared.dispatcher.GroupKey.{GroupKey}
 use Rattle.am_routes.specs.declared.group.AlertChange.{AlertChange}
 use Rattle.am_routes.specs.RouteAnswers.{Node}
 use Rattle.am_routes.specs.Groups.{GroupView, some_of, is_empty, removed_groups}
-use Rattle.am_routes.specs.inside.GroupLists.{alerts_with, joined, with_members, is_group, with_member, unresolved, swept_group, swept, without_resolved}
+use Rattle.am_routes.specs.inside.GroupLists.{alerts_with, joined, with_members, is_group, with_member, swept_group, swept, without_resolved}
 use Rattle.am_routes.specs.inside.GroupMaps.{groups_in, AreKeyedByGroups}
 use Rattle.am_routes.specs.Undoing.{alerts_before, all_before, changed_back, groups_before}
 use Rattle.am_routes.specs.declared.dispatcher.GroupChange.{GroupChange}

@@ -7,15 +7,15 @@ use Rattle.std.proofs.lemmas.List.{append_assoc, append-nil}
 use Rattle.std.proofs.lemmas.List.Sums.{fold-append}
 use Rattle.std.proofs.lemmas.Bool.Decides.{Decides-and, Decides-like, Decides-eqb}
 use Rattle.am_alert.specs.declared.alert.Alert.{Alert}
-use Rattle.am_alert.specs.Merging.{is_resolved_at}
+use Rattle.am_alert.specs.Merging.{is_resolved_at, unless_resolved, unresolved}
 use Rattle.am_labels.specs.LabelSets.{Labels, same_labels}
 use Rattle.am_labels.specs.LabelLaws.{labels_decide}
 use Rattle.am_config.specs.Routes.{Forest}
 use Rattle.am_routes.specs.RouteAnswers.{Node, answer_of}
 use Rattle.am_config.specs.GroupLabels.{group_labels}
 use Rattle.am_routes.specs.InOrder.{in_order}
-use Rattle.am_routes.specs.Groups.{DispatchEvent, Take, Sweep, GroupUpdate, Join, Resolve, joins, updates_of_event, group_updates, GroupIdentity, same_group, group_key, label_set, unless_resolved, after_group_update, held_in, alerts_of_group, some_of, members, GroupView, group_of, groups_after, groups_of}
-use Rattle.am_routes.specs.inside.GroupLists.{alerts_with, with_member, with_members, unresolved, swept}
+use Rattle.am_routes.specs.Groups.{DispatchEvent, Take, Sweep, GroupUpdate, Join, Resolve, joins, updates_of_event, group_updates, GroupIdentity, same_group, group_key, label_set, after_group_update, held_in, alerts_of_group, some_of, members, GroupView, group_of, groups_after, groups_of}
+use Rattle.am_routes.specs.inside.GroupLists.{alerts_with, with_member, with_members, swept}
 use Rattle.am_routes.proofs.Cases.{by_bool, by_option}
 use Rattle.am_routes.proofs.InOrder.{GoesByKeys, put, in_order-each, in_order-own, AllHold, in_order_hold}
 

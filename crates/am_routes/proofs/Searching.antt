@@ -12,7 +12,7 @@ use Rattle.am_config.specs.Routes.{RouteView, Forest, no_routes, route, count_of
 use Rattle.am_config.specs.RouteLists.{route_view, forest_of}
 use Rattle.am_routes.specs.RouteAnswers.{Node, own_answer, joined_with, answer_of}
 use Rattle.am_routes.specs.Looking.{is_equal, first_equality, may_match, looked_from, routes_looked_at}
-use Rattle.am_routes.specs.inside.ChildIndexes.{ChildView, children_from, filings, drop_routes, offset_at, view_of, IsChildOf, IsNextChild, has_no_routes, other_matchers}
+use Rattle.am_routes.specs.inside.ChildIndexes.{ChildView, children_from, filings, drop_routes, offset_at, child_view_of, IsChildOf, IsNextChild, has_no_routes, other_matchers}
 use Rattle.am_routes.specs.inside.Searches.{in_pre_order, levels_of, BeginAt}
 use Rattle.am_routes.proofs.Cases.{by_bool}
 use Rattle.am_routes.proofs.ChildIndexes.{filed-fails, same-along}
@@ -287,7 +287,7 @@ next-answer labels number f from None is =
 next-answer labels number f from (Some child) is =
     let steps = child.at - from in
     let on : from + steps ≡ child.at = omega (arith, is.0.0) in
-    let here = at-child 1 f child.at (view_of child) is.1.0 in
+    let here = at-child 1 f child.at (child_view_of child) is.1.0 in
     same-along (answer_from labels number 1 f) from steps (λ k h less. answer-passed labels number 1 f k (λ filing got. is.0.2 k filing h (omega arith) got))
     ∙ (ap (answer_from labels number 1 f) on ∙ ap (λ n. answer_of labels (number + n) (drop_routes child.at f)) here.1)
 
@@ -304,13 +304,13 @@ next-looked labels f from (Some child) is =
 pub next-pending : (labels : Labels) (f : Forest) (from : ℕ) (next : Option Child) → IsNextChild labels from f next → IsPending labels f next
 next-pending labels f from None is = tt
 next-pending labels f from (Some child) is =
-    let same : Some is.0.1.0 ≡ Some (first_equality child.route.now.matchers) = sym is.0.1.1 ∙ filing_of_child 1 f child.at (view_of child) is.1.0 in
+    let same : Some is.0.1.0 ≡ Some (first_equality child.route.now.matchers) = sym is.0.1.1 ∙ filing_of_child 1 f child.at (child_view_of child) is.1.0 in
     let filing : is.0.1.0 ≡ first_equality child.route.now.matchers = (cc) in
     (is.1, ap (may_match labels) (sym filing) ∙ is.0.1.2)
 
 -- one that is asked has a route at its index
 pub child-within : (f : Forest) (child : Child) → IsChildOf f child → child.at < length (filings f)
-child-within f child one = slice_get_within (filings f) child.at (first_equality child.route.now.matchers) (filing_of_child 1 f child.at (view_of child) one.0)
+child-within f child one = slice_get_within (filings f) child.at (first_equality child.route.now.matchers) (filing_of_child 1 f child.at (child_view_of child) one.0)
 
 pub some-left : (f : Forest) (child : Child) → IsChildOf f child → 0 < pending_count f (Some child)
 some-left f child one = let within : child.at < length (filings f) = child-within f child one in omega arith
@@ -344,7 +344,7 @@ module _ (labels : Labels) (number : ℕ) (f : Forest) (child : Child) (is : IsC
   others = drop_routes (suc child.at) f
 
   here : (drop_routes child.at f ≡ route (route_view r) r.children others) × (offset_at child.at 1 f ≡ child.entry.offset) × (offset_at (suc child.at) 1 f ≡ child.entry.offset + 1 + count_of r.children)
-  here = at-child 1 f child.at (view_of child) is.0
+  here = at-child 1 f child.at (child_view_of child) is.0
 
   -- the last one that is asked
   pub answer-stops : all_admitted r.matchers labels ≡ true → r.continues ≡ false → pending_answer labels number f (Some child) ≡ answer_of labels (number + child.entry.offset) (forest_of (r ∷ []))

@@ -8,7 +8,7 @@ use Rattle.std.specs.Option.{option_and_then}
 use Rattle.std.specs.List.{count_by, flat_map, filter_map, list_all, sum_by}
 use Rattle.am_alert.specs.declared.alert.Alert.{Alert}
 use Rattle.am_alert.specs.Alerts.{coded_alert}
-use Rattle.am_alert.specs.Merging.{is_resolved_at}
+use Rattle.am_alert.specs.Merging.{is_resolved_at, unless_resolved}
 use Rattle.am_labels.specs.LabelSets.{Labels, same_labels, coded_labels}
 use Rattle.am_config.specs.Routes.{Forest}
 use Rattle.am_routes.specs.RouteAnswers.{Node, answer_of}
@@ -58,10 +58,6 @@ label_set key (Join node labels alert) =
     if same_group key (record { route = node.number; labels = labels })
     then Some alert.labels else None
 label_set key (Resolve now) = None
-
--- an alert, unless it is resolved
-abbrev pub unless_resolved : ℕ → Alert → Option Alert
-unless_resolved now alert = if is_resolved_at now alert then None else Some alert
 
 -- what one label set holds in one group after an update: the alert that joins, or nothing if that is
 -- resolved

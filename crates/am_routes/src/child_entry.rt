@@ -2,7 +2,7 @@
 
 ghost use Rattle.std.specs.Prelude.{◌≡◌};
 ghost use Rattle.am_config.specs.RouteLists.{route_view};
-ghost use Rattle.am_routes.specs.inside.ChildIndexes.{entry_of, has_none, other_matchers};
+ghost use Rattle.am_routes.specs.inside.ChildIndexes.{child_entry_of, is_nil, other_matchers};
 
 use am_config::Route;
 use am_labels::{Matcher, Operator};
@@ -23,7 +23,7 @@ pub(crate) struct ChildEntry {
 
 impl ChildEntry {
     pub(crate) fn of(route: &Route, offset: usize) -> ChildEntry
-        ensures { result ≡ entry_of (record {
+        ensures { result ≡ child_entry_of (record {
           offset = offset;
           first = route_view route.now;
           below = route.now.children;
@@ -40,7 +40,7 @@ impl ChildEntry {
 
 // Whether there are no matchers but one equality matcher.
 fn has_no_others(matchers: &[Matcher]) -> bool
-    ensures { result ≡ has_none (other_matchers matchers.now) }
+    ensures { result ≡ is_nil (other_matchers matchers.now) }
 {
     match matchers {
         [] => true,

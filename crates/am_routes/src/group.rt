@@ -1,9 +1,9 @@
 //! One group of alerts: those that match a route and have the same group labels.
 
 ghost use Rattle.std.specs.Prelude.{◌≡◌, [], ◌∷◌, IfOk, OnErr, not, count_by};
-ghost use Rattle.am_alert.specs.Merging.{is_resolved_at};
+ghost use Rattle.am_alert.specs.Merging.{is_resolved_at, unresolved};
 ghost use Rattle.am_routes.specs.Groups.{is_empty};
-ghost use Rattle.am_routes.specs.inside.GroupLists.{alerts_with, unresolved};
+ghost use Rattle.am_routes.specs.inside.GroupLists.{alerts_with};
 ghost use Rattle.am_routes.specs.inside.GroupChanges.{kept_in, AreKeyedByLabels};
 ghost use Rattle.am_routes.specs.Undoing.{alerts_before};
 

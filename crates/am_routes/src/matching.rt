@@ -8,7 +8,7 @@ ghost use Rattle.am_labels.specs.Matchers.{all_admitted};
 ghost use Rattle.am_config.specs.RouteLists.{forest_of, root_of, route_view};
 ghost use Rattle.am_routes.specs.Looking.{routes_looked_at};
 ghost use Rattle.am_routes.specs.RouteAnswers.{answer_of, IsAnswerOf};
-ghost use Rattle.am_routes.specs.inside.ChildIndexes.{has_no_routes, has_none, other_matchers};
+ghost use Rattle.am_routes.specs.inside.ChildIndexes.{has_no_routes, is_nil, other_matchers};
 ghost use Rattle.am_routes.specs.inside.Searches.{levels_of, nodes_in, others_of};
 ghost use Rattle.am_routes.specs.inside.Searches.{AddsAnswers, AddsLooked, AreSearchesOf, BeginAt};
 
@@ -385,7 +385,7 @@ fn others_admit(
     labels: &LabelSet,
 ) -> bool
     requires within { at < length others.old }
-    requires settled { is_settled ≡ has_none (get_or others.old at []) }
+    requires settled { is_settled ≡ is_nil (get_or others.old at []) }
     ensures answer { result ≡ all_admitted (get_or others.old at []) labels.now }
     ensures same { others.new ≡ others.old }
 {

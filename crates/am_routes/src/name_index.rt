@@ -8,7 +8,7 @@ ghost use Rattle.am_config.specs.RouteLists.{forest_of};
 ghost use Rattle.am_labels.specs.LabelSets.{value_of};
 ghost use Rattle.am_labels.specs.Matchers.{MatcherView};
 ghost use Rattle.am_routes.specs.Looking.{first_equality};
-ghost use Rattle.am_routes.specs.inside.ChildIndexes.{filings, is_filed, listed, IsFirstFrom, IsIndexOf};
+ghost use Rattle.am_routes.specs.inside.ChildIndexes.{filings, is_filed, indexes_kept, IsFirstFrom, IsIndexOf};
 
 use am_config::Route;
 use am_labels::{LabelSet, Matcher, Operator};
@@ -51,8 +51,8 @@ impl<'t> NameIndex<'t> {
 
     // Adds the index of a route that asks for a value.
     fn add(&mut self, value: &'t str, at: usize) -> Result<(), AllocError>
-        ensures added { OnOk result ((wanted : List ℕ) → listed wanted self.new
-            ≡ listed wanted self.old ++ (if bytes_eq wanted value.now then at ∷ [] else [])) }
+        ensures added { OnOk result ((wanted : List ℕ) → indexes_kept wanted self.new
+            ≡ indexes_kept wanted self.old ++ (if bytes_eq wanted value.now then at ∷ [] else [])) }
         ensures name { OnOk result (self.new.name.now ≡ self.old.name.now) }
     {
         self.values.entry(value)?.or_default().push(at)?;
@@ -68,7 +68,7 @@ impl<'t> NameIndex<'t> {
     /// The indexes of its routes that ask for the value that a label set has. A missing label counts as
     /// empty.
     pub(crate) fn places(&self, labels: &LabelSet) -> &[usize]
-        ensures { result.now ≡ listed (value_of labels.now self.now.name.now) self.now }
+        ensures { result.now ≡ indexes_kept (value_of labels.now self.now.name.now) self.now }
     {
         match self.values.get(labels.get(self.name)) {
             Some(places) => places.as_slice(),

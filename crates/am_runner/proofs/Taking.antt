@@ -7,6 +7,7 @@ use Rattle.am_alert.specs.declared.alert.Alert.{Alert}
 use Rattle.am_provider.specs.Subscriptions.{SubscriptionView, taken}
 use Rattle.am_cast.specs.Cursors as cast
 use Rattle.am_provider.specs.Showings.{ShowsItem, ShowsNone}
+use Rattle.am_alert.specs.Merging.{unresolved}
 use Rattle.am_inhibit.specs.KeptAlerts as keeping
 use Rattle.am_inhibit.specs.Inhibitors.{InhibitorView}
 use Rattle.am_inhibit.specs.LastAlerts.{last_alerts}
@@ -52,11 +53,11 @@ dispatcher_swept : (alerts : List Alert) (now : ℕ) (old new : DispatcherView) 
 dispatcher_swept alerts now old new follows (events, are, groups) =
     (events ++ Sweep now ∷ [], filter_map-append alert_taken events (Sweep now ∷ []) ∙ (append-nil _ ∙ are), follows.1 events groups)
 
-inhibitor_swept : KeptAlertsGoOn → (alerts : List Alert) (now : ℕ) (old new : InhibitorView) → new ≡ record old { alerts = keeping.unresolved now old.alerts } → InhibitorTook alerts old → InhibitorTook alerts new
+inhibitor_swept : KeptAlertsGoOn → (alerts : List Alert) (now : ℕ) (old new : InhibitorView) → new ≡ record old { alerts = unresolved now old.alerts } → InhibitorTook alerts old → InhibitorTook alerts new
 inhibitor_swept go_on alerts now old new is (events, are, keeps) = (
   events ++ keeping.Sweep now ∷ [],
   filter_map-append alert_kept events (keeping.Sweep now ∷ []) ∙ (append-nil _ ∙ are),
-  ap (λ (i : InhibitorView). i.alerts) is ∙ (ap (keeping.unresolved now) keeps ∙ sym ((go_on events).1 now)),
+  ap (λ (i : InhibitorView). i.alerts) is ∙ (ap (unresolved now) keeps ∙ sym ((go_on events).1 now)),
 )
 
 follows_of : (now : ℕ) (old new : DispatcherView) (given : Answer) → DispatcherSwept now old new given → Follows (Sweep now) old new
@@ -96,7 +97,7 @@ follows_of now old new (answer.Matched r) done = absurd done
 follows_of now old new (answer.OutOfMemory v) done = absurd done
 follows_of now old new (answer.NotOpen v) done = absurd done
 
-unresolved_of : (now : ℕ) (old new : InhibitorView) (given : Answer) → InhibitorSwept now old new given → new ≡ record old { alerts = keeping.unresolved now old.alerts }
+unresolved_of : (now : ℕ) (old new : InhibitorView) (given : Answer) → InhibitorSwept now old new given → new ≡ record old { alerts = unresolved now old.alerts }
 unresolved_of now old new (answer.Posted v p) done = absurd done
 unresolved_of now old new (answer.Invalid i f) done = absurd done
 unresolved_of now old new (answer.CutLane l) done = absurd done

@@ -3,7 +3,7 @@
 use Rattle.std.specs.Prelude.{◌≡◌, ◌⊎◌, ℕ, ◌^◌, ◌-◌, min, List, [], ◌∷◌, ◌++◌, map, length, flat_map, Option}
 use Rattle.std.specs.Prelude.{Some, None, count_by}
 use Rattle.std.specs.List.{filter_map}
-use Rattle.am_alert.specs.Merging.{is_resolved_at}
+use Rattle.am_alert.specs.Merging.{is_resolved_at, unresolved}
 use Rattle.am_alert.specs.declared.alert.Alert.{Alert}
 use Rattle.am_labels.specs.LabelSets.{Labels}
 use Rattle.am_routes.specs.Groups.{DispatchEvent, DispatcherView, GroupView, Follows, Take, Sweep, groups_of}
@@ -107,7 +107,7 @@ DispatcherSwept now old new other = ⊥
 -- an inhibitor is swept, and answers how many alerts it dropped
 abbrev pub InhibitorSwept : ℕ → InhibitorView → InhibitorView → Answer → Type 0
 InhibitorSwept now old new (answer.Forgotten gone) =
-    (new ≡ record old { alerts = keeping.unresolved now old.alerts })
+    (new ≡ record old { alerts = unresolved now old.alerts })
     × (gone ≡ count_by (is_resolved_at now) old.alerts)
 InhibitorSwept now old new other = ⊥
 

@@ -5,7 +5,7 @@ use Rattle.am_labels.specs.LabelSets.{Labels}
 use Rattle.am_store.specs.declared.call.Call.{Call}
 use Rattle.am_store.specs.declared.call.Call.TheVariants.{Posted, Collected, Subscribed, Left, Closed}
 use Rattle.am_store.specs.Stored.{Update, Report, updates_of, first_reports, Holding, holding_of, after_report}
-use Rattle.am_store.specs.Broadcast.{alert_of, batch_of, broadcast_from}
+use Rattle.am_store.specs.Broadcast.{alert_held, batch_of, broadcast_from}
 use Rattle.am_store.specs.Laws.{BatchesAnswerPosts, labels_of_batch, posted_labels}
 use Rattle.am_store.proofs.Stored.{held_own, absorbed_labels, Sits, sits}
 
@@ -21,7 +21,7 @@ batch_labels before now (new ∷ news) =
     let one = after_report (length before) now new (holding_of new.labels before) in
     let holds : holding_of new.labels all ≡ Some one = held_own before now new in
     let own : one.alert.labels ≡ new.labels = after_own (holding_of new.labels before) (length before) now new (length before) (sits new.labels before) in
-    ap (λ o. map (λ (alert : Alert). alert.labels) (alert_of o ++ batch_of all now news)) holds
+    ap (λ o. map (λ (alert : Alert). alert.labels) (alert_held o ++ batch_of all now news)) holds
     ∙ (ap (λ labels. labels ∷ labels_of_batch (batch_of all now news)) own
     ∙ ap (λ rest. new.labels ∷ rest) (batch_labels all now news))
 

@@ -8,7 +8,7 @@ use Rattle.am_labels.specs.LabelSets.{Labels, same_labels}
 use Rattle.am_labels.specs.LabelLaws.{labels_equiv, labels_decide}
 use Rattle.am_alert.specs.Merging.{absorbed, is_resolved_at, merged, combined, overlap}
 use Rattle.am_store.specs.Stored.{Update, Report, Collect, Holding, after_report, after_collection, after_update, holding_from, holding_of, begun_at, stored_at, gathered, stored}
-use Rattle.am_store.specs.Broadcast.{alert_of, batch_of}
+use Rattle.am_store.specs.Broadcast.{alert_held, batch_of}
 use Rattle.am_store.specs.AlertList.{lookup, with_alert, with_alerts, absorb_into, batch_by_list, absent, AreDistinct}
 
 pub by_bool : {P : Type 0} (b : Bool) → (b ≡ true → P) → (b ≡ false → P) → P
@@ -433,10 +433,10 @@ unfolding alert_in
 after_report_alert n now new None = refl
 after_report_alert n now new (Some h) = refl
 
-pub batch_of_one : (ss : List Update) (now : ℕ) (new : Alert) → alert_of (holding_of new.labels (ss ++ Report now new ∷ [])) ≡ absorbed now (lookup new.labels (stored ss)) new ∷ []
+pub batch_of_one : (ss : List Update) (now : ℕ) (new : Alert) → alert_held (holding_of new.labels (ss ++ Report now new ∷ [])) ≡ absorbed now (lookup new.labels (stored ss)) new ∷ []
 unfolding alert_in
 batch_of_one ss now new =
-    ap alert_of (held_own ss now new) ∙ ap (λ a. a ∷ []) (after_report_alert (length ss) now new (holding_of new.labels ss) ∙ ap (λ o. absorbed now o new) (sym ((agrees ss).found new.labels)))
+    ap alert_held (held_own ss now new) ∙ ap (λ a. a ∷ []) (after_report_alert (length ss) now new (holding_of new.labels ss) ∙ ap (λ o. absorbed now o new) (sym ((agrees ss).found new.labels)))
 
 -- the reports of a post are absorbed one after another, and its batch is what each became
 pub stored_post : (ss : List Update) (now : ℕ) (news : List Alert) → stored (ss ++ map (Report now) news) ≡ with_alerts (batch_by_list now news (stored ss)) (stored ss)

@@ -9,16 +9,16 @@ use Rattle.am_store.specs.Stored.{Update, Report, updates_of, first_reports, upd
 use Rattle.am_store.specs.Stored.{stored}
 
 -- the alert held, as a list
-abbrev pub alert_of : Option Holding → List Alert
-alert_of None = []
-alert_of (Some held) = held.alert ∷ []
+abbrev pub alert_held : Option Holding → List Alert
+alert_held None = []
+alert_held (Some held) = held.alert ∷ []
 
 -- what each alert of a post became: what its label set holds just after it (`provider/mem`'s Put:
 -- what it hands to its listeners)
 abbrev pub batch_of : List Update → ℕ → List Alert → List Alert
 batch_of before now [] = []
 batch_of before now (new ∷ news) =
-    alert_of (holding_of new.labels (before ++ Report now new ∷ []))
+    alert_held (holding_of new.labels (before ++ Report now new ∷ []))
     ++ batch_of (before ++ Report now new ∷ []) now news
 
 -- what one call sends out: one batch, where it is a post with an alert

@@ -7,7 +7,7 @@ ghost use Rattle.am_cast.specs.Changes.{without_lane};
 ghost use Rattle.am_cast.specs.Steps.{Admits};
 ghost use Rattle.am_cast.specs.Seats.{IsSized, IsWriter, account_of, writer_of};
 
-use crate::rule::{AnySeat, AnyTop, Keyed, Noted};
+use crate::rule::{AnySeat, AnyTop, HasNote, Keyed};
 use crate::views::View;
 use atomic_table::{Play, Split};
 use std::marker::PhantomData;
@@ -17,7 +17,7 @@ pub(crate) struct Admit<N> {
     of: PhantomData<N>,
 }
 
-impl<B, K, A, N: Noted<A>> Play<Option<K>, View<B, K, A>> for Admit<N> {
+impl<B, K, A, N: HasNote<A>> Play<Option<K>, View<B, K, A>> for Admit<N> {
     ghost then = { Admits N.note };
 }
 
@@ -31,7 +31,7 @@ impl<B, K, A> Split<View<B, K, A>> for Deal {
 
 /// The lane begins at the next place. Its seat is cut off from the writer's.
 #[inline(never)]
-pub(crate) fn admit_lane<B, K, A, R: Keyed<B, K>, X: Noted<A>>(
+pub(crate) fn admit_lane<B, K, A, R: Keyed<B, K>, X: HasNote<A>>(
     top: &AnyTop<B, K, A, R>,
     seat: &mut AnySeat<B, K, A>,
     lane: usize,

@@ -19,9 +19,9 @@ coded_route group_by operator =
     (λ _. refl)
 
 -- the routes in pre-order, with a gap after the last one of each list
-abbrev pub in_pre_order : Forest → List (Option RouteView)
-in_pre_order no_routes = None ∷ []
-in_pre_order (route first children others) = Some first ∷ (in_pre_order children ++ in_pre_order others)
+abbrev pub forest_code : Forest → List (Option RouteView)
+forest_code no_routes = None ∷ []
+forest_code (route first children others) = Some first ∷ (forest_code children ++ forest_code others)
 
 -- a route before the two lists that follow it: the routes below it, and the others
 abbrev pub above_two : RouteView → List Forest → List Forest
@@ -41,24 +41,24 @@ first_forest [] = no_routes
 first_forest (first ∷ rest) = first
 
 -- what is written of routes is read back as they are
-pub forests_from-in_pre_order :
+pub forests_from-forest_code :
     (f : Forest) (rest : List (Option RouteView))
-    → forests_from (in_pre_order f ++ rest) ≡ f ∷ forests_from rest
-forests_from-in_pre_order no_routes rest = refl
-forests_from-in_pre_order (route first children others) rest =
+    → forests_from (forest_code f ++ rest) ≡ f ∷ forests_from rest
+forests_from-forest_code no_routes rest = refl
+forests_from-forest_code (route first children others) rest =
     ap (λ entries. above_two first (forests_from entries))
-    (append_assoc (in_pre_order children) (in_pre_order others) rest)
-    ∙ (ap (above_two first) (forests_from-in_pre_order children (in_pre_order others ++ rest))
-    ∙ ap (λ forests. above_two first (children ∷ forests)) (forests_from-in_pre_order others rest))
+    (append_assoc (forest_code children) (forest_code others) rest)
+    ∙ (ap (above_two first) (forests_from-forest_code children (forest_code others ++ rest))
+    ∙ ap (λ forests. above_two first (children ∷ forests)) (forests_from-forest_code others rest))
 
 -- and so the first list that is read back is the one that was written
-pub first_forest-in_pre_order : (f : Forest) → first_forest (forests_from (in_pre_order f)) ≡ f
-first_forest-in_pre_order f =
-    ap first_forest (ap forests_from (sym (append-nil (in_pre_order f))) ∙ forests_from-in_pre_order f [])
+pub first_forest-forest_code : (f : Forest) → first_forest (forests_from (forest_code f)) ≡ f
+first_forest-forest_code f =
+    ap first_forest (ap forests_from (sym (append-nil (forest_code f))) ∙ forests_from-forest_code f [])
 
 -- routes are stored as these entries
 abbrev pub coded_forest : Coded GroupBy → Coded Operator → Coded Forest
 coded_forest group_by operator =
     code_by (List (Option RouteView))
     (coded_list (coded_option (coded_route group_by operator)))
-    in_pre_order (λ entries. first_forest (forests_from entries)) first_forest-in_pre_order
+    forest_code (λ entries. first_forest (forests_from entries)) first_forest-forest_code

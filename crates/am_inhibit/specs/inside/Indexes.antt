@@ -46,8 +46,8 @@ with_labels rule at labels entries =
     then with_source (values_of rule.equal labels) (source_of rule at labels) entries else entries
 
 -- the sources that entries list for values
-abbrev pub listed : List (List ℕ) → SourceEntries → List Source
-listed values entries = unwrap_or (lookup (same_values values) entries) []
+abbrev pub sources_listed : List (List ℕ) → SourceEntries → List Source
+sources_listed values entries = unwrap_or (lookup (same_values values) entries) []
 
 -- a rule's sources among some label sets that have the values, the label sets counted from a number
 abbrev pub sources_from : InhibitRule → List (List ℕ) → ℕ → List Labels → List Source
@@ -58,10 +58,10 @@ sources_from rule values at (labels ∷ rest) =
     else sources_from rule values (at + 1) rest
 
 -- an index lists for each values its rule's sources among some label sets that have them
-abbrev pub IsIndexOf : List Labels → IndexView → Type 0
-IsIndexOf sets index = IsDistinct same_values (keys_of index.entries)
+abbrev pub IsSourceIndexOf : List Labels → IndexView → Type 0
+IsSourceIndexOf sets index = IsDistinct same_values (keys_of index.entries)
     × ((values : List (List ℕ))
-    → listed values index.entries ≡ sources_from index.rule values 0 sets)
+    → sources_listed values index.entries ≡ sources_from index.rule values 0 sets)
 
 -- an index without a source
 abbrev pub empty_index : InhibitRule → IndexView
@@ -76,9 +76,9 @@ abbrev pub rules_indexed : List IndexView → List InhibitRule
 rules_indexed indexes = map (λ index. index.rule) indexes
 
 -- the indexes of rules among some label sets
-abbrev pub AreIndexesOf : List InhibitRule → List Labels → List IndexView → Type 0
-AreIndexesOf rules sets indexes =
-    (rules_indexed indexes ≡ rules) × AllByRecursion (IsIndexOf sets) indexes
+abbrev pub AreSourceIndexesOf : List InhibitRule → List Labels → List IndexView → Type 0
+AreSourceIndexesOf rules sets indexes =
+    (rules_indexed indexes ≡ rules) × AllByRecursion (IsSourceIndexOf sets) indexes
 
 -- an index, with one label set more
 abbrev pub index_with : ℕ → Labels → IndexView → IndexView

@@ -9,14 +9,14 @@ use Rattle.am_alert.specs.Merging.{is_resolved_at}
 use Rattle.am_config.specs.declared.inhibit_rule.InhibitRule.{InhibitRule}
 use Rattle.am_inhibit.specs.declared.source.Source.{Source}
 use Rattle.am_inhibit.specs.LastAlerts.{label_sets}
-use Rattle.am_inhibit.specs.inside.Indexes.{SourceEntries, IndexView, AreIndexesOf}
+use Rattle.am_inhibit.specs.inside.Indexes.{SourceEntries, IndexView, AreSourceIndexesOf}
 
 -- the new index of each alert, counted from a number; nothing for one that is resolved
-abbrev pub places_from : ℕ → ℕ → List Alert → List (Option ℕ)
-places_from place now [] = []
-places_from place now (alert ∷ alerts) =
-    if is_resolved_at now alert then None ∷ places_from place now alerts
-    else Some place ∷ places_from (place + 1) now alerts
+abbrev pub new_places : ℕ → ℕ → List Alert → List (Option ℕ)
+new_places place now [] = []
+new_places place now (alert ∷ alerts) =
+    if is_resolved_at now alert then None ∷ new_places place now alerts
+    else Some place ∷ new_places (place + 1) now alerts
 
 -- a source at the new index of its alert, unless that is dropped
 abbrev pub moved : List (Option ℕ) → Source → Option Source
@@ -28,14 +28,14 @@ abbrev pub moved_sources : List (Option ℕ) → List Source → List Source
 moved_sources places sources = filter_map (moved places) sources
 
 -- no source
-abbrev pub has_none : List Source → Bool
-has_none [] = true
-has_none (source ∷ sources) = false
+abbrev pub has_no_sources : List Source → Bool
+has_no_sources [] = true
+has_no_sources (source ∷ sources) = false
 
 -- entries, their sources moved, without those that are left with none
 abbrev pub swept_entries : List (Option ℕ) → SourceEntries → SourceEntries
 swept_entries places entries =
-    filter (λ entry. not (has_none entry.1))
+    filter (λ entry. not (has_no_sources entry.1))
     (map (λ entry. (entry.0, moved_sources places entry.1)) entries)
 
 -- an index after a sweep
@@ -45,4 +45,4 @@ index_swept places index = record index { entries = swept_entries places index.e
 -- the indexes are those of the rules among the alerts, and there is room for the new index of each alert
 abbrev pub IsIndexed : List InhibitRule → List Alert → List IndexView → ℕ → Type 0
 IsIndexed rules alerts indexes room =
-    AreIndexesOf rules (label_sets alerts) indexes × (length alerts ≤ room)
+    AreSourceIndexesOf rules (label_sets alerts) indexes × (length alerts ≤ room)

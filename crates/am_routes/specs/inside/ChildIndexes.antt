@@ -40,9 +40,9 @@ other_matchers (matcher ∷ matchers) =
     if is_equal matcher.operator then matchers else matcher ∷ other_matchers matchers
 
 -- no elements
-abbrev pub has_none : {X : Type 0} → List X → Bool
-has_none [] = true
-has_none (x ∷ xs) = false
+abbrev pub is_nil : {X : Type 0} → List X → Bool
+is_nil [] = true
+is_nil (x ∷ xs) = false
 
 -- no routes
 abbrev pub has_no_routes : Forest → Bool
@@ -50,17 +50,17 @@ has_no_routes no_routes = true
 has_no_routes (route first below others) = false
 
 -- what is kept of a route below another
-abbrev pub entry_of : ChildView → ChildEntry
-entry_of child = record {
+abbrev pub child_entry_of : ChildView → ChildEntry
+child_entry_of child = record {
   offset = child.offset;
-  is_settled = has_none (other_matchers child.first.matchers);
+  is_settled = is_nil (other_matchers child.first.matchers);
   is_leaf = has_no_routes child.below;
   continues = child.first.continues;
 }
 
 -- what is kept of each
 abbrev pub entries_from : ℕ → Forest → List ChildEntry
-entries_from offset routes = map entry_of (children_from offset routes)
+entries_from offset routes = map child_entry_of (children_from offset routes)
 
 -- the first equality matcher of each
 abbrev pub filings : Forest → List (Option MatcherView)
@@ -84,14 +84,14 @@ is_filed name value None = false
 is_filed name value (Some matcher) = bytes_eq matcher.name name && bytes_eq value matcher.value
 
 -- the indexes of routes that are kept for a value
-abbrev pub listed : List ℕ → NameIndex → List ℕ
-listed value index =
+abbrev pub indexes_kept : List ℕ → NameIndex → List ℕ
+indexes_kept value index =
     option_map_or (λ places. places.items) (get_by (λ k. bytes_eq value k.now) index.values) []
 
 -- for each value those are kept that are filed under the name and it
 abbrev pub IsIndexOf : List (Option MatcherView) → NameIndex → Type 0
 IsIndexOf all index =
-    (value : List ℕ) → listed value index ≡ places_from (is_filed index.name.now value) 0 all
+    (value : List ℕ) → indexes_kept value index ≡ places_from (is_filed index.name.now value) 0 all
 
 -- whether one of some indexes is of a name
 abbrev pub has_name : List ℕ → List NameIndex → Bool
@@ -151,8 +151,8 @@ offset_at (suc at) offset (route first below others) =
     offset_at at (offset + 1 + count_of below) others
 
 -- a route below another, by what is kept of it and by itself
-abbrev pub view_of : Child → ChildView
-view_of child = record {
+abbrev pub child_view_of : Child → ChildView
+child_view_of child = record {
   offset = child.entry.offset;
   first = route_view child.route.now;
   below = child.route.now.children;
@@ -161,8 +161,8 @@ view_of child = record {
 -- a route below another is the one at its index, and what is kept of it is its own
 abbrev pub IsChildOf : Forest → Child → Type 0
 IsChildOf routes child =
-    (slice_get (children_from 1 routes) child.at ≡ Some (view_of child))
-    × (child.entry ≡ entry_of (view_of child))
+    (slice_get (children_from 1 routes) child.at ≡ Some (child_view_of child))
+    × (child.entry ≡ child_entry_of (child_view_of child))
 
 -- the first route from an index on that may match a label set
 abbrev pub IsNextChild : Labels → ℕ → Forest → Option Child → Type 0

@@ -3,7 +3,7 @@ use Rattle.std.specs.Prelude.{ℕ, Bool, not, ◌&&◌, if◌then◌else◌, nat
 use Rattle.std.specs.Option.{option_map}
 use Rattle.std.specs.List.{filter_map}
 use Rattle.am_alert.specs.declared.alert.Alert.{Alert}
-use Rattle.am_alert.specs.Merging.{is_resolved_at}
+use Rattle.am_alert.specs.Merging.{is_resolved_at, unresolved}
 use Rattle.am_labels.specs.LabelSets.{Labels, same_labels}
 use Rattle.am_routes.specs.RouteAnswers.{Node}
 use Rattle.am_config.specs.GroupLabels.{group_labels}
@@ -37,10 +37,6 @@ joined node alert groups =
 abbrev pub with_members : List Node → Alert → List GroupView → List GroupView
 with_members [] alert groups = groups
 with_members (node ∷ nodes) alert groups = with_members nodes alert (joined node alert groups)
-
--- what isn't resolved
-abbrev pub unresolved : ℕ → List Alert → List Alert
-unresolved now alerts = filter (λ alert. not (is_resolved_at now alert)) alerts
 
 -- a group without what is resolved, if an alert is left
 abbrev pub swept_group : ℕ → GroupView → Option GroupView

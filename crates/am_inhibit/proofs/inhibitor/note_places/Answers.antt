@@ -3,9 +3,9 @@ use Rattle.std.proofs.lemmas.List.{take_more}
 use Rattle.std.proofs.lemmas.List.Elements.{filter-append}
 use Rattle.am_alert.specs.declared.alert.Alert.{Alert}
 use Rattle.am_alert.specs.Merging.{is_resolved_at}
-use Rattle.am_inhibit.specs.KeptAlerts.{unresolved}
-use Rattle.am_inhibit.specs.inside.Places.{places_from}
-use Rattle.am_inhibit.proofs.Places.{places_from-push}
+use Rattle.am_alert.specs.Merging.{unresolved}
+use Rattle.am_inhibit.specs.inside.Places.{new_places}
+use Rattle.am_inhibit.proofs.Places.{new_places-push}
 use Rattle.am_inhibit.proofs.inhibitor.note_places.Goals.{then-resolved_at, else-resolved_at}
 use Rattle.am_inhibit.proofs.inhibitor.note_places.Goals as goal
 
@@ -19,8 +19,8 @@ loop-alert-preserved c =
     let so_far = c.loop-alert.invariant in
     let more : take (at + 1) alerts ≡ done ++ alert ∷ [] =
     take_more alerts at alert c.loop-alert-test.true ∙ ap (λ a. done ++ a ∷ []) (sym c.alert-item.is) in
-    let places = λ (b : Bool). places_from 0 now done ++ cond b None (Some (0 + length (unresolved now done))) ∷ [] in
-    let listed : places_from 0 now (take (at + 1) alerts) ≡ places (is_resolved_at now alert) = ap (places_from 0 now) more ∙ places_from-push 0 now done alert in
+    let places = λ (b : Bool). new_places 0 now done ++ cond b None (Some (0 + length (unresolved now done))) ∷ [] in
+    let listed : new_places 0 now (take (at + 1) alerts) ≡ places (is_resolved_at now alert) = ap (new_places 0 now) more ∙ new_places-push 0 now done alert in
     let left = λ (b : Bool). length (unresolved now done ++ cond (not b) (alert ∷ []) []) in
     let counted : length (unresolved now (take (at + 1) alerts)) ≡ left (is_resolved_at now alert) =
     ap (λ l. length (unresolved now l)) more ∙ ap length (filter-append (λ (a : Alert). not (is_resolved_at now a)) done (alert ∷ [])) in
@@ -45,7 +45,7 @@ loop-alert-preserved c =
             places = (λ j. (w.places-is j).items)
                 ∙ (w.push_reserved-else-resolved_at.ensures.items
                 ∙ (ap (λ l. l ++ Some c.loop-alert.place ∷ []) so_far.places
-                ∙ (ap (λ n. places_from 0 now done ++ Some n ∷ []) here ∙ sym (listed ∙ ap places f))));
+                ∙ (ap (λ n. new_places 0 now done ++ Some n ∷ []) here ∙ sym (listed ∙ ap places f))));
             place = w.place-is ∙ (ap (λ n. n + 1) so_far.place ∙ sym (counted ∙ (ap left f ∙ same)));
             within = omega (arith, w.place-is, so_far.within);
             count = (λ j. length (w.places-is j).items)

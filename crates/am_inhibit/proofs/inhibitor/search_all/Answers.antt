@@ -7,7 +7,7 @@ use Rattle.am_alert.specs.declared.alert.Alert.{Alert}
 use Rattle.am_labels.specs.LabelSets.{Labels}
 use Rattle.am_inhibit.specs.LastAlerts.{label_sets}
 use Rattle.am_inhibit.specs.Muting.{Candidate, candidate_inhibits, count_to, rule_candidates}
-use Rattle.am_inhibit.specs.inside.Indexes.{IndexView, IsIndexOf, rules_indexed}
+use Rattle.am_inhibit.specs.inside.Indexes.{IndexView, IsSourceIndexOf, rules_indexed}
 use Rattle.am_inhibit.specs.inside.Searches.{candidates_from}
 use Rattle.am_inhibit.proofs.Counting.{count_to-found, count_to-past}
 use Rattle.am_inhibit.proofs.RuleSearch.{IsFound, candidate_of, rule-none, rule-some, rule-count, find-first, find-later, got_within, label_set_at}
@@ -17,7 +17,7 @@ pub find-requires : goal.find-requires
 find-requires c =
     let index = c.index-indexes-rule.result in
     let is = ap (λ (l : List IndexView). get_or l c.loop-rule.rule index) (sym c.loop-rule.invariant.same) in
-    subst (IsIndexOf (label_sets c.args.alerts.now)) is (c.requires c.loop-rule.rule index c.loop-rule-test.true)
+    subst (IsSourceIndexOf (label_sets c.args.alerts.now)) is (c.requires c.loop-rule.rule index c.loop-rule-test.true)
 
 same_set : (olds indexes : List IndexView) (at : ℕ) (index new : IndexView) → indexes ≡ olds → new ≡ get_or indexes at index → set indexes at new ≡ olds
 same_set olds indexes at index new same is = ap (set indexes at) is ∙ (set-get_or indexes at index ∙ same)

@@ -11,7 +11,7 @@ use Rattle.am_routes.specs.declared.candidates.Child.{Child}
 use Rattle.am_routes.specs.declared.child_entry.ChildEntry.{ChildEntry}
 use Rattle.am_routes.specs.RouteAnswers.{answer_of}
 use Rattle.am_routes.specs.Looking.{looked_from, routes_looked_at}
-use Rattle.am_routes.specs.inside.ChildIndexes.{CandidatesView, view_of, IsChildOf, IsNextChild, has_none, other_matchers}
+use Rattle.am_routes.specs.inside.ChildIndexes.{CandidatesView, child_view_of, IsChildOf, IsNextChild, is_nil, other_matchers}
 use Rattle.am_routes.specs.inside.Searches.{node_of, nodes_in, others_of, in_pre_order, BeginAt}
 use Rattle.am_routes.proofs.Searching.{search-first, search-bound, search-below, others-decide, child-begins, child-fewer, drop-none, answer-first, pending_answer, pending_looked, pending_count, IsPending, some-left, next-answer, next-looked, next-pending, next-fewer, answer-stops, answer-goes_on, looked-stops, looked-goes_on, own-kept, leaf-itself, leaf-looked, answer-fails, looked-fails}
 use Rattle.am_routes.proofs.matching.+ask.Goals as goal
@@ -25,7 +25,7 @@ child_at : {X : Type 0} (of : RouteView → Forest → X) (number : ℕ) (r : Ro
     → BeginAt (number + child.entry.offset) (in_pre_order of (forest_of (child.route.now ∷ []))) now
 child_at of number r child all now begins same one =
     subst (BeginAt (number + child.entry.offset) (in_pre_order of (forest_of (child.route.now ∷ [])))) (sym same)
-    (child-begins of number 1 r.children child.at (view_of child) all
+    (child-begins of number 1 r.children child.at (child_view_of child) all
     (search-below of number (route_view r) r.children no_routes all begins) one.0)
 
 abbrev level : RouteView → Forest → Forest
@@ -87,7 +87,7 @@ ask_below-others_admit-requires t c =
     record {
       within = omega arith;
       settled = ap (λ (e : ChildEntry). e.is_settled) pending.0.1
-          ∙ ap has_none (sym (search-first other (c.args.number + child.entry.offset) (route_view r) r.children no_routes c.loop-next.others begins []));
+          ∙ ap is_nil (sym (search-first other (c.args.number + child.entry.offset) (route_view r) r.children no_routes c.loop-next.others begins []));
     }
 
 pub ask_below-ask-requires : goal.ask_below-ask-requires
@@ -99,7 +99,7 @@ ask_below-ask-requires t c =
     let f = c.args.route.now.children in
     let d : List MatcherView = [] in
     let pending = subst (IsPending labels f) c.in-Some.is c.loop-next.invariant.pending in
-    let fewer : count_of r.children < count_of f = child-fewer 1 f child.at (view_of child) pending.0.0 in
+    let fewer : count_of r.children < count_of f = child-fewer 1 f child.at (child_view_of child) pending.0.0 in
     let depth : 2 * count_of f ≡ t = c.decreases in
     let falls : 2 * count_of r.children + 1 < t = omega (arith, fewer) in
     let others : c.others_admit.new.others ≡ c.loop-next.others = c.others_admit.ensures.same in

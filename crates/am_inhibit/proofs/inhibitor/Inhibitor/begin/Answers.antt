@@ -2,7 +2,7 @@ use Rattle.std.proofs.Common.{◌≡◌, ◌++◌, ◌∷◌, [], ◌≤◌, map
 use Rattle.std.proofs.lemmas.List.{take_all, drop_all, length-map, map-append}
 use Rattle.am_alert.specs.declared.alert.Alert.{Alert}
 use Rattle.am_inhibit.specs.LastAlerts.{label_sets}
-use Rattle.am_inhibit.specs.inside.Indexes.{index_with, AreIndexesOf}
+use Rattle.am_inhibit.specs.inside.Indexes.{index_with, AreSourceIndexesOf}
 use Rattle.am_inhibit.proofs.Indexes.{are_indexes-with}
 use Rattle.am_inhibit.proofs.inhibitor.Inhibitor.begin.Goals as goal
 
@@ -31,7 +31,7 @@ invariant_of-self-in-Ok-1 c =
     let sets : label_sets alerts ++ alert.labels ∷ [] ≡ label_sets c.push.new.self =
     sym (map-append (λ (a : Alert). a.labels) alerts (alert ∷ [])) ∙ ap label_sets (sym c.in-Ok.ensures.pushed) in
     let are = are_indexes-with rules_now (label_sets alerts) alert.labels items c.self.invariant.0 in (
-      subst (AreIndexesOf rules_now (label_sets c.push.new.self)) (sym made)
-          (subst (λ l. AreIndexesOf rules_now l (map (index_with (length (label_sets alerts)) alert.labels) items)) sets are),
+      subst (AreSourceIndexesOf rules_now (label_sets c.push.new.self)) (sym made)
+          (subst (λ l. AreSourceIndexesOf rules_now l (map (index_with (length (label_sets alerts)) alert.labels) items)) sets are),
       omega (arith, c.in_ok-reserve.ensures.ok, ap length c.in-Ok.ensures.pushed, length-append alerts (alert ∷ []), ap length c.as_slice-at.ensures.alerts),
     )

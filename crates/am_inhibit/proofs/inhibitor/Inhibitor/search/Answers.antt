@@ -6,16 +6,16 @@ use Rattle.am_config.specs.declared.inhibit_rule.InhibitRule.{InhibitRule}
 use Rattle.am_inhibit.specs.Inhibitors.{InhibitorView}
 use Rattle.am_inhibit.specs.LastAlerts.{label_sets, last_alerts}
 use Rattle.am_inhibit.specs.Muting.{candidate_inhibits, count_to}
-use Rattle.am_inhibit.specs.inside.Indexes.{IsIndexOf, rules_indexed}
+use Rattle.am_inhibit.specs.inside.Indexes.{IsSourceIndexOf, rules_indexed}
 use Rattle.am_inhibit.specs.inside.Searches.{candidates_from, first_muted, StandsFor}
 use Rattle.am_inhibit.proofs.inhibitor.Inhibitor.search.Goals as goal
 
 pub search_all-requires : goal.search_all-requires
 search_all-requires c =
     let sets = label_sets c.self.inside.alerts in
-    let all = All-from_recursion (IsIndexOf sets) c.self.inside.indexes.items c.self.invariant.0.1 in
-    subst (λ (l : List Alert). All (IsIndexOf (label_sets l)) c.deref_mut.result.now) (sym c.as_slice.ensures.alerts)
-    (subst (All (IsIndexOf sets)) (sym c.deref_mut.ensures.value) all)
+    let all = All-from_recursion (IsSourceIndexOf sets) c.self.inside.indexes.items c.self.invariant.0.1 in
+    subst (λ (l : List Alert). All (IsSourceIndexOf (label_sets l)) c.deref_mut.result.now) (sym c.as_slice.ensures.alerts)
+    (subst (All (IsSourceIndexOf sets)) (sym c.deref_mut.ensures.value) all)
 
 -- the rules that are searched
 rules_are : (c : goal.After-self-2-1) → rules_indexed c.deref_mut.result.now ≡ c.args.self.now.rules

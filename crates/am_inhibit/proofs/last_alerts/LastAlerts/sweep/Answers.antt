@@ -9,7 +9,7 @@ use Rattle.am_labels.specs.LabelSets.{Labels}
 use Rattle.am_alert.specs.declared.alert.Alert.{Alert}
 use Rattle.am_alert.specs.Merging.{is_resolved_at}
 use Rattle.am_inhibit.specs.LastAlerts.{label_sets}
-use Rattle.am_inhibit.specs.KeptAlerts.{unresolved}
+use Rattle.am_alert.specs.Merging.{unresolved}
 use Rattle.am_inhibit.proofs.AlertEntries.{values-filtered, keys-filtered}
 use Rattle.am_inhibit.proofs.last_alerts.LastAlerts.sweep.Goals as goal
 

@@ -9,7 +9,7 @@ use Rattle.am_inhibit.specs.declared.source.Source.{Source}
 use Rattle.am_inhibit.specs.LastAlerts.{label_sets}
 use Rattle.am_inhibit.specs.Muting.{count_to, inhibits, is_candidate}
 use Rattle.am_inhibit.specs.inside.Sources.{same_values}
-use Rattle.am_inhibit.specs.inside.Indexes.{IndexView, values_of, listed, sources_from, source_inhibits}
+use Rattle.am_inhibit.specs.inside.Indexes.{IndexView, values_of, sources_listed, sources_from, source_inhibits}
 use Rattle.am_inhibit.proofs.Searching.{listed_are, Target, none_candidates, found-first, looked-count, all_within}
 use Rattle.am_inhibit.proofs.source_index.SourceIndex.find.Goals as goal
 
@@ -28,7 +28,7 @@ returns-then-not-admits-clause-looked c = sym (ap (count_to (inhibits c.args.sel
 sources_are : (c : goal.In-Some) → c.in-Some.sources.now ≡ sources_from c.args.self.now.rule (values_of c.args.self.now.rule.equal c.args.labels.now) 0 (label_sets c.args.alerts.now)
 sources_are c =
     let entries = c.self.inside.sources.entries in
-    let known = ap (λ (i : IndexView). listed c.in_ok-values.values i.entries) c.self.view_is
+    let known = ap (λ (i : IndexView). sources_listed c.in_ok-values.values i.entries) c.self.view_is
     ∙ listed_are c.args.self.now c.args.labels.now (label_sets c.args.alerts.now) c.as_slice.result.now c.in_ok-values.values c.requires (c.as_slice.ensures ∙ ap (λ (i : IndexView). i.rule.equal) c.self.view_is) c.in_ok-values.ensures in
     let got : Some c.in-Some.sources.now ≡ lookup (same_values c.in_ok-values.values) entries = c.in-Some.ensures.value in
     ap (λ o. unwrap_or o []) got ∙ known
@@ -44,7 +44,7 @@ first_muting-requires c =
 sources_found : (c : goal.After-drop-values-inside) → c.in-Some.sources.now ≡ sources_from c.args.self.now.rule (values_of c.args.self.now.rule.equal c.args.labels.now) 0 (label_sets c.args.alerts.now)
 sources_found c =
     let entries = c.self.inside.sources.entries in
-    let known = ap (λ (i : IndexView). listed c.in_ok-values.values i.entries) c.self.view_is
+    let known = ap (λ (i : IndexView). sources_listed c.in_ok-values.values i.entries) c.self.view_is
     ∙ listed_are c.args.self.now c.args.labels.now (label_sets c.args.alerts.now) c.as_slice.result.now c.in_ok-values.values c.requires (c.as_slice.ensures ∙ ap (λ (i : IndexView). i.rule.equal) c.self.view_is) c.in_ok-values.ensures in
     let got : Some c.in-Some.sources.now ≡ lookup (same_values c.in_ok-values.values) entries = c.in-Some.ensures.value in
     ap (λ o. unwrap_or o []) got ∙ known
@@ -73,7 +73,7 @@ returns-in-Some-clause-looked c =
 sources_missing : (c : goal.After-drop-values-inside-2) → [] ≡ sources_from c.args.self.now.rule (values_of c.args.self.now.rule.equal c.args.labels.now) 0 (label_sets c.args.alerts.now)
 sources_missing c =
     let entries = c.self.inside.sources.entries in
-    let known = ap (λ (i : IndexView). listed c.in_ok-values.values i.entries) c.self.view_is
+    let known = ap (λ (i : IndexView). sources_listed c.in_ok-values.values i.entries) c.self.view_is
     ∙ listed_are c.args.self.now c.args.labels.now (label_sets c.args.alerts.now) c.as_slice.result.now c.in_ok-values.values c.requires (c.as_slice.ensures ∙ ap (λ (i : IndexView). i.rule.equal) c.self.view_is) c.in_ok-values.ensures in
     let got : None ≡ lookup (same_values c.in_ok-values.values) entries = c.in-None.ensures.value in
     ap (λ o. unwrap_or o []) got ∙ known

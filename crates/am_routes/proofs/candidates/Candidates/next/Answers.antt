@@ -4,7 +4,7 @@ use Rattle.am_config.specs.declared.route.Route.{Route}
 use Rattle.am_config.specs.RouteLists.{forest_of}
 use Rattle.am_routes.specs.declared.child_entry.ChildEntry.{ChildEntry}
 use Rattle.am_routes.specs.Looking.{may_match}
-use Rattle.am_routes.specs.inside.ChildIndexes.{children_from, entry_of, entries_from, filings, CandidatesView, IsFirstFrom}
+use Rattle.am_routes.specs.inside.ChildIndexes.{children_from, child_entry_of, entries_from, filings, CandidatesView, IsFirstFrom}
 use Rattle.am_routes.proofs.ChildIndexes.{child-at, get_or-default, length-filings, length-entries, left-after, seen}
 use Rattle.am_routes.proofs.candidates.Candidates.next.Goals as goal
 
@@ -64,6 +64,6 @@ returns-clause-next c =
       c.in_ok-at.ensures,
       (
         ap (λ f. slice_get (children_from 1 f) at) (sym routes) ∙ (one.0 ∙ ap (λ (r : Route). Some (seen own.offset r)) c.index-self-at.is),
-        one.1 ∙ ap (λ (r : Route). entry_of (seen own.offset r)) c.index-self-at.is,
+        one.1 ∙ ap (λ (r : Route). child_entry_of (seen own.offset r)) c.index-self-at.is,
       ),
     )

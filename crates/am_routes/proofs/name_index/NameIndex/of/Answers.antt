@@ -4,7 +4,7 @@ use Rattle.std.specs.Option.{option_copied}
 use Rattle.am_config.specs.declared.route.Route.{Route}
 use Rattle.am_routes.specs.declared.name_index.NameIndex.{NameIndex}
 use Rattle.am_routes.specs.Looking.{first_equality}
-use Rattle.am_routes.specs.inside.ChildIndexes.{is_filed, listed}
+use Rattle.am_routes.specs.inside.ChildIndexes.{is_filed, indexes_kept}
 use Rattle.am_routes.proofs.ChildIndexes.{places-step}
 use Rattle.am_routes.proofs.name_index.NameIndex.of.Goals as goal
 use Rattle.am_routes.proofs.name_index.NameIndex.of.Goals.{in-Some+then-eq+in_ok-add, in-Some+else-eq, in_default}
@@ -21,7 +21,7 @@ loop-at-preserved c =
     let old = c.loop-at.index in
     let filing : option_copied c.first_equality.result ≡ first_equality r.matchers =
     c.first_equality.ensures ∙ ap first_equality (c.as_slice.ensures ∙ ap (λ (r : Route). r.matchers) (sym c.index-routes-at.is)) in
-    let more = λ (value : List ℕ) (e : listed value c.match-first_equality.index ≡ listed value old ++ cond (is_filed name value (first_equality r.matchers)) (i ∷ []) []).
+    let more = λ (value : List ℕ) (e : indexes_kept value c.match-first_equality.index ≡ indexes_kept value old ++ cond (is_filed name value (first_equality r.matchers)) (i ∷ []) []).
     e ∙ (ap (λ l. l ++ cond (is_filed name value (first_equality r.matchers)) (i ∷ []) []) (c.loop-at.invariant.kept value)
     ∙ sym (places-step (is_filed name value) rs i r (omega arith) c.index-routes-at.is)) in
     elim c.match-first_equality.branch [
@@ -32,11 +32,11 @@ loop-at-preserved c =
           record {
             name = ap (λ (n : NameIndex). n.name.now) w.index-is ∙ (w.in_ok-add.ensures.name ∙ c.loop-at.invariant.name);
             kept = λ value.
-                more value (ap (listed value) w.index-is
+                more value (ap (indexes_kept value) w.index-is
                 ∙ (w.in_ok-add.ensures.added value
-                ∙ (ap (λ v. listed value old ++ cond (bytes_eq value v) (i ∷ []) []) w.value.ensures
-                ∙ (ap (λ b. listed value old ++ cond (b && bytes_eq value m.value) (i ∷ []) []) (sym same)
-                ∙ ap (λ o. listed value old ++ cond (is_filed name value o) (i ∷ []) []) (sym some)))));
+                ∙ (ap (λ v. indexes_kept value old ++ cond (bytes_eq value v) (i ∷ []) []) w.value.ensures
+                ∙ (ap (λ b. indexes_kept value old ++ cond (b && bytes_eq value m.value) (i ∷ []) []) (sym same)
+                ∙ ap (λ o. indexes_kept value old ++ cond (is_filed name value o) (i ∷ []) []) (sym some)))));
           }
       | in-Some+else-eq w ↦
           let m = w.in-Some.matcher.now in
@@ -45,13 +45,13 @@ loop-at-preserved c =
           record {
             name = ap (λ (n : NameIndex). n.name.now) w.index-is ∙ c.loop-at.invariant.name;
             kept = λ value.
-                more value (ap (listed value) w.index-is
-                ∙ nothing_more (listed value old) i (is_filed name value (first_equality r.matchers)) (ap (is_filed name value) some ∙ ap (λ b. b && bytes_eq value m.value) other));
+                more value (ap (indexes_kept value) w.index-is
+                ∙ nothing_more (indexes_kept value old) i (is_filed name value (first_equality r.matchers)) (ap (is_filed name value) some ∙ ap (λ b. b && bytes_eq value m.value) other));
           }
       | in_default w ↦
           let none : first_equality r.matchers ≡ None = search rules in
           record {
             name = ap (λ (n : NameIndex). n.name.now) w.index-is ∙ c.loop-at.invariant.name;
-            kept = λ value. more value (ap (listed value) w.index-is ∙ nothing_more (listed value old) i (is_filed name value (first_equality r.matchers)) (ap (is_filed name value) none));
+            kept = λ value. more value (ap (indexes_kept value) w.index-is ∙ nothing_more (indexes_kept value old) i (is_filed name value (first_equality r.matchers)) (ap (is_filed name value) none));
           }
     ]
