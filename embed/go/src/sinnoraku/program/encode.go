@@ -92,89 +92,142 @@ func untime(alert *Alert) {
 // as it was.
 func appendAlert(line []byte, alert *Alert) (_ []byte, from, to int, err error) {
 	it, begun := timed(alert), len(line)
-	if err := checkAlert(&it); err != nil {
+	if err := checkMoments(&it); err != nil {
 		return line, begun, begun, err
 	}
-	line = append(line, `{"labels":`...)
-	from = len(line)
-	line = appendLabels(line, it.Labels)
-	to = len(line)
-	if len(it.Annotations) > 0 {
-		line = append(line, `,"annotations":`...)
-		line = appendLabels(line, it.Annotations)
+	line, to, err = appendParts(append(line, `{"labels":`...), &it)
+	if err != nil {
+		return line[:begun], begun, begun, err
 	}
-	line = append(line, `,"startsAt":`...)
-	line = appendMoment(line, it.StartsAt)
-	line = append(line, `,"endsAt":`...)
-	line = appendMoment(line, it.EndsAt)
-	line = append(line, `,"updatedAt":`...)
-	line = appendMoment(line, it.UpdatedAt)
-	if it.Timeout {
-		line = append(line, `,"timeout":true`...)
-	}
-	if it.GeneratorURL != "" {
-		line = append(line, `,"generatorURL":`...)
-		line = appendText(line, it.GeneratorURL)
-	}
-	return append(line, '}'), from, to, nil
+	return line, begun + len(`{"labels":`), to, nil
 }
 
-// checkAlert says why an alert can't be written, if it can't.
-func checkAlert(alert *Alert) error {
+// appendParts writes an alert from its labels on, and says where these end.
+func appendParts(line []byte, alert *Alert) (_ []byte, to int, err error) {
+	if line, err = appendLabels(line, alert.Labels); err != nil {
+		return line, 0, err
+	}
+	to = len(line)
+	if len(alert.Annotations) > 0 {
+		line = append(line, `,"annotations":`...)
+		if line, err = appendLabels(line, alert.Annotations); err != nil {
+			return line, 0, err
+		}
+	}
+	line = append(line, `,"startsAt":`...)
+	line = appendMoment(line, alert.StartsAt)
+	line = append(line, `,"endsAt":`...)
+	line = appendMoment(line, alert.EndsAt)
+	line = append(line, `,"updatedAt":`...)
+	line = appendMoment(line, alert.UpdatedAt)
+	if alert.Timeout {
+		line = append(line, `,"timeout":true`...)
+	}
+	if alert.GeneratorURL != "" {
+		line = append(line, `,"generatorURL":`...)
+		if line, err = appendText(line, alert.GeneratorURL); err != nil {
+			return line, 0, err
+		}
+	}
+	return append(line, '}'), to, nil
+}
+
+// checkMoments says which moment can't be written, if one can't.
+func checkMoments(alert *Alert) error {
 	for _, moment := range [...]time.Time{alert.StartsAt, alert.EndsAt, alert.UpdatedAt} {
 		if moment.Before(noStart) || moment.After(noEnd) {
 			return fmt.Errorf("%w: %v", ErrMoment, moment)
 		}
 	}
-	if !utf8.ValidString(alert.GeneratorURL) {
-		return fmt.Errorf("%w: %q", ErrText, alert.GeneratorURL)
-	}
-	for _, labels := range [...]model.LabelSet{alert.Labels, alert.Annotations} {
-		for name, value := range labels {
-			if !utf8.ValidString(string(name)) || !utf8.ValidString(string(value)) {
-				return fmt.Errorf("%w: %q=%q", ErrText, name, value)
-			}
-		}
-	}
 	return nil
 }
 
-// appendLabels writes an object of texts, the names in order: so written, the program reads them without a detour.
-func appendLabels(line []byte, labels model.LabelSet) []byte {
-	var room [16]model.LabelName
+// A pair is a label or an annotation.
+type pair struct{ name, value string }
+
+// fewLabels is how many pairs are put in order without asking for memory.
+const fewLabels = 16
+
+// appendLabels writes an object of texts, the names in byte order: so written, the program reads them without a detour.
+func appendLabels(line []byte, labels model.LabelSet) ([]byte, error) {
+	if len(labels) > fewLabels {
+		return appendManyLabels(line, labels)
+	}
+	var room [fewLabels]pair
+	pairs := room[:0]
+	for name, value := range labels {
+		pairs = append(pairs, pair{string(name), string(value)})
+	}
+	for next := 1; next < len(pairs); next++ {
+		for at := next; at > 0 && pairs[at].name < pairs[at-1].name; at-- {
+			pairs[at], pairs[at-1] = pairs[at-1], pairs[at]
+		}
+	}
+	return appendPairs(line, pairs)
+}
+
+func appendManyLabels(line []byte, labels model.LabelSet) ([]byte, error) {
+	pairs := make([]pair, 0, len(labels))
+	for name, value := range labels {
+		pairs = append(pairs, pair{string(name), string(value)})
+	}
+	sort.Slice(pairs, func(i, j int) bool { return pairs[i].name < pairs[j].name })
+	return appendPairs(line, pairs)
+}
+
+func appendPairs(line []byte, pairs []pair) (_ []byte, err error) {
 	line = append(line, '{')
-	for at, name := range inOrder(labels, room[:0]) {
+	for at, it := range pairs {
 		if at > 0 {
 			line = append(line, ',')
 		}
-		line = appendText(line, string(name))
-		line = append(line, ':')
-		line = appendText(line, string(labels[name]))
-	}
-	return append(line, '}')
-}
-
-// inOrder adds the names to a list, and puts them in byte order. Few are put in their places one by one.
-func inOrder(labels model.LabelSet, names []model.LabelName) []model.LabelName {
-	for name := range labels {
-		names = append(names, name)
-	}
-	if len(names) > 16 {
-		sort.Slice(names, func(i, j int) bool { return names[i] < names[j] })
-		return names
-	}
-	for next := 1; next < len(names); next++ {
-		for at := next; at > 0 && names[at] < names[at-1]; at-- {
-			names[at], names[at-1] = names[at-1], names[at]
+		if line, err = appendText(line, it.name); err != nil {
+			return line, err
+		}
+		if line, err = appendText(append(line, ':'), it.value); err != nil {
+			return line, err
 		}
 	}
-	return names
+	return append(line, '}'), nil
 }
 
-// appendText writes a text of valid UTF-8 as JSON has it: quotes, backslashes and control characters are escaped.
-func appendText(line []byte, text string) []byte {
-	const digits = "0123456789abcdef"
+// appendText writes a text as JSON has it: quotes, backslashes and control characters are escaped. One that isn't valid
+// UTF-8 can't be written.
+func appendText(line []byte, text string) ([]byte, error) {
 	line = append(line, '"')
+	switch {
+	case isPlain(text):
+		line = append(line, text...)
+	case utf8.ValidString(text):
+		line = appendEscaped(line, text)
+	default:
+		return line, fmt.Errorf("%w: %q", ErrText, text)
+	}
+	return append(line, '"'), nil
+}
+
+// isPlain is whether a text is ASCII without quotes, backslashes and control characters, which JSON has as it is. It looks
+// at eight bytes at a time.
+func isPlain(text string) bool {
+	const each, tops = 0x01_01_01_01_01_01_01_01, 0x80_80_80_80_80_80_80_80
+	for ; len(text) >= 8; text = text[8:] {
+		word := uint64(text[0]) | uint64(text[1])<<8 | uint64(text[2])<<16 | uint64(text[3])<<24 |
+			uint64(text[4])<<32 | uint64(text[5])<<40 | uint64(text[6])<<48 | uint64(text[7])<<56
+		// A byte's top bit is set in one of these if it isn't ASCII, is below a space, or is a quote or a backslash.
+		if (word|(word-each*' ')|((word^each*'"')-each)|((word^each*'\\')-each))&tops != 0 {
+			return false
+		}
+	}
+	for at := 0; at < len(text); at++ {
+		if it := text[at]; it < ' ' || it == '"' || it == '\\' || it >= utf8.RuneSelf {
+			return false
+		}
+	}
+	return true
+}
+
+func appendEscaped(line []byte, text string) []byte {
+	const digits = "0123456789abcdef"
 	from := 0
 	for at := 0; at < len(text); at++ {
 		it := text[at]
@@ -189,8 +242,7 @@ func appendText(line []byte, text string) []byte {
 		}
 		from = at + 1
 	}
-	line = append(line, text[from:]...)
-	return append(line, '"')
+	return append(line, text[from:]...)
 }
 
 // appendMoment writes a moment in UTC, with as many digits of a second as it has.
@@ -218,13 +270,10 @@ func appendMoment(line []byte, moment time.Time) []byte {
 }
 
 func appendDigits(line []byte, number, digits int) []byte {
-	from := len(line)
-	for at := 0; at < digits; at++ {
-		line = append(line, '0')
-	}
-	for at := len(line) - 1; at >= from; at-- {
-		line[at] += byte(number % 10)
+	var room [9]byte
+	for at := digits - 1; at >= 0; at-- {
+		room[at] = byte('0' + number%10)
 		number /= 10
 	}
-	return line
+	return append(line, room[:digits]...)
 }
