@@ -108,7 +108,7 @@ impl<T> SegmentBuilder<T> {
         block.free(&alloc, places);
     }
 
-    /// So many keys to the items, in order of their numbers.
+    /// `keys` keys to the items, in order of their numbers.
     pub fn seal(self, keys: usize) -> Result<Vec<SegKey<T>>, SealFault<T>>
         requires { 1 ≤ keys }
         ensures keys { IfOk result (λ made.
@@ -125,7 +125,7 @@ impl<T> SegmentBuilder<T> {
         Ok(self.hand_out(keys).push_all(made))
     }
 
-    /// So many keys to the items, handed out one by one. It takes no memory.
+    /// `keys` keys to the items, handed out one by one. It takes no memory.
     pub fn hand_out(self, keys: usize) -> KeyRun<T>
         requires { (1 ≤ keys) × (keys ≤ MAX_KEYS) }
         ensures { (segment : ℕ) × (result ≡ key_with segment keys self.items 0) }
