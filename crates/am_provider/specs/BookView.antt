@@ -17,9 +17,9 @@ use Rattle.am_provider.specs.declared.answers.Ended.{Ended}
 use Rattle.am_provider.specs.Batches.{Batch, LogView, sent_in, posts_in}
 use Rattle.am_provider.specs.Lefts.{left_ats}
 
--- a Book: its stored alerts in order, its journal of accepted calls, how many calls memory has no more, the
--- log as its writer knows it, the endings of subscriptions that were given back and how many of these were
--- dropped, and what it does if the log is full
+-- a Book: its stored alerts in order, its journal of accepted calls, how many calls memory has no more, and
+-- the log as its writer knows it. Then the endings of subscriptions that were given back, how many more
+-- endings were dropped, and what it does if the log is full
 pub record BookView : Type 0 where
   pub stored : List Alert
   pub journal : JournalView

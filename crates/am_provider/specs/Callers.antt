@@ -48,8 +48,8 @@ pub record SeesWhole (was is saw sees : FrontView EntryView) : Type 0 where
   pub caller : is ≡ record was { seen = entries; looks = was.looks + 1 }
   pub onlooker : sees ≡ record saw { seen = entries; looks = saw.looks + 1 }
 
--- how a post of a body is answered: a body that can't be read is refused for its fault before the history is
--- looked at; another is posted, and then the pass owns its place with what was read
+-- how a post of a body is answered. A body that can't be read is refused for its fault before the history is
+-- looked at. Another is posted, and then the pass owns its place with what was read
 abbrev pub AnswersBody : Policy → ℕ → ℕ → ℕ → List ℕ → PassView Alert Call → PassView Alert Call
     → FrontView EntryView → FrontView EntryView → Result Posted PostRefused → Type 0
 AnswersBody policy places now timeout body was is saw sees (Ok posted) =

@@ -55,12 +55,12 @@ pub record IsPosted (policy : Policy) (places now : ℕ) (post : Post) (posted :
   pub entry : added ≡ Accepted (Posted now post.valid) posted.cut None ∷ []
 
 -- why a post of `count` valid alerts is refused: a closed log before its end, and that before the others. A
--- full log names an open lane that isn't cut and was given out at least as many batches ago as there are
--- places, and how many batches a lane has passed that lags by as many. The log's own calls (am_cast) say that
--- the named lane has passed as many, that it is the lowest such, and that a full log isn't answered as a lack
--- of memory. It isn't said here: no entry of the history says how far a reader has come. The smallest
--- example: two places, subscribers a and b, two posts. A third names a if b alone has read, and b if a alone
--- has. The history before it is the same in both runs
+-- full log names an open lane that isn't cut and was given out at least `places` batches ago, and how many
+-- batches a lane has passed that lags by `places`. The log's own calls (am_cast) say that the named lane has
+-- passed as many, that it is the lowest such, and that a full log isn't answered as a lack of memory. It
+-- isn't said here: no entry of the history says how far a reader has come. The smallest example: two places,
+-- subscribers a and b, two posts. A third names a if b alone has read, and b if a alone has. The history
+-- before it is the same in both runs
 abbrev pub IsPutRefusal : Policy → ℕ → ℕ → List EntryView → PutFault → Type 0
 IsPutRefusal policy places count before put.Closed = is_closed (whole before) ≡ true
 IsPutRefusal policy places count before put.LogEnd =

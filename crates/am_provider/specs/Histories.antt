@@ -12,8 +12,8 @@ use Rattle.am_store.specs.Broadcast.{broadcast}
 use Rattle.am_provider.specs.declared.answers.Ended.{Ended}
 
 -- an entry of the history: an accepted call, the lanes that it cut (lane l in bit l), and what it answered
--- of a subscription that it took back; a trim that discarded `count` calls of the journal; or a compaction,
--- which took `count` out of memory
+-- of a subscription that it took back. Or a trim, which discarded `count` calls of the journal, or a
+-- compaction, which took `count` out of memory
 pub data EntryView : Type 0 where
   Accepted : (call : Call) (cut : ℕ) (ended : Option Ended) → EntryView
   Trimmed : (count : ℕ) → EntryView
@@ -45,7 +45,7 @@ trimmed_by (Trimmed count ∷ entries) = count + trimmed_by entries
 trimmed_by (Compacted count ∷ entries) = trimmed_by entries
 
 -- how many calls memory has no more after some entries more, if trims had discarded `trimmed` and `gone` had
--- left memory: a trim leaves no call in memory that it discarded, and a compaction takes `count` more
+-- left memory. A trim leaves no call in memory that it discarded, and a compaction takes `count` more
 abbrev pub gone_from : ℕ → ℕ → List EntryView → ℕ
 gone_from trimmed gone [] = gone
 gone_from trimmed gone (Accepted call cut ended ∷ entries) = gone_from trimmed gone entries

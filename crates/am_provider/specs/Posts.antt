@@ -34,8 +34,8 @@ AddsOwn was now posted (Some place) is =
     ((x : Batch) × (x.post ≡ Posted now posted) × (is.own ≡ was.own ++ own_at place x ∷ []))
     × AreInLog is.own is.noted × IsPrefix was.noted is.noted
 
--- a pass met a subscription that has seen the batches `seen`: each of the pass's own posts that was seen is
--- at its place there, and the pass, which owns what it did, knows all that was seen
+-- a pass met a subscription that has seen the batches `seen`. Each of the pass's own posts that was seen is
+-- at its place there. The pass has the same own posts as before, and knows all that was seen
 pub record HasMet (seen : List Batch) (was is : PassView Alert Call) : Type 0 where
   pub own : is.own ≡ was.own
   pub stand : (k : ℕ) (o : Own Batch) → get_elem? was.own k ≡ some o → o.place < length seen

@@ -1,4 +1,4 @@
-//! Four threads that post, four that subscribe and leave, and two that collect, all at the same time: the
+//! Four threads that post, four that subscribe and leave, and two that collect, all at the same time. The
 //! number that each caller reads off its front after a call is that call's number in the journal, counted
 //! from one.
 

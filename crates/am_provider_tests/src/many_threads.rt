@@ -1,5 +1,5 @@
-//! A provider with four posters, four readers and a close in threads of their own: what each reader
-//! was shown begins what the journal owes it, and is all of it if it was answered `Closed`.
+//! A provider with four posters, four readers and a close in threads of their own. What each reader was shown
+//! begins what the journal owes it, and is all of it if it was answered `Closed`.
 
 ghost use Rattle.std.specs.Prelude.{◌≡◌};
 

@@ -30,9 +30,9 @@ use std::thread;
 use std::thread::{Promise, Scope, Threads};
 use std::time::Duration;
 
-/// The outcome of a thread's run: what each line of the script answered, which is nothing if it is another
-/// thread's, or an error if memory ran out or the threads weren't started; and the caller, which has what the
-/// thread added to the provider's history.
+/// The outcome of a thread's run: what each line of the script answered, and the caller, which has what the
+/// thread added to the provider's history. A line of another thread answered nothing. An error says that
+/// memory ran out, or that the threads weren't started.
 pub type ThreadOutcome<N> = (Result<Vec<Vec<Answer>>, AllocError>, Caller<N>);
 
 // The same, and what the thread had seen of the turns.
