@@ -182,7 +182,7 @@ abbrev pub closed_of : {B K A : Type 0} → Option (WriterView B K A) → Bool �
 closed_of (Some q) h = q.tail.closed
 closed_of None h = h
 
--- whether the lane's part was told that it is closed, or else h
+-- whether the lane's last look showed the log closed; without a lane, h
 abbrev pub told_of : {B A : Type 0} → Option (LaneView B A) → Bool → Bool
 told_of (Some v) h = v.told
 told_of None h = h

@@ -16,7 +16,7 @@ use Rattle.am_cast.specs.Core.{record_behind}
 use Rattle.am_cast.specs.Seats.{account_of}
 use Rattle.am_cast.specs.Keys.{key_of}
 
--- the record, if the stand of that number has one: live or cut
+-- the record, if the standing of that number has one: live or cut
 abbrev pub only_used : ℕ → LaneRecord → Option LaneRecord
 only_used (suc zero) m = Some m
 only_used (suc (suc zero)) m = Some m

@@ -1,4 +1,4 @@
--- How a cursor stands after the loan of an item. `next` lends `&`s alone, so it is then as the call left it:
+-- A cursor after the loan of an item. `next` lends `&`s alone, so the cursor is then as the call left it:
 -- this is Rattle's `follows_so`, for a result through which nothing is written.
 use Rattle.std.specs.Prelude.{⊤, []}
 use Rattle.std.specs.Borrow.{Fml, MutBor, RattleType, follows_so}

@@ -24,8 +24,8 @@ module _ {T P A : Type 0} where
     pub was_open : HasEnded c → ⊥
     pub was_uncut : HasCut c → ⊥
 
-  -- nothing more was shown, and an answer other than Pending is known: an item of the place in hand or a
-  -- place is left, or it was told that its lane was cut or that the log is closed
+  -- nothing more was shown, and an answer other than Pending is known. An item of the place in hand or a
+  -- place is left, or the cursor knows that its lane was cut or that the log is closed
   pub record HasNews (c d : CursorView T P A) : Type 0 where
     pub taken : shown_items d ≡ shown_items c
     pub known : ((d.lane.held ≡ true) × (d.shown < length (items_at d.lane.front d.lane.passed)))

@@ -1,4 +1,4 @@
--- How a seat stands after the loan of the slot in its hand. It was lent to be read, so the seat is as it was.
+-- A seat after the loan of the slot in its hand. The slot was lent to be read, so the seat is as it was.
 use Rattle.std.specs.Prelude.{◌≡◌, ⊤, Option}
 use Rattle.std.specs.Borrow.{Fml, MutBor, RattleType, follows_so}
 use Rattle.std.specs.contracts.option.Option.{the_row as option_row}

@@ -21,7 +21,7 @@ module _ {B K A : Type 0} where
   abbrev pub IsRefusal : WriterView B K A → WriterView B K A → PublishFault → Type 0
   IsRefusal q q' Closed = q.tail.closed ≡ true
   IsRefusal q q' LogEnd = (q.tail.closed ≡ false) × (LONGEST_LOG ≤ length q.tail.log)
-  -- the lowest lane that is as many places behind as there are
+  -- the lowest lane that lags by `places` batches
   IsRefusal q q' (Full lane passed) = IsOpen q × (lane < LANES) × (passed ≡ (account_of q' lane).known)
       × IsBehind q' lane × HasRoom q' lane
   IsRefusal q q' NoMemory = IsOpen q × HasRoom q' LANES

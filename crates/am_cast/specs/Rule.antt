@@ -21,8 +21,8 @@ abbrev pub bit : Bool → ℕ
 bit true = 1
 bit false = 0
 
--- How the writer has a lane stand, by number. Half of it, rounded down, is the cut bit of the lane's word.
--- Idle is nobody's
+-- A lane's standing as the writer has it, by number. Half of it, rounded down, is the cut bit of the lane's
+-- word. Idle is nobody's
 abbrev pub idle : ℕ
 idle = 0
 
@@ -95,7 +95,7 @@ pub record Seen {B A : Type 0} (t : Tail B) (v : LaneView B A) (l : ℕ) : Type 
   pub unbegun : v.here ≡ true → v.begun ≡ false → IsUnbegun v
   pub high : v.passed ≤ length v.front
   pub holds : v.held ≡ true → (v.here ≡ true) × (v.passed < length v.front)
-  -- a lane that was told the end has seen all of a closed log
+  -- a lane whose last look showed the log closed has seen all of it
   pub told : v.told ≡ true → (t.closed ≡ true) × (v.front ≡ t.log)
 
 -- the numbers of the writer's account of a lane. Its keys are in the slots from `cleared` to `stop`, at most

@@ -23,19 +23,18 @@ abbrev pub SameAdmission : {K A : Type 0} → Account K A → Account K A → Ty
 SameAdmission b c = (c.turn ≡ b.turn) × (c.note ≡ b.note) × (c.start ≡ b.start) × (b.loads ≤ c.loads)
     × (b.known ≤ c.known)
 
--- a lane stands as before, except that a live one may be found vacated. A cut one keeps the word at which it
--- was cut
+-- a lane's standing is as before, except that a live lane may be found vacated. A cut one keeps the word at
+-- which it was cut
 abbrev pub StandsOn : {K A : Type 0} → Account K A → Account K A → Type 0
 StandsOn b c = (c.stand ≢ b.stand → (b.stand ≡ live) × (c.stand ≡ vacated))
     × (b.stand ≡ cut → c.half ≡ b.half)
 
--- the same admission, and the lane stands on
+-- the same admission, and the standing changes at most so
 abbrev pub StaysAs : {K A : Type 0} → Account K A → Account K A → Type 0
 StaysAs b c = SameAdmission b c × StandsOn b c
 
--- whether the lane was cut between two moments, in a log of n places: only if it was as many places behind as
--- there are, by the word at which it was cut. It is the lag that tokio's `broadcast::Receiver` reports as
--- `Lagged`
+-- whether the lane was cut between two moments, in a log of n places: only if it lagged by `places` batches,
+-- by the word at which it was cut. It is the lag that tokio's `broadcast::Receiver` reports as `Lagged`
 abbrev pub IsCutAs : {K A : Type 0} → ℕ → ℕ → Account K A → Account K A → Bool → Type 0
 IsCutAs n places b c true = (b.stand ≡ live) × (c.stand ≡ cut) × (n ≡ c.known + places)
     × (c.half / 2 ≡ c.known)
@@ -52,8 +51,7 @@ module _ {B K A : Type 0} where
   HasRoom q k = (l : ℕ) → l < k → (account_of q l).stand ≡ live
       → length q.tail.log < (account_of q l).known + q.tail.places
 
-  -- the lane is live, and as many places behind as there are: the test for a full ring of crossbeam's
-  -- `start_send`
+  -- the lane is live and lags by `places` batches: the test for a full ring of crossbeam's `start_send`
   abbrev pub IsBehind : WriterView B K A → ℕ → Type 0
   IsBehind q l = ((account_of q l).stand ≡ live)
       × (length q.tail.log ≡ (account_of q l).known + q.tail.places)

@@ -12,7 +12,7 @@ pub enum PublishFault {
     Closed,
     /// The log has every place that it can have.
     LogEnd,
-    /// This lane, the lowest such, is as many places behind as the log has.
+    /// This lane, the lowest such, lags by as many batches as the log has places.
     Full { lane: usize, passed: u64 },
 }
 

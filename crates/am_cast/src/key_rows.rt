@@ -103,7 +103,7 @@ impl<T> KeyRows<T> {
         self.spares.keep(row.end());
     }
 
-    /// What is left of a segment that has ended, if it has places for so many items.
+    /// What is left of a segment that has ended, if its block has this number of places.
     pub(crate) fn spare(&mut self, places: usize) -> Option<SegmentBuilder<T>>
         ensures spare { IfSome result (λ builder. builder ≡ record { items = []; places = places }) }
         ensures same { self.new ≡ self.old }

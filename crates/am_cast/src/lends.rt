@@ -38,7 +38,7 @@ pub enum Slice<'s, T> {
     Cut,
 }
 
-/// What `advance` came to: the answer of `next` without the item.
+/// What `advance` answers: the answer of `next` without the item.
 #[derive(Clone, Copy, Debug, PartialEq, Eq, Drop)]
 pub enum Moved {
     /// One item more was shown; `in_hand` lends it.
@@ -117,8 +117,8 @@ impl<'a, T, P, A, N: Feed> Cursor<'a, T, P, A, N> {
         None
     }
 
-    // Whether `next` needs no look: it has an item or knows of a place more, or was told that the log is closed or its
-    // lane cut. If not, the place in hand has gone home.
+    // Whether `next` needs no look: it has an item, or knows of a place more, or that the log is closed or
+    // its lane cut. If not, the place in hand has gone home.
     fn knows_more(&mut self) -> bool
         ensures on { GoesOn self.old self.new }
         ensures yes { result ≡ true → HasNews self.old self.new }

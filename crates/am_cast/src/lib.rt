@@ -4,12 +4,12 @@
 //! # Lagging
 //!
 //! Each subscriber reads at its own pace, and none waits for another. A log has a number of places;
-//! a subscriber that is as many batches behind holds the next batch up. What then happens is the
-//! writer's choice, call by call. `publish` refuses the batch, gives it back, and names the lowest
-//! such lane. `publish_cutting` cuts each such lane: its subscriber still shows the items of the
-//! place that it has in hand, and from then on `next` answers `Cut`. All others go on as before. A
-//! slow subscriber never makes another one miss, repeat or wait for an item, and its memory is kept
-//! until it has passed the place in its hand.
+//! a subscriber that lags by as many batches holds the next batch up. What then happens is the writer's
+//! choice, call by call. `publish` refuses the batch, gives it back, and names the lowest such lane.
+//! `publish_cutting` cuts each such lane: its subscriber still shows the items of the place that it has in
+//! hand, and from then on `next` answers `Cut`. All others go on as before. A slow subscriber never makes
+//! another one miss, repeat or wait for an item, and its memory is kept until it has passed the place in its
+//! hand.
 //!
 //! # Closing
 //!

@@ -3,7 +3,7 @@
 /// How many lanes a log has: one for each subscriber.
 pub const LANES: usize = 8;
 
-/// How many places a live lane may be behind, at most.
+/// By how many batches a live lane may lag at most.
 pub const MAX_PLACES: u64 = 256;
 
 /// How many places a log has in all its time, at most. No word of its table overflows before.

@@ -44,7 +44,7 @@ fn first_words() -> [u64; WORDS]
 }
 
 impl<T, P, A> Parts<T, P, A> {
-    /// The parts of a log whose live lanes may be this many places behind.
+    /// The parts of a log whose live lanes may lag by at most `places` batches.
     pub fn make(alloc: Global, places: u64) -> Result<Parts<T, P, A>, AllocError>
         requires { (0 < places) × (places ≤ MAX_PLACES) }
         ensures { IfOk result (λ p. p.places ≡ places) }

@@ -6,7 +6,7 @@ ghost use Rattle.am_cast.specs.Rule.{slot};
 use crate::limits::LANES;
 use std::marker::Model;
 
-/// The index is kept beside the number, so that neither going on nor a place a little back needs a division.
+/// The index is kept next to the number, so that neither going on nor a place a little back needs a division.
 #[derive(Drop)]
 pub(crate) struct RingPlace {
     number: u64,

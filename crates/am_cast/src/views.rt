@@ -7,7 +7,7 @@ use std::collections::LinkedList;
 
 /// What the tail word shows.
 pub struct Tail<B> {
-    /// How many places a live lane may be behind.
+    /// By how many batches a live lane may lag.
     pub places: u64,
     /// What is known of each batch, in order.
     pub log: LinkedList<B>,
@@ -30,7 +30,7 @@ pub struct Account<K, A> {
     pub half: u64,
     /// The slots of the places below are empty.
     pub cleared: u64,
-    /// Where the lane isn't live, it has no key from there on.
+    /// If the lane isn't live, it has no key from there on.
     pub stop: u64,
     /// The key of the place `known` was in the cursor's hand when the lane was cut, and isn't back yet.
     pub away: bool,

@@ -77,8 +77,8 @@ impl<T: Drop, P, A, N: Feed> Writer<T, P, A, N> {
         place < self.len() && self.kept(place).is_none()
     }
 
-    /// An empty builder over the block of a segment that has ended, if the block that was kept last has so many
-    /// places. It takes no memory.
+    /// An empty builder over the block of a segment that has ended, if the block that was kept last has this
+    /// number of places. It takes no memory.
     pub fn spare(&mut self, places: usize) -> Option<SegmentBuilder<T>>
         ensures spare { IfSome result (λ batch. batch ≡ record { items = []; places = places }) }
         ensures same { self.new ≡ self.old }

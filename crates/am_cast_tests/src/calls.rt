@@ -120,8 +120,8 @@ impl<'a, N: Feed> Both<'a, N> {
         }
     }
 
-    // A post right after a look at the lanes. Where that finds the log closed or a lane full, the pure
-    // state takes none either.
+    // A post right after a look at the lanes. If that finds the log closed or a lane full, the pure state
+    // takes none either.
     fn publish_harvested(
         &mut self,
         writer: &mut Writer<u64, u64, u64, N>,
@@ -163,7 +163,7 @@ impl<'a, N: Feed> Both<'a, N> {
         }
     }
 
-    // The lowest lane that is a place behind, as the writer knows it, and how many it has passed.
+    // The lowest lane that lags by a batch, as the writer knows it, and how many it has passed.
     fn full_lane(&self) -> Option<(usize, u64)> {
         for lane in 0..LANES {
             if let Some(Lane::Open(record, _)) = self.state.lane(lane) {

@@ -16,8 +16,8 @@
 //! ```
 //!
 //! Without sweeps an inhibitor grows with the label sets that it takes, and an answer examines the
-//! resolved sources too. A sweep at a moment changes no answer at that moment or later, but for which
-//! source is named: a label set that was dropped and is taken again comes after the others.
+//! resolved sources too. A sweep at a moment changes no answer at that moment or later, except which source
+//! is named: a label set that was dropped and is taken again comes after the others.
 //!
 //! This crate knows of no provider: it is handed alerts and labels, and each moment too.
 #![tactic(auto)]

@@ -55,7 +55,7 @@ fn parts(
     })
 }
 
-// The parts of one alert with a label, and of so many without.
+// The parts of one alert with a label, and of `without` alerts without one.
 fn parts_and(alloc: Global, without: usize) -> Result<Vec<AlertParts>, Fail> {
     let moments = test_moments()?;
     let mut all = Vec::new(alloc);

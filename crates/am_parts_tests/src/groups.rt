@@ -13,7 +13,7 @@ const TEAMS: &str = r#"{"route":{"receiver":"root","group_by":["job"],"routes":[
     {"receiver":"db","matchers":["team=db"],"continue":true},
     {"receiver":"pager","matchers":["severity=~\"page|crit\""],"group_by":["..."]}]}}"#;
 
-// So many seconds after the first moment.
+// The moment `seconds` seconds after the first one.
 fn second(seconds: u32) -> Moment {
     match Moment::try_new(u128::from(seconds) * 1_000_000_000) {
         Some(moment) => moment,
@@ -21,8 +21,8 @@ fn second(seconds: u32) -> Moment {
     }
 }
 
-// A report of these labels that ends so many seconds after the first moment, made once more where
-// memory was refused.
+// A report of these labels that ends `end` seconds after the first moment, made once more if memory was
+// refused.
 fn alert(alloc: Global, text: &str, end: u32) -> Result<Alert, AllocError> {
     match new_alert(alloc, text, end) {
         Err(AllocError) => new_alert(alloc, text, end),
@@ -61,7 +61,7 @@ fn is_swept(swept: Swept, alerts: u64, groups: u64) -> bool {
     swept.alerts == alerts && swept.groups == groups
 }
 
-// The alert stands in two groups of each dispatcher, and counts twice when it is swept from one.
+// The alert is in two groups of each dispatcher, and counts twice when it is swept from one.
 fn goes_from_one(one: &mut Dispatcher<'_>, other: &mut Dispatcher<'_>) -> bool {
     one.groups().len() == 2
         && other.groups().len() == 2
@@ -116,7 +116,7 @@ fn undone_alert_leaves_no_group(rt: HostRuntime) -> Result<(), Fail> {
     )
 }
 
-// One alert of each of so many jobs.
+// One alert of each of `jobs` jobs.
 fn take_jobs(
     alloc: Global,
     dispatcher: &mut Dispatcher<'_>,
@@ -131,7 +131,7 @@ fn take_jobs(
     Ok(())
 }
 
-// There are so many groups of two alerts, of which one is resolved first.
+// There are `count` groups of two alerts, of which one is resolved first.
 fn go_in_turn(dispatcher: &mut Dispatcher<'_>, count: usize) -> bool {
     dispatcher.groups().len() == count
         && dispatcher

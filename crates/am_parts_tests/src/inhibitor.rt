@@ -53,19 +53,19 @@ enum Turn {
     Sweep(u32, u64),
     // One a nanosecond before.
     SweepBefore(u32, u64),
-    // At a minute a target is muted by the rule of this number and the alert of these labels, or not
-    // at all, and the answer came to so many sources.
+    // At a minute a target is muted by the rule of this number and the alert of these labels, or not at all,
+    // and this number of sources was examined.
     Ask(Pairs, u32, Option<(u64, Pairs)>, u64),
     // The same for this many of the label sets that TakeMany takes, from the first on.
     AskMany(u32, u32, Option<(u64, Pairs)>, u64),
 }
 
-// So many minutes after the beginning of 2024.
+// The moment `minutes` minutes after the beginning of 2024.
 fn moment(minutes: u32) -> Moment {
     moment_before(minutes, 0)
 }
 
-// So many nanoseconds before that.
+// The moment that is `nanoseconds` nanoseconds before that one.
 fn moment_before(minutes: u32, nanoseconds: u8) -> Moment {
     let since_year_1 = YEAR_2024 + u64::from(minutes);
     let at = u128::from(since_year_1) * NANOSECONDS_A_MINUTE;

@@ -87,7 +87,7 @@ fn value_of(alloc: Global, mark: &str, number: u32) -> Result<String, AllocError
     }
 }
 
-// Pairs of so many numbers, not in the order of their names.
+// Pairs of `count` numbers, not in the order of their names.
 fn fill(alloc: Global, buffer: &mut PairBuffer, count: u32, mark: &str) -> Result<(), AllocError> {
     for number in 0..count {
         let name = name_of(alloc, number)?;

@@ -267,7 +267,7 @@ fn choices_admitted(rt: HostRuntime) -> Result<(), Fail> {
     are_answers(rt.alloc(), &cases)
 }
 
-// A text, and after it the letter a so many times.
+// A text, and after it the letter a `letters` times.
 fn with_letters(alloc: Global, text: &str, letters: u64) -> Result<String, AllocError> {
     let mut longer = String::from_str(alloc, text)?;
     for _ in 0..letters {

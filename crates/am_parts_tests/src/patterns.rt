@@ -103,7 +103,7 @@ fn repeated(alloc: Global, text: &str, times: usize) -> Result<String, AllocErro
     Ok(whole)
 }
 
-// A pattern in so many groups.
+// A pattern in `depth` nested groups.
 fn nested(alloc: Global, depth: usize) -> Result<String, AllocError> {
     let mut pattern = repeated(alloc, "(", depth)?;
     pattern.push_str("x")?;

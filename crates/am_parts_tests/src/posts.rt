@@ -59,7 +59,7 @@ fn depth(rt: HostRuntime) -> Result<(), Fail> {
     )
 }
 
-// Whether a post is read, as so many valid alerts and so many faults.
+// Whether a post is read, with `valid` valid alerts and `faults` faults.
 fn is_read(alloc: Global, body: &str, valid: usize, faults: usize) -> Result<bool, Fail> {
     match read(alloc, body)? {
         Ok(post) => Ok(

@@ -69,7 +69,7 @@ fn label_set_of_a_thousand_names(rt: HostRuntime) -> Result<(), Fail> {
     are_a_thousand(rt.alloc(), &labels)
 }
 
-// The body of a post of so many alerts of so many labels.
+// The body of a post of `alerts` alerts, each of `labels` labels.
 fn body_of(alloc: Global, alerts: usize, labels: usize) -> Result<String, AllocError> {
     let mut body = String::from_str(alloc, "[")?;
     let mut comma = "";

@@ -31,7 +31,7 @@ fn are_numbered(found: &[RouteId], numbers: &[u64]) -> bool {
             .all(|(id, number)| id.0 == *number)
 }
 
-// Labels come to these routes.
+// Labels match these routes.
 fn come_to(alloc: Global, tree: &RouteTree, of: &str, numbers: &[u64]) -> Result<(), Fail> {
     let labels = labels(alloc, of)?;
     let found = matching_routes(alloc, tree, &labels)?;

@@ -17,9 +17,9 @@ use Rattle.am_provider.specs.declared.answers.Ended.{Ended}
 use Rattle.am_provider.specs.Batches.{Batch, LogView, sent_in, posts_in}
 use Rattle.am_provider.specs.Lefts.{left_ats}
 
--- a Book: its stored alerts in order, its journal of accepted calls, how many calls memory has no more, the
--- log as its writer knows it, what each subscription that was given back came to and how many of these were
--- dropped, and what it does where the log is full
+-- a Book: its stored alerts in order, its journal of accepted calls, how many calls memory has no more, and
+-- the log as its writer knows it. Then the endings of subscriptions that were given back, how many more
+-- endings were dropped, and what it does if the log is full
 pub record BookView : Type 0 where
   pub stored : List Alert
   pub journal : JournalView
@@ -64,8 +64,7 @@ pub record IsLaneOf (book : BookView) (lane : ℕ) : Type 0 where
   pub note : (at : ℕ) → IsOpenSubscription book.journal lane at → (account_of book.log lane).note
       ≡ Some (record { at = at; opening = stored (updates (until book.journal at)) })
 
--- what a subscription came to: it took no more than was due to it, and all of it where it was told that
--- no more will come
+-- a subscription's ending: it took no more than was due to it, and all of it if it answered `Closed`
 pub record IsEndingOf (journal : JournalView) (ended : Ended) : Type 0 where
   pub within : ended.taken ≤ length (due journal ended.at)
   pub complete : ended.closed ≡ true → ended.taken ≡ length (due journal ended.at)
@@ -75,7 +74,7 @@ pub record IsEndingOf (journal : JournalView) (ended : Ended) : Type 0 where
 
 -- what is stored, what was sent out and by which post, whether the log is closed, each lane and each
 -- ending follow from the journal, and the journal is legal. There is one ending for each subscription that
--- was given back, in that order, but for those whose Subscribed was dropped, which are counted: with these
+-- was given back, in that order, except for those whose Subscribed was dropped, which are counted: with these
 -- there are as many endings as Lefts
 pub record IsFaithful (book : BookView) : Type 0 where
   pub journal : FollowsJournal (plain book)

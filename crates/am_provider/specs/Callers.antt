@@ -48,8 +48,8 @@ pub record SeesWhole (was is saw sees : FrontView EntryView) : Type 0 where
   pub caller : is ≡ record was { seen = entries; looks = was.looks + 1 }
   pub onlooker : sees ≡ record saw { seen = entries; looks = saw.looks + 1 }
 
--- what a post of a body comes to: a body that can't be read is refused for its fault before the history is
--- looked at; another is posted, and then the pass owns its place with what was read
+-- how a post of a body is answered. A body that can't be read is refused for its fault before the history is
+-- looked at. Another is posted, and then the pass owns its place with what was read
 abbrev pub AnswersBody : Policy → ℕ → ℕ → ℕ → List ℕ → PassView Alert Call → PassView Alert Call
     → FrontView EntryView → FrontView EntryView → Result Posted PostRefused → Type 0
 AnswersBody policy places now timeout body was is saw sees (Ok posted) =
@@ -62,9 +62,9 @@ AnswersBody policy places now timeout body was is saw sees (Err (refused.Put fau
 AnswersBody policy places now timeout body was is saw sees (Err (refused.Unread fault)) =
     IsPostOf now timeout body (Err fault) × (is ≡ was) × (sees ≡ saw)
 
--- what a post of those alerts that a filter accepts comes to: each is judged as it would be stored after the
--- history (Alertmanager's `AlertStoreCallback`'s PreStore). It is refused before the filter was asked of all,
--- or as a post of those that it accepted. The filter is as its last question left it
+-- how a post of those alerts that a filter accepts is answered: each is judged as it would be stored after
+-- the history (Alertmanager's `AlertStoreCallback`'s PreStore). It is refused before the filter was asked of
+-- all, or as a post of those that it accepted. The filter is as its last question left it
 abbrev pub AnswersPostIf : {F : Type 0} → Filter F → F → F → Policy → ℕ → ℕ → Post → PassView Alert Call
     → PassView Alert Call → FrontView EntryView → FrontView EntryView → Result PostedIf PutFault → Type 0
 AnswersPostIf filter accepts last policy places now post was is saw sees (Ok done) =

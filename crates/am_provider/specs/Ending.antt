@@ -20,16 +20,16 @@ use Rattle.am_provider.specs.Settling.{IsOwn, made_of, own_of}
 use Rattle.am_provider.specs.declared.answers.Ended.{Ended}
 use Rattle.am_provider.specs.declared.settled.Settled.{Settled}
 
--- what a subscription came to: it took no more than a history owes it, and all of that if it was told that no
--- more would come, which is told only of a closed log
+-- a subscription's ending: it took no more than a history owes it, and all of that if it answered `Closed`,
+-- which it does only of a closed log
 pub record IsOwed (entries : List EntryView) (ended : Ended) : Type 0 where
   pub at : ended.at ≤ length (calls_of entries)
   pub within : ended.taken ≤ length (due (whole entries) ended.at)
   pub complete : ended.closed ≡ true → ended.taken ≡ length (due (whole entries) ended.at)
   pub closed : ended.closed ≡ true → is_closed (whole entries) ≡ true
 
--- what the calls of a history came to that memory has, as trims and compactions left it: the store, and what
--- each subscription came to that was given back, but for those whose Subscribed is gone, which are counted
+-- what memory has of a history, as trims and compactions left it: calls, the store, and the endings of
+-- subscriptions that were given back, except for those whose Subscribed is gone, which are counted
 pub record IsLeftOf (entries : List EntryView) (end : Settled) : Type 0 where
   pub legal : IsLegal (whole entries)
   pub journal : IsTrimmed (whole entries) (gone_by entries) (journal_of end.journal)

@@ -34,7 +34,7 @@ use Rattle.am_provider.specs.Histories.{EntryView, Accepted, Trimmed, Compacted,
 use Rattle.am_provider.specs.Histories.{trimmed_by, gone_by, stored_after, sent_by, is_cut}
 use Rattle.am_provider.specs.Subscriptions.{SubscriptionView, taken}
 
--- an open lane was given out when so many batches or more of those that were sent still were to come
+-- the lane is open, and at least `count` batches were sent since it was given out
 abbrev pub AreSentSince : ℕ → ℕ → List EntryView → Type 0
 AreSentSince count lane before = (at : ℕ) × IsOpenSubscription (whole before) lane at
     × (length (broadcast (until (whole before) at)) + count ≤ length (sent_by before))
@@ -54,13 +54,13 @@ pub record IsPosted (policy : Policy) (places now : ℕ) (post : Post) (posted :
   pub refuses : policy ≡ Refuse → posted.cut ≡ 0
   pub entry : added ≡ Accepted (Posted now post.valid) posted.cut None ∷ []
 
--- why a post of so many valid alerts is refused: a closed log before its end, and that before the others. A
--- full log names an open lane that isn't cut and was given out at least as many batches ago as there are
--- places, and how many batches a lane has passed that lags by as many. The log's own calls (am_cast) say
--- that the named lane has passed as many, that it is the lowest such, and that a full log isn't answered as a
--- lack of memory. It isn't said here: no entry of the history says how far a reader has come. The
--- smallest example: two places, subscribers a and b, two posts. A third names a if b alone has read, and b if
--- a alone has. The history before it is the same in both runs
+-- why a post of `count` valid alerts is refused: a closed log before its end, and that before the others. A
+-- full log names an open lane that isn't cut and was given out at least `places` batches ago, and how many
+-- batches a lane has passed that lags by `places`. The log's own calls (am_cast) say that the named lane has
+-- passed as many, that it is the lowest such, and that a full log isn't answered as a lack of memory. It
+-- isn't said here: no entry of the history says how far a reader has come. The smallest example: two places,
+-- subscribers a and b, two posts. A third names a if b alone has read, and b if a alone has. The history
+-- before it is the same in both runs
 abbrev pub IsPutRefusal : Policy → ℕ → ℕ → List EntryView → PutFault → Type 0
 IsPutRefusal policy places count before put.Closed = is_closed (whole before) ≡ true
 IsPutRefusal policy places count before put.LogEnd =
@@ -104,8 +104,8 @@ AnswersSubscribe (Ok made) before added = IsSubscribed made before added
 AnswersSubscribe (Err fault) before added = IsSubRefusal before fault × (added ≡ [])
 
 -- a post cut the subscription of a lane that came at a call: it was open then, and its reader, which has
--- passed so many batches, lagged then by as many as the log has places. It passed one more since at most, the
--- one in its hand
+-- passed `passed` batches, lagged then by as many as the log has places. It passed one more since at most,
+-- the one in its hand
 pub record HasLagged (places lane at passed : ℕ) (before : List EntryView) : Type 0 where
   pub first : List EntryView
   pub rest : List EntryView
@@ -117,9 +117,9 @@ pub record HasLagged (places lane at passed : ℕ) (before : List EntryView) : T
   pub cuts : has_lane cut lane ≡ true
   pub late : passed + places ≤ length (sent_by first) + 1
 
--- what a subscription has taken: it begins what the history owes it, and is all of that if it was told that
--- no more would come, which it is of a closed log alone. One that was told Cut was cut, and one that was cut
--- had lagged. It is owed what was stored when it came, and each batch since
+-- what a subscription has taken: it begins what the history owes it, and is all of that if it answered
+-- `Closed`, which it does of a closed log alone. One that answered `Cut` was cut, and one that was cut had
+-- lagged. It is owed what was stored when it came, and each batch since
 pub record TakesItsDue (subscription : SubscriptionView) (before : List EntryView) : Type 0 where
   pub lane : IsOpenSubscription (whole before) subscription.cursor.lane.number subscription.at
   pub owes : due (whole before) subscription.at
@@ -185,8 +185,8 @@ AnswersCompact (Err fault) before added = added ≡ []
 abbrev pub AnswersStored : {E : Type 0} → Result (List Alert) E → List EntryView → List EntryView → Type 0
 AnswersStored result before added = IfOk result (λ alerts. alerts ≡ stored_after before) × (added ≡ [])
 
--- a page of the store: of what is stored after the history, in its order, the alerts from an index on, and at
--- most so many. It says what it is a page of: how many alerts are stored then, and after how many calls
+-- a page of the store: at most `most` of the alerts that are stored after the history, in its order, from the
+-- index `from` on. It says what it is a page of: how many alerts are stored then, and after how many calls
 pub record IsPage (from most : ℕ) (before : List EntryView) (page : Page) : Type 0 where
   pub alerts : page.alerts ≡ take most (drop from (stored_after before))
   pub stored : page.stored ≡ length (stored_after before)

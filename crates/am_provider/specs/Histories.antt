@@ -12,8 +12,8 @@ use Rattle.am_store.specs.Broadcast.{broadcast}
 use Rattle.am_provider.specs.declared.answers.Ended.{Ended}
 
 -- an entry of the history: an accepted call, the lanes that it cut (lane l in bit l), and what it answered
--- of a subscription that it took back; a trim that discarded so many calls of the journal; or a compaction,
--- which took so many out of memory
+-- of a subscription that it took back. Or a trim, which discarded `count` calls of the journal, or a
+-- compaction, which took `count` out of memory
 pub data EntryView : Type 0 where
   Accepted : (call : Call) (cut : ℕ) (ended : Option Ended) → EntryView
   Trimmed : (count : ℕ) → EntryView
@@ -44,8 +44,8 @@ trimmed_by (Accepted call cut ended ∷ entries) = trimmed_by entries
 trimmed_by (Trimmed count ∷ entries) = count + trimmed_by entries
 trimmed_by (Compacted count ∷ entries) = trimmed_by entries
 
--- how many calls memory has no more after some entries more, where trims had discarded so many and so many
--- were gone: a trim leaves no call in memory that it discarded, and a compaction takes so many more
+-- how many calls memory has no more after some entries more, if trims had discarded `trimmed` and `gone` had
+-- left memory. A trim leaves no call in memory that it discarded, and a compaction takes `count` more
 abbrev pub gone_from : ℕ → ℕ → List EntryView → ℕ
 gone_from trimmed gone [] = gone
 gone_from trimmed gone (Accepted call cut ended ∷ entries) = gone_from trimmed gone entries
@@ -95,7 +95,7 @@ ending_of (Compacted count) = []
 abbrev pub endings_of : List EntryView → List Ended
 endings_of entries = flat_map ending_of entries
 
--- those of them whose subscription came when at least so many calls had been made
+-- those of them whose subscription came after at least `count` calls
 abbrev pub endings_since : ℕ → List EntryView → List Ended
 endings_since count entries = filter (λ (ended : Ended). nat_le count ended.at) (endings_of entries)
 

@@ -4,7 +4,7 @@ use Rattle.am_store.specs.declared.call.Call.{Call}
 use Rattle.am_store.specs.declared.call.Call.TheVariants.{Posted, Collected, Subscribed, Left, Closed}
 use Rattle.am_store.specs.Journal.{JournalView}
 
--- when the subscription of each lane came, after a call before which so many calls were made
+-- when the subscription of each lane came, after a call that `at` calls were made before
 abbrev pub came_after : (ℕ → Option ℕ) → ℕ → Call → ℕ → Option ℕ
 came_after came at (Posted now alerts) lane = came lane
 came_after came at (Collected now) lane = came lane

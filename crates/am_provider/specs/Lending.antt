@@ -1,4 +1,4 @@
--- How a subscription stands after the loan of an alert. `next` lends `&`s alone, so it is then as the call
+-- A subscription after the loan of an alert. `next` lends `&`s alone, so the subscription is then as the call
 -- left it: this is Rattle's `follows_so`, for a result through which nothing is written.
 use Rattle.std.specs.Prelude.{⊤, []}
 use Rattle.std.specs.Borrow.{Fml, MutBor, RattleType, follows_so}

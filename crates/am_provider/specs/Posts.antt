@@ -34,15 +34,15 @@ AddsOwn was now posted (Some place) is =
     ((x : Batch) × (x.post ≡ Posted now posted) × (is.own ≡ was.own ++ own_at place x ∷ []))
     × AreInLog is.own is.noted × IsPrefix was.noted is.noted
 
--- a pass met a subscription that has seen so much of the log: each of the pass's own posts that was seen
--- stands at its place there, and the pass, which owns what it did, knows all that was seen
+-- a pass met a subscription that has seen the batches `seen`. Each of the pass's own posts that was seen is
+-- at its place there. The pass has the same own posts as before, and knows all that was seen
 pub record HasMet (seen : List Batch) (was is : PassView Alert Call) : Type 0 where
   pub own : is.own ≡ was.own
   pub stand : (k : ℕ) (o : Own Batch) → get_elem? was.own k ≡ some o → o.place < length seen
       → get_elem? seen o.place ≡ some o.batch
   pub noted : IsPrefix was.noted is.noted × IsPrefix seen is.noted × AreInLog was.own is.noted
 
--- which lanes a post cut: those that were as many places behind as the log has, and none where the
+-- which lanes a post cut: only such as lagged by as many batches as the log has places, and none if the
 -- policy is to refuse
 pub record IsCutBy (old new : BookView) (bits : ℕ) : Type 0 where
   pub lanes : (lane : ℕ) → lane < 8 → SameAdmission (account_of old.log lane) (account_of new.log lane)
@@ -94,8 +94,8 @@ pub record IsAsBefore (old new : BookView) : Type 0 where
   pub endings : (new.endings ≡ old.endings) × (new.early ≡ old.early)
   pub policy : new.policy ≡ old.policy
 
--- why a post of so many valid alerts is refused: the first cause in this order. One without an alert
--- needs no place
+-- why a post of `count` valid alerts is refused: the first cause in this order. One without an alert needs no
+-- place
 abbrev pub IsPutCause : BookView → BookView → ℕ → PutFault → Type 0
 IsPutCause old new count put_fault.Closed = is_closed old.journal ≡ true
 IsPutCause old new count put_fault.NoMemory =

@@ -3,17 +3,17 @@ use Rattle.std.specs.Prelude.{ℕ, ◌<◌, ⊤, List, [], ◌∷◌}
 use Rattle.am_cast.specs.declared.views.Own.{Own}
 use Rattle.am_provider.specs.Batches.{Batch}
 
--- they all stand below a place
+-- their places are all below this one
 abbrev pub AreBelow : ℕ → List (Own Batch) → Type 0
 AreBelow place [] = ⊤
 AreBelow place (own ∷ others) = (own.place < place) × AreBelow place others
 
--- they all stand above a place
+-- their places are all above this one
 abbrev pub AreAbove : ℕ → List (Own Batch) → Type 0
 AreAbove place [] = ⊤
 AreAbove place (own ∷ others) = (place < own.place) × AreAbove place others
 
--- each stands below all that were posted after it
+-- each has a lower place than all that were posted after it
 abbrev pub IsRising : List (Own Batch) → Type 0
 IsRising [] = ⊤
 IsRising (own ∷ later) = AreAbove own.place later × IsRising later

@@ -42,7 +42,7 @@ IsLogCause policy old new (put_fault.Full lane passed) =
     (policy ≡ Refuse) × IsRefusal old new (publish.Full lane passed)
 IsLogCause policy old new put_fault.NoMemory = IsOpen old × (policy ≡ Refuse → HasRoom new 8)
 
--- the log is as before, but for what its lanes were found to have passed
+-- the log is as before, except for what its lanes were found to have passed
 pub record IsUnsent (policy : Policy) (old new : LogView) (fault : PutFault) : Type 0 where
   pub tail : new.tail ≡ old.tail
   pub lanes : (lane : ℕ) → lane < 8 → StaysAs (account_of old lane) (account_of new lane)

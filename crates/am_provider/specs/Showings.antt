@@ -13,7 +13,7 @@ use Rattle.am_provider.specs.declared.answers.Step.TheVariants as step
 use Rattle.am_provider.specs.Batches.{Batch}
 use Rattle.am_provider.specs.Subscriptions.{SubscriptionView, taken}
 
--- alerts at the end of what was taken; none is shown after the end or a cut was told
+-- alerts are shown at the end of what was taken, and none once `Closed` or `Cut` was answered
 pub record ShowsAlerts (old : SubscriptionView) (alerts : List Alert) (new : SubscriptionView) : Type 0 where
   pub taken : taken new ≡ taken old ++ alerts
   pub at : new.at ≡ old.at
@@ -26,20 +26,20 @@ pub record ShowsAlerts (old : SubscriptionView) (alerts : List Alert) (new : Sub
 abbrev pub ShowsItem : SubscriptionView → Alert → SubscriptionView → Type 0
 ShowsItem old alert new = ShowsAlerts old (alert ∷ []) new
 
--- the opening was shown, and nothing of it or of what else was told changes
+-- the opening was shown, and nothing but the cursor changes, and whether `Closed` was answered
 pub record ShowsNone (old : SubscriptionView) (told : Bool) (new : SubscriptionView) : Type 0 where
   pub shown : old.shown ≡ length old.opening
   pub rest : new ≡ record old { cursor = new.cursor; closed_told = told }
   pub on : GoesOn old.cursor new.cursor
 
--- nothing more was shown or told
+-- nothing more was shown or answered
 pub record StaysShown (old new : SubscriptionView) : Type 0 where
   pub rest : new ≡ record old { cursor = new.cursor }
   pub on : GoesOn old.cursor new.cursor
   pub taken : taken new ≡ taken old
 
--- nothing more was shown or told, and an answer other than Pending is known: of the opening, that the log was
--- closed, or of the log
+-- nothing more was shown or answered, and an answer other than Pending is known: of the opening, that the log
+-- was closed, or of the log
 pub record HasNews (old new : SubscriptionView) : Type 0 where
   pub stays : StaysShown old new
   pub known : (new.shown < length new.opening) ⊎ (new.closed_told ≡ true) ⊎ cast.HasNews old.cursor new.cursor

@@ -7,7 +7,7 @@ use Rattle.am_cast.specs.Cursors.{CursorView}
 use Rattle.am_cast.specs.Cursors as cast
 
 -- a subscription: how many calls there were before it, what was stored then, how many of those alerts
--- it has shown, its cursor in the log since, and whether it was told that no more will come
+-- it has shown, its cursor in the log since, and whether it answered `Closed`
 pub record SubscriptionView : Type 0 where
   pub at : ℕ
   pub opening : List Alert

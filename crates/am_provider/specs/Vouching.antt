@@ -14,10 +14,9 @@ use Rattle.am_provider.specs.Batches.{sent_in}
 use Rattle.am_provider.specs.BookView.{BookView, batches}
 use Rattle.am_provider.specs.Subscriptions.{SubscriptionView, taken}
 
--- an open subscription has taken what begins its due by the journal, and all of it if it was told that no
--- more would come, which it is of a closed log alone. One that was told Cut was cut. One that was cut has
--- passed no batch since but the one in its hand. Its due is what was stored when it came, and what the log
--- has from there on
+-- an open subscription has taken what begins its due by the journal, and all of it if it answered `Closed`,
+-- which it does of a closed log alone. One that answered `Cut` was cut. One that was cut has passed no batch
+-- since but the one in its hand. Its due is what was stored when it came, and what the log has from there on
 pub record HasTakenDue (book : BookView) (subscription : SubscriptionView) : Type 0 where
   pub lane : IsOpenSubscription book.journal subscription.cursor.lane.number subscription.at
   pub owes : due book.journal subscription.at

@@ -55,7 +55,7 @@ impl Entry {
         }
     }
 
-    /// A trim that discarded so many calls of the journal.
+    /// A trim that discarded `count` calls of the journal.
     pub(crate) fn trimmed(count: u64) -> Entry
         ensures { result ≡ Trimmed count }
     {
@@ -64,7 +64,7 @@ impl Entry {
         }
     }
 
-    /// A compaction that took so many calls of the journal out of memory.
+    /// A compaction that took `count` calls of the journal out of memory.
     pub(crate) fn compacted(count: u64) -> Entry
         ensures { result ≡ Compacted count }
     {

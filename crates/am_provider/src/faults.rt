@@ -16,8 +16,9 @@ pub enum PutFault {
     Closed,
     /// The log has every place that it can have.
     LogEnd,
-    /// This lane's subscriber, who has passed so many batches, lags by as many as the log has places. No lower lane
-    /// does. The contracts of am_cast say so; those of the provider say that the lane is open and isn't cut.
+    /// This lane's subscriber, who has passed `passed` batches, lags by as many as the log has places. No
+    /// lower lane does. The contracts of am_cast say so; those of the provider say that the lane is open and
+    /// isn't cut.
     Full { lane: u32, passed: u64 },
 }
 

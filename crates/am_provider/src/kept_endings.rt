@@ -9,7 +9,7 @@ use am_store::Past;
 use std::alloc::{AllocError, Global};
 use std::marker::Model;
 
-/// What each subscription came to that was given back, in order. Contracts see it as trims left it.
+/// The endings of subscriptions that were given back, in order. Contracts see them as trims left them.
 #[derive(Drop)]
 pub(crate) struct KeptEndings {
     // What memory has of them.
@@ -60,7 +60,7 @@ impl KeptEndings {
         }
     }
 
-    /// Makes room for so many endings more.
+    /// Makes room for `count` endings more.
     pub(crate) fn reserve(&mut self, count: usize) -> Result<(), AllocError>
         ensures same { (self.new.endings ≡ self.old.endings) × (self.new.early ≡ self.old.early) }
         ensures from { (self.new.before ≡ self.old.before) × (self.new.gone ≡ self.old.gone) }

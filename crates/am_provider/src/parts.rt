@@ -30,7 +30,7 @@ pub struct Parts {
 }
 
 impl Parts {
-    /// The parts of a provider whose log has so many places, for so many posters.
+    /// The parts of a provider whose log has `places` places, for `posters` posters.
     pub fn make(alloc: Global, places: u32, posters: u32) -> Result<Parts, AllocError>
         requires places { (1 ≤ places) × (places ≤ MAX_PLACES) }
         requires posters { (1 ≤ posters) × (posters ≤ MAX_POSTERS) }

@@ -154,10 +154,10 @@ impl<N: Recorded> Provider<N> {
     }
 
     /// Posts those valid alerts that a filter accepts (what `provider/mem`'s Put does by its callback's
-    /// PreStore). The filter is asked under the lock: it is shown each alert as it would be stored, over
-    /// what those before it that it accepted left, and told whether no alert of its label set is stored.
-    /// One that it refuses is as if it hadn't been posted. It is asked once of each, in order, and can be asked
-    /// afterwards what it counted.
+    /// PreStore). The filter is asked under the lock: it gets each alert as it would be stored, over what the
+    /// accepted ones before it left, and whether no alert of its label set is stored. One that it refuses is
+    /// as if it hadn't been posted. It is asked once of each, in order, and can be asked afterwards what it
+    /// counted.
     pub fn put_if<R: Wait, G: Gate, F: FnMut(&Alert, bool) -> bool>(
         &self,
         rt: &R,
@@ -203,7 +203,7 @@ impl<N: Recorded> Provider<N> {
         subscription.meet(&self.cast, pass);
     }
 
-    /// Takes a subscription back, and answers what it came to.
+    /// Takes a subscription back, and answers its ending.
     pub fn leave<R: Wait>(
         &self,
         rt: &R,
@@ -306,7 +306,7 @@ impl<N: Recorded> Provider<N> {
         self.lock(rt).stored(&self.table, caller)
     }
 
-    /// What is stored, in order, from an index on, and at most so many alerts of it. The lock is held for those
+    /// At most `most` of the stored alerts, in order, from the index `from` on. The lock is held for those
     /// alone, so other calls can come between two pages: posts change alerts and add some at the end, and a
     /// collection moves those that stay to lower indices.
     pub fn stored_page<R: Wait>(
@@ -360,9 +360,9 @@ impl<N: Recorded> Provider<N> {
         self.lock(rt).look(&self.table, caller, onlooker);
     }
 
-    /// Ends the provider. Each pass's posts stand at rising places, in the order in which it posted
-    /// them. While a subscription is open it doesn't compile, since the subscription borrows the
-    /// provider; no proof follows that, so a lane that is still given out would be waited for.
+    /// Ends the provider. Each pass's posts have rising places, in the order in which it posted them. While a
+    /// subscription is open it doesn't compile, since the subscription borrows the provider; no proof follows
+    /// that, so a lane that is still given out would be waited for.
     pub fn settle<R: Wait>(self, rt: &R, callers: Vec<Caller<N>>) -> Settled
         ensures settled { IsSettledFrom (map (λ caller. caller.pass) callers.items)
             (map (λ caller. caller.front) callers.items) result }

@@ -74,7 +74,7 @@ pub(crate) fn send_batch<N: Origin>(
 }
 
 // The batch goes out as the log's next place, which becomes the pass's own, or it is dropped and says
-// why. Where slow lanes are cut they are looked at once more: one that has moved on isn't cut.
+// why. If slow lanes are to be cut, they are looked at once more: one that has moved on isn't cut.
 fn send<N: Origin>(
     writer: &mut Writer<N>,
     cast: &Cast<N>,

@@ -1,4 +1,4 @@
-//! What a provider came to.
+//! What is left of a provider that was settled.
 
 ghost use Rattle.std.specs.Prelude.{◌≡◌, length};
 ghost use Rattle.am_store.specs.Journal.{posts_of};
@@ -9,14 +9,14 @@ use crate::answers::{Counts, Ended};
 use am_store::Journal;
 use am_store::store::AlertMap;
 
-/// What a provider came to.
+/// What is left of a provider once it is settled.
 #[derive(Drop)]
 pub struct Settled {
     /// Its accepted calls, in order, as far as trims and compactions left them in memory.
     pub journal: Journal,
     /// What is stored.
     pub store: AlertMap,
-    /// What each subscription came to that was given back and whose Subscribed is among these calls, in order.
+    /// The ending of each subscription that was given back and whose Subscribed is among these calls, in order.
     pub ended: Vec<Ended>,
     /// How many other subscriptions were given back.
     pub early: u64,

@@ -69,7 +69,7 @@ impl<'a, N: Origin> Model for Subscription<'a, N> {
     }) s.count × IsHeld s.opening.value s.cursor s.held s.stored };
 }
 
-/// What an advance came to, before the alert itself is lent.
+/// What an advance answers, before the alert itself is lent.
 #[derive(Clone, Copy, Debug, PartialEq, Eq, Drop)]
 pub(crate) enum Advance {
     /// One alert more of the opening.

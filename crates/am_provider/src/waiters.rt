@@ -1,5 +1,5 @@
-//! How an idle reader sleeps, and how a call of the provider wakes it. It is beside the log, and none of the
-//! promises rests on it: that a sleeper is woken is tested, and no contract says it.
+//! How an idle reader sleeps, and how a call of the provider wakes it. It is apart from the log, and none of
+//! the promises rests on it: that a sleeper is woken is tested, and no contract says it.
 //!
 //! A reader counts itself among the sleepers, notes how often they were woken, and looks at the log. Only if
 //! nothing is there does it sleep, and not if they were woken since it noted that. A call changes the log

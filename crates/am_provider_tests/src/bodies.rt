@@ -6,7 +6,7 @@ use std::alloc::{AllocError, Global};
 // 2024-01-01T00:00:00Z, in seconds since 0001-01-01T00:00:00Z.
 const YEAR_2024: u64 = 63_839_664_000;
 
-/// So many seconds after the beginning of 2024.
+/// The moment `seconds` seconds after the beginning of 2024.
 pub fn moment(seconds: u32) -> Moment {
     let since_year_1 = YEAR_2024 + u64::from(seconds);
     match Moment::try_new(u128::from(since_year_1) * 1_000_000_000) {

@@ -25,7 +25,7 @@ fn starts_of(alloc: Global, alerts: &[SharedAlert]) -> Result<Vec<Moment>, Alloc
 }
 
 /// What a Book's reads and its collection answered, whether it was idle while a subscription was open and
-/// then, and what that subscription came to.
+/// after that, and that subscription's ending.
 #[derive(Debug, Drop)]
 struct Answers {
     stored: Vec<Moment>,

@@ -1,5 +1,6 @@
-//! Four threads that post, four that subscribe and leave, and two that collect, beside each other: the number
-//! that each caller reads off its front after a call is that call's number in the journal, counted from one.
+//! Four threads that post, four that subscribe and leave, and two that collect, all at the same time. The
+//! number that each caller reads off its front after a call is that call's number in the journal, counted
+//! from one.
 
 ghost use Rattle.std.specs.Prelude.{◌≡◌};
 
@@ -99,7 +100,7 @@ fn collect_each<N: Recorded, R: Wait>(
     Ok(notes)
 }
 
-// Asks for so many alerts.
+// Asks for `turns` alerts.
 fn read_some<N: Recorded>(subscription: &mut Subscription<'_, N>, turns: u32) {
     for _turn in 0..turns {
         let _step = subscription.next();
@@ -126,7 +127,7 @@ fn subscribe_each<N: Recorded, R: Wait>(
     Ok(notes)
 }
 
-// What each thread noted. What can't be kept for want of memory is missing.
+// What each thread noted. What can't be kept for lack of memory is missing.
 fn ten_threads<N: Recorded + Send + Sync, R: Threads + Wait + Sync>(
     rt: &R,
     alloc: Global,

@@ -1,5 +1,5 @@
 //! What compactions answer, what subscriptions that stay open get across them, and that memory has few calls
-//! however many posts come. Pages of the store, beside them.
+//! however many posts come. Pages of the store, too.
 
 use crate::bodies::moment;
 use crate::days::{Day, Settings, Stopped, spend};
@@ -46,8 +46,8 @@ fn while_open<N: Recorded, R: Wait>(
     })
 }
 
-/// What a whole run came to: that, what the subscription came to, how many calls a trim discarded when it had
-/// been given back, and how many a last compaction took.
+/// What a whole run showed: that, the subscription's ending, how many calls a trim discarded when it had been
+/// given back, and how many a last compaction took.
 #[derive(Clone, Copy, Debug, PartialEq, Eq, Drop)]
 struct Compacted {
     open: WhileOpen,

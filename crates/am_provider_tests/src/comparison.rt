@@ -1,4 +1,4 @@
-//! A provider beside a plain list, over posts and collections from a fixed sequence.
+//! A provider compared with a plain list, over posts and collections from a fixed sequence.
 
 ghost use Rattle.std.specs.Prelude.{◌<◌};
 
@@ -54,7 +54,7 @@ fn shows<N: Recorded>(subscription: &mut Subscription<'_, N>, alerts: &[Alert]) 
     matches!(subscription.next(), Step::Pending)
 }
 
-// Takes so many alerts, whatever they are.
+// Takes `count` alerts, whatever they are.
 fn skip<N: Recorded>(subscription: &mut Subscription<'_, N>, count: u64) {
     for _ in 0..count {
         let _step = subscription.next();

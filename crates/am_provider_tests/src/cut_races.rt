@@ -19,7 +19,7 @@ use std::thread::Threads;
 
 const ROUNDS: u32 = 10_000;
 
-/// What a reader was told last.
+/// What a reader was answered last.
 #[derive(Clone, Copy, Debug, PartialEq, Eq, Drop)]
 enum End {
     Cut,
@@ -27,27 +27,27 @@ enum End {
     Nothing,
 }
 
-/// What a reader was shown, by the starts of its alerts, and what it was told then.
+/// What a reader was shown, by the starts of its alerts, and what it was answered then.
 #[derive(Drop)]
 struct Told {
     starts: Vec<Moment>,
     end: End,
 }
 
-/// What one round came to.
+/// What one round showed.
 #[derive(Drop)]
 struct Round {
     told: Told,
-    // Whether the end stayed as it was told.
+    // Whether the end stayed as it was answered.
     stays: bool,
     // How many alerts were posted, and how many posts cut the reader.
     placed: usize,
     cuts: usize,
-    // Whether the reader was cut, told or not.
+    // Whether the reader was cut, whether or not `next` answered so.
     ended_cut: bool,
 }
 
-// Waits for the reader to begin, but not for long, and then for so many turns more.
+// Waits for the reader to begin, but not for long, and then for `turns` turns more.
 fn wait_for(began: &AtomicU8, turns: u32) {
     for _turn in 0..100_000u32 {
         if began.load(Ordering::SeqCst) == 1 {
@@ -90,7 +90,7 @@ fn rest(turn: u32) {
     }
 }
 
-// Reads until it is told a cut or the log's end, or the turns run out.
+// Reads until a cut or the log's end is answered, or the turns run out.
 fn read_all<N: Recorded>(
     alloc: Global,
     subscription: &mut Subscription<'_, N>,
@@ -122,7 +122,7 @@ fn read_all<N: Recorded>(
     })
 }
 
-// Whether a reader is told that end each time that it asks again.
+// Whether a reader is answered that end each time that it asks again.
 fn stays<N: Recorded>(subscription: &mut Subscription<'_, N>, end: End) -> bool {
     for _turn in 0..3u32 {
         let again = match subscription.next() {

@@ -45,7 +45,7 @@ fn judged(answer: Result<PostedIf, PutFault>) -> Result<Judged, Stopped> {
     }
 }
 
-// Posts the most reports through a filter that lets so many new label sets in.
+// Posts the most reports through a filter that lets in `LIMIT` new label sets.
 fn post_most<N: Recorded, R: Wait>(
     stage: &Stage<'_, N, R>,
     caller: &mut Caller<N>,

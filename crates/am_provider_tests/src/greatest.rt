@@ -11,7 +11,7 @@ use std::sync::Wait;
 use std::test::Fail;
 use std::time::Duration;
 
-/// What a post came to: how many alerts were valid and their place, or why it was refused.
+/// What a post answered: how many alerts were valid and their place, or why it was refused.
 type Answer = Result<(u32, Option<u64>), PostRefused>;
 
 /// What the calls at the greatest instant answered.

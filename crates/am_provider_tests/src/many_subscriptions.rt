@@ -66,7 +66,7 @@ fn later(one: Moment, other: Moment) -> Moment {
     if one < other { other } else { one }
 }
 
-/// What a subscription was shown, and what it came to.
+/// What a subscription was shown, and its ending.
 #[derive(Drop)]
 struct Reading {
     seen: Vec<Seen>,
@@ -114,7 +114,7 @@ fn report_all<N: Recorded + Send + Sync, R: Threads + Wait + Sync>(
     accepted.load(Ordering::SeqCst)
 }
 
-// What is shown in so many turns.
+// What is shown in `turns` turns.
 fn read<N: Recorded>(
     alloc: Global,
     subscription: &mut Subscription<'_, N>,
@@ -159,7 +159,7 @@ fn read_again<N: Recorded, R: Wait>(
     Ok(readings)
 }
 
-// Each reader in a thread of its own. What can't be kept for want of memory is missing.
+// Each reader in a thread of its own. What can't be kept for lack of memory is missing.
 fn read_each<N: Recorded + Send + Sync, R: Threads + Wait + Sync>(
     rt: &R,
     alloc: Global,
@@ -237,7 +237,7 @@ struct Opening {
     sent: usize,
 }
 
-/// What a journal comes to: what is stored after it, what was sent out, and what each subscription found.
+/// What a journal gives: what is stored after it, what was sent out, and what each subscription found.
 #[derive(Drop)]
 struct Replay {
     stored: Vec<Seen>,

@@ -1,5 +1,5 @@
-//! A provider with four posters, four readers and a close in threads of their own: what each reader
-//! was shown begins what the journal owes it, and is all of it where it was told the end.
+//! A provider with four posters, four readers and a close in threads of their own. What each reader was shown
+//! begins what the journal owes it, and is all of it if it was answered `Closed`.
 
 ghost use Rattle.std.specs.Prelude.{◌≡◌};
 
@@ -37,7 +37,7 @@ pub fn post_one<N: Recorded, R: Wait>(
     false
 }
 
-// Posts so many alerts of numbers of its own, until one is refused. Answers how many were accepted.
+// Posts `count` alerts, numbered from `first` on, until one is refused. Answers how many were accepted.
 fn post_some<N: Recorded, R: Wait>(
     rt: &R,
     alloc: Global,
@@ -97,7 +97,7 @@ fn read_on<N: Recorded>(
     })
 }
 
-// Subscribes, and reads until it is told the end, or the turns run out.
+// Subscribes, and reads until `Closed` is answered, or the turns run out.
 fn read_all<N: Recorded, R: Wait>(
     rt: &R,
     alloc: Global,
@@ -147,7 +147,7 @@ fn post_all<N: Recorded + Send + Sync, R: Threads + Wait + Sync>(
     posted.load(Ordering::SeqCst)
 }
 
-// Each reader in a thread of its own. What can't be kept for want of memory is missing.
+// Each reader in a thread of its own. What can't be kept for lack of memory is missing.
 fn read_each<N: Recorded + Send + Sync, R: Threads + Wait + Sync>(
     rt: &R,
     alloc: Global,
@@ -224,7 +224,7 @@ fn count_due(settled: &Settled) -> usize {
     count
 }
 
-// Whether a reader was shown the first alerts that were due, and was told the end after all of them.
+// Whether a reader was shown the first alerts that were due, and was answered `Closed` after all of them.
 fn is_whole(settled: &Settled, shown: &Shown) -> bool {
     is_front(settled, &shown.starts) && shown.closed && shown.starts.len() == count_due(settled)
 }

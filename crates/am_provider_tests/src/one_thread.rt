@@ -174,7 +174,7 @@ fn with_quick<N: Recorded, R: Wait>(
     lag
 }
 
-// How many items a subscription shows until it shows none, and whether it was told a cut.
+// How many items a subscription shows until it shows none, and whether it answered `Cut`.
 fn read<N: Recorded>(subscription: &mut Subscription<'_, N>, most: u32) -> (u32, bool) {
     let mut items: u32 = 0;
     for _turn in 0..most {

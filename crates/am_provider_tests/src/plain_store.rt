@@ -12,7 +12,7 @@ fn put_at(stored: &mut Vec<Alert>, at: usize, became: Alert) -> Result<(), Alloc
     Ok(stored.push(became)?)
 }
 
-// Where the alert of a report's label set stands, or the end.
+// The index of the alert of a report's label set, or the end.
 fn position_of(stored: &[Alert], new: &Alert) -> usize {
     match stored.iter().position(|alert| alert.labels == new.labels) {
         Some(at) => at,

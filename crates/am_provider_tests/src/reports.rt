@@ -34,8 +34,8 @@ fn post_three<N: Recorded, R: Wait>(
     Ok([first, second, third])
 }
 
-/// What three posts answered, whether the subscription that was there was shown what they sent out, and
-/// what it came to.
+/// What three posts answered, whether the subscription that was there was shown what they sent out, and its
+/// ending.
 #[derive(Clone, Copy, Debug, PartialEq, Eq, Drop)]
 struct Reached {
     posted: [Placed; 3],
@@ -86,7 +86,7 @@ fn reports_reach_a_subscriber(rt: HostRuntime) -> Result<(), Fail> {
     Ok(())
 }
 
-/// What a subscription that comes late finds and is shown, and what it came to.
+/// What a subscription that comes late finds and is shown, and its ending.
 #[derive(Clone, Copy, Debug, PartialEq, Eq, Drop)]
 struct Late {
     lane: u32,

@@ -4,7 +4,7 @@ use am_alert::Moment;
 use am_provider::Settled;
 use am_store::Call;
 
-/// What a reader was shown, by the starts of its alerts, and whether it was told the end.
+/// What a reader was shown, by the starts of its alerts, and whether it was answered `Closed`.
 #[derive(Drop)]
 pub struct Shown {
     pub starts: Vec<Moment>,

@@ -26,7 +26,7 @@ struct Heard {
     alerts: AtomicU32,
 }
 
-// Reads until it is told the end, and sleeps while nothing is there.
+// Reads until `Closed` is answered, and sleeps while nothing is there.
 fn read_or_sleep<N: Recorded, R: Wait>(
     rt: &R,
     provider: &Provider<N>,
@@ -65,7 +65,7 @@ fn read_each<N: Recorded + Send + Sync, R: Threads + Wait + Sync>(
     );
 }
 
-// Waits until the count is there, for so many turns at the most.
+// Waits until the count is there, for 10,000,000 turns at the most.
 fn comes_to(count: &AtomicU32, wanted: u32) -> bool {
     for _turn in 0..10_000_000u32 {
         if count.load(Ordering::SeqCst) >= wanted {
@@ -76,8 +76,8 @@ fn comes_to(count: &AtomicU32, wanted: u32) -> bool {
     false
 }
 
-// Posts an alert each time that all readers were shown the last one, and closes. Answers how many rounds came to
-// an end.
+// Posts an alert each time that all readers were shown the last one, and closes. Answers how many rounds were
+// finished.
 fn post_each<N: Recorded, R: Wait>(
     rt: &R,
     alloc: Global,
@@ -161,7 +161,7 @@ fn sleepers_are_woken(rt: HostRuntime) -> Result<(), Fail> {
     Ok(())
 }
 
-// Closes so many turns after the reader has come, which may be between its last look and its sleep.
+// Closes `turns` turns after the reader has come, which may be between its last look and its sleep.
 fn close_after<N: Recorded, R: Wait>(
     rt: &R,
     provider: &Provider<N>,

@@ -64,7 +64,7 @@ fn slice<N: Recorded>(subscription: &mut Subscription<'_, N>) -> Shown {
     }
 }
 
-// Shows alerts one by one, up to so many, and answers how many there were.
+// Shows alerts one by one, up to `most`, and answers how many there were.
 fn one_by_one<N: Recorded>(subscription: &mut Subscription<'_, N>, most: u32) -> u32 {
     for count in 0..most {
         match subscription.next() {
@@ -75,7 +75,7 @@ fn one_by_one<N: Recorded>(subscription: &mut Subscription<'_, N>, most: u32) ->
     most
 }
 
-// So many reports, each of its own label set, from a number on. Each starts at its number.
+// `count` reports, each of its own label set, from a number on. Each starts at its number.
 fn reports_from(alloc: Global, first: u32, count: u32) -> Result<Vec<Report>, AllocError> {
     let mut reports = Vec::new(alloc);
     for number in first..first.saturating_add(count) {
@@ -95,7 +95,7 @@ fn post_from<N: Recorded, R: Wait>(
     Ok(())
 }
 
-/// What the slices of a subscription showed, and what it came to.
+/// What the slices of a subscription showed, and its ending.
 type Read = (Vec<Shown>, Ended);
 
 // Reads to the end of the log, some of it one by one.

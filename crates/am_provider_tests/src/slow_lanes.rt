@@ -10,14 +10,14 @@ use std::test::Fail;
 
 const BODY: &[u8] = b"[{\"labels\":{\"a\":\"1\"}}]";
 
-/// What a post came to.
+/// What a post answered.
 #[derive(Clone, Copy, Debug, PartialEq, Eq, Drop)]
 enum Answer {
     Placed(Option<u64>),
     Full { lane: u32, passed: u64 },
 }
 
-/// What the posts came to, in their order, and whether the subscribers were shown what was posted.
+/// What the posts answered, in their order, and whether the subscribers were shown what was posted.
 #[derive(Clone, Copy, Debug, PartialEq, Eq, Drop)]
 struct Filled {
     one: Answer,
@@ -44,7 +44,7 @@ fn post_one<N: Recorded, R: Wait>(
     }
 }
 
-// Whether so many alerts are shown.
+// Whether `count` alerts are shown.
 fn shows<N: Recorded>(subscription: &mut Subscription<'_, N>, count: u32) -> bool {
     for _turn in 0..count {
         match subscription.next() {
@@ -55,7 +55,7 @@ fn shows<N: Recorded>(subscription: &mut Subscription<'_, N>, count: u32) -> boo
     true
 }
 
-// Whether so many alerts are shown, and then that no more are there. The last one's place is passed then.
+// Whether `count` alerts are shown, and then that no more are there. The last one's place is passed then.
 fn shows_all<N: Recorded>(subscription: &mut Subscription<'_, N>, count: u32) -> bool {
     if !shows(subscription, count) {
         return false;
@@ -66,7 +66,7 @@ fn shows_all<N: Recorded>(subscription: &mut Subscription<'_, N>, count: u32) ->
     }
 }
 
-// The quick subscriber reads all that comes; the slow and the slowest one stay two places behind.
+// The quick subscriber reads all that comes; the slow and the slowest one lag by two batches.
 fn fill<N: Recorded, R: Wait>(
     stage: &Stage<'_, N, R>,
     caller: &mut Caller<N>,
@@ -139,8 +139,8 @@ impl Day for Filling {
     }
 }
 
-// The lowest lane that is two places behind is named. It is so until it asks for an alert after the
-// one that it was shown, and then the next such lane is named. Once none is left the post is taken.
+// The lowest lane that lags by two batches is named. It is so until it asks for an alert after the one that
+// it was shown, and then the next such lane is named. Once none is left the post is taken.
 #[test]
 fn slowest_lane_fills_the_log(rt: HostRuntime) -> Result<(), Fail> {
     let (filled, settled) = spend(&rt, rt.alloc(), Settings::of(2, 1), &Filling)?;

@@ -22,7 +22,7 @@ pub fn post_one<N: Recorded, R: Wait>(
     Ok(())
 }
 
-// What a trim drops while a subscription is open that came just now, and what that came to.
+// What a trim drops while a subscription is open that came just now, and that one's ending.
 fn trim_while_open<N: Recorded, R: Wait>(
     stage: &Stage<'_, N, R>,
     caller: &mut Caller<N>,

@@ -1,4 +1,4 @@
--- What is told of arguments that clap refused.
+-- What is reported of arguments that clap refused.
 use Rattle.std.specs.Prelude.{◌≢◌, ⊤}
 use Rattle.clap.specs.Values.{kind_of}
 use Rattle.clap.specs.declared.error.Error.{Error}
@@ -6,7 +6,7 @@ use Rattle.clap.specs.declared.error.kind.ErrorKind.TheVariants.{OutOfMemory}
 use Rattle.am_replay.specs.declared.arguments.ArgumentsFault.{ArgumentsFault}
 use Rattle.am_replay.specs.declared.arguments.ArgumentsFault.TheVariants.{Refused, NoMemory}
 
--- an error for want of memory isn't told as a refusal of the arguments
+-- an error for lack of memory isn't reported as a refusal of the arguments
 abbrev pub IsTold : Error → ArgumentsFault → Type 0
 IsTold error (Refused text) = kind_of error ≢ OutOfMemory
 IsTold error NoMemory = ⊤

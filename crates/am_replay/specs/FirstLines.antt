@@ -7,7 +7,7 @@ use Rattle.am_config.specs.declared.fault.ConfigFault.TheVariants.{NoMemory}
 use Rattle.am_replay.specs.declared.first_line.FirstLine.{FirstLine}
 use Rattle.am_replay.specs.declared.first_line.FirstLine.TheVariants.{TooLong, Refused, Read}
 
--- what the first line of a text comes to: it is above the limit, or it is read as a configuration
+-- what the first line of a text is found to be: above the limit, refused for a fault, or a configuration
 abbrev pub IsFirstLine : List ℕ → FirstLine → Type 0
 IsFirstLine text TooLong = LONGEST_LINE < length (config_line text)
 IsFirstLine text (Refused fault) =

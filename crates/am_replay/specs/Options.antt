@@ -1,4 +1,4 @@
--- The program's options, as clap is told of them and as it finds them.
+-- The program's options, as clap is given them and as it finds them.
 use Rattle.std.specs.Prelude.{◌≡◌, ◌<◌, ◌∷◌, [], true, false, List, Option, Some, None, codes, length}
 use Rattle.std.specs.Prelude.{if◌then◌else◌}
 use Rattle.std.specs.Str.{bytes_eq}

@@ -23,7 +23,7 @@ IsTelling text old OutOfMemory new = ⊥
 IsTelling text old NoThread new = ⊥
 IsTelling text old ReadFailed new = ⊥
 
--- what a run in the arguments' mode comes to
+-- how a run in the arguments' mode ends, and what it prints
 abbrev pub RunsIn : Mode → Arguments → Option (List ℕ) → Option (List ℕ) → Status → Option (List ℕ) → Type 0
 RunsIn Ordered arguments input old status new = IsReplay arguments input old status new
 RunsIn Free arguments input old status new = IsReplay arguments input old status new
@@ -34,8 +34,8 @@ RunsIn Follow arguments input old status new = IsLive arguments input old status
 abbrev pub IsRunAs : Arguments → Option (List ℕ) → Option (List ℕ) → Status → Option (List ℕ) → Type 0
 IsRunAs arguments input old status new = RunsIn arguments.mode arguments input old status new
 
--- What the program comes to under its arguments: a run, or what is told of arguments that are refused
--- or that ask for help. It may be out of memory before.
+-- What the program does under its arguments: a run, or a report on arguments that are refused or that ask for
+-- help. It may be out of memory before.
 pub data IsProgram (given : List (List ℕ)) (input old : Option (List ℕ))
     : Status → Option (List ℕ) → Type 0 where
   obeyed : {status : Status} {new : Option (List ℕ)} (arguments : Arguments) → AreArgumentsOf given arguments

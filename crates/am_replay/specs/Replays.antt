@@ -24,7 +24,7 @@ use Rattle.am_replay.specs.declared.status.Status.{Status}
 use Rattle.am_replay.specs.declared.status.Status.TheVariants.{Done, BadArguments, Refused, CallOutOfMemory}
 use Rattle.am_replay.specs.declared.status.Status.TheVariants.{OutOfMemory, NoThread, ReadFailed, WriteFailed}
 
--- how a script that was run ends: it is told where some call was out of memory
+-- how a script that was run ends: it says whether some call was out of memory
 abbrev pub status_of : Bool → Status
 status_of out_of_memory = if out_of_memory then CallOutOfMemory else Done
 
@@ -33,9 +33,9 @@ abbrev pub runs_in_order : Mode → Bool
 runs_in_order Ordered = true
 runs_in_order mode = false
 
--- What a script's text comes to: its first line is looked at before the others, and one that is no
--- configuration prints its fault; a refused script prints its first fault; in both nothing is run.
--- Another one is run under the arguments' places and policy, and prints what its calls answered.
+-- What a script's text gives: its first line is looked at before the others, and one that is no configuration
+-- prints its fault; a refused script prints its first fault; in both nothing is run. Another one is run under
+-- the arguments' places and policy, and prints what its calls answered.
 pub data ComesTo (arguments : Arguments) (text : List ℕ) : Status → List ℕ → Type 0 where
   too_long : IsFirstLine text TooLong
       → ComesTo arguments text Refused (refused_script arguments.form first_line_too_large)
@@ -52,7 +52,7 @@ pub data ComesTo (arguments : Arguments) (text : List ℕ) : Status → List ℕ
       → ComesTo arguments text (status_of (ran_out_of_memory transcript.answers.items))
       (transcript_text arguments.form lines transcript.answers.items transcript.counts)
 
--- all that the script comes to was printed
+-- all that the script gives was printed
 pub record IsPrinted (arguments : Arguments) (input old new : Option (List ℕ)) (status : Status)
     : Type 0 where
   pub text : List ℕ
@@ -61,7 +61,7 @@ pub record IsPrinted (arguments : Arguments) (input old new : Option (List ℕ))
   pub comes : ComesTo arguments text status output
   pub printed : Appends old new output
 
--- a write failed: a beginning of what the script comes to was printed
+-- a write failed: a prefix of what the script gives was printed
 pub record IsCutShort (arguments : Arguments) (input old new : Option (List ℕ)) : Type 0 where
   pub text : List ℕ
   pub status : Status
@@ -71,7 +71,7 @@ pub record IsCutShort (arguments : Arguments) (input old new : Option (List ℕ)
   pub printed : AppendsBeginning old new output
 
 -- how a replay ends under its arguments, over the input's bytes and what the output holds before and
--- after. Where the script wasn't read, or the program ran out of memory or of threads, nothing was printed
+-- after. If the script wasn't read, or the program ran out of memory or of threads, nothing was printed
 abbrev pub IsReplay : Arguments → Option (List ℕ) → Option (List ℕ) → Status → Option (List ℕ) → Type 0
 IsReplay arguments input old Done new = IsPrinted arguments input old new Done
 IsReplay arguments input old Refused new = IsPrinted arguments input old new Refused

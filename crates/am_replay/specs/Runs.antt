@@ -1,4 +1,4 @@
--- What a script's run on a provider of its own comes to.
+-- A script's run on a new provider.
 use Rattle.std.specs.Prelude.{◌≡◌, Bool, true, List, map, length, Ok}
 use Rattle.std.specs.declared.alloc.AllocError.{AllocError}
 use Rattle.am_store.specs.Journal.{posts_of}
@@ -16,18 +16,18 @@ use Rattle.am_config.specs.declared.config.Config.{Config}
 use Rattle.am_script.specs.declared.command.Line.{Line}
 use Rattle.am_replay.specs.declared.transcript.Transcript.{Transcript}
 
--- the places, the posts and the stored alerts of the journal and the store that a provider came to
+-- the places, the posts and the stored alerts of a settled provider's journal and store
 pub record AreCountsOf (settled : Settled) (counts : Counts) : Type 0 where
   pub places : counts.places ≡ places_of (journal_of settled.journal)
   pub posts : counts.posts ≡ posts_of (journal_of settled.journal)
   pub stored : counts.stored ≡ length settled.store.entries
 
--- The eight threads ran the lines under one configuration, each its own, and what each answered is told.
--- Their callers settled the provider: there is one history, in which each accepted call of a line, and each
--- subscription that was left at the end, has an entry of its own, and no other entry is in it. Each line's
--- answer is the one that the history gives at its place. If the lines are run in order, their turns are one
--- list in the order of the script, and each line's thread had seen, when its turn began, all that was done in
--- the turns before it. The counts are those of the journal that is left of the history.
+-- The eight threads ran the lines under one configuration, each its own, and the transcript has what each
+-- answered. Their callers settled the provider. Its one history has one entry for each accepted call of a
+-- line and for each subscription that was left at the end, and no other entry. Each line's answer is the one
+-- that the history gives at its place. If the lines are run in order, their turns are one list in the order
+-- of the script. Then, when a line's turn began, its thread had seen all that was done in the turns before
+-- it. The counts are those of the journal that is left of the history.
 pub record IsRun (ordered : Bool) (config : Config) (setting : Setting) (lines : List Line)
     (transcript : Transcript) (settled : Settled) : Type 0 where
   pub outcomes : List (Outcome AllocError)

@@ -1,4 +1,4 @@
--- The exit status of each way in which a run ends, and what the error stream is told of it.
+-- The exit status of each way in which a run ends, and what is written to the error stream.
 use Rattle.std.specs.Prelude.{ℕ, List, [], codes}
 use Rattle.am_replay.specs.declared.status.Status.{Status}
 use Rattle.am_replay.specs.declared.status.Status.TheVariants.{Done, BadArguments, Refused, CallOutOfMemory}

@@ -1,4 +1,4 @@
-//! What a person is told of a configuration that is refused: which member it is, and what is wanted there.
+//! What a person is shown of a configuration that is refused: which member it is, and what is wanted there.
 //!
 //! The output has the fault and its path, and that is what contracts speak of. This is for the error stream.
 

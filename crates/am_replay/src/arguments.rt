@@ -19,7 +19,7 @@ use std::alloc::{AllocError, Global};
 pub enum Mode {
     /// In the script's order, whichever threads they belong to.
     Ordered,
-    /// Each thread runs its own in their order, beside the others.
+    /// Each thread runs its own in their order, concurrently with the others.
     Free,
     /// Each line is run and answered before the next one is read, in one thread.
     Live,
@@ -78,7 +78,7 @@ impl Arguments {
         }
     }
 
-    // What the options of a command line that clap has read come to.
+    // The arguments that a command line gives, as clap has read it.
     fn found(matches: &ArgMatches<'_>) -> Arguments
         requires { HasOptions (found_of matches.now) }
         ensures { AreFound (found_of matches.now) result }
@@ -119,7 +119,7 @@ const JSON_HELP: &str = "Print each answer as a JSON object on a line";
 
 const FULL_HELP: &str = "If the log is full, refuse the post or cut the slowest subscribers off";
 
-// Two calls that work as they stand, and a line for each command of a script.
+// Two calls that work as written, and a line for each command of a script.
 const EXAMPLES: &str = "\
 Examples:
   ./replay < tests/rows/first_post.in
@@ -218,7 +218,7 @@ fn flag<'a>(alloc: Global, name: &'a str, help: &'a str) -> Arg<'a>
         .help(help)
 }
 
-// What is told of an error of clap's.
+// What is reported of an error of clap's.
 fn told(alloc: Global, error: &Error) -> ArgumentsFault
     ensures { IsTold error.now result }
 {

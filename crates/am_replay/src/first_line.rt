@@ -7,7 +7,7 @@ use am_config::{Config, ConfigFault};
 use am_script::{LONGEST_LINE, config_line};
 use std::alloc::{AllocError, Global};
 
-/// What the first line of a script comes to.
+/// What the first line of a script is found to be.
 #[derive(Debug, Drop)]
 pub enum FirstLine {
     /// It is above a line's limit, and wasn't read.

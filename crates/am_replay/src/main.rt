@@ -51,7 +51,7 @@ fn main(rt: HostRuntime) -> ExitCode {
         ),
         Err(status) => status,
     };
-    // Where the error stream can't be written either, the exit status alone tells it.
+    // If the error stream can't be written either, the exit status alone says it.
     let _told = write_text(&mut rt.stderr(), status.reason().as_bytes());
     ExitCode::from(status.exit_status())
 }

@@ -24,8 +24,8 @@ use std::io::{BufReader, Read, Write};
 use std::sync::Wait;
 use std::thread::Threads;
 
-/// Reads a script, runs it as the arguments ask, and prints each answer. `err` is told what a person
-/// may want to know of a script that is refused; no contract says what.
+/// Reads a script, runs it as the arguments ask, and prints each answer. `err` gets what a person may want to
+/// know of a script that is refused; no contract says what.
 pub fn run<R: AllocGlobal + Threads + Wait + Sync, I: Read, O: Write, E: Write>(
     rt: &R,
     arguments: &[String],

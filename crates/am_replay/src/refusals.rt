@@ -61,8 +61,7 @@ fn script_object(alloc: Global, refusal: Refusal) -> Result<String, AllocError>
     Ok(text)
 }
 
-/// Tells a person more of a refusal that was printed. Where that can't be written, the output alone has
-/// told it.
+/// Tells a person more of a refusal that was printed. If that can't be written, the output alone has said it.
 pub fn advise<E: Write>(err: &mut E, status: Status, advice: &Option<String>) {
     if status != Status::Refused {
         return;

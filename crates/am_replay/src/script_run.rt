@@ -104,7 +104,7 @@ fn run_on<N: Recorded + Send + Sync, R: Threads + Wait + Sync, T: Turns + Sync>(
     }
 }
 
-// Ends a provider by what its threads came to.
+// Ends a provider with the outcomes of its threads.
 fn end<N: Recorded, R: Wait>(
     rt: &R,
     alloc: Global,

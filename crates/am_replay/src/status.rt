@@ -41,8 +41,9 @@ impl Status {
         }
     }
 
-    /// What the error stream is told of a run that failed or wasn't begun; nothing of another one, whose
-    /// output says all. Of a script that was refused it is told more, by `am_script::script_advice`.
+    /// What is written to the error stream of a run that failed or wasn't begun; nothing of another one,
+    /// whose output says all. Of a script that was refused more is written there, by
+    /// `am_script::script_advice`.
     pub fn reason(self) -> &'static str
         ensures { result.now ≡ reason_of self }
     {

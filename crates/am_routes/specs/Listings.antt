@@ -15,7 +15,7 @@ use Rattle.am_routes.specs.declared.matched_route.MatchedRoute.{MatchedRoute}
 abbrev pub matcher_text : MatcherView → List ℕ
 matcher_text matcher = matcher.name ++ (operator_text matcher.operator ++ quoted matcher.value)
 
--- what is listed of a route that has so many routes above it
+-- what is listed of a route with `depth` routes above it
 abbrev pub listed : ℕ → Node → ListedRoute
 listed depth node = record {
   id = record { 0 = node.number };
@@ -26,7 +26,7 @@ listed depth node = record {
   continues = node.route.continues;
 }
 
--- routes that have so many above them in pre-order, the first one having the number: each before those
+-- routes with `depth` routes above each, in pre-order, the first one having the number: each before those
 -- below it (`dispatch.Route.Walk`)
 abbrev pub listed_from : ℕ → ℕ → Forest → List ListedRoute
 listed_from depth number no_routes = []

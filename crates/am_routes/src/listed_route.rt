@@ -38,7 +38,7 @@ pub fn list_routes(alloc: Global, tree: &RouteTree) -> Result<Vec<ListedRoute>, 
     Ok(listed)
 }
 
-// Adds routes that have so many above them, each before those below it.
+// Adds routes with `depth` routes above each, each before those below it.
 fn list_each(
     alloc: Global,
     routes: &[Route],

@@ -135,7 +135,7 @@ muting_answer (Some muting) = answer.Muted muting.0 muting.1
 abbrev pub muting_at : InhibitorView → ℕ → Labels → Answer
 muting_at inhibitor now labels = muting_answer (muted inhibitor.alerts inhibitor.rules labels now)
 
--- an inhibitor that was asked of a target: it has noted how many sources it came to
+-- an inhibitor that was asked of a target: it has noted how many sources it examined
 abbrev pub having_answered : Labels → ℕ → InhibitorView → InhibitorView
 having_answered labels now old =
     having_looked (min (candidates_seen old.alerts old.rules labels now) most_counted) old

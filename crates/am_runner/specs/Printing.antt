@@ -23,19 +23,19 @@ place_text None = codes " no place"
 abbrev pub posted_text : ℕ → Option ℕ → List ℕ
 posted_text valid place = codes "post valid " ++ (decimal valid ++ place_text place)
 
--- a subscription that was left, whether it was told that the log is closed, and whether a post cut it
+-- a subscription that was left, whether it answered `Closed`, and whether a post cut it
 abbrev pub left_text : ℕ → Bool → Bool → List ℕ
 left_text taken closed cut =
     codes "leave taken " ++ (decimal taken ++ ((if closed then codes " closed" else [])
     ++ (if cut then codes " cut" else [])))
 
--- a group of a dispatcher: its route, who is told, its labels, and how many alerts it has
+-- a group of a dispatcher: its route, the receiver, its labels, and how many alerts it has
 abbrev pub group_text : ℕ → List ℕ → Labels → ℕ → List ℕ
 group_text route receiver labels alerts =
     codes "group route " ++ (decimal route ++ (codes " receiver " ++ (quoted receiver
     ++ (codes " labels " ++ (labels_text labels ++ (codes " alerts " ++ decimal alerts))))))
 
--- a route that a label set matches: its number, who is told, and the group labels there
+-- a route that a label set matches: its number, the receiver, and the group labels there
 abbrev pub matched_text : MatchedRoute → List ℕ
 matched_text route =
     codes "matched route " ++ (decimal route.id.0 ++ (codes " receiver " ++ (quoted route.receiver

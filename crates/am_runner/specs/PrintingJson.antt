@@ -45,13 +45,13 @@ abbrev pub posted_members : ℕ → Option ℕ → Members
 posted_members valid place = worded (codes "post")
     (member (codes "valid") (whole valid) (member (codes "place") (place_json place) no_members))
 
--- a subscription that was left, whether it was told that the log is closed, and whether a post cut it
+-- a subscription that was left, whether it answered `Closed`, and whether a post cut it
 abbrev pub left_members : ℕ → Bool → Bool → Members
 left_members taken closed cut = worded (codes "leave")
     (member (codes "taken") (whole taken)
     (member (codes "closed") (boolean closed) (member (codes "cut") (boolean cut) no_members)))
 
--- a group of a dispatcher: its route, who is told, its labels, and how many alerts it has
+-- a group of a dispatcher: its route, the receiver, its labels, and how many alerts it has
 abbrev pub group_members : ℕ → List ℕ → Labels → ℕ → Members
 group_members route receiver labels alerts = worded (codes "group")
     (member (codes "route") (whole route)
@@ -74,7 +74,7 @@ listed_members route = worded (codes "route")
     (member (codes "group_by") (grouping_json route.group_by)
     (member (codes "continue") (boolean route.continues) no_members))))))
 
--- a route that a label set matches: its number, who is told, and the group labels there
+-- a route that a label set matches: its number, the receiver, and the group labels there
 abbrev pub matched_members : MatchedRoute → Members
 matched_members route = worded (codes "matched")
     (member (codes "route") (whole route.id.0)
@@ -140,7 +140,7 @@ answer_members answer.MutesRefused = out_of_memory (verb_text verb.Mutes)
 answer_members (answer.NotOpen word) =
     worded (codes "none") (member (codes "do") (string (verb_text word)) no_members)
 
--- a line of input has so many answers
+-- how many answers a line of input has
 abbrev pub count_members : ℕ → Members
 count_members count = member (codes "answers") (whole count) no_members
 

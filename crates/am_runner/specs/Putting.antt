@@ -1,4 +1,4 @@
--- What a post of a body and a put of alerts that carry their own moments come to.
+-- How a post of a body, and a put of alerts that carry their own moments, are answered.
 use Rattle.std.specs.Prelude.{◌≡◌, ℕ, List, Result, Ok, Err}
 use Rattle.am_alert.specs.Bodies.{IsPostOfBody}
 use Rattle.am_alert.specs.FromParts.{IsPostOfAlerts}
@@ -18,8 +18,8 @@ use Rattle.am_provider.specs.declared.answers.Posted.{Posted}
 use Rattle.am_provider.specs.declared.faults.PostRefused.{PostRefused}
 use Rattle.am_provider.specs.declared.faults.PostRefused.TheVariants as refused
 
--- what a post comes to of which the reading answers this: one that isn't read is refused for its fault before
--- the history is looked at; another is posted, and then the pass owns its place
+-- how a post is answered whose reading answers this: one that isn't read is refused for its fault before the
+-- history is looked at; another is posted, and then the pass owns its place
 abbrev pub AnswersRead : (Result Post PostFault → Type 0) → Policy → ℕ → ℕ → PassView Alert Call
     → PassView Alert Call → FrontView EntryView → FrontView EntryView → Result Posted PostRefused → Type 0
 AnswersRead is_read policy places now was is saw sees (Ok posted) =
@@ -32,12 +32,12 @@ AnswersRead is_read policy places now was is saw sees (Err (refused.Put fault)) 
 AnswersRead is_read policy places now was is saw sees (Err (refused.Unread fault)) =
     is_read (Err fault) × (is ≡ was) × (sees ≡ saw)
 
--- what a post of a body comes to
+-- how a post of a body is answered
 abbrev pub AnswersPosted : Policy → ℕ → ℕ → ℕ → Body → PassView Alert Call → PassView Alert Call
     → FrontView EntryView → FrontView EntryView → Result Posted PostRefused → Type 0
 AnswersPosted policy places now timeout body = AnswersRead (IsPostOfBody now timeout body) policy places now
 
--- what a put of alerts comes to
+-- how a put of alerts is answered
 abbrev pub AnswersPut : Policy → ℕ → ℕ → List Alert → PassView Alert Call → PassView Alert Call
     → FrontView EntryView → FrontView EntryView → Result Posted PostRefused → Type 0
 AnswersPut policy places now alerts = AnswersRead (IsPostOfAlerts alerts) policy places now

@@ -1,4 +1,4 @@
--- An open subscription with the consumer beside it, and what reading it answers.
+-- An open subscription with its consumer, and what reading it answers.
 use Rattle.std.specs.Prelude.{◌≡◌, ℕ, ◌+◌, ◌<◌, Bool, true, false, List, [], ◌∷◌, ◌++◌, Option, Some, None}
 use Rattle.std.specs.Prelude.{IfSome}
 use mathlib.Core.List.{IsPrefix}
@@ -15,8 +15,7 @@ use Rattle.am_runner.specs.declared.answer.Answer.TheVariants as answer
 use Rattle.am_runner.specs.declared.consumer.Consumer.{Consumer}
 use Rattle.am_runner.specs.declared.consumer.Consumer.TheVariants.{Notifier}
 
--- a subscription, its name, what stands beside it, and whether that had no memory for an alert that was
--- shown
+-- a subscription, its name, its consumer, and whether that had no memory for an alert that was shown
 pub record OpenView : Type 0 where
   pub name : List ℕ
   pub subscription : SubscriptionView
@@ -35,7 +34,7 @@ NextIs old answer.SawClosed new = Shows old step.Closed new
 NextIs old answer.SawCut new = Shows old step.Cut new
 NextIs old other new = ⊥
 
--- what stands beside a subscription, if anything does, takes an alert
+-- the consumer of a subscription, if there is one, takes an alert
 abbrev pub TakenBeside : Alert → Option Consumer → Option Consumer → Type 0
 TakenBeside alert None None = Unit {0}
 TakenBeside alert (Some old) (Some new) = TakesAlert alert old new
@@ -47,7 +46,7 @@ abbrev pub IsTaken : Answer → Option Consumer → Bool → Option Consumer →
 IsTaken (answer.Item alert) old goes_on new = (goes_on ≡ true) × TakenBeside alert old new
 IsTaken other old goes_on new = (goes_on ≡ false) × (new ≡ old)
 
--- One read: an alert, which the consumer takes, or behind which stands that it had no memory to take
+-- One read: an alert, which the consumer takes, or after which it is answered that it had no memory to take
 -- it; or another answer, which ends the reading. It comes after those before.
 pub data ReadsOne (old : OpenView) (before : List Answer) : Bool → List Answer → OpenView → Type 0 where
   takes : {new : OpenView} (alert : Alert) → ShowsItem old.subscription alert new.subscription
@@ -63,14 +62,14 @@ pub data ReadsOne (old : OpenView) (before : List Answer) : Bool → List Answer
       → new.consumer ≡ old.consumer → (new.name ≡ old.name) × (new.missed ≡ old.missed)
       → ReadsOne old before false (before ++ last ∷ []) new
 
--- so many alerts were read, one after another
+-- a number of alerts was read, one after another
 pub data ReadsSome (old : OpenView) : ℕ → List Answer → OpenView → Type 0 where
   nothing : ReadsSome old 0 [] old
   one_more : {count : ℕ} {before answers : List Answer} {mid new : OpenView}
       → ReadsSome old count before mid → ReadsOne mid before true answers new
       → ReadsSome old (count + 1) answers new
 
--- what at most so many reads answer: as many alerts, or less and then why there are no more
+-- what at most `max` reads answer: that many alerts, or fewer and then why there are no more
 pub data ReadAnswers (old : OpenView) (max : ℕ) : List Answer → OpenView → Type 0 where
   all : {answers : List Answer} {new : OpenView} → ReadsSome old max answers new
       → ReadAnswers old max answers new
@@ -90,7 +89,7 @@ pub record SaysPendingPast (noted : List Batch) (was new : SubscriptionView) : T
   pub shows : Shows old step.Pending new
   pub past : IsPrefix noted new.cursor.lane.front
 
--- what is answered of the groups of the dispatcher beside a subscription, at a moment if one is given
+-- what is answered of the groups of a subscription's dispatcher, at a moment if one is given
 abbrev pub groups_beside : Option ℕ → Option Consumer → List Answer
 groups_beside at (Some consumer) = answers_of_groups at consumer
 groups_beside at None = answer.NotOpen verb.Groups ∷ []
@@ -107,7 +106,7 @@ pub data AsksBeside {A : Type 0} (does : Consumer → Consumer → A → Type 0)
       → AsksBeside does without_one (Some before) given (Some after)
   none_beside : AsksBeside does without_one None without_one None
 
--- the consumer beside a subscription is asked, and nothing else of it changes
+-- the consumer of a subscription is asked, and nothing else of the subscription changes
 abbrev pub Asks : {A : Type 0} → (Consumer → Consumer → A → Type 0) → A → OpenView → A → OpenView → Type 0
 Asks does without_one old given new =
     AsksBeside does without_one old.consumer given new.consumer

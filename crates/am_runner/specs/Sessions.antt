@@ -59,7 +59,7 @@ pub record Setting : Type 0 where
   pub places : ℕ
   pub policy : Policy
 
--- the setting of a provider with so many places, a policy and a resolve timeout
+-- the setting of a provider with `places` places, a policy and a resolve timeout
 abbrev pub setting_of : ℕ → Policy → Duration → Setting
 setting_of places policy timeout =
     record { timeout = as_nanos timeout; places = places; policy = policy }
@@ -79,7 +79,7 @@ new_session seat = record {
   opened = [];
 }
 
--- where the subscription of this name stands
+-- the index of the subscription of this name
 abbrev pub index_named : List ℕ → List OpenView → Option ℕ
 index_named name opened = position (λ one. bytes_eq one.name name) opened
 
@@ -159,8 +159,7 @@ pub record ReadsAt (index max : ℕ) (old : SessionView) (answers : List Answer)
   pub all : EndsPending answers
       → IsFront (due (whole sees.before) before.subscription.at) (taken after.subscription)
 
--- what is answered of the groups of the dispatcher beside a subscription, if there is that, at a moment if
--- one is given
+-- what is answered of the groups of a subscription's dispatcher, if there is one, at a moment if one is given
 abbrev pub groups_told : Option ℕ → Option OpenView → List Answer
 groups_told at None = answer.NotOpen verb.Groups ∷ []
 groups_told at (Some open_one) = groups_beside at open_one.consumer
@@ -189,7 +188,7 @@ SweepsNamed which name at old answers new = OnNamed name (sweep_word which) (λ 
     IsOne (λ one. Asks (IsSwept at which) (answer.NotOpen (sweep_word which)) before one after) given)
     old answers new
 
--- the inhibitor beside it is asked of a target
+-- the inhibitor of the subscription of this name is asked of a target
 abbrev pub AsksNamed : List ℕ → Labels → ℕ → List OpenView → List Answer → List OpenView → Type 0
 AsksNamed name labels at old answers new = OnNamed name verb.Mutes (λ before given after.
     IsOne (λ one. Asks (IsAsked labels at) (answer.NotOpen verb.Mutes) before one after) given)

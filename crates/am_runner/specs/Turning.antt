@@ -7,7 +7,7 @@ use Rattle.am_history.specs.Fronts.{FrontView}
 use Rattle.am_provider.specs.Histories.{EntryView}
 
 -- the turns in the order in which they were taken, each as the front that its caller had at its end; none, if
--- the threads take theirs as they come to them
+-- the threads take theirs as they reach them
 abbrev pub Order : Type 0
 Order = Option (List (FrontView EntryView))
 
@@ -15,8 +15,8 @@ Order = Option (List (FrontView EntryView))
 abbrev pub order_of : Bool → List (FrontView EntryView) → Order
 order_of ordered turns = if ordered then Some turns else None
 
--- the turn of a number began with one front and ended with another: in an order it stands at its number, and
--- when it began its caller had seen all that the callers of the turns before it had at the ends of these
+-- the turn of a number began with one front and ended with another. In an order it is at its number, and when
+-- it began, its caller had seen all that the callers of the earlier turns had seen at the ends of these
 abbrev pub IsTurn : Order → ℕ → FrontView EntryView → FrontView EntryView → Type 0
 IsTurn None at began ended = Unit {0}
 IsTurn (Some turns) at began ended = (slice_get turns at ≡ Some ended)

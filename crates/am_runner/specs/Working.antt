@@ -1,4 +1,4 @@
--- What a thread's run of its lines comes to.
+-- The outcome of a thread's run of its lines.
 use Rattle.std.specs.Prelude.{◌≡◌, ◌≢◌, ℕ, ◌+◌, List, [], ◌∷◌, ◌++◌, length, Result, Ok, IfOk}
 use Rattle.std.specs.Global.{Vec}
 use Rattle.am_alert.specs.declared.alert.Alert.{Alert}
@@ -59,7 +59,7 @@ IsWork config setting order lines thread answers pass front = IfOk answers (λ a
 abbrev pub Adds : {A E : Type 0} → List A → Result A E → List A → Type 0
 Adds old given new = (one : _) × (given ≡ Ok one) × (new ≡ old ++ one ∷ [])
 
--- what a thread came to: what it answered, its pass and its front
+-- a thread's outcome: what it answered, its pass and its front
 pub record Outcome (E : Type 0) : Type 0 where
   pub answers : Result (Vec (Vec Answer)) E
   pub pass : PassView Alert Call
@@ -70,7 +70,7 @@ abbrev pub outcome_of : {E : Type 0} → Result (Vec (Vec Answer)) E → PassVie
     → Outcome E
 outcome_of answers pass front = record { answers = answers; pass = pass; front = front }
 
--- what the threads below a number came to under one configuration, one after another
+-- the outcomes of the threads below a number under one configuration, one after another
 pub data AreWork {E : Type 0} (config : Config) (setting : Setting) (order : Order) (lines : List Line)
     : ℕ → List (Outcome E) → Type 0 where
   none : AreWork config setting order lines 0 []

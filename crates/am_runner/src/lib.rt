@@ -9,10 +9,9 @@
 //!
 //! `run_threads` starts the threads, and none runs a line before all are there. A thread has a pass and
 //! the subscriptions that its lines opened (`Session`), each with a dispatcher, an inhibitor, both or
-//! neither, as its line asks. When the threads' lines are run is up to the `Turns` that the caller passes: one
-//! after another as they stand in the script (`InOrder`), or as the threads come to them (`Freely`).
-//! What comes back is what each line answered, and the passes, by which `Provider::settle` shows the
-//! journal.
+//! neither, as its line asks. When the threads' lines are run is up to the `Turns` that the caller passes:
+//! one after another in the script's order (`InOrder`), or as the threads reach them (`Freely`). What comes
+//! back is what each line answered, and the passes, by which `Provider::settle` shows the journal.
 //!
 //!     let ran = run_threads(rt, alloc, &provider, passes, &config, &lines, &InOrder::new(alloc, &lines)?)?;
 #![tactic(auto)]

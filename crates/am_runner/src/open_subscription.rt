@@ -26,7 +26,7 @@ use std::alloc::{AllocError, Global};
 use std::marker::Model;
 use std::sync::Wait;
 
-/// An open subscription with its name, and what stands beside it. Contracts see all of it: unless an
+/// An open subscription with its name and its consumer, if it has one. Contracts see all of it: unless an
 /// alert was missed, the consumer took what the subscription has taken, and nothing else.
 pub struct OpenSubscription<'p, 'c, N: Origin> {
     name: Text,
@@ -160,7 +160,7 @@ impl<'p, 'c, N: Origin> OpenSubscription<'p, 'c, N> {
         sweep_beside(&mut self.consumer, half, now)
     }
 
-    /// By what the inhibitor beside it mutes a target. If memory runs out for the answer, it was asked.
+    /// By what the subscription's inhibitor mutes a target. If memory runs out for the answer, it was asked.
     pub fn mutes(&mut self, labels: &LabelSet, now: Moment) -> Result<Answer, AllocError>
         ensures asks { IfOk result (λ answer. Asks (IsAsked labels.now now)
             (Answer.NotOpen Verb.Mutes) self.old answer self.new) }
@@ -181,7 +181,7 @@ impl<'p, 'c, N: Origin> OpenSubscription<'p, 'c, N> {
         provider.vouch(rt, caller, &mut self.subscription);
     }
 
-    /// The subscription, to be given back. What stood beside it goes.
+    /// The subscription, to be given back. Its consumer goes.
     pub fn into_subscription(self) -> Subscription<'p, N>
         ensures { result ≡ self.entry.subscription }
     {
@@ -195,7 +195,7 @@ impl<'p, 'c, N: Origin> OpenSubscription<'p, 'c, N> {
     }
 }
 
-// Reads once; what stands beside the subscription takes the alert that was shown.
+// Reads once; the subscription's consumer takes the alert that was shown.
 fn read_beside<N: Origin>(
     subscription: &mut Subscription<'_, N>,
     consumer: &mut Option<Consumer<'_>>,
@@ -235,7 +235,7 @@ fn read_beside<N: Origin>(
     }
 }
 
-// Whether the answer is an alert, which what stands beside the subscription then takes.
+// Whether the answer is an alert, which the subscription's consumer, if there is one, then takes.
 fn take_shown(consumer: &mut Option<Consumer<'_>>, answer: &Answer) -> Result<bool, AllocError>
     ensures taken { IfOk result (λ goes_on. IsTaken answer.now consumer.old goes_on consumer.new) }
     ensures err { OnErr result ((is_item answer.now ≡ true) × (consumer.new ≡ consumer.old)) }
@@ -309,7 +309,7 @@ fn next_answer<N: Origin>(
     Ok(answer)
 }
 
-// What stands beside a subscription takes an alert. If memory runs out, all stays as it was.
+// A subscription's consumer, if there is one, takes an alert. If memory runs out, all stays as it was.
 fn take_beside(consumer: &mut Option<Consumer<'_>>, alert: &Alert) -> Result<(), AllocError>
     ensures taken { OnOk result (TakenBeside alert.now consumer.old consumer.new) }
     ensures err { OnErr result (consumer.new ≡ consumer.old) }

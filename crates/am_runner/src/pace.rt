@@ -20,7 +20,8 @@ use crate::answer::Answer;
 // What makes no compaction due, however little is stored.
 const LITTLE: u64 = 1_024;
 
-/// What the calls since the last compaction came to, and how many alerts were stored then.
+/// How many calls and posted or removed alerts there were since the last compaction, and how many alerts were
+/// stored then.
 #[derive(Clone, Copy, Debug, Drop)]
 pub(crate) struct Pace {
     since: u64,
@@ -56,8 +57,8 @@ impl Pace {
         self.since > LITTLE && self.since > self.stored / 2
     }
 
-    /// The journal was compacted. So many alerts are stored, or at most those before and those posted since, if
-    /// that couldn't be asked.
+    /// The journal was compacted. `stored` alerts are stored, or at most those before and those posted since,
+    /// if that couldn't be asked.
     pub(crate) fn restart(&mut self, stored: Option<u64>)
         ensures { self.new ≡ record {
           since = 0;

@@ -153,7 +153,7 @@ impl<N: Recorded, M: Timeline> Taken<N, M> {
         self.turns.show(table, seen);
     }
 
-    // Adds the turn that its caller has come to the end of.
+    // Adds the turn that its caller has finished.
     fn add<R: Wait>(
         &mut self,
         rt: &R,

@@ -2,7 +2,7 @@
 
 use std::sync::{Condvar, Mutex, Wait};
 
-/// Where the threads meet before they begin.
+/// The meeting point of the threads before they begin.
 #[derive(Drop)]
 pub(crate) struct Start {
     state: Mutex<Arrivals>,

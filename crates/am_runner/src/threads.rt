@@ -30,9 +30,9 @@ use std::thread;
 use std::thread::{Promise, Scope, Threads};
 use std::time::Duration;
 
-/// What a thread's run came to: what each line of the script answered, which is nothing where it is
-/// another thread's, or an error where memory ran out or the threads weren't started; and the caller, which
-/// has what the thread added to the provider's history.
+/// The outcome of a thread's run: what each line of the script answered, and the caller, which has what the
+/// thread added to the provider's history. A line of another thread answered nothing. An error says that
+/// memory ran out, or that the threads weren't started.
 pub type ThreadOutcome<N> = (Result<Vec<Vec<Answer>>, AllocError>, Caller<N>);
 
 // The same, and what the thread had seen of the turns.
@@ -99,7 +99,7 @@ pub fn run_threads<N: Recorded + Send + Sync, R: Threads + Wait + Sync, T: Turns
         (map (λ one. outcome_of one.0 one.1.pass one.1.front) all.items)) }
 {
     if lines.len() >= usize::MAX - 7 {
-        // No memory has so many lines.
+        // No memory has `usize::MAX - 7` lines.
         return Err(NotRun::NoMemory);
     }
     let taken = NewHistory::<Front<Entry, N>>::make(alloc, 1)?;

@@ -16,12 +16,12 @@ use std::sync::{Condvar, Wait};
 #[derive(Clone, Copy, Debug, PartialEq, Eq)]
 pub struct Turn {
     pub thread: Thread,
-    /// Where the line stands in the script. The threads' ends come after all lines, by thread.
+    /// The line's index in the script. The threads' ends come after all lines, by thread.
     pub at: usize,
 }
 
-/// When the threads run their lines. Each thread calls `begin` before each of its turns and `end` behind
-/// it, whether memory ran out in it or not; all turns of a script are some thread's.
+/// When the threads run their lines. Each thread calls `begin` before each of its turns and `end` after it,
+/// whether memory ran out in it or not; all turns of a script are some thread's.
 pub trait Turns: Gate {
     ghost use Rattle.std.specs.Prelude.{Bool, ◌≡◌};
     ghost use Rattle.am_runner.specs.Turning.{Begins, Ends};
@@ -62,7 +62,7 @@ pub trait Turns: Gate {
 pub struct InOrder {
     // The thread of each line.
     threads: Vec<Thread>,
-    // Where each thread waits for its turn.
+    // What each thread waits on for its turn.
     came: [Condvar; 8],
 }
 
@@ -140,7 +140,7 @@ impl Turns for InOrder {
     }
 }
 
-/// Each thread runs its lines as fast as it comes to them.
+/// Each thread runs its lines as fast as it reaches them.
 #[derive(Clone, Copy, Debug, Drop)]
 pub struct Freely;
 

@@ -1,4 +1,4 @@
-//! The eight threads run their lines beside one another.
+//! The eight threads run their lines at the same time.
 
 use crate::runs::{Log, Run, Stopped, run_lines};
 use am_history::Timeline;
@@ -46,8 +46,8 @@ early 0 places 6 posts 6 stored 6 complete true
 // How often a line looks for the others, a millisecond apart.
 const LOOKS: u32 = 10_000;
 
-// Holds each line until all threads have come to theirs, and then until the next line was run; or until
-// the looks run out for one of them.
+// Holds each line until all threads have reached theirs, and then until the next line was run; or until the
+// looks run out for one of them.
 #[derive(Drop)]
 struct LastFirst<'a, C> {
     clock: &'a C,
@@ -57,7 +57,7 @@ struct LastFirst<'a, C> {
 }
 
 impl<'a, C: Clock> LastFirst<'a, C> {
-    // Whether all threads came to their lines, and so many of these were run.
+    // Whether all threads reached their lines, and at least `lines` of these were run.
     fn has_ended(&self, lines: u32) -> bool {
         self.begun.load(Ordering::SeqCst) >= THREADS && self.ended.load(Ordering::SeqCst) >= lines
     }

@@ -184,7 +184,7 @@ const COMPACTED: &str = r#"{"route":{"receiver":"ops"}}
 {"do":"read","thread":0,"sub":"a","max":9}
 "#;
 
-// The first two calls aren't in memory any more, and with them what the first subscription came to.
+// The first two calls aren't in memory any more, nor is the first subscription's ending.
 const COMPACTED_ANSWERS: &str = r#"2 subscribe lane 0 opening 0
 3 post valid 2 place 0
 4 compact dropped 2

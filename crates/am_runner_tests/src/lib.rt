@@ -1,5 +1,5 @@
-//! Tests of the runner for threads, of what no contract says: that each thread runs its own lines beside
-//! the others, and what whole scripts answer in their order.
+//! Tests of the runner for threads, of what no contract says: that each thread runs its own lines
+//! concurrently with the others, and what whole scripts answer in their order.
 #![tactic(auto)]
 
 #[cfg(test)]

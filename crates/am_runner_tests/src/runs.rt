@@ -16,7 +16,7 @@ use std::time::Duration;
 // The resolve timeout of each run, which is that of a configuration that gives none.
 const RESOLVE_SECONDS: u64 = 300;
 
-/// Why a run came to nothing.
+/// Why a run gave nothing.
 #[derive(Clone, Copy, Debug, Drop)]
 pub enum Stopped {
     NoMemory,
@@ -84,7 +84,7 @@ impl Log {
 // Of each thread, what each line of the script answered in it.
 type Answers = Vec<Vec<Vec<Answer>>>;
 
-/// What a script's lines answered, and what their provider came to.
+/// What a script's lines answered, and what is left of their provider.
 #[derive(Drop)]
 pub struct Run {
     lines: Vec<Line>,
@@ -93,15 +93,15 @@ pub struct Run {
 }
 
 impl Run {
-    // What a line answered in its thread, by where it stands in the script.
+    // What a line answered in its thread, by its index in the script.
     fn answers(&self, at: usize) -> Option<&[Answer]> {
         let thread = self.lines.get(at)?.thread.index();
         let lines = self.threads.get(thread)?;
         Some(lines.get(at)?.as_slice())
     }
 
-    /// All answers, as they are printed; then the journal, a line for each call, what the subscriptions
-    /// that were left came to, and how much there is.
+    /// All answers, as they are printed; then the journal, a line for each call, the endings of the
+    /// subscriptions that were left, and how much there is.
     pub fn printed(&self, alloc: Global) -> Result<String, AllocError> {
         let mut text = String::new(alloc);
         for (at, line) in self.lines.iter().enumerate() {

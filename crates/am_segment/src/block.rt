@@ -37,7 +37,7 @@ unsafe impl<T: Send, A: Allocator + Send> Send for Block<T, A> {}
 unsafe impl<T, A: Allocator> Sync for Block<T, A> {}
 
 impl<T, A: Allocator> Block<T, A> {
-    /// An empty block with places for so many items.
+    /// An empty block with this number of places.
     pub(crate) fn allocate(alloc: &A, places: usize) -> Result<Block<T, A>, AllocError>
         requires { FitsInBlock T.row places }
         ensures { IfOk result
@@ -52,7 +52,7 @@ impl<T, A: Allocator> Block<T, A> {
         }
     }
 
-    /// Puts an item into the place behind the `count` items.
+    /// Puts an item into the place after the `count` items.
     pub(crate) fn push(&mut self, count: usize, item: T)
         requires { (count ≡ length self.old.items) × (count < self.old.places) }
         ensures { self.new ≡ record self.old { items = self.old.items ++ item ∷ [] } }
@@ -60,7 +60,7 @@ impl<T, A: Allocator> Block<T, A> {
         unsafe { self.ptr.add(count).write(item) }
     }
 
-    /// Takes the last item out, behind which `rest` are left.
+    /// Takes the last item out. `rest` items are left.
     pub(crate) fn pop(&mut self, rest: usize) -> T
         requires { (rest + 1 ≡ length self.old.items) × (rest + 1 ≤ self.old.places) }
         ensures items { self.old.items ≡ self.new.items ++ result ∷ [] }
@@ -79,7 +79,7 @@ impl<T, A: Allocator> Block<T, A> {
         }
     }
 
-    /// Lends the items out, for as long as a part of them is about, to so many keys.
+    /// Lends the items out to `keys` keys, for as long as a part of them is about.
     pub(crate) fn share(self, keys: usize) -> (Claim<T, A>, Part<T>)
         ensures claim { (result.0.there ≡ true) × (result.0.at ≡ result.1.ptr)
             × (result.0.items ≡ self.items) × (result.0.places ≡ self.places)

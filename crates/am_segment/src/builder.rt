@@ -40,7 +40,7 @@ impl<T> Model for SegmentBuilder<T> {
 }
 
 impl<T> SegmentBuilder<T> {
-    /// An empty builder with places for so many items. `MAX_ITEMS` is the most: more are refused as if there
+    /// An empty builder with this number of places. `MAX_ITEMS` is the most: more are refused as if there
     /// were no memory.
     pub fn with_places(alloc: Global, places: usize) -> Result<SegmentBuilder<T>, AllocError>
         requires { 1 ≤ places }
@@ -65,7 +65,7 @@ impl<T> SegmentBuilder<T> {
         self.places
     }
 
-    /// Adds an item behind the others. It comes back where all places are filled.
+    /// Adds an item after the others. It comes back if all places are filled.
     pub fn push(&mut self, item: T) -> Result<(), T>
         ensures pushed { OnOk result (self.new.items ≡ self.old.items ++ item ∷ []) }
         ensures places { self.new.places ≡ self.old.places }
@@ -108,7 +108,7 @@ impl<T> SegmentBuilder<T> {
         block.free(&alloc, places);
     }
 
-    /// So many keys to the items, in order of their numbers.
+    /// `keys` keys to the items, in order of their numbers.
     pub fn seal(self, keys: usize) -> Result<Vec<SegKey<T>>, SealFault<T>>
         requires { 1 ≤ keys }
         ensures keys { IfOk result (λ made.
@@ -125,7 +125,7 @@ impl<T> SegmentBuilder<T> {
         Ok(self.hand_out(keys).push_all(made))
     }
 
-    /// So many keys to the items, handed out one by one. It takes no memory.
+    /// `keys` keys to the items, handed out one by one. It takes no memory.
     pub fn hand_out(self, keys: usize) -> KeyRun<T>
         requires { (1 ≤ keys) × (keys ≤ MAX_KEYS) }
         ensures { (segment : ℕ) × (result ≡ key_with segment keys self.items 0) }

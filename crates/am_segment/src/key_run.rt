@@ -42,7 +42,7 @@ impl<T> KeyRun<T> {
         (KeyRun { rest, next, last }, SegKey { share })
     }
 
-    /// The next key, and the keys behind it, of which there is at least one.
+    /// The next key, and the keys after it, of which there is at least one.
     pub fn split_first(self) -> (SegKey<T>, KeyRun<T>)
         requires { self.number + 1 < self.keys }
         ensures { (result.0 ≡ self) × (result.1 ≡ record self { number = self.number + 1 }) }
@@ -70,7 +70,7 @@ impl<T> KeyRun<T> {
         SegKey { share }
     }
 
-    /// The next key, and the keys behind it.
+    /// The next key, and the keys after it.
     pub fn next(self) -> (SegKey<T>, Option<KeyRun<T>>)
         ensures key { result.0 ≡ self }
         ensures rest { MatchOption result.1 (self.number + 1 ≡ self.keys)
@@ -84,7 +84,7 @@ impl<T> KeyRun<T> {
         (key, Some(rest))
     }
 
-    /// All of them, behind other keys in a list that has room.
+    /// All of them, after the other keys in a list that has room.
     pub(crate) fn push_all(self, keys: Vec<SegKey<T>>) -> Vec<SegKey<T>>
         requires { length keys.items + length (rest_of self) ≤ vec_capacity keys }
         ensures { result.items ≡ keys.items ++ rest_of self }

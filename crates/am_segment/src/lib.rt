@@ -17,7 +17,7 @@
 //! their own, which cannot end while a share is missing; the last key also keeps the right to the
 //! block once it has ended. So a slow reader delays the block that it reads, and no other. A key is
 //! two words: the items' address, how many they are, and the block's places. Trusted are the toolchain
-//! and the library's allocator: each raw pointer stands in `block.rt`, proved.
+//! and the library's allocator: each raw pointer is in `block.rt`, proved.
 //!
 //! A caller:
 //!

@@ -199,7 +199,7 @@ fn one_key_to_no_item(rt: HostRuntime) -> Result<(), Fail> {
     Ok(())
 }
 
-// A key that came home beside one that didn't. Answers how many are home, and whether all show their items.
+// A key that came home next to one that didn't. Answers how many are home, and whether all show their items.
 fn half_home(pair: Pair<Arc<u64>>) -> (usize, bool) {
     let Pair { first, second } = pair;
     let mut home = JoinedKeys::new();
@@ -240,7 +240,7 @@ fn keys_that_nobody_was_dealt_join_at_once(rt: HostRuntime) -> Result<(), Fail> 
     Ok(())
 }
 
-// The keys of a segment beside the one key of another. Answers whether all show their items.
+// The keys of a segment, and the one key of another. Answers whether all show their items.
 fn beside(pair: Pair<Arc<u64>>, builder: SegmentBuilder<Arc<u64>>) -> bool {
     let Pair { first, second } = pair;
     let (run, first) = builder.hand_out(1).apart_from(first);
@@ -323,7 +323,7 @@ fn end_all(batches: Vec<Batch>) {
     batches.destroy_empty();
 }
 
-// So many batches of so many items.
+// This number of batches, each with `count` items.
 fn log_of(alloc: Global, places: usize, count: usize) -> Result<Vec<Batch>, AllocError>
     requires { 1 ≤ count }
 {

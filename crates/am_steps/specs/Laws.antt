@@ -46,7 +46,7 @@ module _ (X : Type 0) where
   ClosedStays = (c d : Core X) (es : List (event.Event X)) → c.closed ≡ true → LeadsTo c es d
       → (d.closed ≡ true) × (d.log ≡ c.log)
 
-  -- if no event is a Cut, each lane that isn't idle is at most as many places behind as there are
+  -- if no event is a Cut, each lane that isn't idle lags by at most `places` batches
   abbrev pub IsWithinPlaces : Type 0
   IsWithinPlaces = (places lanes posters : ℕ) (es : List (event.Event X)) (c : Core X)
       → HasNoCut es → LeadsTo (first_state places lanes posters) es c → (l : ℕ) (m : LaneRecord)

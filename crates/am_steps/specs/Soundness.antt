@@ -38,8 +38,7 @@ module _ {X : Type 0} (log : List X) where
     pub own : All (λ post. (slice_get log post.0 ≡ Some post.1) × (post.0 < v.places_known)) v.own
 
 module _ {X : Type 0} where
-  -- each lane and poster is sound, and a lane that isn't idle and wasn't cut is at most as many
-  -- places behind as there are
+  -- each lane and poster is sound, and a lane that isn't idle and wasn't cut lags by at most `places` batches
   pub record IsSound (c : Core X) : Type 0 where
     pub lane : (l : ℕ) → IsLaneSound c.log c.closed (c.lane l)
     pub behind : (l : ℕ) (m : LaneRecord) → record_of (c.lane l) ≡ Some m → m.cut ≡ false

@@ -7,8 +7,8 @@ use Rattle.am_steps.specs.declared.lane.Lane.{Lane}
 use Rattle.am_steps.specs.declared.lane.Lane.TheVariants.{Idle, Admitted, Open, Left}
 use Rattle.am_steps.specs.declared.poster.Poster.{Poster}
 
--- the state: how many places a lane may be behind, the names of the batches in order, whether no
--- more will come, and the lanes and posters, by their numbers
+-- the state: by how many batches a lane may lag, the names of the batches in order, whether no more will
+-- come, and the lanes and posters, by their numbers
 pub record Core (X : Type 0) : Type 0 where
   pub places : ℕ
   pub log : List X

@@ -30,11 +30,11 @@
 --   Retire lane      writer loads the lane's word  left                      idle
 --   Note poster own  poster loads the tail word    such a poster is there;   places_known := length,
 --                                                  own is nothing, or its    own joins its own posts
---                                                  name stands at its place
+--                                                  name is at its place
 --                                                  and it isn't own yet
 --
--- An admitted lane's word shows `passed = start` and no key in hand. Where the exchange of a cut
--- finds another word than the last one, it is a Harvest of that word, or a Retire.
+-- An admitted lane's word shows `passed = start` and no key in hand. If the exchange of a cut finds another
+-- word than the last one, it is a Harvest of that word, or a Retire.
 --
 -- A lane's record keeps whether its key is out, since a cut compares the whole word that was last
 -- found. A lane that left while cut, with a key in its hand, keeps that key's batch until it is
@@ -85,7 +85,7 @@ module _ {X : Type 0} where
     pub here : d.poster p ≡ v
     pub other : (q : ℕ) → q ≢ p → d.poster q ≡ c.poster q
 
-  -- no lane is so far behind that the log may not grow. A lane that was cut isn't asked
+  -- no lane's lag keeps the log from growing. That of a cut lane doesn't count
   abbrev pub MayGrow : Core X → Type 0
   MayGrow c = (l : ℕ) (m : LaneRecord) → record_of (c.lane l) ≡ Some m → m.cut ≡ false
       → length c.log - m.known < c.places

@@ -20,7 +20,8 @@ pub enum Event<N> {
     Take(usize),
     /// A lane gives the key in its hand back, and has passed its place.
     Pass(usize),
-    /// The writer cuts a lane that is as far behind as may be, by an exchange on the lane's word.
+    /// The writer cuts a lane that lags by as many batches as the log has places, by an exchange on the
+    /// lane's word.
     Cut(usize),
     /// A lane stores the greatest `u64` in its own word.
     Leave(usize),

@@ -32,7 +32,7 @@ pub enum Lane<N> {
 }
 
 impl<N> Lane<N> {
-    // Whether the lane is not so far behind that the log may not grow.
+    // Whether the lane's lag lets the log grow.
     pub(crate) fn leaves_room(&self, places: u64, length: u64) -> bool
         ensures { result ≡ leaves_room places length self.now }
     {
@@ -67,7 +67,7 @@ impl<N> Lane<N> {
     }
 }
 
-// Each step answers whether it was possible. Where it wasn't the lane stays.
+// Each step answers whether it was possible. If it wasn't, the lane stays.
 impl<N: Drop> Lane<N> {
     pub(crate) fn harvest(&mut self) -> bool
         ensures { Becomes (after_harvest self.old) self.old self.new result }

@@ -37,7 +37,7 @@ impl LaneRecord {
         self.start <= place && self.known <= place
     }
 
-    // Whether the lane was cut, or is fewer places behind than there are.
+    // Whether the lane was cut, or lags by fewer than `places` batches.
     pub(crate) fn leaves_room(&self, places: u64, length: u64) -> bool
         ensures { result ≡ (self.now.cut || nat_lt (length - self.now.known) places) }
     {

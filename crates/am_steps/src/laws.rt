@@ -28,7 +28,7 @@ pub fn a_closed_log_stays<N>()
     ensures { ClosedStays N }
 {}
 
-/// If no lane was cut, each lane that isn't idle is at most as many places behind as there are.
+/// If no lane was cut, each lane that isn't idle lags by at most as many batches as the log has places.
 pub fn uncut_lanes_are_within_the_places<N>()
     ensures { IsWithinPlaces N }
 {}

@@ -16,16 +16,15 @@
 //! it. The writer learns by a harvest how far a lane is (`known`), keeps its keys of the places
 //! from there on, and so frees a place once each lane is known to have passed it.
 //!
-//! A slow lane: once one that isn't cut is known to be `places` behind, the log can't grow, until
-//! the lane is harvested further or retired, or the writer cuts it. A cut lane passes the place in its
-//! hand, and then takes no more. Closing: a closed log neither grows nor admits; lanes read on to
-//! its end.
+//! A slow lane: once one that isn't cut is known to lag by `places` batches, the log can't grow, until the
+//! lane is harvested further or retired, or the writer cuts it. A cut lane passes the place in its hand, and
+//! then takes no more. Closing: a closed log neither grows nor admits; lanes read on to its end.
 //!
 //! ```text
 //! let mut state = State::new(alloc, 1, 1, 0)?;    // one place, one lane, no poster
 //! state.apply(Event::Admit(0))?;                  // true: lane 0 begins at place 0
 //! state.apply(Event::Publish(7))?;                // true: place 0 has the batch 7
-//! state.apply(Event::Publish(8))?;                // false: lane 0 is one place behind
+//! state.apply(Event::Publish(8))?;                // false: lane 0 lags by one batch
 //! state.freed(0);                                 // false: lane 0 needs it
 //! ```
 #![tactic(auto)]

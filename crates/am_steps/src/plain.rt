@@ -46,7 +46,7 @@ pub(crate) struct Plain {
 }
 
 impl PlainLane {
-    // Whether it holds the log back: it isn't idle or cut, and so many places behind.
+    // Whether it holds the log back: it isn't idle or cut, and lags by at least `places` batches.
     fn is_full(&self, places: u64, length: u64) -> bool {
         let is_idle = matches!(self.stage, Stage::Idle);
         !is_idle && self.found % 2 == 0 && length.saturating_sub(self.found / 4) >= places

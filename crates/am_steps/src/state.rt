@@ -43,8 +43,8 @@ impl Model for State {
 }
 
 impl State {
-    /// An empty log that lanes may be so many `places` behind, with so many idle lanes, and so many
-    /// posters that know of no place.
+    /// An empty log whose lanes may lag by `places` batches, with `lanes` idle lanes, and `posters` posters
+    /// that know of no place.
     pub fn new(
         alloc: Global,
         places: u64,

@@ -13,7 +13,7 @@ use Rattle.am_store.specs.declared.store.absorb.Change.TheVariants.{Added, Repla
 abbrev pub stored_in : List (Labels × Arc Alert Global) → List Alert
 stored_in entries = map (λ entry. arc_value entry.1) entries
 
--- each alert stands under its own label set
+-- each alert is kept under its own label set
 abbrev pub AreKeptByLabels : List (Labels × Arc Alert Global) → Type 0
 AreKeptByLabels [] = Unit {0}
 AreKeptByLabels (entry ∷ entries) =

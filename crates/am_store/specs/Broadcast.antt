@@ -45,9 +45,8 @@ broadcast journal = broadcast_from (first_reports journal.store) journal.calls
 abbrev pub items_of : List (List Alert) → List Alert
 items_of batches = flat_map (λ batch. batch) batches
 
--- what is due to who subscribed when so many calls had been made, none of which was dropped since:
--- what was stored then, and what was sent out since (`provider/mem`'s Subscribe: the alerts there are,
--- then those of its channel)
+-- what is due to who subscribed after `at` calls, if no later call was dropped: what was stored then, and
+-- what was sent out since (`provider/mem`'s Subscribe: the alerts there are, then its channel's)
 abbrev pub due : JournalView → ℕ → List Alert
 due journal at =
     stored (updates (until journal at))

@@ -1,5 +1,5 @@
 -- The journal of accepted calls: when its log is closed, which lanes are open, and which call may
--- come next. Its first calls may have been dropped; what they left stands in their place.
+-- come next. Its first calls may have been dropped; what they left is kept in their place.
 use Rattle.std.specs.Prelude.{◌≡◌, ℕ, ◌+◌, ◌-◌, ◌^◌, ◌<◌, ◌≤◌, Bool, true, false, ◌||◌, if◌then◌else◌, nat_eq}
 use Rattle.std.specs.Prelude.{List, [], ◌∷◌, ◌++◌, length, take, drop, slice_get, Some}
 use Rattle.std.specs.List.{All, count_by, list_any}
@@ -58,15 +58,15 @@ with_call journal call = record journal { calls = journal.calls ++ call ∷ [] }
 abbrev pub call_count : JournalView → ℕ
 call_count journal = journal.before + length journal.calls
 
--- the journal as it was after so many of the calls that weren't dropped
+-- the journal as it was after the first `count` of the calls that weren't dropped
 abbrev pub first_calls : ℕ → JournalView → JournalView
 first_calls count journal = record journal { calls = take count journal.calls }
 
--- the journal as it was when so many calls had been made, those that were dropped too
+-- the journal as it was after `at` calls, those that were dropped counted too
 abbrev pub until : JournalView → ℕ → JournalView
 until journal at = first_calls (at - journal.before) journal
 
--- the calls since so many had been made
+-- the calls after the first `at`
 abbrev pub since : JournalView → ℕ → List Call
 since journal at = drop (at - journal.before) journal.calls
 
@@ -127,7 +127,7 @@ is_open journal lane = open_from lane (has_lane journal.lanes lane) journal.call
 abbrev pub IsKept : ℕ → List Call → Type 0
 IsKept lane calls = All (λ call. open_after lane true call ≡ true) calls
 
--- the lane was subscribed when so many calls had been made, and wasn't left since
+-- the lane was subscribed after `at` calls, and wasn't left since
 pub record IsOpenSubscription (journal : JournalView) (lane at : ℕ) : Type 0 where
   pub begun : journal.before ≤ at
   pub entry : slice_get journal.calls (at - journal.before) ≡ Some (Subscribed lane)

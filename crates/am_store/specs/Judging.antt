@@ -32,7 +32,7 @@ AreJudged {F} filter now last was i olds (new ∷ news) accepted refused =
     × AreJudged filter now last is (i + 1) (if accepts then absorb_into now new olds else olds) news others
     rest
 
--- a filter was asked of so many of the first reports, in order, and of no other
+-- a filter was asked of the first reports up to some number, in order, and of no other
 abbrev pub WasAsked : {F : Type 0} → Filter F → ℕ → F → F → List Alert → List Alert → Type 0
 WasAsked filter now last was olds news = (count : ℕ) × (accepted : List Alert) × (refused : List ℕ)
     × AreJudged filter now last was 0 olds (take count news) accepted refused

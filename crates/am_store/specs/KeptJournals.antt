@@ -38,7 +38,7 @@ abbrev pub lanes_from : ℕ → List Call → ℕ
 lanes_from lanes [] = lanes
 lanes_from lanes (call ∷ calls) = lanes_from (lanes_after lanes call) calls
 
--- the journal of some calls without so many of the first
+-- the journal of some calls without the first `count`
 abbrev pub trimmed_to : ℕ → List Call → JournalView
 trimmed_to count calls = record {
   before = count;

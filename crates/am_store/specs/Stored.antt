@@ -10,8 +10,8 @@ use Rattle.am_store.specs.declared.call.Call.{Call}
 use Rattle.am_store.specs.declared.call.Call.TheVariants.{Posted, Collected, Subscribed, Left, Closed}
 use Rattle.am_store.specs.Journal.{JournalView}
 
--- what the store is told, one thing at a time: one report (`provider/mem`'s Put, one turn of its
--- loop), or to drop what is resolved (its garbage collection)
+-- one update of the store: a report (`provider/mem`'s Put, one turn of its loop), or the removal of what is
+-- resolved (its garbage collection)
 pub data Update : Type 0 where
   Report : (now : ℕ) (alert : Alert) → Update
   Collect : (now : ℕ) → Update
@@ -28,7 +28,7 @@ updates_of Closed = []
 abbrev pub call_updates : List Call → List Update
 call_updates calls = flat_map updates_of calls
 
--- stored alerts, each told as the first report of its label set
+-- stored alerts, each as the first report of its label set
 abbrev pub first_reports : List Alert → List Update
 first_reports alerts = map (Report 0) alerts
 

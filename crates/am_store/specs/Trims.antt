@@ -7,7 +7,7 @@ use Rattle.am_store.specs.Journal.{IsOpenSubscription}
 use Rattle.am_store.specs.Stored.{updates, stored}
 use Rattle.am_store.specs.Broadcast.{broadcast}
 
--- the calls before the earliest open subscription are so many, or, where none is open, all are
+-- `count` is the number of calls before the earliest open subscription, or of all calls if none is open
 pub record AreBeforeOpen (journal : JournalView) (count : ℕ) : Type 0 where
   pub within : count ≤ length journal.calls
   pub kept : (lane at : ℕ) → IsOpenSubscription journal lane at → journal.before + count ≤ at
@@ -21,7 +21,7 @@ Drops journal dropped =
     (count : ℕ) × AreBeforeOpen journal count
     × (dropped ≡ (if nat_le (journal.before + count) MAX_BEFORE then count else 0))
 
--- the journal without so many of its first calls: what they left stands in their place
+-- the journal without its first `count` calls: what they left is kept in their place
 pub record IsTrimmed (old : JournalView) (count : ℕ) (new : JournalView) : Type 0 where
   pub before : new.before ≡ old.before + count
   pub places : new.places ≡ old.places + length (broadcast (first_calls count old))

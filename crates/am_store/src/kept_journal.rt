@@ -65,7 +65,7 @@ impl KeptJournal {
         })
     }
 
-    /// Makes room for so many calls more. There are never so many posts that they can't be counted.
+    /// Makes room for `count` calls more. There are never more posts than can be counted.
     pub fn reserve(&mut self, count: usize) -> Result<(), AllocError>
         ensures same { (self.new.journal ≡ self.old.journal) × (self.new.gone ≡ self.old.gone) }
         ensures room { OnOk result (count ≤ self.new.room) }

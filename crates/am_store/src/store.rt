@@ -37,7 +37,7 @@ pub fn share_all(alerts: &AlertMap) -> Result<StoredAlerts, AllocError>
     StoredAlerts::new(alloc, shared)
 }
 
-/// The alerts from an index on, in order, and at most so many. None is copied.
+/// At most `most` alerts from the index `from` on, in order. None is copied.
 pub fn share_page(alerts: &AlertMap, from: usize, most: usize) -> Result<StoredAlerts, AllocError>
     ensures { IfOk result (λ page. page ≡ take most (drop from (stored_in alerts.now.entries))) }
 {

@@ -7,7 +7,7 @@ use Rattle.am_cast.specs.declared.writer.lane_account.Stand.{Stand}
 use Rattle.am_cast.specs.declared.writer.lane_account.Stand.TheVariants.{Idle, Live, Cut, Vacated}
 use Rattle.am_cast.specs.Rule.{bit, cut, idle, live, vacated}
 
--- the number of a stand in what contracts see of a lane
+-- the number of a standing in what contracts see of a lane
 abbrev pub stand_number : Stand → ℕ
 stand_number Idle = idle
 stand_number Live = live

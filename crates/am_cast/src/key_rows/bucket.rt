@@ -91,8 +91,8 @@ impl<T> Bucket<T> {
         }
     }
 
-    /// The segment of the row at the index ends, and what is left of it is kept. It stands apart, so that the
-    /// seven keys before take little code.
+    /// The segment of the row at the index ends, and what is left of it is kept. It is a function apart, so
+    /// that the seven keys before take little code.
     #[inline(never)]
     fn end_row(&mut self, index: usize, spares: &mut Spares<T>)
     where

@@ -7,7 +7,7 @@ use crate::limits::LANES;
 use am_segment::{JoinedKeys, KeyRun, SegKey, SegmentBuilder};
 use std::marker::Model;
 
-/// A row. It must come to an end.
+/// A row. It must be ended.
 pub(crate) struct Row<T> {
     place: u64,
     keys: JoinedKeys<T>,

@@ -31,8 +31,8 @@ impl<T> Spares<T> {
         }
     }
 
-    /// The builder that was kept last, if it has places for so many items. If it has not, it is freed, so
-    /// that builders of a size that is no longer asked for don't stay.
+    /// The builder that was kept last, if it has this number of places. If it has not, it is freed, so that
+    /// builders of a size that is no longer asked for don't stay.
     pub(crate) fn take(&mut self, places: usize) -> Option<SegmentBuilder<T>>
         ensures { IfSome result (λ builder. builder ≡ record { items = []; places = places }) }
     {

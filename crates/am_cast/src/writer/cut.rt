@@ -1,5 +1,5 @@
-//! Publishing that cuts, from the call down to the steps: a lane that is as far behind as may be gets
-//! no more keys.
+//! Publishing that cuts, from the call down to the steps: a lane that lags by as many batches as the log has
+//! places gets no more keys.
 ghost use mathlib.Core.List.{IsPrefix};
 ghost use Rattle.std.specs.Prelude.{◌≡◌, ◌≢◌, ◌+◌, ◌/◌, ◌%◌, ◌<◌, ◌≤◌, true, false, length, [], ℕ, IfOk, ◌++◌, ◌∷◌, slice_index_or, IfErr, OnOk, OnErr};
 ghost use Rattle.am_cast.specs.declared.batch_view.BatchView.{BatchView};
@@ -24,7 +24,8 @@ use am_segment::SegmentBuilder;
 use std::snapshot::Snapshot;
 
 impl<T: Drop, P, A, N: Feed> Writer<T, P, A, N> {
-    /// As `publish`, but a lane that is as far behind as may be is cut. Answers which lanes were.
+    /// As `publish`, but a lane that lags by as many batches as the log has places is cut. Answers which
+    /// lanes were.
     pub fn publish_cutting(
         &mut self,
         cast: &Cast<T, P, A, N>,
@@ -153,8 +154,8 @@ impl<T: Drop, P, A, N: Feed> WriterState<T, P, A, N> {
         last == next
     }
 
-    // One exchange on the word of a lane that is as far behind as may be. The keys that are free then come
-    // home.
+    // One exchange on the word of a lane that lags by as many batches as the log has places. The keys that
+    // are free then come home.
     fn cut_once(&mut self, cast: &Cast<T, P, A, N>, lane: usize, word: u64) -> u64
         requires calm { (lane < LANES) × Calm self.old.known }
         requires word { (word < gone) × IsBehind self.old.known lane

@@ -34,7 +34,7 @@ impl<T: Drop, P, A, N: Feed> Writer<T, P, A, N> {
 
 impl<T: Drop, P, A, N: Feed> WriterState<T, P, A, N> {
     /// Loads the lanes' words, in order of lanes, and takes out all keys that they have passed. Answers the
-    /// lowest lane that is as far behind as may be.
+    /// lowest lane that lags by as many batches as the log has places.
     pub(crate) fn harvest(&mut self, cast: &Cast<T, P, A, N>) -> Option<usize>
         requires { Calm self.old.known }
         ensures calm { Calm self.new.known }
@@ -53,7 +53,7 @@ impl<T: Drop, P, A, N: Feed> WriterState<T, P, A, N> {
         full
     }
 
-    /// Whether all of a lane's slots are filled that has passed so many places.
+    /// Whether all slots of a lane that has passed `passed` places are filled.
     fn is_full_ring(&self, passed: u64) -> bool
         requires { passed ≤ length self.now.known.tail.log }
         ensures { IsTrue result ↔ (passed + self.now.known.tail.places ≤ length self.now.known.tail.log) }

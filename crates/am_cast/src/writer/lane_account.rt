@@ -3,7 +3,7 @@ ghost use Rattle.std.specs.Prelude.{◌↔◌, ◌≡◌, ◌/◌, ◌%◌, IsTr
 ghost use Rattle.am_cast.specs.Rule.{cut, live};
 ghost use Rattle.am_cast.specs.inside.LaneAccounts.{stand_number};
 
-/// How the writer has a lane stand.
+/// A lane's standing, as the writer has it.
 #[derive(Clone, Copy, Drop)]
 pub(crate) enum Stand {
     /// Nobody's.

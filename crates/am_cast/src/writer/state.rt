@@ -25,7 +25,7 @@ use std::marker::{Model, PhantomData};
 pub(crate) struct WriterState<T, P, A, N: Feed> {
     pub(crate) seat: LogSeat<T, P, A>,
     pub(crate) rows: KeyRows<T>,
-    /// The next place. Its number is the log's length, and a live lane may be a whole ring behind it.
+    /// The next place. Its number is the log's length, and a live lane may lag by a whole ring.
     pub(crate) next: RingPlace,
     pub(crate) closed: bool,
     pub(crate) lanes: [LaneAccount; LANES],
@@ -48,7 +48,7 @@ impl<T, P, A, N: Feed> Model for WriterState<T, P, A, N> {
 }
 
 impl<T: Drop, P, A, N: Feed> WriterState<T, P, A, N> {
-    /// How the writer has the lane stand.
+    /// The lane's standing, as the writer has it.
     pub(crate) fn stand(&self, lane: usize) -> Stand
         requires { lane < LANES }
         ensures { stand_number result ≡ (account_of self.now.known lane).stand }

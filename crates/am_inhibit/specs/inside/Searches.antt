@@ -20,7 +20,7 @@ first_muted labels now all =
     option_map (λ candidate. (candidate.number, candidate.alert.labels))
     (find (candidate_inhibits labels now) all)
 
--- what was found stands for an answer: the rule, and the label set of the alert
+-- what was found gives an answer: the rule, and the label set of the alert
 abbrev pub StandsFor : List Alert → Option Muting → Option (ℕ × Labels) → Type 0
 StandsFor alerts None answer = answer ≡ None
 StandsFor alerts (Some muting) answer =

@@ -16,13 +16,13 @@ kept_texts texts = map (λ text. text.items) texts
 abbrev pub is_one_of : List ℕ → List (List ℕ) → Bool
 is_one_of text texts = list_any (λ one. same_text one text) texts
 
--- one of some texts stands in a text, from a place to another
+-- one of some texts is what a text has from one place to another
 abbrev pub OneStands : List ℕ → List (List ℕ) → ℕ → ℕ → Type 0
 OneStands whole [] from to = ⊥
 OneStands whole (text ∷ texts) from to =
     Matches whole (literal text) from to ⊎ OneStands whole texts from to
 
--- a pattern matches where one of some texts stands, and nowhere else
+-- a pattern matches where one of some texts is found, and nowhere else
 abbrev pub ChoosesAmong : List (List ℕ) → Re → Type 0
 ChoosesAmong texts pattern = (whole : List ℕ) → (from to : ℕ) →
     (Matches whole pattern from to → OneStands whole texts from to)

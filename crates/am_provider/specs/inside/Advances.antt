@@ -52,7 +52,7 @@ abbrev pub LetsGo : Moved → Option (List Alert) → Option (List Alert) → Ty
 LetsGo moved.One was is = Unit {0}
 LetsGo other was is = is ≡ was
 
--- a subscription's count and what it was told, after a move of its cursor
+-- a subscription's count, and whether it answered `Closed`, after a move of its cursor
 abbrev pub Notes : Moved → ℕ → Bool → Advance → ℕ → Bool → Type 0
 Notes moved.One count told given more tells =
     (given ≡ advance.Logged) × (more ≡ (count + 1) % 2 ^ 64) × (tells ≡ told)

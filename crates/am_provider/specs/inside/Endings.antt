@@ -1,4 +1,4 @@
--- What subscriptions came to that were given back, and what memory has of it.
+-- The endings of subscriptions that were given back, and what memory has of them.
 use Rattle.std.specs.Prelude.{◌≡◌, ℕ, ◌+◌, ◌≤◌, Bool, nat_le, List, length, map, filter}
 use Rattle.am_store.specs.declared.past.Past.{Past}
 use Rattle.am_store.specs.KeptJournals.{KeptView}
@@ -17,7 +17,7 @@ pub record EndingsView : Type 0 where
 abbrev pub endings_in : List (Past Ended) → List Ended
 endings_in pasts = map (λ (past : Past Ended). past.value) pasts
 
--- whether an ending's subscription came when at least so many calls had been made
+-- whether an ending's subscription came after at least `count` calls
 abbrev pub is_since : ℕ → Ended → Bool
 is_since count ended = nat_le count ended.at
 

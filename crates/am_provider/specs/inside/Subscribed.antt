@@ -7,14 +7,14 @@ use Rattle.am_cast.specs.Cursors.{CursorView, HasEnded}
 use Rattle.am_cast.specs.Cursors as cast
 use Rattle.am_provider.specs.Subscriptions.{SubscriptionView, taken}
 
--- a cursor that has shown nothing and was told nothing
+-- a cursor that has shown nothing and knows of no end and no cut
 pub record IsFresh (cursor : CursorView Alert Call OpenLane) : Type 0 where
   pub taken : cast.shown_items cursor ≡ []
   pub told : cursor.lane.told ≡ false
   pub cut : cursor.lane.cut ≡ false
 
 -- the log is read after the opening; the lane's note says when it was subscribed and what was stored
--- then; the end is told where all was shown; the count is of what was taken
+-- then; `Closed` is answered only once all was shown; the count is of what was taken
 pub record IsSubscription (s : SubscriptionView) (count : ℕ) : Type 0 where
   pub within : s.shown ≤ length s.opening
   pub first : s.shown < length s.opening → IsFresh s.cursor

@@ -39,7 +39,7 @@ claim_owns t R p places items segment true =
     fsep (flent (segment ∷ []) (front R p places items)) (rest R p places items t)
 claim_owns t R p places items segment false = ftrue
 
--- so many parts in 2 ^ 63 of what keeps that lifetime alive, and the items, readable while it is
+-- `count` parts in 2 ^ 63 of what keeps that lifetime alive, and the items, readable while it is
 abbrev pub part_owns : (R : RattleType) → Ptr → ℕ → List R.Denot → ℕ → ℕ → Fml
 part_owns R p places items segment count =
     fsep (tokens segment count) (front_lent R p places items (segment ∷ []))

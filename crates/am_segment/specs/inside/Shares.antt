@@ -35,7 +35,7 @@ module _ {X : Type 0} where
 abbrev pub lasts : ℕ → List ℕ → ℕ
 lasts keys numbers = count_by (λ number. nat_eq number (keys - 1)) numbers
 
--- of so many keys, those with these numbers have `count` parts: one each, but the last key all further ones.
+-- of `keys` keys, those with these numbers have `count` parts: one each, but the last key all further ones.
 -- `there` says whether the last key is among them
 abbrev pub HoldShares : Bool → ℕ → ℕ → List ℕ → Type 0
 HoldShares there count keys numbers = (0 < length numbers) × (length numbers ≤ keys) × (keys ≤ 2 ^ 62)

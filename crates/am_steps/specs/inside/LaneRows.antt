@@ -10,8 +10,7 @@ use Rattle.am_steps.specs.declared.poster.Poster.{Poster}
 use Rattle.am_steps.specs.States.{new_record, new_cursor}
 use Rattle.am_steps.specs.Steps.{MayOwn, one_further, with_own}
 
--- the lane may be cut: it wasn't, its word is the one last found, and it is as many places behind as there
--- are
+-- the lane may be cut: it wasn't, its word is the one last found, and it lags by `places` batches
 abbrev pub may_cut : ℕ → ℕ → LaneRecord → ℕ → Bool → Bool
 may_cut places length m passed held = not m.cut
     && (nat_eq passed m.known
@@ -105,7 +104,7 @@ module _ {X : Type 0} where
   Becomes next old new made =
       MatchOption next ((made ≡ false) × (new ≡ old)) (λ v. (made ≡ true) × (new ≡ v))
 
-  -- the lane is not so far behind that the log may not grow
+  -- the lane's lag doesn't keep the log from growing
   abbrev pub leaves_room : ℕ → ℕ → Lane X → Bool
   leaves_room places length Idle = true
   leaves_room places length (Admitted m) = m.cut || nat_lt (length - m.known) places

@@ -12,8 +12,8 @@ use crate::state::State;
 use std::alloc::AllocError;
 
 impl State {
-    /// Makes the step where it is possible, and answers whether it was. Where it wasn't, and where
-    /// memory is out, the state stays.
+    /// Makes the step if it is possible, and answers whether it was. If it wasn't, or if memory is out, the
+    /// state stays.
     pub fn apply(&mut self, event: Event<u64>) -> Result<bool, AllocError>
         ensures applies { IfOk result (Applies self.old event self.new) }
 
@@ -167,7 +167,7 @@ impl State {
     }
 }
 
-// Whether no lane is so far behind that the log may not grow by a batch.
+// Whether no lane's lag keeps the log from growing by a batch.
 fn has_room(lanes: &[Lane<u64>], places: u64, length: u64) -> bool
     ensures { IsTrue result ↔ AllPass (leaves_room places length) lanes.now }
 {

@@ -29,7 +29,7 @@ pub record IsCounted (old : Journal) (call : Call) (new : Journal) : Type 0 wher
   pub store : new.store ≡ old.store
   pub calls : new.calls ≡ old.calls
 
--- so many of a journal's calls went, and each was counted
+-- the first `count` of a journal's calls went, and each was counted
 pub record AreDropped (old : Journal) (count : ℕ) (new : Journal) : Type 0 where
   pub calls : new.calls.items ≡ drop count old.calls.items
   pub capacity : deque_capacity new.calls ≡ deque_capacity old.calls

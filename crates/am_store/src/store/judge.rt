@@ -25,9 +25,9 @@ pub struct Judged {
     pub refused: Vec<u32>,
 }
 
-/// Asks a filter of each report, in order. It is shown the alert as it would be stored, over what those
-/// before it that were accepted left, and told whether no alert of its label set was there. Nothing is
-/// stored. If memory runs out, it was asked of some of the first reports, or of all.
+/// Asks a filter of each report, in order. The filter gets the alert as it would be stored, over what the
+/// accepted ones before it left, and whether no alert of its label set was there. Nothing is stored. If
+/// memory runs out, it was asked of some of the first reports, or of all.
 pub fn judge_each<F: FnMut(&Alert, bool) -> bool>(
     alerts: &mut AlertMap,
     news: Alerts,
