@@ -153,9 +153,9 @@ impl JsonLine {
     fn moments(&mut self, alert: &Alert) -> Result<(), AllocError>
         ensures { OnOk result (self.new ≡ self.old ++ moments_tokens alert.now) }
     {
-        self.shown("startsAt", &alert.start)?;
-        self.shown("endsAt", &alert.end)?;
-        self.shown("updatedAt", &alert.updated)
+        self.text("startsAt", alert.start.text().as_str())?;
+        self.text("endsAt", alert.end.text().as_str())?;
+        self.text("updatedAt", alert.updated.text().as_str())
     }
 
     // Begins a member that is an object.
