@@ -5,12 +5,13 @@ ghost use Rattle.json.specs.Json.{null, boolean, string, object};
 ghost use Rattle.json.specs.Print.{print};
 ghost use Rattle.json.specs.Token.{begin_array, begin_object, end_array, end_object, key};
 ghost use Rattle.json.specs.Token as token;
+ghost use Rattle.am_alert.specs.Printing.{moment_text};
 ghost use Rattle.am_script.specs.JsonLines.{about_line, alert_members, fault_members, labels_json, named};
 ghost use Rattle.am_script.specs.JsonLines.{object_line, texts_json, whole};
 ghost use Rattle.am_script.specs.inside.AlertTokens.{moments_tokens};
 
 use crate::script::Fault;
-use am_alert::Alert;
+use am_alert::{Alert, Moment};
 use am_labels::{LabelSet, Pairs, Text};
 use json::Writer;
 use std::alloc::{AllocError, Global};
@@ -153,9 +154,17 @@ impl JsonLine {
     fn moments(&mut self, alert: &Alert) -> Result<(), AllocError>
         ensures { OnOk result (self.new ≡ self.old ++ moments_tokens alert.now) }
     {
-        self.text("startsAt", alert.start.text().as_str())?;
-        self.text("endsAt", alert.end.text().as_str())?;
-        self.text("updatedAt", alert.updated.text().as_str())
+        self.moment("startsAt", &alert.start)?;
+        self.moment("endsAt", &alert.end)?;
+        self.moment("updatedAt", &alert.updated)
+    }
+
+    fn moment(&mut self, name: &str, moment: &Moment) -> Result<(), AllocError>
+        ensures { OnOk result
+            (self.new ≡ self.old ++ named name.now (string (moment_text moment.now))) }
+    {
+        let text = moment.text();
+        self.text(name, text.as_str())
     }
 
     // Begins a member that is an object.
