@@ -18,6 +18,9 @@ use std::alloc::{AllocError, Global};
 use std::fmt;
 use std::marker::Model;
 
+// Most lines have no more bytes.
+const LINE_BYTES: usize = 1_024;
+
 /// A JSON object that is being written, seen by contracts as its tokens so far. The brace that closes
 /// it is still to come.
 #[derive(Drop)]
@@ -44,7 +47,7 @@ impl JsonLine {
     pub fn begin(alloc: Global) -> Result<JsonLine, AllocError>
         ensures { IfOk result (λ line. line ≡ begin_object ∷ []) }
     {
-        let mut out = Writer::new(Vec::new(alloc));
+        let mut out = Writer::new(Vec::with_capacity(alloc, LINE_BYTES)?);
         out.begin_object()?;
         Ok(JsonLine { out, alloc })
     }
