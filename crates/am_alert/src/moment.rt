@@ -1,14 +1,15 @@
 //! Instants, and how they are printed.
 
-ghost use Rattle.std.specs.Prelude.{◌≡◌, ◌<◌, ◌-◌, Some, None, if◌then◌else◌, nat_lt};
+ghost use Rattle.std.specs.Prelude.{◌≡◌, ◌<◌, ◌-◌, ◌-ℤ◌, Some, None, if◌then◌else◌, nat_lt, pos};
 ghost use Rattle.std.specs.Duration.{as_nanos};
-ghost use Rattle.std.specs.Fmt.{DisplaysOnOk};
 ghost use Rattle.am_alert.specs.Moments.{moments, later};
 ghost use Rattle.am_alert.specs.Calendar.{parts_of};
-ghost use Rattle.am_alert.specs.Printing.{fraction_text, moment_text, second_text};
+ghost use Rattle.am_alert.specs.Printing.{moment_text};
 
 use crate::civil_time::CivilTime;
+use crate::moment_text::MomentText;
 use jiff::Timestamp;
+use jiff::fmt::temporal::DateTimePrinter;
 use jiff::tz::Offset;
 use std::fmt;
 use std::marker::Model;
@@ -81,13 +82,33 @@ impl Moment {
         self.nanoseconds
     }
 
+    /// As RFC 3339 writes it in UTC: `2024-01-01T10:00:00Z`, with nine digits of a second if it isn't
+    /// whole.
+    pub fn text(&self) -> MomentText
+        ensures { result ≡ moment_text self.now }
+    {
+        let places = if self.nanoseconds % 1_000_000_000 == 0 {
+            None
+        } else {
+            Some(9)
+        };
+        let printer = DateTimePrinter::new().precision(places);
+        MomentText {
+            text: printer.timestamp_text(self.timestamp().to_plain()),
+        }
+    }
+
+    fn timestamp(&self) -> Timestamp
+        ensures { result.nanosecond ≡ pos self.now -ℤ pos 62_135_596_800_000_000_000 }
+    {
+        Timestamp::from_nanosecond(self.nanoseconds as i128 - YEAR_1970).unwrap()
+    }
+
     /// What a calendar and a clock in UTC show.
     pub fn parts(&self) -> CivilTime
         ensures { result ≡ parts_of self.now }
     {
-        let since_1970 = self.nanoseconds as i128 - YEAR_1970;
-        let instant = Timestamp::from_nanosecond(since_1970).unwrap();
-        let shown = Offset::UTC.to_datetime(instant).to_plain();
+        let shown = Offset::UTC.to_datetime(self.timestamp()).to_plain();
         CivilTime {
             year: shown.date.year as u16,
             month: shown.date.month,
@@ -100,41 +121,10 @@ impl Moment {
     }
 }
 
-// In UTC, as `2024-01-01T10:00:00Z`, with nine digits of a second if it isn't whole.
 impl fmt::Display for Moment {
     ghost output = { λ moment. Some (moment_text moment) };
 
     fn fmt<W: fmt::Write>(&self, f: &mut fmt::Formatter<W>) -> fmt::Result {
-        let parts = self.parts();
-        write_second(parts, f)?;
-        write_fraction(parts.nanosecond, f)?;
-        f.write_str("Z")
+        f.write_str(self.text().as_str())
     }
-}
-
-fn write_second<W: fmt::Write>(parts: CivilTime, f: &mut fmt::Formatter<W>) -> fmt::Result
-    ensures { DisplaysOnOk W.write_str_gives f.old result (Some (second_text parts)) f.new }
-{
-    let CivilTime {
-        year,
-        month,
-        day,
-        hour,
-        minute,
-        second,
-        nanosecond: _,
-    } = parts;
-    write!(
-        f,
-        "{year:04}-{month:02}-{day:02}T{hour:02}:{minute:02}:{second:02}"
-    )
-}
-
-fn write_fraction<W: fmt::Write>(nanosecond: u32, f: &mut fmt::Formatter<W>) -> fmt::Result
-    ensures { DisplaysOnOk W.write_str_gives f.old result (Some (fraction_text nanosecond)) f.new }
-{
-    if nanosecond == 0 {
-        return Ok(());
-    }
-    write!(f, ".{nanosecond:09}")
 }

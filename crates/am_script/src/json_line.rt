@@ -5,17 +5,21 @@ ghost use Rattle.json.specs.Json.{null, boolean, string, object};
 ghost use Rattle.json.specs.Print.{print};
 ghost use Rattle.json.specs.Token.{begin_array, begin_object, end_array, end_object, key};
 ghost use Rattle.json.specs.Token as token;
+ghost use Rattle.am_alert.specs.Printing.{moment_text};
 ghost use Rattle.am_script.specs.JsonLines.{about_line, alert_members, fault_members, labels_json, named};
 ghost use Rattle.am_script.specs.JsonLines.{object_line, texts_json, whole};
 ghost use Rattle.am_script.specs.inside.AlertTokens.{moments_tokens};
 
 use crate::script::Fault;
-use am_alert::Alert;
+use am_alert::{Alert, Moment};
 use am_labels::{LabelSet, Pairs, Text};
 use json::Writer;
 use std::alloc::{AllocError, Global};
 use std::fmt;
 use std::marker::Model;
+
+// Most lines have no more bytes.
+const LINE_BYTES: usize = 1_024;
 
 /// A JSON object that is being written, seen by contracts as its tokens so far. The brace that closes
 /// it is still to come.
@@ -43,7 +47,7 @@ impl JsonLine {
     pub fn begin(alloc: Global) -> Result<JsonLine, AllocError>
         ensures { IfOk result (λ line. line ≡ begin_object ∷ []) }
     {
-        let mut out = Writer::new(Vec::new(alloc));
+        let mut out = Writer::new(Vec::with_capacity(alloc, LINE_BYTES)?);
         out.begin_object()?;
         Ok(JsonLine { out, alloc })
     }
@@ -153,9 +157,17 @@ impl JsonLine {
     fn moments(&mut self, alert: &Alert) -> Result<(), AllocError>
         ensures { OnOk result (self.new ≡ self.old ++ moments_tokens alert.now) }
     {
-        self.shown("startsAt", &alert.start)?;
-        self.shown("endsAt", &alert.end)?;
-        self.shown("updatedAt", &alert.updated)
+        self.moment("startsAt", &alert.start)?;
+        self.moment("endsAt", &alert.end)?;
+        self.moment("updatedAt", &alert.updated)
+    }
+
+    fn moment(&mut self, name: &str, moment: &Moment) -> Result<(), AllocError>
+        ensures { OnOk result
+            (self.new ≡ self.old ++ named name.now (string (moment_text moment.now))) }
+    {
+        let text = moment.text();
+        self.text(name, text.as_str())
     }
 
     // Begins a member that is an object.

@@ -1,4 +1,4 @@
-use Rattle.std.proofs.Common.{◌≡◌, pos, ◌-ℤ◌, rules, arith, ap, ◌∙◌}
+use Rattle.std.proofs.Common.{◌≡◌, pos, ◌-ℤ◌, arith, ap, ◌∙◌}
 use Rattle.jiff_core.proofs.SignedLemmas.{signed_arith}
 use Rattle.jiff_core.specs.DateTime.{civil_nanos}
 use Rattle.am_alert.specs.Calendar.{parts_of}
@@ -8,8 +8,7 @@ use Rattle.am_alert.proofs.moment.Moment.parts.Goals as goal
 pub overflow_cast-result : goal.overflow_cast-result
 overflow_cast-result c =
     let shown = c.to_plain-shown.result in
-    let since : c.unwrap-instant.result.nanosecond ≡ pos c.args.self.now -ℤ pos 62_135_596_800_000_000_000 = search rules in
-    let e : civil_nanos shown ≡ pos c.args.self.now -ℤ pos 62_135_596_800_000_000_000 = ap civil_nanos c.to_plain-shown.ensures ∙ (c.to_datetime.ensures ∙ omega (arith, signed_arith, since)) in
+    let e : civil_nanos shown ≡ pos c.args.self.now -ℤ pos 62_135_596_800_000_000_000 = ap civil_nanos c.to_plain-shown.ensures ∙ (c.to_datetime.ensures ∙ omega (arith, signed_arith, c.timestamp.ensures)) in
     let same = parts_same c.args.self.now shown e in
     let year = (parts_of c.args.self.now).year in
     let bound = year_bound shown.date year same.0 in
@@ -18,8 +17,7 @@ overflow_cast-result c =
 pub returns : goal.returns
 returns c =
     let shown = c.to_plain-shown.result in
-    let since : c.unwrap-instant.result.nanosecond ≡ pos c.args.self.now -ℤ pos 62_135_596_800_000_000_000 = search rules in
-    let e : civil_nanos shown ≡ pos c.args.self.now -ℤ pos 62_135_596_800_000_000_000 = ap civil_nanos c.to_plain-shown.ensures ∙ (c.to_datetime.ensures ∙ omega (arith, signed_arith, since)) in
+    let e : civil_nanos shown ≡ pos c.args.self.now -ℤ pos 62_135_596_800_000_000_000 = ap civil_nanos c.to_plain-shown.ensures ∙ (c.to_datetime.ensures ∙ omega (arith, signed_arith, c.timestamp.ensures)) in
     let same = parts_same c.args.self.now shown e in
     let year = (parts_of c.args.self.now).year in
     let back = year_back shown.date.year year same.0 (year_bound shown.date year same.0) in

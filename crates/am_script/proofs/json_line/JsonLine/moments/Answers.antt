@@ -11,5 +11,5 @@ pub returns : goal.returns
 returns c =
     let start : List Token = named (codes "startsAt") (string (moment_text c.args.alert.now.start)) in
     let finish : List Token = named (codes "endsAt") (string (moment_text c.args.alert.now.end)) in
-    IfOk-weaker c.shown-3.result _ _ (λ _ last. last ∙ (and_then c.shown.new.self c.shown-2.new.self finish _ c.in_ok-shown-2.ensures
-    ∙ and_then c.args.self.now c.shown.new.self start _ c.in_ok-shown.ensures)) c.shown-3.ensures
+    IfOk-weaker c.moment-3.result _ _ (λ _ last. last ∙ (and_then c.moment.new.self c.moment-2.new.self finish _ c.in_ok-moment-2.ensures
+    ∙ and_then c.args.self.now c.moment.new.self start _ c.in_ok-moment.ensures)) c.moment-3.ensures
