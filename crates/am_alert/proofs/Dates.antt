@@ -31,7 +31,7 @@ pub record IsDateAfter (days : ℕ) (date : Date) : Type 0 where
 first_count : day_count (pos 1) 1 1 ≡ 3_652_791
 first_count = day_count-early _ 10000 1 1 refl (omega arith) (omega arith) (omega arith)
 
-by_bool : {P : Type 0} (b : Bool) → (b ≡ true → P) → (b ≡ false → P) → P
+pub by_bool : {P : Type 0} (b : Bool) → (b ≡ true → P) → (b ≡ false → P) → P
 by_bool true p q = p refl
 by_bool false p q = q refl
 

@@ -1,5 +1,5 @@
 -- Facts about the words of specs/Printing.antt.
-use Rattle.std.proofs.Common.{◌≡◌, ℕ, pos, zero, suc, ◌+◌, ◌-◌, ◌*◌, ◌/◌, ◌%◌, ◌^◌, ◌<◌, ◌≤◌, ◌-ℤ◌, true, false, Bool, List, [], ◌∷◌, ◌++◌, length, Option, Some, None, refl, sym, ap, ◌∙◌, arith, inl, inr, length-append, append_assoc, ne_eqb}
+use Rattle.std.proofs.Common.{◌≡◌, ℕ, pos, zero, suc, ◌+◌, ◌-◌, ◌*◌, ◌/◌, ◌%◌, ◌^◌, ◌<◌, ◌≤◌, ◌-ℤ◌, false, List, [], ◌∷◌, ◌++◌, length, Option, Some, None, refl, sym, ap, ◌∙◌, arith, inl, inr, length-append, append_assoc, ne_eqb}
 use Rattle.std.specs.Prelude.{◌==◌, if◌then◌else◌, replicate}
 use Rattle.std.specs.Fmt.{decimal}
 use Rattle.std.proofs.lemmas.Fmt.{decimal_digit, decimal_step}
@@ -13,7 +13,7 @@ use Rattle.jiff_fmt.proofs.ReaderLemmas.{tenth, ten_pow-pos}
 use Rattle.jiff_fmt.proofs.TextLemmas.{replicate-end, places-step, places-end, tenth_place}
 use Rattle.am_alert.specs.Calendar.{parts_of}
 use Rattle.am_alert.specs.Printing.{zero_padded, fraction_text, moment_text}
-use Rattle.am_alert.proofs.Dates.{parts_same, time_parts, year_bound}
+use Rattle.am_alert.proofs.Dates.{by_bool, parts_same, time_parts, year_bound}
 
 -- the last k digits of a number
 abbrev last_digits : ℕ → ℕ → List ℕ
@@ -108,10 +108,6 @@ whole_second n e = rw e refl
 
 pub part_of_second : (n : ℕ) → (n % 1_000_000_000 ≡ 0 → ⊥) → Some 9 ≡ places_wanted n
 part_of_second n e = rw (ne_eqb _ _ e) refl
-
-by_bool : {P : Type 0} (b : Bool) → (b ≡ true → P) → (b ≡ false → P) → P
-by_bool true p q = p refl
-by_bool false p q = q refl
 
 fraction_is : (n : ℕ) → n < 1_000_000_000 → fraction_part (if n == 0 then None else Some 9) n ≡ fraction_text n
 fraction_is n h =

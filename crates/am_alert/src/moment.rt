@@ -5,6 +5,7 @@ ghost use Rattle.std.specs.Duration.{as_nanos};
 ghost use Rattle.am_alert.specs.Moments.{moments, later};
 ghost use Rattle.am_alert.specs.Calendar.{parts_of};
 ghost use Rattle.am_alert.specs.Printing.{moment_text};
+ghost use Rattle.am_alert.specs.TimeTexts.{year_1970};
 
 use crate::civil_time::CivilTime;
 use crate::moment_text::MomentText;
@@ -99,7 +100,7 @@ impl Moment {
     }
 
     fn timestamp(&self) -> Timestamp
-        ensures { result.nanosecond ≡ pos self.now -ℤ pos 62_135_596_800_000_000_000 }
+        ensures { result.nanosecond ≡ pos self.now -ℤ pos year_1970 }
     {
         Timestamp::from_nanosecond(self.nanoseconds as i128 - YEAR_1970).unwrap()
     }

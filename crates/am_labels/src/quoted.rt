@@ -1,9 +1,10 @@
 //! Texts between quotes, as values are printed.
 
-ghost use Rattle.std.specs.Prelude.{Some, encode_utf8};
+ghost use Rattle.std.specs.Prelude.{◌≡◌, IsTrue, Some, encode_utf8};
 ghost use Rattle.std.specs.Fmt.{DisplaysOnOk};
 ghost use Rattle.am_labels.specs.Printing.{escaped_all, quoted};
 
+use memchr::memchr3;
 use std::fmt;
 
 /// A text printed between quotes, with `\"` for a quote, `\\` for a backslash and `\n` for a line
@@ -21,7 +22,23 @@ impl fmt::Display for Quoted<'_> {
     }
 }
 
+// A text without an escape is written at once.
 fn write_escaped<W: fmt::Write>(text: &str, f: &mut fmt::Formatter<W>) -> fmt::Result
+    ensures { DisplaysOnOk W.write_str_gives f.old result (Some (escaped_all text.now)) f.new }
+{
+    if is_plain(text) {
+        return f.write_str(text);
+    }
+    write_each_escaped(text, f)
+}
+
+fn is_plain(text: &str) -> bool
+    ensures { IsTrue result → escaped_all text.now ≡ text.now }
+{
+    memchr3(b'"', b'\\', b'\n', text.as_bytes()).is_none()
+}
+
+fn write_each_escaped<W: fmt::Write>(text: &str, f: &mut fmt::Formatter<W>) -> fmt::Result
     ensures { DisplaysOnOk W.write_str_gives f.old result (Some (escaped_all text.now)) f.new }
 {
     for c in text.chars() {

@@ -1,8 +1,11 @@
 -- A character escaped is its bytes escaped, since the bytes of a character past ASCII are past it too.
-use Rattle.std.proofs.Common.{◌≡◌, ◌≢◌, ℕ, zero, suc, ◌+◌, ◌<◌, ◌≤◌, List, [], ◌∷◌, ◌++◌, cond, length, get_or, encode_utf8, refl, sym, subst, ap, ◌∙◌, arith, append-nil, append_assoc}
+use Rattle.std.proofs.Common.{◌≡◌, ◌≢◌, ℕ, zero, suc, ◌+◌, ◌<◌, ◌≤◌, List, [], ◌∷◌, ◌++◌, cond, length, get_or, encode_utf8, refl, sym, subst, ap, ◌∙◌, arith, append-nil, append_assoc, Bool, true, false, Option, Some, None, ◌==◌, not}
+use Rattle.std.specs.Prelude.{IsTrue, is_some}
 use Rattle.std.proofs.lemmas.Bool.{ne_eqb}
+use Rattle.std.proofs.lemmas.Bool.Decides.{nat_tests}
 use Rattle.std.proofs.lemmas.Grind.{flat_map-append}
 use Rattle.std.proofs.lemmas.Str.{inside_one}
+use Rattle.memchr.specs.Find.{IsFirstByte, is_byte3}
 use Rattle.am_labels.specs.Printing.{escaped, escaped_all}
 
 pub record IsOrdinary (byte : ℕ) : Type 0 where
@@ -40,3 +43,13 @@ pub escaped_more : (written rest left all : List ℕ) (c : ℕ) → rest ≡ enc
 escaped_more written rest left all c step so_far =
     append_assoc written (escaped_all (encode_utf8 c)) (escaped_all left)
     ∙ (ap (λ (bytes : List ℕ). written ++ bytes) (sym (flat_map-append escaped (encode_utf8 c) left) ∙ ap escaped_all (sym step)) ∙ so_far)
+
+-- a text with no quote, backslash or line feed is printed as it is
+pub plain_text : (text : List ℕ) (found : Option ℕ) (none : Bool) → IsFirstByte (is_byte3 34 92 10) text found → is_some found ≡ not none → IsTrue none → escaped_all text ≡ text
+plain_text text None none first told taken = escaped_all_ordinary text (λ k short. record {
+  no_quote = λ e. first k (omega arith) short (grind (arith, nat_tests, e));
+  no_backslash = λ e. first k (omega arith) short (grind (arith, nat_tests, e));
+  no_line_feed = λ e. first k (omega arith) short (grind (arith, nat_tests, e));
+})
+plain_text text (Some k) true first told taken = let z : ◌≡◌ {A = ℕ} 0 1 = cc in absurd (omega (arith, z))
+plain_text text (Some k) false first told taken = let z : ◌≡◌ {A = ℕ} 0 1 = cc in absurd (omega (arith, z))

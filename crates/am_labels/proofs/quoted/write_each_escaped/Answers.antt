@@ -4,7 +4,7 @@ use Rattle.std.specs.Str.Iter.{chars_rest}
 use Rattle.std.proofs.lemmas.List.{nil_from_length}
 use Rattle.am_labels.specs.Printing.{escaped_all}
 use Rattle.am_labels.proofs.Printing.Escapes.{escaped_more}
-use Rattle.am_labels.proofs.quoted.write_escaped.Goals as goal
+use Rattle.am_labels.proofs.quoted.write_each_escaped.Goals as goal
 
 pub loop-c-init : goal.loop-c-init
 loop-c-init g c =

@@ -2,7 +2,7 @@ use Rattle.std.proofs.Common.{◌≡◌, ◌++◌, List, ℕ}
 use Rattle.std.specs.Fmt.{HasWritten, IsPlainFormatter}
 use Rattle.std.specs.Str.Iter.{chars_rest}
 use Rattle.am_labels.specs.Printing.{escaped_all}
-use Rattle.am_labels.proofs.quoted.write_escaped.Given as goal
+use Rattle.am_labels.proofs.quoted.write_each_escaped.Given as goal
 
 -- what was written, and what is left to write, are the whole escaped
 abbrev pub invariant-loop-c : goal.invariant-loop-c
