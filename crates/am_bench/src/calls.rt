@@ -80,12 +80,12 @@ impl Times {
     };
 }
 
-// Notes a call that took so many nanoseconds.
+// Notes how many nanoseconds a call took.
 fn note(least: &mut u128, took: u128) {
     *least = (*least).min(took);
 }
 
-// The body of a post of so many alerts, from a label set on.
+// The body of a post of this number of alerts, from a label set on.
 fn body_of(alloc: Global, first: u64, alerts: u64) -> Result<String, AllocError> {
     let mut body = String::new(alloc);
     for at in 0..alerts {
@@ -111,7 +111,7 @@ fn post_of(
     }
 }
 
-// Posts so many alerts, from a label set on, and answers how many nanoseconds that took.
+// Posts alerts from a label set on, and answers how many nanoseconds that took.
 fn put<N: Recorded, R: Wait + Clock>(
     rt: &R,
     alloc: Global,

@@ -97,7 +97,7 @@ fn labels_at(
     LabelSet::from_pairs(alloc, pairs)
 }
 
-// Takes alerts of so many names at an instance, which fire until a moment.
+// Takes alerts of several names at an instance, which fire until a moment.
 fn take_each(
     alloc: Global,
     inhibitor: &mut Inhibitor<'_>,

@@ -1,5 +1,5 @@
 //! The log: one writer and up to eight readers, each in a thread of its own. `bench/log` runs it
-//! beside what it is compared with.
+//! and of what it is compared with.
 
 ghost use Rattle.std.specs.Prelude.{◌≡◌, ◌<◌, ◌≤◌, length, IfOk};
 ghost use Rattle.am_cast.specs.declared.limits.TheConstants.{MAX_PLACES};
@@ -103,7 +103,7 @@ fn batch_of<N: Feed>(
     Ok(batch)
 }
 
-// What a reader does that found nothing so many times in a row. A sleep of a microsecond takes some sixty, since Linux
+// What a reader does that found nothing several times in a row. A sleep of a microsecond takes some sixty, since Linux
 // lets a timer be late by 50 (its timer slack).
 fn idle<R: Clock>(rt: &R, turns: u32, yields: u32) {
     if turns < yields {

@@ -150,7 +150,7 @@ fn body_of(alloc: Global, first: u64, load: Load) -> Result<String, AllocError> 
     Ok(body)
 }
 
-/// Writes an alert of four labels, behind a character.
+/// Writes an alert of four labels, after a character.
 pub(crate) fn write_four(body: &mut String, begin: char, host: u64) -> Result<(), AllocError> {
     write!(
         body,
@@ -158,7 +158,7 @@ pub(crate) fn write_four(body: &mut String, begin: char, host: u64) -> Result<()
     )
 }
 
-// An alert as Prometheus posts it, behind a character.
+// An alert as Prometheus posts it, after a character.
 fn write_full(body: &mut String, begin: char, host: u64) -> Result<(), AllocError> {
     write!(
         body,

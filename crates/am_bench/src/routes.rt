@@ -23,7 +23,7 @@ enum RouteWork {
 }
 
 /// How many alerts there are, and how many rounds of them. The tree is the one of teams, if it has no
-/// width, or else it has so many routes at one level.
+/// width, or else it has that number of routes at one level.
 #[derive(Clone, Copy, Debug)]
 pub(crate) struct Load {
     work: RouteWork,

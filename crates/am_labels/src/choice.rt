@@ -13,7 +13,7 @@ use regex_syntax::Config;
 use std::alloc::{AllocError, Global};
 
 /// The most texts that are kept of a pattern. A value is compared with each, and a search takes about
-/// as long however many texts there are. Where the two meet wasn't measured.
+/// as long however many texts there are. At which number the two take equally long wasn't measured.
 const MOST_TEXTS: usize = 16;
 
 /// The longest source, in bytes, that is read for its texts.

@@ -27,7 +27,7 @@ pub fn matcher_grammar_laws()
 
 /// A pattern of plain texts with `|` between them, as `web|api`, admits these texts and no others,
 /// whatever else the grammar of patterns says. In a group, as `s2-(web|api)`, it admits each of them
-/// with what is before the group and behind it.
+/// with what is before and after the group.
 pub fn plain_pattern_laws()
     ensures texts { PlainTextsAreChosen }
     ensures groups { PlainGroupsAreChosen }

@@ -7,7 +7,7 @@ ghost use Rattle.am_labels.specs.inside.Spans.{pairs_in, AreSpansOf};
 use std::alloc::{AllocError, Global};
 use std::marker::Model;
 
-/// Where a name and its value lie: the name from `start` to `middle`, the value from there to `end`.
+/// The place of a name and its value: the name from `start` to `middle`, the value from there to `end`.
 #[derive(Clone, Copy, Debug, Drop, PartialEq, Eq)]
 pub struct Span {
     start: usize,
@@ -140,7 +140,7 @@ impl PairBuffer {
         }
     }
 
-    /// No pairs, with room for so many in so many bytes.
+    /// No pairs, with room for a number of them in a number of bytes.
     pub(crate) fn with_capacity(
         alloc: Global,
         pairs: usize,

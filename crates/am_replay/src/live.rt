@@ -65,7 +65,7 @@ pub fn live<R: Wait, I: BufRead, O: Write, E: Write>(
     }
 }
 
-// What the first line comes to, as it was read.
+// What the first line is found to be, as it was read.
 fn read_first(alloc: Global, line: &Option<InputLine>) -> Result<FirstLine, AllocError>
     ensures { IfOk result (λ first. (bytes : Option (List ℕ)) → IsFirstAs bytes line.now
         → IsFirstLine (line_or_empty bytes) first) }

@@ -39,9 +39,9 @@ pub enum Answer {
     SubscribeRefused(SubFault),
     Item(Alert),
     Pending,
-    /// A subscription was told that the log is closed.
+    /// A subscription was answered that the log is closed.
     SawClosed,
-    /// A subscription was told that it was cut.
+    /// A subscription was answered that it was cut.
     SawCut,
     Left {
         taken: u64,
@@ -50,16 +50,16 @@ pub enum Answer {
     },
     Collected(u64),
     CollectRefused,
-    /// A collection removed so many alerts; they follow.
+    /// How many alerts a collection removed; they follow.
     Taken(u64),
     CloseAccepted,
     CloseRefused,
-    /// So many calls were dropped from the journal.
+    /// How many calls were dropped from the journal.
     Trimmed(u64),
     TrimRefused,
-    /// So many calls of the journal went out of memory.
+    /// How many calls of the journal went out of memory.
     Compacted(u64),
-    /// The item before it was not taken by the consumer beside its subscription, which was out of
+    /// The item before it was not taken by the consumer of its subscription, which was out of
     /// memory.
     TakeRefused,
     /// A group of a dispatcher, with how many alerts it has.
@@ -72,7 +72,7 @@ pub enum Answer {
     /// An alert of the last group before it.
     Member(Alert),
     Swept(Swept),
-    /// A sweep of an inhibitor dropped so many alerts.
+    /// How many alerts a sweep of an inhibitor dropped.
     Forgotten(u64),
     /// A target is muted by the rule of this number, and by the alert of this label set.
     Muted {
@@ -81,9 +81,9 @@ pub enum Answer {
     },
     NotMuted,
     MutesRefused,
-    /// So many alerts are stored; they follow.
+    /// How many alerts are stored; they follow.
     StoredCount(u64),
-    /// So many alerts of a page of what is stored; they follow.
+    /// A page of what is stored, whose alerts follow.
     Page {
         alerts: u64,
         /// The index of the first.

@@ -196,7 +196,7 @@ impl<'p, 'c, N: Recorded> Session<'p, 'c, N> {
     }
 }
 
-// Where the subscription of that name stands.
+// The index of the subscription of that name.
 fn index_named<N: Recorded>(opened: &[OpenSubscription<'_, '_, N>], name: &Text) -> Option<usize>
     ensures { result ≡ index_named name.now opened.now }
 {

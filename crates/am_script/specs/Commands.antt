@@ -86,7 +86,7 @@ abbrev pub from_of : Data → Option ℕ
 from_of d =
     if is_some (get (codes "from") d) then number_member (codes "from") 0 4294967295 d else Some 0
 
--- a page of what is stored: from an index on, at most so many alerts
+-- a page of what is stored: from an index on, with at most a number of alerts
 abbrev pub page_of : Data → Option Command
 page_of d = do
   from ← from_of d

@@ -1,4 +1,4 @@
-//! What a person is told of a script that is refused: which member of the line it is, and what is wanted there.
+//! What is printed of a script that is refused: which member of the line it is, and what is wanted there.
 //!
 //! The output has the line's number and its fault, and that is what contracts speak of. This is for the error stream.
 

@@ -72,7 +72,7 @@ pub enum Command {
     },
     /// All stored alerts.
     Stored,
-    /// A page of the stored alerts: from an index on, and at most so many.
+    /// A page of the stored alerts: from an index on, with at most `max` of them.
     StoredPage {
         from: u32,
         max: u32,

@@ -1,4 +1,4 @@
-//! Where a line ends.
+//! Finding the end of a line.
 
 ghost use Rattle.std.specs.Prelude.{◌≡◌};
 ghost use Rattle.std.specs.List.{position};

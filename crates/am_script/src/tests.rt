@@ -59,7 +59,7 @@ impl Write for SlowWriter {
     }
 }
 
-// So many lines, of which every third one is empty.
+// `count` lines, of which every third one is empty.
 fn lines(alloc: Global, count: u32) -> std::result::Result<Vec<u8>, AllocError> {
     let mut text = Vec::new(alloc);
     for number in 0..count {
@@ -71,7 +71,7 @@ fn lines(alloc: Global, count: u32) -> std::result::Result<Vec<u8>, AllocError> 
     Ok(text)
 }
 
-// A line of so many bytes, and a short one.
+// A line of `size` bytes, and a short one.
 fn long_line(alloc: Global, size: usize) -> std::result::Result<Vec<u8>, AllocError> {
     let mut text = vec![in alloc; b'a'; size]?;
     text.extend_from_slice(b"\nab\n")?;

@@ -46,7 +46,7 @@ impl<'p, 'c, N: Recorded> Session<'p, 'c, N> {
         Answer::Compacted(dropped)
     }
 
-    /// What is done between the lines of a live run: if the journal has become long beside the store, its calls are
+    /// What is done between the lines of a live run: if the journal has become long next to the store, its calls are
     /// taken out of memory. The same call decides that for every line, so that each pays for its own alerts alone. Then
     /// each open subscription, which may never leave, is shown to have taken its due so far.
     pub fn compact_if_due<R: Wait, G>(&mut self, context: &Context<'p, 'c, N, R, G>)
