@@ -1,4 +1,5 @@
 //! The Book: the stored alerts, the journal, and the writer of the log. It is under the lock.
+//! Calls of several steps have files in `book/`.
 //!
 //! What a Book promises: whatever posts, subscriptions, collections and ends come, the stored alerts
 //! and the log are those that its journal of accepted calls gives, and the journal is legal. A post

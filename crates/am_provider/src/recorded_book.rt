@@ -1,4 +1,5 @@
 //! What lies under a provider's lock: the Book, and the history of its accepted calls, trims and compactions.
+//! Posts are in `recorded_book/post.rt`.
 //!
 //! Each call is made on the Book. If it was accepted, an entry is added to the history, and the caller's
 //! front sees all of it; if it was refused, the front sees what there is.
