@@ -1,4 +1,5 @@
 //! The Book: the stored alerts, the journal, and the writer of the log. It is under the lock.
+//! Calls of several steps have files in `book/`.
 //!
 //! What a Book promises: whatever posts, subscriptions, collections and ends come, the stored alerts
 //! and the log are those that its journal of accepted calls gives, and the journal is legal. A post
@@ -10,56 +11,43 @@
 //! asks that no lane is open by the journal, which a caller knows, and not by what the writer
 //! knows.
 
-ghost use Rattle.std.specs.Prelude.{◌≡◌, ◌≢◌, ◌↔◌, ◌≤◌, ◌<◌, ◌+◌, ◌++◌, ◌∷◌, IsTrue, IfOk, IfErr, OnOk, OnErr, IsErr, IsErrOf};
-ghost use Rattle.std.specs.Prelude.{ℕ, ◌-◌, None, Some, true, false, [], length, nat_eq, if◌then◌else◌, not, filter, count_by, drop, max, nat_le, slice_index_or, take};
+ghost use Rattle.std.specs.Prelude.{◌≡◌, ◌≢◌, ◌↔◌, ◌≤◌, ◌<◌, ◌+◌, IsTrue, IfOk, IfErr, OnOk, OnErr, IsErr, ℕ, ◌-◌, None, false, [], length, filter, drop, nat_le, slice_index_or, take};
 ghost use Rattle.std.specs.Arc.{arc_value};
 ghost use Rattle.std.specs.List.{All};
 ghost use Rattle.std.specs.Option.{option_map};
-ghost use mathlib.Core.List.{IsPrefix};
-ghost use Rattle.am_alert.specs.Merging.{is_resolved_at};
-ghost use Rattle.am_alert.specs.declared.post.TheConstants.{MAX_ALERTS};
-ghost use Rattle.am_cast.specs.Rule.{Once, cut, idle, live};
-ghost use Rattle.am_cast.specs.Changes.{AreInLog, shut_tail};
+ghost use Rattle.am_cast.specs.Rule.{idle};
+ghost use Rattle.am_cast.specs.Changes.{shut_tail};
 ghost use Rattle.am_cast.specs.Seats.{account_of};
-ghost use Rattle.am_store.specs.Journal.{with_call, call_count, first_calls, is_closed};
-ghost use Rattle.am_store.specs.Journal.{posts_of, AreAllIdle, AreAllOpen};
-ghost use Rattle.am_store.specs.Journal.{new_journal, journal_of};
+ghost use Rattle.am_store.specs.Journal.{with_call, call_count, is_closed, posts_of, new_journal};
+ghost use Rattle.am_store.specs.Journal.{journal_of};
 ghost use Rattle.am_store.specs.AlertList.{lookup};
 ghost use Rattle.am_store.specs.AlertMaps.{stored_in};
-ghost use Rattle.am_store.specs.Judging.{AreJudged};
-ghost use Rattle.am_store.specs.Trims.{AreBeforeOpen, Drops, IsTrimmed};
-ghost use Rattle.am_store.specs.Stored.{updates, stored};
+ghost use Rattle.am_store.specs.Trims.{IsTrimmed};
+ghost use Rattle.am_store.specs.Stored.{stored};
 ghost use Rattle.am_provider.specs.BookView.{IsFaithful, batches};
-ghost use Rattle.am_provider.specs.Subscriptions.{taken};
-ghost use Rattle.am_provider.specs.Rising.{IsRising};
-ghost use Rattle.am_provider.specs.Settling.{IsOwn, IsSettled, own_in, own_of, parts_in};
-ghost use Rattle.am_provider.specs.Posts.{AddsOwn, IsCutBy, IsCutTo, PutsIf, IsPutCause, IsPutIfCause};
-ghost use Rattle.am_provider.specs.Posts.{IsAsBefore, Loads, WasAskedBefore};
 ghost use Rattle.am_provider.specs.Posts.{HasSameLimits};
-ghost use Rattle.am_provider.specs.Vouching.{HasTakenDue, KnowsWholeLog};
 
-use crate::answers::{Counts, Ended, Page, Policy, Posted, PostedIf};
-use crate::faults::{PutFault, SubFault};
+mod collect;
+mod post;
+mod settle;
+mod subscribe;
+mod trim;
+
+use crate::answers::{Counts, Ended, Page, Policy};
 use crate::feed::{Cast, Origin, Writer};
 use crate::item::Item;
 use crate::kept_endings::KeptEndings;
 use crate::parts::{Begun, Parts};
-use crate::pass::{Joined, Pass, deal, join_all};
-use crate::sending::send_batch;
-use crate::settled::Settled;
-use crate::subscription::Subscription;
-use am_alert::{Alert, Alerts, Moment, Post};
-use am_cast::{AlreadyClosed, LONGEST_LOG, Published};
+use crate::pass::deal;
+use am_alert::Alerts;
+use am_cast::AlreadyClosed;
 use am_labels::LabelSet;
-use am_store::lanes::{LANES, Lanes, OpenLane, earliest, idle_lane, let_openings_go};
-use am_store::store::absorb::{Absorbed, absorb_each, take_back};
-use am_store::store::judge::{Judged, judge_each};
-use am_store::store::{AlertMap, remove_resolved, share_all, share_of, share_page, share_resolved};
-use am_store::{Call, Journal, KeptJournal, LaneSet, MAX_BEFORE, SharedAlert, StoredAlerts};
+use am_store::lanes::{LANES, Lanes, OpenLane};
+use am_store::store::{AlertMap, share_all, share_of, share_page};
+use am_store::{Call, Journal, KeptJournal, SharedAlert, StoredAlerts};
 use std::alloc::{AllocError, Global};
 use std::marker::Model;
-use std::snapshot::Snapshot;
-use std::sync::{Wait, ledger};
+use std::sync::ledger;
 
 // An entry of the journal, one to end each lane, and one to end the log.
 const ENTRIES: usize = LANES + 2;
@@ -278,303 +266,6 @@ impl<N: Origin> Book<N> {
         )
     }
 
-    /// Stores the valid alerts of a post, each into what those before it left, and sends out what
-    /// they became as one batch, which the pass then owns. A post with no valid alert is accepted and
-    /// sends nothing out.
-    pub fn post(
-        &mut self,
-        cast: &Cast<N>,
-        pass: &mut Pass<N>,
-        post: Post,
-        now: Moment,
-    ) -> Result<Posted, PutFault>
-        ensures journal { OnOk result
-            (self.new.journal ≡ with_call self.old.journal (Call.Posted now post.valid)) }
-        ensures last { OnOk result (self.new.gone < call_count self.new.journal) }
-        ensures valid { IfOk result (λ posted. posted.valid ≡ length post.valid) }
-        ensures faults { IfOk result (λ posted. posted.faults ≡ post.faults) }
-        ensures place { IfOk result (λ posted. posted.place
-            ≡ (if nat_eq (length post.valid) 0 then None else Some (length (batches self.old)))) }
-        ensures own { IfOk result (λ posted.
-            AddsOwn pass.old now post.valid posted.place pass.new) }
-
-        ensures log { IsPrefix (batches self.old) (batches self.new) }
-        ensures cut { IfOk result (λ posted. IsCutBy self.old self.new posted.cut) }
-        ensures loads { 0 < length post.valid → is_closed self.old.journal ≡ false
-            → Loads self.old.log self.new.log }
-        ensures endings { (self.new.endings ≡ self.old.endings) × (self.new.early ≡ self.old.early) }
-        ensures gone { self.new.gone ≡ self.old.gone }
-        ensures limits { HasSameLimits self.old self.new }
-
-        ensures closed { IsErrOf result PutFault.Closed ↔ IsTrue (is_closed self.old.journal) }
-        ensures refused { IfErr result (IsPutCause self.old self.new (length post.valid)) }
-        ensures err { OnErr result (IsAsBefore self.old self.new × (pass.new ≡ pass.old)) }
-    {
-        if self.log.is_closed() {
-            return Err(PutFault::Closed);
-        }
-        let Post { valid, faults } = post;
-        if valid.as_slice().is_empty() {
-            self.post_nothing(valid, now)?;
-            return Ok(Posted {
-                valid: 0,
-                place: None,
-                cut: LaneSet::EMPTY,
-                faults,
-            });
-        }
-        let valid_count = valid.as_slice().len() as u32;
-        let Published { place, cut } = self.post_some(cast, pass, valid, now)?;
-        Ok(Posted {
-            valid: valid_count,
-            place: Some(place),
-            cut: LaneSet::from_flags(&cut),
-            faults,
-        })
-    }
-
-    /// Posts those valid alerts that a filter accepts (what `provider/mem`'s Put does by its callback's
-    /// PreStore). The filter is shown each alert as it would be stored, over what those before it that it
-    /// accepted left, and told whether no alert of its label set is stored. One that it refuses is as if it
-    /// hadn't been posted. The filter is asked once the log is known to be open.
-    pub fn post_if<F: FnMut(&Alert, bool) -> bool>(
-        &mut self,
-        cast: &Cast<N>,
-        pass: &mut Pass<N>,
-        post: Post,
-        now: Moment,
-        accepts: &mut F,
-    ) -> Result<PostedIf, PutFault>
-        requires { F.IsAlwaysCallable accepts.old }
-        ensures posted { IfOk result
-            (PutsIf F.FnMut accepts.old accepts.new self.old self.new pass.old pass.new now post) }
-        ensures log { IsPrefix (batches self.old) (batches self.new) }
-        ensures endings { (self.new.endings ≡ self.old.endings) × (self.new.early ≡ self.old.early) }
-        ensures gone { self.new.gone ≡ self.old.gone }
-        ensures limits { HasSameLimits self.old self.new }
-
-        ensures closed { IsErrOf result PutFault.Closed ↔ IsTrue (is_closed self.old.journal) }
-        ensures refused { IfErr result
-            (IsPutIfCause F.FnMut accepts.old accepts.new self.old self.new now post) }
-        ensures callable { F.IsAlwaysCallable accepts.new }
-        ensures err { OnErr result (IsAsBefore self.old self.new × (pass.new ≡ pass.old)) }
-    {
-        let (accepted, refused) = self.judge(post, now, accepts)?;
-        match self.post(cast, pass, accepted, now) {
-            Ok(posted) => Ok(PostedIf { posted, refused }),
-            Err(fault) => Err(fault),
-        }
-    }
-
-    // What a filter accepts of a post, and the indices of what it refuses.
-    pub(crate) fn judge<F: FnMut(&Alert, bool) -> bool>(
-        &mut self,
-        post: Post,
-        now: Moment,
-        accepts: &mut F,
-    ) -> Result<(Post, Vec<u32>), PutFault>
-        requires { F.IsAlwaysCallable accepts.old }
-        ensures judged { IfOk result (λ done. AreJudged F.FnMut now accepts.new accepts.old 0
-            self.old.stored post.valid done.0.valid done.1.items) }
-        ensures asked { IfErr result
-            (WasAskedBefore F.FnMut accepts.old accepts.new now self.old.stored post.valid) }
-        ensures callable { F.IsAlwaysCallable accepts.new }
-        ensures faults { IfOk result (λ done. done.0.faults ≡ post.faults) }
-        ensures same { self.new ≡ self.old }
-        ensures open { OnOk result (is_closed self.old.journal ≡ false) }
-        ensures refused { IfErr result (IsPutCause self.old self.old 0) }
-    {
-        if self.log.is_closed() {
-            return Err(PutFault::Closed);
-        }
-        let Post { valid, faults } = post;
-        let Judged { accepted, refused } = judge_each(&mut self.stored, valid, now, accepts)?;
-        let accepted = Post {
-            valid: accepted,
-            faults,
-        };
-        Ok((accepted, refused))
-    }
-
-    // Takes a post with no valid alert.
-    fn post_nothing(&mut self, none: Alerts, now: Moment) -> Result<(), AllocError>
-        requires open { is_closed self.old.journal ≡ false }
-        requires none { none ≡ [] }
-        ensures journal { OnOk result
-            (self.new.journal ≡ with_call self.old.journal (Call.Posted now [])) }
-        ensures last { OnOk result (self.new.gone < call_count self.new.journal) }
-        ensures log { self.new.log ≡ self.old.log }
-        ensures endings { (self.new.endings ≡ self.old.endings) × (self.new.early ≡ self.old.early)
-            × (self.new.policy ≡ self.old.policy) }
-        ensures gone { self.new.gone ≡ self.old.gone }
-        ensures err { OnErr result (self.new ≡ self.old) }
-    {
-        self.journal.reserve(ENTRIES)?;
-        self.journal.push(Call::Posted { now, alerts: none });
-        self.posts += 1;
-        Ok(())
-    }
-
-    // Takes a post with valid alerts: room first, then the store, then the log; the store is taken back
-    // if the log refuses.
-    fn post_some(
-        &mut self,
-        cast: &Cast<N>,
-        pass: &mut Pass<N>,
-        valid: Alerts,
-        now: Moment,
-    ) -> Result<Published, PutFault>
-        requires open { is_closed self.old.journal ≡ false }
-        requires some { 0 < length valid }
-        requires few { length valid ≤ MAX_ALERTS }
-        ensures journal { OnOk result
-            (self.new.journal ≡ with_call self.old.journal (Call.Posted now valid)) }
-        ensures last { OnOk result (self.new.gone < call_count self.new.journal) }
-        ensures own { IfOk result (λ sent. (sent.place ≡ length (batches self.old))
-            × AddsOwn pass.old now valid (Some sent.place) pass.new) }
-        ensures log { IsPrefix (batches self.old) (batches self.new) }
-        ensures cut { IfOk result (λ sent. IsCutTo self.old self.new sent.cut) }
-        ensures loads { Loads self.old.log self.new.log }
-        ensures endings { (self.new.endings ≡ self.old.endings) × (self.new.early ≡ self.old.early) }
-        ensures gone { self.new.gone ≡ self.old.gone }
-        ensures limits { HasSameLimits self.old self.new }
-
-        ensures refused { IfErr result (IsPutCause self.old self.new (length valid)) }
-        ensures err { OnErr result (IsAsBefore self.old self.new × (pass.new ≡ pass.old)) }
-    {
-        let full = self.log.harvest(cast);
-        if self.log.len() >= LONGEST_LOG {
-            return Err(PutFault::LogEnd);
-        }
-        if let (Policy::Refuse, Some((lane, passed))) = (self.policy, full) {
-            return Err(PutFault::Full {
-                lane: lane as u32,
-                passed,
-            });
-        }
-        self.journal.reserve(ENTRIES)?;
-        let Absorbed { batch, undo } = absorb_each(&mut self.stored, valid.as_slice(), now)?;
-        let call = Call::Posted { now, alerts: valid };
-        match send_batch(
-            &mut self.log,
-            cast,
-            self.policy,
-            batch,
-            &call,
-            &mut pass.pass,
-        ) {
-            Ok(sent) => {
-                self.tally.add(&mut pass.share, 1);
-                self.journal.push(call);
-                self.posts += 1;
-                Ok(sent)
-            }
-            Err(fault) => {
-                take_back(&mut self.stored, undo);
-                Err(fault)
-            }
-        }
-    }
-
-    /// A subscription on the lowest lane that isn't open, to what is stored and to what comes from
-    /// now on.
-    pub fn subscribe<'a>(&mut self, cast: &'a Cast<N>) -> Result<Subscription<'a, N>, SubFault>
-        ensures journal { IfOk result (λ made. self.new.journal
-            ≡ with_call self.old.journal (Call.Subscribed made.cursor.lane.number)) }
-        ensures at { IfOk result (λ made. made.at ≡ call_count self.old.journal) }
-        ensures opening { IfOk result (λ made. made.opening ≡ self.old.stored) }
-        ensures fresh { IfOk result (λ made. (taken made ≡ []) × (made.closed_told ≡ false)) }
-        ensures start { IfOk result (λ made.
-            made.cursor.lane.start ≡ length (batches self.old)) }
-        ensures log { self.new.log.tail ≡ self.old.log.tail }
-        ensures lane { IfOk result (λ made.
-            (account_of self.new.log made.cursor.lane.number).stand ≡ live) }
-        ensures others { IfOk result (λ made. (lane : ℕ) → lane ≢ made.cursor.lane.number
-            → account_of self.new.log lane ≡ account_of self.old.log lane) }
-        ensures stored { self.new.stored ≡ self.old.stored }
-        ensures endings { (self.new.endings ≡ self.old.endings) × (self.new.early ≡ self.old.early) }
-        ensures gone { self.new.gone ≡ self.old.gone }
-        ensures limits { HasSameLimits self.old self.new }
-
-        ensures closed { IsErrOf result SubFault.Closed ↔ IsTrue (is_closed self.old.journal) }
-        ensures no_lane { IsErrOf result SubFault.NoLane
-            ↔ ((is_closed self.old.journal ≡ false) × AreAllOpen self.old.journal) }
-        ensures err { OnErr result (self.new ≡ self.old) }
-    {
-        if self.log.is_closed() {
-            return Err(SubFault::Closed);
-        }
-        if idle_lane(&self.lanes).is_none() {
-            return Err(SubFault::NoLane);
-        }
-        let opening = share_all(&self.stored)?;
-        let kept = opening.share()?;
-        self.journal.reserve(ENTRIES)?;
-        self.endings.reserve(LANES)?;
-        let at = self.journal.call_count();
-        let open = OpenLane { at, opening: kept };
-        let Ok(cursor) = self.log.admit(cast, Snapshot::of(&open)) else {
-            unreachable!()
-        };
-        let lane = cursor.lane();
-        self.lanes[lane] = Some(open);
-        self.journal.push(Call::Subscribed(lane as u32));
-        Ok(Subscription::begin(at, opening, cursor))
-    }
-
-    /// Takes a subscription back, and answers what it came to.
-    pub fn leave(&mut self, cast: &Cast<N>, subscription: Subscription<'_, N>) -> Ended
-        ensures journal { self.new.journal
-            ≡ with_call self.old.journal (Call.Left subscription.entry.cursor.lane.number) }
-        ensures at { result.at ≡ subscription.entry.at }
-        ensures taken { result.taken ≡ length (taken subscription.entry) }
-        ensures closed { result.closed ≡ subscription.entry.closed_told }
-        ensures cut { IsTrue result.cut
-            ↔ ((account_of self.old.log subscription.entry.cursor.lane.number).stand ≡ cut) }
-        ensures due { HasTakenDue self.old subscription.entry }
-
-        ensures endings { (self.new.endings ≡ self.old.endings ++ result ∷ [])
-            × (self.new.early ≡ self.old.early) }
-        ensures gone { self.new.gone ≡ self.old.gone }
-        ensures log { self.new.log.tail ≡ self.old.log.tail }
-        ensures lane { (account_of self.new.log subscription.entry.cursor.lane.number).stand ≡ idle }
-        ensures others { (lane : ℕ) → lane ≢ subscription.entry.cursor.lane.number
-            → account_of self.new.log lane ≡ account_of self.old.log lane }
-        ensures stored { self.new.stored ≡ self.old.stored }
-        ensures limits { HasSameLimits self.old self.new }
-    {
-        let (at, taken, closed, cursor) = subscription.into_parts();
-        let lane = cursor.lane();
-        let ended = Ended {
-            at,
-            taken,
-            closed,
-            cut: self.log.is_cut(lane),
-        };
-        self.log.retire(cast, cursor);
-        self.lanes[lane] = None;
-        self.journal.push(Call::Left(lane as u32));
-        self.endings.push(ended);
-        ended
-    }
-
-    /// Says of a subscription that goes on what `leave` says of one that is given back: so far it has taken its due.
-    /// And the pass knows the whole log: who reads past it is shown all that was sent so far. Nothing else changes. It
-    /// is no call of the journal.
-    pub fn vouch(
-        &mut self,
-        cast: &Cast<N>,
-        pass: &mut Pass<N>,
-        subscription: &mut Subscription<'_, N>,
-    )
-        ensures same { (self.new ≡ self.old) × (subscription.new ≡ subscription.old) }
-        ensures due { HasTakenDue self.old subscription.old }
-        ensures told { KnowsWholeLog self.old pass.old pass.new }
-    {
-        self.log.tell(cast, &mut pass.pass);
-        subscription.vouch(cast, &mut self.log);
-    }
-
     /// Ends the log: no post and no subscription is accepted from now on.
     pub fn close(&mut self, cast: &Cast<N>) -> Result<(), AlreadyClosed>
         ensures journal { OnOk result (self.new.journal ≡ with_call self.old.journal Call.Closed) }
@@ -595,126 +286,6 @@ impl<N: Origin> Book<N> {
             }
             Err(AlreadyClosed) => Err(AlreadyClosed),
         }
-    }
-
-    /// Removes the stored alerts that are resolved, and answers how many. Subscribers aren't notified.
-    /// It is accepted after the log's end too.
-    pub fn collect_resolved(&mut self, now: Moment) -> Result<u64, AllocError>
-        ensures journal { OnOk result
-            (self.new.journal ≡ with_call self.old.journal (Call.Collected now)) }
-        ensures removed { IfOk result
-            (λ removed. removed ≡ count_by (is_resolved_at now) self.old.stored) }
-        ensures stored { OnOk result
-            (self.new.stored ≡ filter (λ alert. not (is_resolved_at now alert)) self.old.stored) }
-        ensures log { self.new.log ≡ self.old.log }
-        ensures endings { (self.new.endings ≡ self.old.endings) × (self.new.early ≡ self.old.early) }
-        ensures gone { self.new.gone ≡ self.old.gone }
-        ensures limits { HasSameLimits self.old self.new }
-        ensures err { OnErr result (self.new ≡ self.old) }
-    {
-        self.journal.reserve(ENTRIES)?;
-        let removed = remove_resolved(&mut self.stored, now);
-        self.journal.push(Call::Collected(now));
-        Ok(removed)
-    }
-
-    /// The same collection, which answers the alerts that it removed, in the order in which they were
-    /// stored. They are shared before anything is removed.
-    pub fn take_resolved(&mut self, now: Moment) -> Result<StoredAlerts, AllocError>
-        ensures journal { OnOk result
-            (self.new.journal ≡ with_call self.old.journal (Call.Collected now)) }
-        ensures removed { IfOk result
-            (λ removed. removed ≡ filter (is_resolved_at now) self.old.stored) }
-        ensures stored { OnOk result
-            (self.new.stored ≡ filter (λ alert. not (is_resolved_at now alert)) self.old.stored) }
-        ensures log { self.new.log ≡ self.old.log }
-        ensures endings { (self.new.endings ≡ self.old.endings) × (self.new.early ≡ self.old.early) }
-        ensures gone { self.new.gone ≡ self.old.gone }
-        ensures limits { HasSameLimits self.old self.new }
-        ensures err { OnErr result (self.new ≡ self.old) }
-    {
-        let resolved = self.resolved(now)?;
-        self.collect_resolved(now)?;
-        Ok(resolved)
-    }
-
-    // The stored alerts that are resolved.
-    pub(crate) fn resolved(&self, now: Moment) -> Result<StoredAlerts, AllocError>
-        ensures { IfOk result (λ resolved. resolved ≡ filter (is_resolved_at now) self.now.stored) }
-    {
-        share_resolved(&self.stored, now)
-    }
-
-    /// Discards the calls before the earliest open subscription from the journal, or all if none is
-    /// open, and answers how many. The endings of the subscriptions among them go too, and are
-    /// counted. Nothing else changes. It is no call of the journal, and is allowed after the log's
-    /// end.
-    pub fn trim(&mut self) -> Result<u64, AllocError>
-        ensures dropped { IfOk result (Drops self.old.journal) }
-        ensures journal { IfOk result (λ dropped.
-            IsTrimmed self.old.journal dropped self.new.journal) }
-        ensures endings { self.new.endings
-            ≡ filter (λ ended. nat_le self.new.journal.before ended.at) self.old.endings }
-        ensures early { self.new.early + length self.new.endings
-            ≡ self.old.early + length self.old.endings }
-        ensures gone { OnOk result (self.new.gone ≡ max self.old.gone self.new.journal.before) }
-        ensures stored { self.new.stored ≡ self.old.stored }
-        ensures log { self.new.log ≡ self.old.log }
-        ensures limits { HasSameLimits self.old self.new }
-
-        ensures err { OnErr result (self.new ≡ self.old) }
-    {
-        let before = self.journal.discarded();
-        let count = self.owed_from() - before;
-        if count == 0 || count > MAX_BEFORE - before {
-            return Ok(0);
-        }
-        let store = self.stored_then()?;
-        self.journal.trim(count, store);
-        self.endings.trim(before + count, self.journal.gone());
-        Ok(count)
-    }
-
-    // How many calls there had been before the earliest open subscription, or in all if none is
-    // open.
-    fn owed_from(&self) -> u64
-        ensures within { self.now.journal.before ≤ result }
-        ensures before { AreBeforeOpen self.now.journal (result - self.now.journal.before) }
-    {
-        match earliest(&self.lanes) {
-            Some(open) => open.at,
-            None => self.journal.call_count(),
-        }
-    }
-
-    // What was stored then.
-    fn stored_then(&self) -> Result<StoredAlerts, AllocError>
-        ensures { IfOk result (λ store. (count : ℕ) → AreBeforeOpen self.now.journal count
-            → self.now.gone < self.now.journal.before + count
-            → store ≡ stored (updates (first_calls count self.now.journal))) }
-    {
-        match earliest(&self.lanes) {
-            Some(open) => open.opening.share(),
-            None => share_all(&self.stored),
-        }
-    }
-
-    /// Takes the calls of the journal out of memory, also while subscriptions are open, and answers how many
-    /// those were. The endings of the subscriptions among them go too. The journal stays, and so does what is
-    /// owed to each subscription: nobody can tell. It is no call of the journal, and is allowed after the log's
-    /// end.
-    pub fn compact(&mut self) -> Result<u64, AllocError>
-        ensures same { self.new ≡ record self.old { gone = self.new.gone } }
-        ensures gone { OnOk result (self.new.gone ≡ call_count self.old.journal) }
-        ensures count { IfOk result (λ count. self.old.gone + count ≡ self.new.gone) }
-        ensures err { OnErr result (self.new ≡ self.old) }
-    {
-        let store = share_all(&self.stored)?;
-        let others = store.share()?;
-        let count = self.journal.compact(store);
-        self.endings.let_go(self.journal.gone());
-        let_openings_go(&mut self.lanes, &others);
-        Ok(count)
     }
 
     /// What is stored, in order (`provider.Alerts`' GetPending). It is no call of the journal and takes
@@ -781,108 +352,6 @@ impl<N: Origin> Book<N> {
             stored: self.stored.len() as u64,
         }
     }
-
-    /// Ends a Book, and with it its log.
-    pub fn settle<R: Wait>(self, rt: &R, cast: Cast<N>, passes: Vec<Pass<N>>) -> Settled
-        ensures settled { IsSettled self (own_of passes.items) result }
-        ensures rising { All (λ pass. IsRising pass.own) passes.items }
-        ensures complete { IsTrue result.complete ↔ (length passes.items ≡ N.parts) }
-    {
-        let count = passes.len();
-        let all = join_all(&cast, passes);
-        self.settle_joined(rt, cast, all, count)
-    }
-
-    /// Whether every subscription was given back. `end` takes such a Book.
-    pub fn is_idle(&self) -> bool
-        ensures { IsTrue result ↔ AreAllIdle self.now.journal }
-    {
-        self.log.is_idle()
-    }
-
-    /// Ends a Book whose subscriptions were all given back, and with it its log. It answers what
-    /// `settle` does, and needs no handle since there is nothing to wait for.
-    pub fn end(self, cast: Cast<N>, passes: Vec<Pass<N>>) -> Settled
-        requires { AreAllIdle self.journal }
-        ensures settled { IsSettled self (own_of passes.items) result }
-        ensures rising { All (λ pass. IsRising pass.own) passes.items }
-        ensures complete { IsTrue result.complete ↔ (length passes.items ≡ N.parts) }
-    {
-        self.kept();
-        let given = passes.len();
-        let joined = join_all(&cast, passes);
-        self.end_joined(cast, joined, given)
-    }
-
-    /// The same with so many passes, joined.
-    pub(crate) fn settle_joined<R: Wait>(
-        self,
-        rt: &R,
-        cast: Cast<N>,
-        all: Option<Joined<N>>,
-        count: usize,
-    ) -> Settled
-        requires { parts_in all ≡ count }
-        ensures settled { IsSettled self (own_in all) result }
-        ensures complete { IsTrue result.complete ↔ (count ≡ N.parts) }
-    {
-        if !self.log.is_idle() {
-            for _ in rt.forever() {}
-        }
-        self.end_joined(cast, all, count)
-    }
-
-    // The same of a Book that has no subscription.
-    fn end_joined(self, cast: Cast<N>, all: Option<Joined<N>>, count: usize) -> Settled
-        requires parts { parts_in all ≡ count }
-        requires idle { (lane : ℕ) → lane < 8 → (account_of self.log lane).stand ≡ idle }
-        ensures settled { IsSettled self (own_in all) result }
-        ensures complete { IsTrue result.complete ↔ (count ≡ N.parts) }
-    {
-        let Counts {
-            places,
-            posts,
-            stored: _,
-        } = self.counts();
-        let (journal, store, ended, early, posters, mut log, mut tally) = self.into_parts();
-        let complete = audit(&cast, &mut log, &mut tally, all, count, posters);
-        am_cast::end(cast, log);
-        Settled {
-            journal,
-            store,
-            ended,
-            early,
-            complete,
-            places,
-            posts,
-        }
-    }
-}
-
-// Whether these are all passes. What they posted is in the log, and is all of it if they are all.
-fn audit<N: Origin>(
-    cast: &Cast<N>,
-    log: &mut Writer<N>,
-    tally: &mut ledger::Book<N>,
-    all: Option<Joined<N>>,
-    count: usize,
-    posters: u32,
-) -> bool
-    requires count { parts_in all ≡ count }
-    requires posters { (posters ≡ N.parts) × (1 ≤ posters) }
-    requires tally { tally.old.total ≡ length log.old.tail.log }
-    ensures same { log.new ≡ log.old }
-    ensures stand { AreInLog (own_in all) log.old.tail.log }
-    ensures once { Once (own_in all) }
-    ensures all { IsTrue result → (place : ℕ) → place < length log.old.tail.log
-        → IsOwn (own_in all) place }
-    ensures complete { IsTrue result ↔ (count ≡ N.parts) }
-{
-    let Some(mut all) = all else {
-        return false;
-    };
-    all.audit(cast, log, tally);
-    count == posters as usize
 }
 
 // A journal without a call, with room for what may come.

@@ -1,30 +1,32 @@
 //! What lies under a provider's lock: the Book, and the history of its accepted calls, trims and compactions.
+//! Posts are in `recorded_book/post.rt`.
 //!
 //! Each call is made on the Book. If it was accepted, an entry is added to the history, and the caller's
 //! front sees all of it; if it was refused, the front sees what there is.
 
-ghost use Rattle.std.specs.Prelude.{◌≡◌, ◌↔◌, ◌+◌, ◌++◌, ◌∷◌, IsTrue, OnOk, OnErr, IfOk, None, [], length, map};
+ghost use Rattle.std.specs.Prelude.{◌≡◌, ◌↔◌, ◌+◌, ◌++◌, ◌∷◌, IsTrue, OnOk, None, [], length, map};
 ghost use Rattle.std.specs.List.{All};
 ghost use mathlib.Core.List.{IsPrefix};
 ghost use Rattle.am_history.specs.Fronts.{made_at};
-ghost use Rattle.am_provider.specs.Callers.{AnswersPostIf, KnowsAllSent, SeesCall, SeesWhole};
-ghost use Rattle.am_provider.specs.Headline.{AnswersPost, AnswersSubscribe, AnswersLeave, AnswersCollect};
-ghost use Rattle.am_provider.specs.Headline.{AnswersClose, AnswersTrim, AnswersStored, AnswersGet, AnswersTake};
-ghost use Rattle.am_provider.specs.Headline.{AnswersCompact, AnswersPage, AnswersVouch};
+ghost use Rattle.am_provider.specs.Callers.{KnowsAllSent, SeesCall, SeesWhole};
+ghost use Rattle.am_provider.specs.Headline.{AnswersSubscribe, AnswersLeave, AnswersCollect};
+ghost use Rattle.am_provider.specs.Headline.{AnswersClose, AnswersTrim, AnswersStored, AnswersGet};
+ghost use Rattle.am_provider.specs.Headline.{AnswersTake, AnswersCompact, AnswersPage, AnswersVouch};
 ghost use Rattle.am_provider.specs.Histories.{Accepted};
-ghost use Rattle.am_provider.specs.Posts.{AddsOwn};
 ghost use Rattle.am_provider.specs.Rising.{IsRising};
 ghost use Rattle.am_provider.specs.Ending.{IsSettledFrom};
 
-use crate::answers::{Ended, Page, Posted, PostedIf};
+mod post;
+
+use crate::answers::{Ended, Page};
 use crate::book::Book;
 use crate::caller::{Caller, gather};
 use crate::entry::Entry;
-use crate::faults::{PutFault, SubFault};
+use crate::faults::SubFault;
 use crate::feed::{Cast, Recorded};
 use crate::settled::Settled;
 use crate::subscription::Subscription;
-use am_alert::{Alert, Moment, Post};
+use am_alert::Moment;
 use am_cast::AlreadyClosed;
 use am_history::{Front, History, HistoryTable};
 use am_labels::LabelSet;
@@ -59,73 +61,6 @@ impl<N: Recorded> Model for RecordedBook<N> {
 }
 
 impl<N: Recorded> RecordedBook<N> {
-    /// A post of alerts that were read.
-    pub(crate) fn post(
-        &mut self,
-        cast: &Cast<N>,
-        table: &HistoryTable<Entry, N>,
-        caller: &mut Caller<N>,
-        post: Post,
-        now: Moment,
-    ) -> Result<Posted, PutFault>
-        ensures sees { SeesCall caller.old.front caller.new.front
-            (AnswersPost N.policy N.places now post result) }
-        ensures seen { IfOk result (λ posted. caller.new.front.seen
-            ≡ self.old.entries ++ Accepted (Call.Posted now post.valid) posted.cut None ∷ []) }
-        ensures unseen { OnErr result (caller.new.front.seen ≡ self.old.entries) }
-        ensures own { IfOk result (λ posted.
-            AddsOwn caller.old.pass now post.valid posted.place caller.new.pass) }
-        ensures err { OnErr result (caller.new.pass ≡ caller.old.pass) }
-    {
-        self.book.kept();
-        let posted = match self.book.post(cast, &mut caller.pass, post, now) {
-            Ok(posted) => posted,
-            Err(fault) => {
-                self.history.show(table, &mut caller.front);
-                return Err(fault);
-            }
-        };
-        self.book.kept();
-        record(
-            &mut self.history,
-            table,
-            self.book.last_call(),
-            posted.cut,
-            None,
-            caller,
-        );
-        Ok(posted)
-    }
-
-    /// A post of those alerts that a filter accepts.
-    pub(crate) fn post_if<F: FnMut(&Alert, bool) -> bool>(
-        &mut self,
-        cast: &Cast<N>,
-        table: &HistoryTable<Entry, N>,
-        caller: &mut Caller<N>,
-        post: Post,
-        now: Moment,
-        accepts: &mut F,
-    ) -> Result<PostedIf, PutFault>
-        requires { F.IsAlwaysCallable accepts.old }
-        ensures answers { AnswersPostIf F.FnMut accepts.old accepts.new N.policy N.places now post
-            caller.old.pass caller.new.pass caller.old.front caller.new.front result }
-        ensures callable { F.IsAlwaysCallable accepts.new }
-    {
-        self.book.kept();
-        let (accepted, refused) = match self.book.judge(post, now, accepts) {
-            Ok(judged) => judged,
-            Err(fault) => {
-                self.history.show(table, &mut caller.front);
-                return Err(fault);
-            }
-        };
-        match self.post(cast, table, caller, accepted, now) {
-            Ok(posted) => Ok(PostedIf { posted, refused }),
-            Err(fault) => Err(fault),
-        }
-    }
-
     /// A new subscription.
     pub(crate) fn subscribe<'a>(
         &mut self,

@@ -2,7 +2,7 @@ use Rattle.std.proofs.Common.{◌≡◌, ◌∙◌, ℕ, true, false, nat_eq, So
 use Rattle.std.proofs.lemmas.Bool.Decides.{eqb_tells}
 use Rattle.am_provider.specs.Settling.{IsOwn, own_in, parts_in}
 use Rattle.am_provider.proofs.Settling.{all_places}
-use Rattle.am_provider.proofs.book.audit.Goals as goal
+use Rattle.am_provider.proofs.book.settle.audit.Goals as goal
 
 same_number : (m n : ℕ) → nat_eq m n ≡ true → m ≡ n
 same_number m n same = elim (eqb_tells m n) [ inl e ↦ e.1 | inr e ↦ absurd (let no : true ≡ false = sym same ∙ e.0 in cc) ]

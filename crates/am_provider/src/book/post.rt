@@ -1,0 +1,224 @@
+//! Posting, to all lanes as one batch.
+
+ghost use Rattle.std.specs.Prelude.{◌≡◌, ◌↔◌, ◌≤◌, ◌<◌, IsTrue, IfOk, IfErr, OnOk, OnErr, IsErrOf, None, Some, false, [], length, nat_eq, if◌then◌else◌};
+ghost use mathlib.Core.List.{IsPrefix};
+ghost use Rattle.am_alert.specs.declared.post.TheConstants.{MAX_ALERTS};
+ghost use Rattle.am_cast.specs.Rule.{cut};
+ghost use Rattle.am_store.specs.Journal.{with_call, call_count, is_closed};
+ghost use Rattle.am_store.specs.Judging.{AreJudged};
+ghost use Rattle.am_provider.specs.BookView.{batches};
+ghost use Rattle.am_provider.specs.Posts.{AddsOwn, IsCutBy, IsCutTo, PutsIf, IsPutCause, IsPutIfCause};
+ghost use Rattle.am_provider.specs.Posts.{IsAsBefore, Loads, WasAskedBefore, HasSameLimits};
+
+use crate::answers::{Policy, Posted, PostedIf};
+use crate::book::{Book, ENTRIES};
+use crate::faults::PutFault;
+use crate::feed::{Cast, Origin};
+use crate::pass::Pass;
+use crate::sending::send_batch;
+use am_alert::{Alert, Alerts, Moment, Post};
+use am_cast::{LONGEST_LOG, Published};
+use am_store::store::absorb::{Absorbed, absorb_each, take_back};
+use am_store::store::judge::{Judged, judge_each};
+use am_store::{Call, LaneSet};
+use std::alloc::AllocError;
+
+impl<N: Origin> Book<N> {
+    /// Stores the valid alerts of a post, each into what those before it left, and sends out what
+    /// they became as one batch, which the pass then owns. A post with no valid alert is accepted and
+    /// sends nothing out.
+    pub fn post(
+        &mut self,
+        cast: &Cast<N>,
+        pass: &mut Pass<N>,
+        post: Post,
+        now: Moment,
+    ) -> Result<Posted, PutFault>
+        ensures journal { OnOk result
+            (self.new.journal ≡ with_call self.old.journal (Call.Posted now post.valid)) }
+        ensures last { OnOk result (self.new.gone < call_count self.new.journal) }
+        ensures valid { IfOk result (λ posted. posted.valid ≡ length post.valid) }
+        ensures faults { IfOk result (λ posted. posted.faults ≡ post.faults) }
+        ensures place { IfOk result (λ posted. posted.place
+            ≡ (if nat_eq (length post.valid) 0 then None else Some (length (batches self.old)))) }
+        ensures own { IfOk result (λ posted.
+            AddsOwn pass.old now post.valid posted.place pass.new) }
+
+        ensures log { IsPrefix (batches self.old) (batches self.new) }
+        ensures cut { IfOk result (λ posted. IsCutBy self.old self.new posted.cut) }
+        ensures loads { 0 < length post.valid → is_closed self.old.journal ≡ false
+            → Loads self.old.log self.new.log }
+        ensures endings { (self.new.endings ≡ self.old.endings) × (self.new.early ≡ self.old.early) }
+        ensures gone { self.new.gone ≡ self.old.gone }
+        ensures limits { HasSameLimits self.old self.new }
+
+        ensures closed { IsErrOf result PutFault.Closed ↔ IsTrue (is_closed self.old.journal) }
+        ensures refused { IfErr result (IsPutCause self.old self.new (length post.valid)) }
+        ensures err { OnErr result (IsAsBefore self.old self.new × (pass.new ≡ pass.old)) }
+    {
+        if self.log.is_closed() {
+            return Err(PutFault::Closed);
+        }
+        let Post { valid, faults } = post;
+        if valid.as_slice().is_empty() {
+            self.post_nothing(valid, now)?;
+            return Ok(Posted {
+                valid: 0,
+                place: None,
+                cut: LaneSet::EMPTY,
+                faults,
+            });
+        }
+        let valid_count = valid.as_slice().len() as u32;
+        let Published { place, cut } = self.post_some(cast, pass, valid, now)?;
+        Ok(Posted {
+            valid: valid_count,
+            place: Some(place),
+            cut: LaneSet::from_flags(&cut),
+            faults,
+        })
+    }
+
+    /// Posts those valid alerts that a filter accepts (what `provider/mem`'s Put does by its callback's
+    /// PreStore). The filter is shown each alert as it would be stored, over what those before it that it
+    /// accepted left, and told whether no alert of its label set is stored. One that it refuses is as if it
+    /// hadn't been posted. The filter is asked once the log is known to be open.
+    pub fn post_if<F: FnMut(&Alert, bool) -> bool>(
+        &mut self,
+        cast: &Cast<N>,
+        pass: &mut Pass<N>,
+        post: Post,
+        now: Moment,
+        accepts: &mut F,
+    ) -> Result<PostedIf, PutFault>
+        requires { F.IsAlwaysCallable accepts.old }
+        ensures posted { IfOk result
+            (PutsIf F.FnMut accepts.old accepts.new self.old self.new pass.old pass.new now post) }
+        ensures log { IsPrefix (batches self.old) (batches self.new) }
+        ensures endings { (self.new.endings ≡ self.old.endings) × (self.new.early ≡ self.old.early) }
+        ensures gone { self.new.gone ≡ self.old.gone }
+        ensures limits { HasSameLimits self.old self.new }
+
+        ensures closed { IsErrOf result PutFault.Closed ↔ IsTrue (is_closed self.old.journal) }
+        ensures refused { IfErr result
+            (IsPutIfCause F.FnMut accepts.old accepts.new self.old self.new now post) }
+        ensures callable { F.IsAlwaysCallable accepts.new }
+        ensures err { OnErr result (IsAsBefore self.old self.new × (pass.new ≡ pass.old)) }
+    {
+        let (accepted, refused) = self.judge(post, now, accepts)?;
+        match self.post(cast, pass, accepted, now) {
+            Ok(posted) => Ok(PostedIf { posted, refused }),
+            Err(fault) => Err(fault),
+        }
+    }
+
+    // What a filter accepts of a post, and the indices of what it refuses.
+    pub(crate) fn judge<F: FnMut(&Alert, bool) -> bool>(
+        &mut self,
+        post: Post,
+        now: Moment,
+        accepts: &mut F,
+    ) -> Result<(Post, Vec<u32>), PutFault>
+        requires { F.IsAlwaysCallable accepts.old }
+        ensures judged { IfOk result (λ done. AreJudged F.FnMut now accepts.new accepts.old 0
+            self.old.stored post.valid done.0.valid done.1.items) }
+        ensures asked { IfErr result
+            (WasAskedBefore F.FnMut accepts.old accepts.new now self.old.stored post.valid) }
+        ensures callable { F.IsAlwaysCallable accepts.new }
+        ensures faults { IfOk result (λ done. done.0.faults ≡ post.faults) }
+        ensures same { self.new ≡ self.old }
+        ensures open { OnOk result (is_closed self.old.journal ≡ false) }
+        ensures refused { IfErr result (IsPutCause self.old self.old 0) }
+    {
+        if self.log.is_closed() {
+            return Err(PutFault::Closed);
+        }
+        let Post { valid, faults } = post;
+        let Judged { accepted, refused } = judge_each(&mut self.stored, valid, now, accepts)?;
+        let accepted = Post {
+            valid: accepted,
+            faults,
+        };
+        Ok((accepted, refused))
+    }
+
+    // Takes a post with no valid alert.
+    fn post_nothing(&mut self, none: Alerts, now: Moment) -> Result<(), AllocError>
+        requires open { is_closed self.old.journal ≡ false }
+        requires none { none ≡ [] }
+        ensures journal { OnOk result
+            (self.new.journal ≡ with_call self.old.journal (Call.Posted now [])) }
+        ensures last { OnOk result (self.new.gone < call_count self.new.journal) }
+        ensures log { self.new.log ≡ self.old.log }
+        ensures endings { (self.new.endings ≡ self.old.endings) × (self.new.early ≡ self.old.early)
+            × (self.new.policy ≡ self.old.policy) }
+        ensures gone { self.new.gone ≡ self.old.gone }
+        ensures err { OnErr result (self.new ≡ self.old) }
+    {
+        self.journal.reserve(ENTRIES)?;
+        self.journal.push(Call::Posted { now, alerts: none });
+        self.posts += 1;
+        Ok(())
+    }
+
+    // Takes a post with valid alerts: room first, then the store, then the log; the store is taken back
+    // if the log refuses.
+    fn post_some(
+        &mut self,
+        cast: &Cast<N>,
+        pass: &mut Pass<N>,
+        valid: Alerts,
+        now: Moment,
+    ) -> Result<Published, PutFault>
+        requires open { is_closed self.old.journal ≡ false }
+        requires some { 0 < length valid }
+        requires few { length valid ≤ MAX_ALERTS }
+        ensures journal { OnOk result
+            (self.new.journal ≡ with_call self.old.journal (Call.Posted now valid)) }
+        ensures last { OnOk result (self.new.gone < call_count self.new.journal) }
+        ensures own { IfOk result (λ sent. (sent.place ≡ length (batches self.old))
+            × AddsOwn pass.old now valid (Some sent.place) pass.new) }
+        ensures log { IsPrefix (batches self.old) (batches self.new) }
+        ensures cut { IfOk result (λ sent. IsCutTo self.old self.new sent.cut) }
+        ensures loads { Loads self.old.log self.new.log }
+        ensures endings { (self.new.endings ≡ self.old.endings) × (self.new.early ≡ self.old.early) }
+        ensures gone { self.new.gone ≡ self.old.gone }
+        ensures limits { HasSameLimits self.old self.new }
+
+        ensures refused { IfErr result (IsPutCause self.old self.new (length valid)) }
+        ensures err { OnErr result (IsAsBefore self.old self.new × (pass.new ≡ pass.old)) }
+    {
+        let full = self.log.harvest(cast);
+        if self.log.len() >= LONGEST_LOG {
+            return Err(PutFault::LogEnd);
+        }
+        if let (Policy::Refuse, Some((lane, passed))) = (self.policy, full) {
+            return Err(PutFault::Full {
+                lane: lane as u32,
+                passed,
+            });
+        }
+        self.journal.reserve(ENTRIES)?;
+        let Absorbed { batch, undo } = absorb_each(&mut self.stored, valid.as_slice(), now)?;
+        let call = Call::Posted { now, alerts: valid };
+        match send_batch(
+            &mut self.log,
+            cast,
+            self.policy,
+            batch,
+            &call,
+            &mut pass.pass,
+        ) {
+            Ok(sent) => {
+                self.tally.add(&mut pass.share, 1);
+                self.journal.push(call);
+                self.posts += 1;
+                Ok(sent)
+            }
+            Err(fault) => {
+                take_back(&mut self.stored, undo);
+                Err(fault)
+            }
+        }
+    }
+}
