@@ -296,7 +296,7 @@ impl<N: Origin> Book<N> {
         share_all(&self.stored)
     }
 
-    /// What is stored, in order, from an index on, and at most so many alerts of it. It is no call of the
+    /// What is stored, in order, from an index on, and at most `most` alerts of it. It is no call of the
     /// journal and takes no lane.
     pub fn stored_page(&self, from: u64, most: u64) -> Result<Page, AllocError>
         ensures alerts { IfOk result (λ page. page.alerts ≡ take most (drop from self.now.stored)) }
@@ -321,7 +321,7 @@ impl<N: Origin> Book<N> {
         share_of(&self.stored, labels)
     }
 
-    /// What is stored, what was sent out and what its subscriptions came to are what its journal
+    /// What is stored, what was sent out and how its subscriptions ended are what its journal
     /// gives, whatever was called before. It does nothing.
     pub fn kept(&self)
         ensures { IsFaithful self.now }
@@ -339,7 +339,7 @@ impl<N: Origin> Book<N> {
     }
 
     /// How many places, posts and stored alerts there are. Whatever Book it is asked of, what is
-    /// stored, what was sent out and what its subscriptions came to are what its journal gives.
+    /// stored, what was sent out and how its subscriptions ended are what its journal gives.
     pub fn counts(&self) -> Counts
         ensures kept { IsFaithful self.now }
         ensures places { result.places ≡ length (batches self.now) }

@@ -81,7 +81,7 @@ impl<N: Origin> Book<N> {
 
     /// Posts those valid alerts that a filter accepts (what `provider/mem`'s Put does by its callback's
     /// PreStore). The filter is shown each alert as it would be stored, over what those before it that it
-    /// accepted left, and told whether no alert of its label set is stored. One that it refuses is as if it
+    /// accepted left, and whether no alert of its label set is stored. One that it refuses is as if it
     /// hadn't been posted. The filter is asked once the log is known to be open.
     pub fn post_if<F: FnMut(&Alert, bool) -> bool>(
         &mut self,

@@ -49,7 +49,7 @@ impl<N: Origin> Book<N> {
         self.end_joined(cast, joined, given)
     }
 
-    /// The same with so many passes, joined.
+    /// The same with passes that were joined.
     pub(crate) fn settle_joined<R: Wait>(
         self,
         rt: &R,

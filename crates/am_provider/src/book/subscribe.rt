@@ -68,7 +68,7 @@ impl<N: Origin> Book<N> {
         Ok(Subscription::begin(at, opening, cursor))
     }
 
-    /// Takes a subscription back, and answers what it came to.
+    /// Takes a subscription back, and answers its ending.
     pub fn leave(&mut self, cast: &Cast<N>, subscription: Subscription<'_, N>) -> Ended
         ensures journal { self.new.journal
             ≡ with_call self.old.journal (Call.Left subscription.entry.cursor.lane.number) }
