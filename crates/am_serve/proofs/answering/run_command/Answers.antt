@@ -44,10 +44,10 @@ returns-in-Ok-write_given-clause-obeys g c =
     so.2 ∙ (ap (λ (answers : List Answer). known_after old.follows command answers room) c.deref-in-Ok-write_given.ensures.value
     ∙ ap (λ (k : Known). known_after old.follows command given k) c.make_room.ensures) in
     let kept = kept_printed c.args.form c.args.number (places_after old.follows command given old.known) in
-    let whole : string_bytes text ≡ shown.0 ++ (kept ++ so.0) =
-    so.1 ∙ (ap (λ (before : List ℕ). before ++ (kept_printed c.args.form c.args.number (places_after old.follows command c.deref-in-Ok-write_given.result.now room) ++ so.0)) printed
-    ∙ (ap (λ (answers : List Answer). shown.0 ++ (kept_printed c.args.form c.args.number (places_after old.follows command answers room) ++ so.0)) c.deref-in-Ok-write_given.ensures.value
-    ∙ ap (λ (k : Known). shown.0 ++ (kept_printed c.args.form c.args.number (places_after old.follows command given k) ++ so.0)) c.make_room.ensures)) in
+    let whole : string_bytes text ≡ (shown.0 ++ kept) ++ so.0 =
+    so.1 ∙ (ap (λ (before : List ℕ). (before ++ kept_printed c.args.form c.args.number (places_after old.follows command c.deref-in-Ok-write_given.result.now room)) ++ so.0) printed
+    ∙ (ap (λ (answers : List Answer). (shown.0 ++ kept_printed c.args.form c.args.number (places_after old.follows command answers room)) ++ so.0) c.deref-in-Ok-write_given.ensures.value
+    ∙ ap (λ (k : Known). (shown.0 ++ kept_printed c.args.form c.args.number (places_after old.follows command given k)) ++ so.0) c.make_room.ensures)) in
     let on : ReadOn c.args.context.now.config setting c.args.form c.args.number (known_after old.follows command given old.known) c.run-2.new.self (stands_after old.follows command given old.reads) so.0 new.reads new.session =
     subst (λ (k : Known). ReadOn c.args.context.now.config setting c.args.form c.args.number k c.run-2.new.self (stands_after old.follows command given old.reads) so.0 new.reads new.session) known
     (subst (λ context. ReadOn context.config (setting_of g.N.Recorded.places g.N.Recorded.policy context.provider.now.resolve_timeout) c.args.form c.args.number new.known c.run-2.new.self (stands_after old.follows command given old.reads) so.0 new.reads new.session) c.in-Ok-run.ensures.same
@@ -58,7 +58,7 @@ returns-in-Ok-write_given-clause-obeys g c =
     ∙ ap (λ (k : Known). record { session = new.session; follows = new.follows; reads = new.reads; known = k }) (sym known) in
     subst (λ (run : RunView). Obeys c.args.context.now.config setting c.args.form c.args.number command run (string_bytes text) new) c.run.view_is
     (subst (λ (all : List ℕ). Obeys c.args.context.now.config setting c.args.form c.args.number command old all new) (sym whole)
-    (subst (λ (end : RunView). Obeys c.args.context.now.config setting c.args.form c.args.number command old (shown.0 ++ (kept ++ so.0)) end) end_is (ran free timely c.in-Ok-run.ensures.does are on)))) c.with_what_came.ensures.read
+    (subst (λ (end : RunView). Obeys c.args.context.now.config setting c.args.form c.args.number command old ((shown.0 ++ kept) ++ so.0) end) end_is (ran free timely c.in-Ok-run.ensures.does are on)))) c.with_what_came.ensures.read
 
 pub returns-in-Err-write_given-clause-obeys : goal.returns-in-Err-write_given-clause-obeys
 returns-in-Err-write_given-clause-obeys g c =
