@@ -72,8 +72,12 @@ pub data Obeys (config : Config) (setting : Setting) (form : Form) (number : ℕ
       (stands_after old.follows command given old.reads) came reads new
       → Obeys config setting form number command old (printed
       ++ kept_printed form number (places_after old.follows command given old.known) ++ came)
-      (record { session = new; follows = old.follows; reads = reads;
-      known = known_after old.follows command given old.known })
+      (record {
+        session = new;
+        follows = old.follows;
+        reads = reads;
+        known = known_after old.follows command given old.known;
+      })
   unanswered : {new : SessionView} → IsUnanswered config setting old.session command new
       → Obeys config setting form number command old (no_memory_text form number)
       (record old { session = new })

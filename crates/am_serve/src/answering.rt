@@ -19,9 +19,7 @@ use crate::reading::InputLine;
 use crate::showing::{write_given, write_kept};
 use crate::standing::{note, read_on};
 use am_provider::{Gate, Recorded};
-use am_runner::{
-    Answer, Context, Form, Session, is_question, loses_nothing, write_count,
-};
+use am_runner::{Answer, Context, Form, Session, is_question, loses_nothing, write_count};
 use am_script::{Command, Fault, GivenMoment, JsonLine, LONGEST_LINE, LineFault, LineReader};
 use std::alloc::{AllocError, Global};
 use std::sync::Wait;

@@ -12,7 +12,7 @@ loop-index-preserved c =
       | then-before-gt0 w ↦
           let passed = kept_passed c.args.number index c.loop-index.before places c.loop-index-test.true w.if-before-gt0.true in
           rw w.text-is (rw w.before-is (ap (λ l. string_bytes c.loop-index.text ++ l) (sym passed) ∙ c.loop-index.invariant))
-      | else-before-gt0+in_ok-before w ↦ 
+      | else-before-gt0+in_ok-before w ↦
           let none : c.loop-index.before ≡ 0 = omega (arith, w.if-before-gt0.false) in
           rw w.text-is (rw w.before-is (w.in_ok-before.ensures ∙ ap (λ n. string_bytes c.loop-index.text ++ kept_text c.args.number index n (drop index places)) (sym none) ∙ c.loop-index.invariant))
     ]
