@@ -70,7 +70,7 @@ def fault_of(line):
         return "docs/answers.schema.json allows a member that isn't named"
     # Without `do` the refusal of a call is that of a line, and without `sub` what came by itself is an answer of the line.
     fewer = [less for less in without_each(value) if value.get("answer") != "refused" or "do" in less and "fault" in less]
-    fewer = [less for less in fewer if ("sub" in less) == ("sub" in value) or value["answer"] == "as_put"]
+    fewer = [less for less in fewer if ("sub" in less) == ("sub" in value)]
     if any(fits(SCHEMA, less) for less in fewer):
         return "docs/answers.schema.json doesn't ask for each member"
     return None

@@ -1,3 +1,4 @@
 pub mod Lines
 pub mod OneByOne
 pub mod Same
+pub mod Runs

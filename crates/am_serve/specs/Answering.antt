@@ -14,7 +14,6 @@ use Rattle.am_script.specs.declared.limits.TheConstants.{LONGEST_LINE}
 use Rattle.am_script.specs.declared.script.Fault.{Fault}
 use Rattle.am_script.specs.declared.script.Fault.TheVariants.{BadLine, BadName, TooLarge}
 use Rattle.am_script.specs.JsonLines.{about_line, object_line, worded}
-use Rattle.am_runner.specs.Forms.{answers_printed}
 use Rattle.am_runner.specs.PrintingJson.{count_members}
 use Rattle.am_runner.specs.declared.form.Form.{Form}
 use Rattle.am_runner.specs.declared.form.Form.TheVariants.{Text, Json}
@@ -22,7 +21,9 @@ use Rattle.am_runner.specs.Reading.{OpenView}
 use Rattle.am_runner.specs.Sessions.{Setting, SessionView, Does, has_notifier, index_named}
 use Rattle.am_runner.specs.Unanswered.{IsUnanswered}
 use Rattle.am_runner.specs.declared.answer.Answer.{Answer}
-use Rattle.am_serve.specs.Standing.{ReadOn, RunView, alerts_put, stands_after}
+use Rattle.am_serve.specs.Known.{known_after, places_after}
+use Rattle.am_serve.specs.Showing.{AnswersArePrinted, kept_printed}
+use Rattle.am_serve.specs.Standing.{ReadOn, RunView, stands_after}
 use Rattle.am_serve.specs.declared.standing.StandingRead.{StandingRead}
 
 -- a line is refused, for what has this text
@@ -54,22 +55,29 @@ has_moment_if_needed (Groups name Unread) opened = not (has_notifier name opened
 has_moment_if_needed _ opened = true
 
 -- what a command of the line of this number prints, and what it does to a run: nothing, if it subscribes a
--- name that is open or its moment isn't one; else what it answers and what then comes for the reads that go
--- on, or that there was no memory for its answer, if it only asks or wasn't done
+-- name that is open or its moment isn't one; else what it answers, where the alerts went that it put, and what
+-- then comes for the reads that go on; or that there was no memory for its answer, if it only asks or wasn't done
 pub data Obeys (config : Config) (setting : Setting) (form : Form) (number : ℕ) (command : Command)
     (old : RunView) : List ℕ → RunView → Type 0 where
   bad_name : has_free_name command old.session.opened ≡ false
       → Obeys config setting form number command old (refused_text form number BadName) old
   bad_moment : has_moment_if_needed command old.session.opened ≡ false
       → Obeys config setting form number command old (refused_text form number BadLine) old
-  ran : {given : List Answer} {mid new : SessionView} {came : List ℕ} {reads : List StandingRead}
+  ran : {given : List Answer} {mid new : SessionView} {printed came : List ℕ} {reads : List StandingRead}
       → has_free_name command old.session.opened ≡ true
       → has_moment_if_needed command old.session.opened ≡ true
       → Does config setting old.session command given mid
-      → ReadOn config setting form number (alerts_put command) mid
+      → AnswersArePrinted number old.known given old.follows form printed
+      → ReadOn config setting form number (known_after old.follows command given old.known) mid
       (stands_after old.follows command given old.reads) came reads new
-      → Obeys config setting form number command old (answers_printed form number given ++ came)
-      (record old { session = new; reads = reads })
+      → Obeys config setting form number command old (printed
+      ++ kept_printed form number (places_after old.follows command given old.known) ++ came)
+      (record {
+        session = new;
+        follows = old.follows;
+        reads = reads;
+        known = known_after old.follows command given old.known;
+      })
   unanswered : {new : SessionView} → IsUnanswered config setting old.session command new
       → Obeys config setting form number command old (no_memory_text form number)
       (record old { session = new })

@@ -9,15 +9,17 @@ ghost use Rattle.am_runner.specs.Sessions.{setting_of};
 ghost use Rattle.am_serve.specs.Answering.{Answers, Obeys, has_free_name, has_moment_if_needed};
 ghost use Rattle.am_serve.specs.Answering.{no_memory_text, refusal_members, refused_for, refused_text};
 ghost use Rattle.am_serve.specs.Reading.{IsInputOf};
-ghost use Rattle.am_serve.specs.Standing.{ReadOn, alerts_put, stands_after};
+ghost use Rattle.am_serve.specs.Known.{known_after, places_after};
+ghost use Rattle.am_serve.specs.Showing.{kept_printed};
+ghost use Rattle.am_serve.specs.Standing.{ReadOn, stands_after};
 
+use crate::known::{make_room, note_known};
 use crate::live_run::LiveRun;
 use crate::reading::InputLine;
-use crate::standing::{alerts_put, note, read_on};
+use crate::showing::{write_given, write_kept};
+use crate::standing::{note, read_on};
 use am_provider::{Gate, Recorded};
-use am_runner::{
-    Answer, Context, Form, Session, is_question, loses_nothing, write_answers, write_count,
-};
+use am_runner::{Answer, Context, Form, Session, is_question, loses_nothing, write_count};
 use am_script::{Command, Fault, GivenMoment, JsonLine, LONGEST_LINE, LineFault, LineReader};
 use std::alloc::{AllocError, Global};
 use std::sync::Wait;
@@ -118,8 +120,11 @@ fn run_command<'p, 'c, N: Recorded, R: Wait, G: Gate>(
     let Ok(mut text) = String::with_capacity(alloc, SHORT) else {
         return no_memory(alloc, form, number);
     };
+    if make_room(&mut run.known, run.follows, command).is_err() {
+        return no_memory(alloc, form, number);
+    }
     match run.session.run(context, command) {
-        Ok(given) => match write_answers(&mut text, form, number, &given) {
+        Ok(given) => match write_given(&mut text, form, number, run.follows, &run.known, &given) {
             Ok(()) => with_what_came(context, run, form, number, command, &given, text),
             Err(_) if is_question(command) => no_memory(alloc, form, number),
             Err(error) => Err(error),
@@ -129,7 +134,8 @@ fn run_command<'p, 'c, N: Recorded, R: Wait, G: Gate>(
     }
 }
 
-// What is printed of a command's answers, followed by what then came for the reads that go on.
+// What is printed of a command's answers, followed by where its alerts went, and by what then came for the reads that
+// go on.
 fn with_what_came<'p, 'c, N: Recorded, R: Wait, G: Gate>(
     context: &mut Context<'p, 'c, N, R, G>,
     run: &mut LiveRun<'p, 'c, N>,
@@ -139,20 +145,24 @@ fn with_what_came<'p, 'c, N: Recorded, R: Wait, G: Gate>(
     given: &[Answer],
     mut text: String,
 ) -> Result<String, AllocError>
-    ensures read { IfOk result (λ whole. (came : List ℕ) × (string_bytes whole ≡ string_bytes text ++ came)
+    ensures read { IfOk result (λ whole. (came : List ℕ) × (string_bytes whole ≡ string_bytes text
+        ++ kept_printed form number (places_after run.old.follows command.now given.now run.old.known) ++ came)
+        × (run.new.known ≡ known_after run.old.follows command.now given.now run.old.known)
         × ReadOn context.old.config (setting_of N.places N.policy context.old.provider.now.resolve_timeout)
-        form number (alerts_put command.now) run.old.session
+        form number run.new.known run.old.session
         (stands_after run.old.follows command.now given.now run.old.reads) came run.new.reads run.new.session) }
     ensures same { (context.new ≡ context.old) × (run.new.follows ≡ run.old.follows) }
 {
     note(&mut run.reads, run.follows, command, given)?;
+    let places = note_known(context.alloc, &mut run.known, run.follows, command, given)?;
+    write_kept(&mut text, form, number, &places)?;
     read_on(
         context,
         &mut run.session,
         &mut run.reads,
         form,
         number,
-        alerts_put(command),
+        &run.known,
         &mut text,
     )?;
     Ok(text)

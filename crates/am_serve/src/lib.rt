@@ -19,10 +19,11 @@
 #![tactic(auto)]
 
 mod answering;
-mod came;
+mod known;
 mod live_run;
 mod reading;
 mod serving;
+mod showing;
 mod standing;
 
 pub use answering::answer_line;

@@ -1,28 +1,33 @@
-//! What a run of lines has: its session, and the reads that go on.
+//! What a run of lines has: its session, the reads that go on, and the alerts that it knows.
 
 ghost use Rattle.std.specs.Prelude.{◌≡◌, []};
 ghost use Rattle.am_runner.specs.Compacting.{CompactsIfDue};
 ghost use Rattle.am_config.specs.declared.config.Config.{Config};
 ghost use Rattle.am_runner.specs.Sessions.{Setting};
 
+use crate::known::KnownAlerts;
 use crate::standing::StandingRead;
 use am_provider::Recorded;
 use am_runner::{Context, Session};
+use indexmap::IndexMap;
 use std::alloc::Global;
 use std::marker::Model;
 use std::sync::Wait;
 
 /// A session whose lines are answered one after another. In a run that follows, a read that finds nothing more goes
-/// on: what comes for its subscription is printed after the lines that follow, up to the read's `max`.
+/// on: what comes for its subscription is printed after the lines that follow, up to the read's `max`. As JSON an
+/// alert that is as a put gave it is shown by its place among those.
 pub struct LiveRun<'p, 'c, N: Recorded> {
     pub(crate) session: Session<'p, 'c, N>,
     pub(crate) follows: bool,
     pub(crate) reads: Vec<StandingRead>,
+    pub(crate) known: KnownAlerts,
 }
 
 impl<'p, 'c, N: Recorded> Model for LiveRun<'p, 'c, N> {
     ghost use Rattle.std.specs.Coded.{codes};
     ghost use Rattle.am_alert.specs.Alerts.{coded_alert};
+    ghost use Rattle.am_labels.specs.LabelSets.{coded_labels};
     ghost use Rattle.am_store.specs.contracts.call.Call as call;
     ghost use Rattle.am_store.specs.contracts.lanes.OpenLane as lane;
     ghost use Rattle.am_runner.specs.contracts.consumer.Consumer as beside;
@@ -32,24 +37,26 @@ impl<'p, 'c, N: Recorded> Model for LiveRun<'p, 'c, N> {
 
     ghost Value = { RunView };
 
-    ghost coded = { Prim.hlevel (codes, coded_alert, call.the_row.coded, lane.the_row.coded, (beside.the_row (record { mir = named 0; lft = [] })).coded) };
+    ghost coded = { Prim.hlevel (codes, coded_labels, coded_alert, call.the_row.coded, lane.the_row.coded, (beside.the_row (record { mir = named 0; lft = [] })).coded) };
 
     ghost view = { λ r. record {
       session = r.session;
       follows = r.follows;
       reads = r.reads.items;
+      known = r.known.entries;
     } };
 }
 
 impl<'p, 'c, N: Recorded> LiveRun<'p, 'c, N> {
-    /// A run that begins in a session. No read goes on yet.
+    /// A run that begins in a session. No read goes on yet, and no alert is known.
     pub fn begin(alloc: Global, session: Session<'p, 'c, N>, follows: bool) -> LiveRun<'p, 'c, N>
-        ensures { result ≡ record { session = session.entry; follows = follows; reads = [] } }
+        ensures { result ≡ record { session = session.entry; follows = follows; reads = []; known = [] } }
     {
         LiveRun {
             session,
             follows,
             reads: Vec::new(alloc),
+            known: IndexMap::new(alloc),
         }
     }
 
@@ -70,6 +77,7 @@ impl<'p, 'c, N: Recorded> LiveRun<'p, 'c, N> {
             session,
             follows: _,
             reads: _,
+            known: _,
         } = self;
         session
     }

@@ -11,10 +11,10 @@
 ghost use Rattle.std.specs.Prelude.{◌≡◌, ◌++◌, ◌-◌, ℕ, List, IfOk, OnOk, filter, length, string_bytes};
 ghost use Rattle.am_runner.specs.Answers.{is_item};
 ghost use Rattle.am_runner.specs.Sessions.{Does, setting_of};
-ghost use Rattle.am_serve.specs.Standing.{ReadOn, alerts_put, ends_pending, index_of_read, others, left_to_read, stands_after};
+ghost use Rattle.am_serve.specs.Standing.{ReadOn, ends_pending, index_of_read, others, left_to_read, stands_after};
 
-use crate::came::{is_pending, write_came};
-use am_alert::UnjudgedAlert;
+use crate::known::KnownAlerts;
+use crate::showing::{is_pending, write_came};
 use am_labels::Text;
 use am_provider::{Gate, Recorded};
 use am_runner::{Answer, Context, Form, Session};
@@ -52,26 +52,26 @@ pub(crate) fn note(
     }
 }
 
-/// Reads on all of them, and writes what came after the line of this number, whose put gives these alerts.
+/// Reads on all of them, and writes what came after the line of this number, with these alerts known.
 pub(crate) fn read_on<'p, 'c, N: Recorded, R: Wait, G: Gate>(
     context: &mut Context<'p, 'c, N, R, G>,
     session: &mut Session<'p, 'c, N>,
     reads: &mut Vec<StandingRead>,
     form: Form,
     number: u64,
-    put: &[UnjudgedAlert],
+    known: &KnownAlerts,
     text: &mut String,
 ) -> Result<(), AllocError>
     ensures read { OnOk result ((came : List ℕ) × (string_bytes text.new ≡ string_bytes text.old ++ came)
         × ReadOn context.old.config (setting_of N.places N.policy context.old.provider.now.resolve_timeout)
-        form number put.now session.old reads.old.items came reads.new.items session.new) }
+        form number known.now.entries session.old reads.old.items came reads.new.items session.new) }
     ensures same { context.new ≡ context.old }
 {
     let mut left = Vec::new(context.alloc);
     for at in 0..reads.len() {
         let read = &reads[at];
         let given = read_more(context, session, read)?;
-        write_came(text, form, number, &read.name, put, &given)?;
+        write_came(text, form, number, &read.name, known, &given)?;
         add_rest(&mut left, &read.name, read.left, &given)?;
     }
     *reads = left;
@@ -93,16 +93,6 @@ fn read_more<'p, 'c, N: Recorded, R: Wait, G: Gate>(
         max: read.left,
     };
     session.run(context, &command)
-}
-
-/// The alerts that a put gives.
-pub(crate) fn alerts_put(command: &Command) -> &[UnjudgedAlert]
-    ensures { result.now ≡ alerts_put command.now }
-{
-    match command {
-        Command::Put { at: _, alerts } => alerts.as_slice(),
-        _ => &[],
-    }
 }
 
 fn keep_others(reads: &mut Vec<StandingRead>, name: &Text)

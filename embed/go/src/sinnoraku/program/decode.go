@@ -19,6 +19,7 @@ const (
 	isNone    kind = iota
 	isAnswer       // one answer of a line
 	isClosing      // what follows a line's answers: how many there are
+	isKept         // where alerts of a put went
 	isCame         // what came for a subscription after a line
 	isFirst        // a refusal of the configuration
 	isLast         // the counts at the end
@@ -28,8 +29,13 @@ var (
 	lineHead    = []byte(`{"line":`)
 	answerHead  = []byte(`,"answer":`)
 	closingHead = []byte(`,"answers":`)
+	keptHead    = []byte(`,"answer":"kept","index":`)
 	cameHead    = []byte(`,"sub":"`)
-	asPutHead   = []byte(`","answer":"as_put","index":`)
+	asPutHead   = []byte(`,"answer":"as_put","from":`)
+	fromHead    = []byte(`,"from":`)
+	countHead   = []byte(`,"count":`)
+	takeHead    = []byte(`,"answer":"take",`)
+	collectHead = []byte(`,"answer":"collect",`)
 	endHead     = []byte(`{"answer":"end"`)
 	refusedHead = []byte(`{"answer":"refused"`)
 )
@@ -46,6 +52,8 @@ func headOf(text []byte) (number int, _ kind) {
 	}
 	number, rest := leadingNumber(text[len(lineHead):])
 	switch {
+	case bytes.HasPrefix(rest, keptHead):
+		return number, isKept
 	case bytes.HasPrefix(rest, answerHead):
 		return number, isAnswer
 	case bytes.HasPrefix(rest, closingHead):
@@ -56,18 +64,51 @@ func headOf(text []byte) (number int, _ kind) {
 	return 0, isNone
 }
 
-// cameOf is the subscription that something came for, and if that is an alert as a put gives it, its index there.
-func cameOf(text []byte) (name string, index int, isPut bool) {
+// Places are some that follow one another.
+type places struct{ from, count int }
+
+// are says whether they are places of a table of that length.
+func (p places) are(length int) bool {
+	return 0 <= p.from && p.from <= length && 0 < p.count && p.count <= length-p.from
+}
+
+// placesOf reads which places an object shows alerts by, if it does. What comes before is cut off.
+func placesOf(text []byte) (shown places, isAsPut bool) {
+	if !bytes.HasPrefix(text, asPutHead) {
+		return places{}, false
+	}
+	shown, _ = leadingPlaces(text[len(asPutHead):])
+	return shown, true
+}
+
+// leadingPlaces reads the first of some places, and how many they are.
+func leadingPlaces(text []byte) (read places, isRead bool) {
+	read.from, text = leadingNumber(text)
+	if !bytes.HasPrefix(text, countHead) {
+		return read, false
+	}
+	read.count, _ = leadingNumber(text[len(countHead):])
+	return read, true
+}
+
+// keptOf reads the first alert of a put whose place it is, and the places of it and those that follow.
+func keptOf(text []byte) (index int, kept places) {
+	_, rest := leadingNumber(text[len(lineHead):])
+	index, rest = leadingNumber(rest[len(keptHead):])
+	if bytes.HasPrefix(rest, fromHead) {
+		kept, _ = leadingPlaces(rest[len(fromHead):])
+	}
+	return index, kept
+}
+
+// cameOf is the subscription that something came for, and what that is.
+func cameOf(text []byte) (name string, what []byte) {
 	_, rest := leadingNumber(text[len(lineHead):])
 	rest = rest[len(cameHead):]
 	if end := bytes.IndexByte(rest, '"'); end >= 0 {
-		name, rest = string(rest[:end]), rest[end:]
+		return string(rest[:end]), rest[end+1:]
 	}
-	if !bytes.HasPrefix(rest, asPutHead) {
-		return name, 0, false
-	}
-	index, _ = leadingNumber(rest[len(asPutHead):])
-	return name, index, true
+	return "", nil
 }
 
 // closingCount is how many answers the closing object of a line announces.
@@ -100,18 +141,43 @@ type answer struct {
 	alert    *Alert
 }
 
-// answersOf reads the answers of a call.
+// answersOf reads the answers of a call. An object that shows alerts by their places is an answer for each.
 func answersOf(it *call) ([]answer, error) {
 	found := make([]answer, 0, it.count)
+	known := it.known
 	for rest := it.answers; len(rest) > 0; {
 		end := bytes.IndexByte(rest, '\n') + 1
-		one, err := parseAnswer(rest[:end])
+		line := rest[:end]
+		rest = rest[end:]
+		if shown, isAsPut := placesOf(afterNumber(line)); isAsPut {
+			if shown.count > len(known) {
+				return nil, fmt.Errorf("sinnoraku: an answer can't be read: %.200q", line)
+			}
+			for _, alert := range known[:shown.count] {
+				found = append(found, answer{word: asPut, alert: alert})
+			}
+			known = known[shown.count:]
+			continue
+		}
+		one, err := parseAnswer(line)
 		if err != nil {
 			return nil, err
 		}
-		found, rest = append(found, one), rest[end:]
+		found = append(found, one)
 	}
 	return found, nil
+}
+
+// asPut is the word of an answer whose alert is as a put gave it.
+const asPut = "as_put"
+
+// afterNumber is an object without the number of its line; nothing, if it has none.
+func afterNumber(line []byte) []byte {
+	if !bytes.HasPrefix(line, lineHead) {
+		return nil
+	}
+	_, rest := leadingNumber(line[len(lineHead):])
+	return rest
 }
 
 // parseAnswer reads one object. The texts of its alert share one copy of the line.

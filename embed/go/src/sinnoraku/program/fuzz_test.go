@@ -86,6 +86,10 @@ func FuzzAnyBytesAreReadOrRefused(f *testing.F) {
 		`{"line":99999999999999999999,"answers":99999999999999999999}` + "\n",
 		`{"answer":"refused","do":"config","fault":"E5 NotJson"}` + "\n", `{"answer":"end"` + "\n",
 		`{"line":2,"answer":"alert","alert":{"startsAt":"0000-99-99T99:99:99.` + "\n",
+		`{"line":2,"answers":0}` + "\n" + `{"line":3,"answers":0}` + "\n" + `{"line":3,"answer":"kept","index":0,"from":0,"count":1}` + "\n" +
+			`{"line":3,"sub":"s","answer":"as_put","from":0,"count":1}` + "\n",
+		`{"line":3,"answer":"kept","index":-1,"from":99999999999999999999,"count":99999999999999999999}` + "\n",
+		`{"line":2,"answer":"as_put","from":0,"count":1}` + "\n", `{"line":2,"sub":"` + "\n", `{"line":2,"sub":"s","answer":"as_put","from":` + "\n",
 		`{"line":2,"answer":"\ud800\u12` + "\n", `{"line":2,"answer":[[[` + "\n", "\n", "",
 	} {
 		f.Add([]byte(text))

@@ -197,7 +197,7 @@ func alertsOfAnswers(answers []answer) ([]*Alert, error) {
 	alerts := make([]*Alert, 0, len(answers))
 	for _, it := range answers {
 		switch it.word {
-		case "alert", "item":
+		case "alert", "item", asPut:
 			if it.alert == nil {
 				return nil, fmt.Errorf("sinnoraku: an %s has no alert", it.word)
 			}

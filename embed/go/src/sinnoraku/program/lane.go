@@ -51,13 +51,13 @@ type lane struct {
 	away    int // how many reads that its goroutine has asked for aren't answered yet
 }
 
-// An event is what the program has printed of a lane, in its order: a read's answers, an alert that came by itself, another
+// An event is what the program has printed of a lane, in its order: a read's answers, alerts that came by themselves, another
 // line that came so, or the place in that order where a member joins.
 type event struct {
-	read  *call
-	alert *Alert
-	line  []byte
-	joins *member
+	read   *call
+	alerts []*Alert
+	line   []byte
+	joins  *member
 }
 
 // A member is one who has a lane or shares it.
@@ -186,9 +186,9 @@ func (l *lane) answered(read *call) {
 	l.push(event{read: read})
 }
 
-// came notes what came without being asked for.
-func (l *lane) came(it event) {
-	l.coming.Add(-1)
+// came notes what came without being asked for: so many answers.
+func (l *lane) came(it event, count int) {
+	l.coming.Add(-int64(count))
 	l.push(it)
 }
 
@@ -263,8 +263,8 @@ func (l *lane) askForMore() {
 func (l *lane) dealAll(events []event) error {
 	var together []*Alert
 	for _, it := range events {
-		if it.alert != nil {
-			together = append(together, it.alert)
+		if it.alerts != nil {
+			together = append(together, it.alerts...)
 			continue
 		}
 		l.deal(together)
@@ -274,7 +274,7 @@ func (l *lane) dealAll(events []event) error {
 			poke(it.joins.filled)
 			continue
 		}
-		alerts, err := it.alerts()
+		alerts, err := it.shown()
 		l.deal(alerts)
 		if it.read != nil && l.away > 0 {
 			l.away--
@@ -287,8 +287,8 @@ func (l *lane) dealAll(events []event) error {
 	return nil
 }
 
-// alerts are those that an event shows. If no more come, the error says why.
-func (it *event) alerts() ([]*Alert, error) {
+// shown are the alerts that an event shows. If no more come, the error says why.
+func (it *event) shown() ([]*Alert, error) {
 	if it.read != nil {
 		return alertsIn(it.read)
 	}

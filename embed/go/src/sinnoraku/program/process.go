@@ -36,6 +36,10 @@ type process struct {
 	writing sync.Mutex // held while lines are numbered and written, so that numbers are in the order of the lines
 	last    int        // the number of the last line
 
+	// The alerts that accepted puts gave since the last collection, as the program has them too: it shows one by its place
+	// here. Only the goroutine that reads the answers has them.
+	known []*Alert
+
 	mutex   sync.Mutex // guards what follows
 	waiting map[int]*call
 	err     error // why no more calls are taken
@@ -53,9 +57,10 @@ type request struct {
 // A call is a request that was written, with its answers once they are there.
 type call struct {
 	request
-	puts    int64  // how many puts were written up to it
-	count   int    // how many answers there are
-	answers []byte // one object a line
+	puts    int64    // how many puts were written up to it
+	count   int      // how many answers there are
+	answers []byte   // one object a line
+	known   []*Alert // those that the answers show by their places, in their order
 	err     error
 	done    chan struct{}
 }
@@ -211,12 +216,19 @@ func (p *process) readAnswers(output *bufio.Reader) error {
 		number, kind := headOf(line)
 		switch {
 		case kind == isFirst || kind == isLast:
-			p.note(line)
+			p.noteEnd(line)
 			continue
 		case kind == isNone:
 			return fmt.Errorf("%s printed what is no answer: %.200q", p.path, line)
+		case (kind == isCame || kind == isKept) && number != next-1:
+			return fmt.Errorf("%s printed what doesn't follow its line: %.200q", p.path, line)
 		case kind == isCame:
-			if err := p.came(line, number == next-1, before); err != nil {
+			if err := p.came(line); err != nil {
+				return err
+			}
+			continue
+		case kind == isKept:
+			if err := p.keeps(line, before); err != nil {
 				return err
 			}
 			continue
@@ -227,12 +239,16 @@ func (p *process) readAnswers(output *bufio.Reader) error {
 			return fmt.Errorf("%s answered a line that nobody waits for, or not the next one: %.200q", p.path, line)
 		}
 		if kind == isAnswer {
-			current.count++
-			current.answers = append(current.answers, line...)
+			if err := p.note(current, line); err != nil {
+				return err
+			}
 			continue
 		}
 		if count := closingCount(line); count != current.count {
 			return fmt.Errorf("%s gave line %d %d answers where %d were announced", p.path, next, current.count, count)
+		}
+		if isCollection(current) {
+			p.known = nil
 		}
 		p.answered(next)
 		next, before, current = next+1, current, nil
@@ -268,21 +284,63 @@ func (p *process) answered(number int) {
 	close(answered.done)
 }
 
-// came hands what came for a subscription after a line to its lane.
-func (p *process) came(text []byte, isAfterLast bool, last *call) error {
-	name, index, isPut := cameOf(text)
-	it := event{line: append([]byte(nil), text...)}
-	if isPut && isAfterLast && last != nil && last.put != nil && index < len(last.put.shown) {
-		it = event{alert: last.put.shown[index]}
-	} else if isPut || !isAfterLast {
-		return fmt.Errorf("%s showed an alert that no put has: %.200q", p.path, text)
+// note adds an answer to its call, with the alerts that it shows by their places.
+func (p *process) note(to *call, line []byte) error {
+	to.answers = append(to.answers, line...)
+	shown, isAsPut := placesOf(afterNumber(line))
+	if !isAsPut {
+		to.count++
+		return nil
 	}
-	p.readers.came(name, it)
+	if !shown.are(len(p.known)) {
+		return p.unknown(line)
+	}
+	to.known = append(to.known, p.known[shown.from:shown.from+shown.count]...)
+	to.count += shown.count
 	return nil
 }
 
-// note keeps a refusal of the configuration as why the program ended.
-func (p *process) note(line []byte) {
+// came hands what came for a subscription to its lane.
+func (p *process) came(line []byte) error {
+	name, what := cameOf(line)
+	shown, isAsPut := placesOf(what)
+	if !isAsPut {
+		p.readers.came(name, event{line: append([]byte(nil), line...)}, 1)
+		return nil
+	}
+	if !shown.are(len(p.known)) {
+		return p.unknown(line)
+	}
+	alerts := append([]*Alert(nil), p.known[shown.from:shown.from+shown.count]...)
+	p.readers.came(name, event{alerts: alerts}, shown.count)
+	return nil
+}
+
+// keeps notes where alerts of the last put went. A new label set has the place after the others.
+func (p *process) keeps(line []byte, last *call) error {
+	index, kept := keptOf(line)
+	if last == nil || last.put == nil || !(places{index, kept.count}).are(len(last.put.shown)) ||
+		kept.from < 0 || kept.from > len(p.known) {
+		return p.unknown(line)
+	}
+	shown := last.put.shown[index : index+kept.count]
+	replaced := copy(p.known[kept.from:], shown)
+	p.known = append(p.known, shown[replaced:]...)
+	return nil
+}
+
+func (p *process) unknown(line []byte) error {
+	return fmt.Errorf("%s showed alerts that no put has: %.200q", p.path, line)
+}
+
+// isCollection says whether a call was answered by a collection. Then no alert is known any more.
+func isCollection(answered *call) bool {
+	rest := afterNumber(answered.answers)
+	return bytes.HasPrefix(rest, takeHead) || bytes.HasPrefix(rest, collectHead)
+}
+
+// noteEnd keeps a refusal of the configuration as why the program ended.
+func (p *process) noteEnd(line []byte) {
 	if refused, err := parseAnswer(line); err == nil && refused.word == "refused" {
 		_, _ = fmt.Fprintf(&p.said, "%s refused: %s", refused.do, refused.fault)
 	}

@@ -170,12 +170,17 @@ func TestEachAlertComesBackAsItWas(t *testing.T) {
 		whole.UpdatedAt = now.Add(time.Microsecond).UTC()
 		whole.Timeout = true
 		put(t, a, whole)
-		got, err := a.Get(whole.Fingerprint())
+		shown, err := a.Get(whole.Fingerprint())
 		if err != nil {
 			t.Fatalf("%s: %v", name, err)
 		}
-		if !reflect.DeepEqual(got, whole) {
-			t.Errorf("%s: %#v came back of %#v", name, got, whole)
+		forget(t, a) // so that it is printed
+		printed, err := a.Get(whole.Fingerprint())
+		if err != nil {
+			t.Fatalf("%s: %v", name, err)
+		}
+		if !reflect.DeepEqual(shown, whole) || !reflect.DeepEqual(printed, whole) {
+			t.Errorf("%s: %#v and %#v came back of %#v", name, shown, printed, whole)
 		}
 	}
 }

@@ -93,9 +93,7 @@ func (h *history) put(alerts []*Alert, index int, failed *PutErrors) {
 	if len(lines) == 0 {
 		return
 	}
-	if h.readers.areOpen() {
-		w.show()
-	}
+	w.show()
 	calls := h.sendPuts(lines)
 	// The program works on them meanwhile.
 	for _, it := range w.lines {
@@ -134,7 +132,7 @@ type writer struct {
 type line struct {
 	from, to int
 	alerts   []written
-	shown    []*Alert // the alerts as the program prints them, if anybody reads
+	shown    []*Alert // the alerts as the program prints them
 }
 
 // A written alert, with the part of the text that has its labels.

@@ -42,12 +42,12 @@ func (r *readers) init(places int) {
 	r.open = map[string]*lane{}
 }
 
-// came hands what came for a subscription to its lane, if that is open.
-func (r *readers) came(name string, it event) {
+// came hands what came for a subscription to its lane, if that is open: so many alerts, or another answer.
+func (r *readers) came(name string, it event, count int) {
 	r.mutex.Lock()
 	defer r.mutex.Unlock()
 	if to, is := r.open[name]; is {
-		to.came(it)
+		to.came(it, count)
 	}
 }
 
@@ -85,13 +85,6 @@ func (r *readers) lagging(batches int) (lanes []*lane) {
 		}
 	}
 	return lanes
-}
-
-// areOpen says whether anybody reads.
-func (r *readers) areOpen() bool {
-	r.mutex.Lock()
-	defer r.mutex.Unlock()
-	return len(r.open) > 0
 }
 
 // poke leaves a token, unless one is there.

@@ -1,6 +1,6 @@
 use Rattle.std.proofs.Common.{◌∙◌, sym}
 use Rattle.am_serve.proofs.Same.{alerts_decide}
-use Rattle.am_serve.proofs.came.are_same.Goals as goal
+use Rattle.am_serve.proofs.known.are_same.Goals as goal
 
 pub returns : goal.returns
 returns c =
