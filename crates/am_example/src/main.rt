@@ -1,5 +1,5 @@
 //! What who embeds the provider copies first: two threads that post, and a reader that runs until it is
-//! told that no more will come.
+//! shown that no more will come.
 //!
 //!     20 alerts, all posts there: true
 #![tactic(auto)]
@@ -24,7 +24,7 @@ const BODY: &[u8] = b"[{\"labels\":{\"alertname\":\"DiskFull\"}}]";
 // run can be repeated; a real caller takes it from its clock.
 const NEW_YEAR: u128 = 63_839_664_000_000_000_000;
 
-// Posts one alert ten times. A post that is refused, since a reader is too far behind, is made again.
+// Posts one alert ten times. A post that is refused, since a reader lags too far, is made again.
 fn post_ten<N: Recorded, R: Wait>(rt: &R, provider: &Provider<N>, caller: &mut Caller<N>) {
     let now = Moment::try_new(NEW_YEAR).unwrap_or(Moment::MAX);
     for _alert in 0..10u32 {
@@ -37,7 +37,7 @@ fn post_ten<N: Recorded, R: Wait>(rt: &R, provider: &Provider<N>, caller: &mut C
     }
 }
 
-// Reads until it is told the end. `next` takes no lock and no memory; while nothing is there, the thread sleeps.
+// Reads until the end is shown. `next` takes no lock and no memory; while nothing is there, the thread sleeps.
 fn read_all<N: Recorded, R: Wait>(
     rt: &R,
     provider: &Provider<N>,
@@ -52,8 +52,8 @@ fn read_all<N: Recorded, R: Wait>(
     }
 }
 
-// What one run of a provider comes to: how many alerts the reader was shown, and whether all of its callers
-// are back, so that each post stands in the journal. `N` stands for this provider alone, so that no caller or
+// The outcome of one run of a provider: how many alerts the reader was shown, and whether all of its callers
+// are back, so that each post is in the journal. `N` is this provider's type alone, so that no caller or
 // subscription of another one fits.
 fn run<N: Recorded + Send + Sync, R: Threads + Wait + Sync>(
     rt: &R,

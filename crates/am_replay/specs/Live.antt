@@ -43,7 +43,7 @@ IsFirstAs None None = Unit {0}
 IsFirstAs (Some bytes) (Some line) = All (λ byte. byte ≢ 10) bytes × IsInputOf bytes line
 IsFirstAs bytes line = ⊥
 
--- what is told of a first line that is no configuration
+-- what is printed of a first line that is no configuration
 abbrev pub IsRefusedAs : Form → FirstLine → List ℕ → Type 0
 IsRefusedAs form first_line.TooLong text = text ≡ refused_script form first_line_too_large
 IsRefusedAs form (first_line.Refused fault) text = text ≡ refused_config form fault
@@ -71,8 +71,8 @@ pub data IsFailure : Status → Type 0 where
   not_read : IsFailure ReadFailed
   not_written : IsFailure WriteFailed
 
--- what the lines after the configuration come to: they are served, and the last line printed has the counts.
--- Where something fails, a beginning of that was printed
+-- how the lines after the configuration end: they are served, and the last line printed has the counts.
+-- If something fails, a beginning of that was printed
 pub data LivesUnder (setting : Setting) (form : Form) (follows : Bool) (config : Config)
     (input old : Option (List ℕ)) : Status → Option (List ℕ) → Type 0 where
   not_begun : {new : Option (List ℕ)} → Keeps old new
@@ -95,7 +95,7 @@ IsEnd form counts old WriteFailed new = AppendsBeginning old new (counts_line fo
 IsEnd form counts old OutOfMemory new = Keeps old new
 IsEnd form counts old status new = ⊥
 
--- what is told of a text that may be out of memory
+-- what is printed of a text that may be out of memory
 abbrev pub IsWritten : {E : Type 0} → Result (String Global) E → Option (List ℕ) → Status → Option (List ℕ)
     → Type 0
 IsWritten (Ok text) old Refused new = Appends old new (string_bytes text)
@@ -103,7 +103,7 @@ IsWritten (Ok text) old WriteFailed new = AppendsBeginning old new (string_bytes
 IsWritten (Err error) old OutOfMemory new = Keeps old new
 IsWritten given old status new = ⊥
 
--- what a live run comes to under its arguments: its first line is refused, and nothing is run; or the lines
+-- how a live run ends under its arguments: its first line is refused, and nothing is run; or the lines
 -- after it are served
 pub data IsLive (arguments : Arguments) (input old : Option (List ℕ))
     : Status → Option (List ℕ) → Type 0 where

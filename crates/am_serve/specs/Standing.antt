@@ -34,14 +34,14 @@ is_some_pending (Some one) = is_pending one
 abbrev pub ends_pending : List Answer → Bool
 ends_pending given = is_some_pending (slice_get given (length given - 1))
 
--- what goes on of a read of at most so many alerts: those that are left of it, if there was nothing more for
--- now
+-- what goes on of a read of at most `max` alerts: those that are left of it, if there was nothing more
+-- for now
 abbrev pub left_to_read : List ℕ → ℕ → List Answer → List StandingRead
 left_to_read name max given =
     if ends_pending given
     then (record { name = name; left = max - length (filter is_item given) }) ∷ [] else []
 
--- where the read of the subscription of a name stands
+-- the index of the read of the subscription of a name
 abbrev pub index_of_read : List ℕ → List StandingRead → Option ℕ
 index_of_read name reads = position (λ one. bytes_eq one.name name) reads
 

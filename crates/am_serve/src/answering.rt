@@ -24,7 +24,7 @@ use am_script::{Command, Fault, GivenMoment, JsonLine, LONGEST_LINE, LineFault, 
 use std::alloc::{AllocError, Global};
 use std::sync::Wait;
 
-// So many bytes are there for an answer before its command is done. A short one takes no more.
+// How many bytes are there for an answer before its command is done. A short one takes no more.
 const SHORT: usize = 256;
 
 /// Does what a line asks for, and returns what is to be printed of it. A line in whose reading memory runs out

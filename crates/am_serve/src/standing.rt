@@ -22,7 +22,7 @@ use am_script::Command;
 use std::alloc::AllocError;
 use std::sync::Wait;
 
-/// A read that goes on: of the subscription of this name it may show so many alerts yet.
+/// A read that goes on: of the subscription of this name, and how many alerts it may show yet.
 #[derive(Debug, Drop)]
 pub(crate) struct StandingRead {
     name: Text,
@@ -104,7 +104,7 @@ fn keep_others(reads: &mut Vec<StandingRead>, name: &Text)
     }
 }
 
-// Where the read of the subscription of a name stands.
+// The index of the read of the subscription of a name.
 fn index_of_read(reads: &[StandingRead], name: &Text) -> Option<usize>
     ensures { result ≡ index_of_read name.now reads.now }
 {
@@ -116,7 +116,7 @@ fn index_of_read(reads: &[StandingRead], name: &Text) -> Option<usize>
     None
 }
 
-// Adds what goes on of a read of at most so many alerts that was answered so.
+// Adds what goes on of a read of at most `max` alerts that was answered so.
 fn add_rest(
     reads: &mut Vec<StandingRead>,
     name: &Text,

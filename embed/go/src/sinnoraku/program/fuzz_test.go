@@ -95,7 +95,8 @@ func FuzzAnyBytesAreReadOrRefused(f *testing.F) {
 		f.Add([]byte(text))
 	}
 	f.Fuzz(func(t *testing.T, text []byte) {
-		calls := []*call{{done: make(chan struct{})}, {done: make(chan struct{}), request: request{put: &line{shown: []*Alert{{}}}}}}
+		put := &line{alerts: []written{{alert: &Alert{}}}}
+		calls := []*call{{done: make(chan struct{})}, {done: make(chan struct{}), request: request{put: put}}}
 		p := &process{
 			child: newChild("program", nil), readers: &readers{},
 			waiting: map[int]*call{firstLine: calls[0], firstLine + 1: calls[1]},

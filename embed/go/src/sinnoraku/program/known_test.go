@@ -108,9 +108,10 @@ func TestReadersShareWhatAPutGave(t *testing.T) {
 func TestPlacesThatAreFalse(t *testing.T) {
 	const posted = `{"line":2,"answer":"post","valid":2,"place":0}` + "\n" + `{"line":2,"answers":1}` + "\n"
 	const kept = `{"line":2,"answer":"kept","index":0,"from":0,"count":2}` + "\n"
+	two := []written{{alert: firing(0)}, {alert: firing(1)}}
 	run := func(text string) error {
 		calls := map[int]*call{
-			firstLine:     {done: make(chan struct{}), request: request{put: &line{shown: firings(0, 2)}}},
+			firstLine:     {done: make(chan struct{}), request: request{put: &line{alerts: two}}},
 			firstLine + 1: {done: make(chan struct{})},
 			firstLine + 2: {done: make(chan struct{})},
 		}

@@ -319,11 +319,11 @@ func (p *process) came(line []byte) error {
 // keeps notes where alerts of the last put went. A new label set has the place after the others.
 func (p *process) keeps(line []byte, last *call) error {
 	index, kept := keptOf(line)
-	if last == nil || last.put == nil || !(places{index, kept.count}).are(len(last.put.shown)) ||
+	if last == nil || last.put == nil || !(places{index, kept.count}).are(len(last.put.alerts)) ||
 		kept.from < 0 || kept.from > len(p.known) {
 		return p.unknown(line)
 	}
-	shown := last.put.shown[index : index+kept.count]
+	shown := last.put.shown()[index : index+kept.count]
 	replaced := copy(p.known[kept.from:], shown)
 	p.known = append(p.known, shown[replaced:]...)
 	return nil

@@ -93,10 +93,10 @@ func (h *history) put(alerts []*Alert, index int, failed *PutErrors) {
 	if len(lines) == 0 {
 		return
 	}
-	w.show()
 	calls := h.sendPuts(lines)
 	// The program works on them meanwhile.
 	for _, it := range w.lines {
+		it.shown()
 		w.identify(it, &h.known)
 	}
 	*room = w.text
@@ -132,7 +132,8 @@ type writer struct {
 type line struct {
 	from, to int
 	alerts   []written
-	shown    []*Alert // the alerts as the program prints them
+	noting   sync.Once
+	noted    []*Alert // the alerts as the program prints them, once they are noted
 }
 
 // A written alert, with the part of the text that has its labels.
@@ -206,14 +207,16 @@ func (w *writer) finish() []request {
 	return requests
 }
 
-// show notes the alerts as the program prints them.
-func (w *writer) show() {
-	for _, it := range w.lines {
-		it.shown = make([]*Alert, len(it.alerts))
-		for at := range it.alerts {
-			it.shown[at] = asPrinted(it.alerts[at].alert)
+// shown are the alerts as the program prints them. They are noted before the Put returns, by whoever needs them first: its
+// goroutine, or the one that reads what the program shows of them.
+func (l *line) shown() []*Alert {
+	l.noting.Do(func() {
+		l.noted = make([]*Alert, len(l.alerts))
+		for at := range l.alerts {
+			l.noted[at] = asPrinted(l.alerts[at].alert)
 		}
-	}
+	})
+	return l.noted
 }
 
 // asPrinted is an alert as it is when it has been written, stored as it is, printed and read. It shares the alert's labels
