@@ -55,8 +55,9 @@ has_moment_if_needed (Groups name Unread) opened = not (has_notifier name opened
 has_moment_if_needed _ opened = true
 
 -- what a command of the line of this number prints, and what it does to a run: nothing, if it subscribes a
--- name that is open or its moment isn't one; else what it answers, where the alerts went that it put, and what
--- then comes for the reads that go on; or that there was no memory for its answer, if it only asks or wasn't done
+-- name that is open or its moment isn't one; else what it answers, where the alerts went that it put, and
+-- what then comes for the reads that go on; or that there was no memory for its answer, if it only asks or
+-- wasn't done
 pub data Obeys (config : Config) (setting : Setting) (form : Form) (number : ℕ) (command : Command)
     (old : RunView) : List ℕ → RunView → Type 0 where
   bad_name : has_free_name command old.session.opened ≡ false

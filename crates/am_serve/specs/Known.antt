@@ -1,5 +1,5 @@
--- The alerts that a run knows, if it follows: those that accepted puts gave since the last collection. One of them is
--- shown by its place among them.
+-- The alerts that a run knows, if it follows: those that accepted puts gave since the last collection. One of
+-- them is shown by its place among them.
 use Rattle.std.specs.Prelude.{◌≡◌, ◌≢◌, ℕ, Bool, true, false, List, [], ◌∷◌, if◌then◌else◌, slice_get}
 use Rattle.std.specs.Prelude.{Option, Some, None, is_none, IfSome, IsSomeAnd}
 use Rattle.std.specs.List.{position_or_len}
@@ -17,8 +17,8 @@ use Rattle.am_runner.specs.declared.answer.Answer.TheVariants as answer
 abbrev pub Known : Type 0
 Known = List (Labels × Alert)
 
--- the known alerts with one that was put, in the place of its label set, else at the end; one with a fault isn't
--- stored
+-- the known alerts with one that was put, in the place of its label set, else at the end; one with a fault
+-- isn't stored
 abbrev pub noted : Known → Alert → Known
 noted known alert =
     if is_none (fault_of alert) then insert_entry same_labels known alert.labels alert else known
@@ -74,8 +74,8 @@ alert_shown (answer.Item alert) = Some alert
 alert_shown (answer.StoredAlert alert) = Some alert
 alert_shown _ = None
 
--- the place that an answer is shown by: there its alert is known, in all its parts. An answer without one is shown
--- whole: it has no alert, or one that isn't known as that of its label set
+-- the place that an answer is shown by: there its alert is known, in all its parts. An answer without one is
+-- shown whole: it has no alert, or one that isn't known as that of its label set
 abbrev pub IsShownAt : Known → Answer → Option ℕ → Type 0
 IsShownAt known one (Some place) =
     IsSomeAnd (alert_shown one) (λ alert. IsSomeAnd (slice_get known place) (λ entry. entry.1 ≡ alert))

@@ -1,5 +1,6 @@
 -- What is printed of answers, of which some are shown by the places of known alerts.
-use Rattle.std.specs.Prelude.{◌≡◌, ℕ, zero, suc, ◌+◌, Bool, true, false, ◌&&◌, List, [], ◌∷◌, ◌++◌, flat_map, length}
+use Rattle.std.specs.Prelude.{◌≡◌, ℕ, zero, suc, ◌+◌, Bool, true, false, ◌&&◌, List, [], ◌∷◌, ◌++◌}
+use Rattle.std.specs.Prelude.{flat_map, length}
 use Rattle.std.specs.Prelude.{Option, Some, None, is_some, codes, nat_eq, if◌then◌else◌}
 use Rattle.std.specs.List.{AllZip}
 use Rattle.std.specs.Fmt.{decimal}
@@ -53,8 +54,8 @@ abbrev pub whole_text : ℕ → Option (List ℕ) → Answer → List ℕ
 whole_text number name one = if is_some name && is_pending one then []
     else object_line (about number name (answer_members one))
 
--- what is printed of the places of a put's alerts from an index on: an object for those that follow one another. Of
--- the first, this many are in the object before
+-- what is printed of the places of a put's alerts from an index on: an object for those that follow one
+-- another. Of the first, this many are in the object before
 abbrev pub kept_text : ℕ → ℕ → ℕ → List (Option ℕ) → List ℕ
 kept_text number index before [] = []
 kept_text number index (suc before) (place ∷ places) = kept_text number (index + 1) before places
@@ -63,8 +64,8 @@ kept_text number index zero (Some from ∷ places) =
     object_line (about_line number (kept_members index from (run_from (from + 1) places + 1)))
     ++ kept_text number (index + 1) (run_from (from + 1) places) places
 
--- what is printed of answers that are shown at these places: an object for those that follow one another, and each
--- of the others whole. Of the first, this many are in the object before
+-- what is printed of answers that are shown at these places: an object for those that follow one another, and
+-- each of the others whole. Of the first, this many are in the object before
 abbrev pub shown_text : ℕ → Option (List ℕ) → ℕ → List Answer → List (Option ℕ) → List ℕ
 shown_text number name before [] places = []
 shown_text number name before (one ∷ given) [] = []
@@ -81,8 +82,8 @@ abbrev pub kept_printed : Form → ℕ → List (Option ℕ) → List ℕ
 kept_printed Text number places = []
 kept_printed Json number places = kept_text number 0 0 places
 
--- what is printed of a line's answers, in a run that follows or not: as JSON what is known is shown by its place if
--- the run follows
+-- what is printed of a line's answers, in a run that follows or not: as JSON what is known is shown by its
+-- place if the run follows
 pub data AnswersArePrinted (number : ℕ) (known : Known) (given : List Answer)
     : Bool → Form → List ℕ → Type 0 where
   plain : {form : Form} → AnswersArePrinted number known given false form (answers_printed form number given)

@@ -188,7 +188,7 @@ fn count_run(from: usize, places: &[Option<usize>]) -> usize
     places.len()
 }
 
-// Whether a place comes after one and so many more.
+// Whether a place comes after `from` and `more` others.
 fn is_after(from: usize, more: usize, place: Option<usize>) -> bool
     ensures { result ≡ is_place (from + 1 + more) place }
 {
