@@ -1,8 +1,7 @@
-use Rattle.std.proofs.Common.{rules, ◌≡◌, ◌∙◌, ℕ, List, [], ◌∷◌, ◌++◌, length, map, take, refl, sym, ap, subst, arith}
+use Rattle.std.proofs.Common.{◌≡◌, ◌∙◌, ℕ, List, [], ◌∷◌, ◌++◌, length, map, take, refl, sym, ap, subst}
 use Rattle.std.proofs.lemmas.List.{length-map}
-use Rattle.am_history.specs.Fronts.{FrontView}
-use Rattle.am_provider.specs.Histories.{EntryView}
-use Rattle.sinnoraku.specs.Runs.{IsRun}
+use Rattle.std.proofs.lemmas.List.Elements.{All-map}
+use Rattle.am_provider.specs.Rising.{IsRising}
 use Rattle.sinnoraku.proofs.program.run_over.Goals as goal
 
 take_whole : {A : Type 0} (xs ys : List A) → take (length xs) (xs ++ ys) ≡ xs
@@ -17,13 +16,15 @@ run-outcome-requires-clause-limits g c = (sym c.requires.limits.0 ∙ c.requires
 
 pub returns : goal.returns
 returns g c =
-    let long : length c.run-outcome.new.callers ≡ c.in_ok-provider.callers.len = ? in
-    let whole = take_all c.in_ok-provider.callers.len c.run-outcome.new.callers _ (sym long) in
+    let kept : length c.run-outcome.new.callers ≡ length c.in_ok-provider.callers.items = c.run-outcome.auto.callers ∙ ap length c.as_mut_slice.ensures.value in
+    let all : length c.run-outcome.new.callers ≡ c.args.parts.posters = kept ∙ c.in_ok-provider.ensures.callers.0 in
+    let whole = take_all c.in_ok-provider.callers.len c.run-outcome.new.callers _ (c.in_ok-provider.callers.ok.0 ∙ sym kept) in
     record {
       passes = _;
       fronts = _;
-      count = length-map _ (λ caller. caller.front) ∙ (ap length whole ∙ ?);
+      count = length-map _ (λ caller. caller.front) ∙ (ap length whole ∙ (all ∙ c.requires.parts.0));
       comes_to = subst (λ callers. g.P.Program.comes_to c.args.program (map (λ caller. caller.front) callers) c.run-outcome.result) (sym whole) c.run-outcome.ensures;
       settled = c.settle-settled.ensures.settled;
-      complete = ?;
+      rising = All-map (λ pass. IsRising pass.own) (λ caller. caller.pass) _ c.settle-settled.ensures.rising;
+      complete = c.settle-settled.ensures.complete.1 (ap length whole ∙ (all ∙ (sym c.args.parts.counted.0 ∙ c.requires.ledger.1)));
     }
