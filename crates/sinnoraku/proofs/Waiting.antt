@@ -1,8 +1,7 @@
 -- A subscription that waits shows nothing.
-use Rattle.std.proofs.Common.{◌≡◌, ◌∙◌, Bool, List, [], ◌∷◌, ◌++◌, take, refl, sym, ap, append_assoc}
+use Rattle.std.proofs.Common.{◌∙◌, List, [], ◌∷◌, ◌++◌, take, refl, sym, ap, append_assoc}
 use mathlib.Core.List.{IsPrefix}
 use Rattle.am_alert.specs.declared.alert.Alert.{Alert}
-use Rattle.am_cast.specs.Cursors.{CursorView, GoesOn, shown_items}
 use Rattle.am_cast.specs.Lent.{IsPending}
 use Rattle.am_provider.specs.Showings.{ShowsNone, StaysShown}
 use Rattle.am_provider.specs.Subscriptions.{SubscriptionView, taken}

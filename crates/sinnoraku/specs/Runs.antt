@@ -1,5 +1,5 @@
 -- What a run of a program shows.
-use Rattle.std.specs.Prelude.{◌≡◌, ℕ, true, List, length}
+use Rattle.std.specs.Prelude.{◌≡◌, ℕ, ◌<◌, true, List, length, get_or}
 use Rattle.std.specs.List.{All}
 use Rattle.am_history.specs.Fronts.{FrontView}
 use Rattle.am_alert.specs.declared.alert.Alert.{Alert}
@@ -20,3 +20,10 @@ pub record IsRun (ComesTo : List (FrontView EntryView) → Type 0) (callers : �
   pub settled : IsSettledFrom passes fronts end
   pub rising : All (λ (pass : PassView Alert Call). IsRising pass.own) passes
   pub complete : end.complete ≡ true
+
+-- each caller's outcome, by its index and its front
+pub record AreOutcomes {O : Type 0} (ComesTo : ℕ → FrontView EntryView → O → Type 0)
+    (fronts : List (FrontView EntryView)) (outcomes : List O) : Type 0 where
+  pub count : length outcomes ≡ length fronts
+  pub each : (index : ℕ) (front : FrontView EntryView) (outcome : O) → index < length fronts
+      → ComesTo index (get_or fronts index front) (get_or outcomes index outcome)

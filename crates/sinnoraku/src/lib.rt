@@ -16,6 +16,8 @@ mod limits;
 mod next;
 mod program;
 mod reader;
+mod seat;
+mod worker;
 
 pub use am_alert::{Alert, Moment, Post, PostFault, read_post};
 pub use am_provider::{
@@ -28,3 +30,4 @@ pub use limits::Limits;
 pub use next::Next;
 pub use program::{Program, run};
 pub use reader::Reader;
+pub use worker::{Worker, run_workers};

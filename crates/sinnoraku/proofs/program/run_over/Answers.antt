@@ -1,15 +1,9 @@
-use Rattle.std.proofs.Common.{◌≡◌, ◌∙◌, ℕ, List, [], ◌∷◌, ◌++◌, length, map, take, refl, sym, ap, subst}
+use Rattle.std.proofs.Common.{◌≡◌, ◌∙◌, length, map, sym, ap, subst}
 use Rattle.std.proofs.lemmas.List.{length-map}
 use Rattle.std.proofs.lemmas.List.Elements.{All-map}
 use Rattle.am_provider.specs.Rising.{IsRising}
+use Rattle.sinnoraku.proofs.Lists.{take_all}
 use Rattle.sinnoraku.proofs.program.run_over.Goals as goal
-
-take_whole : {A : Type 0} (xs ys : List A) → take (length xs) (xs ++ ys) ≡ xs
-take_whole [] ys = refl
-take_whole (x ∷ xs) ys = ap (λ l. x ∷ l) (take_whole xs ys)
-
-take_all : {A : Type 0} (n : ℕ) (xs ys : List A) → n ≡ length xs → take n (xs ++ ys) ≡ xs
-take_all n xs ys is = ap (λ k. take k (xs ++ ys)) is ∙ take_whole xs ys
 
 pub run-outcome-requires-clause-limits : goal.run-outcome-requires-clause-limits
 run-outcome-requires-clause-limits g c = (sym c.requires.limits.0 ∙ c.requires.parts.1, sym c.requires.limits.1)
