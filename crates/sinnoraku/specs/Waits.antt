@@ -23,9 +23,10 @@ abbrev pub AnswersNext : {E : Type 0} → SubscriptionView → Result Next E →
 AnswersNext old (Ok shown) new = ShowsNext old shown new
 AnswersNext old (Err fault) new = (alert : Alert) × ShowsNext old (next.Alert alert) new
 
--- what an iterator gives that may still be asked so often: an alert, or a lack of memory, and nothing only if no more
--- will come
-abbrev pub GivesNext : {E : Type 0} → ℕ → SubscriptionView → Option (Result Alert E) → SubscriptionView → Type 0
+-- what an iterator gives that may still be asked this many times: an alert, or a lack of memory, and nothing
+-- only if no more will come
+abbrev pub GivesNext : {E : Type 0} → ℕ → SubscriptionView → Option (Result Alert E) → SubscriptionView
+    → Type 0
 GivesNext left old (Some (Ok alert)) new = ShowsNext old (next.Alert alert) new
 GivesNext left old (Some (Err fault)) new = (alert : Alert) × ShowsNext old (next.Alert alert) new
 GivesNext left old None new = 0 < left → ShowsNext old next.Closed new ⊎ ShowsNext old next.Cut new

@@ -1,8 +1,9 @@
 //! An alert provider begun and settled by one call, with a program of yours between.
 //!
 //! A [`Program`] is handed the provider and its callers. [`run`] begins a provider with these [`Limits`], runs the
-//! program, and settles. Which provider a caller belongs to is part of its type, so that a caller or a subscription of
-//! another one doesn't compile. A [`Reader`] is a subscription with the provider that it reads from: it can wait.
+//! program, and settles. [`run_workers`] does so with a [`Worker`], which works with each caller in a thread of its own.
+//! Which provider a caller belongs to is part of its type, so that a caller or a subscription of another one doesn't
+//! compile. A [`Reader`] is a subscription with the provider that it reads from: it can wait.
 //!
 //! A slow reader gets everything in its own time, as long as it lags by fewer batches than there are places.
 //! With as many the next post is refused ([`Policy::Refuse`]), or the reader is cut off ([`Policy::Cut`]).
