@@ -17,10 +17,10 @@ pub trait Program<R> {
     ghost use Rattle.am_history.specs.Fronts.{FrontView};
     ghost use Rattle.am_provider.specs.Histories.{EntryView};
 
-    /// What it comes to.
+    /// Its outcome.
     type Outcome: Drop;
 
-    // What it comes to, by what its callers have seen of the provider's one history, and what they made of it.
+    // The outcome, by what its callers have seen of the provider's one history, and what they made of it.
     ghost comes_to: { Self → List (FrontView EntryView) → Self.Outcome → Type 0 } = { λ _ _ _. Unit {0} };
 
     /// Runs with the callers of a new provider with these limits.
