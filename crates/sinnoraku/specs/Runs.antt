@@ -12,7 +12,8 @@ use Rattle.am_provider.specs.declared.settled.Settled.{Settled}
 
 -- a program ran with as many callers: its outcome by their fronts, and the settled provider by all of them,
 -- each of which posted at rising places
-pub record IsRun (ComesTo : List (FrontView EntryView) → Type 0) (callers : ℕ) (end : Settled) : Type 0 where
+pub record IsSettledRun (ComesTo : List (FrontView EntryView) → Type 0) (callers : ℕ) (end : Settled)
+    : Type 0 where
   pub passes : List (PassView Alert Call)
   pub fronts : List (FrontView EntryView)
   pub count : length fronts ≡ callers

@@ -1,5 +1,5 @@
 -- What a reader shows that waits.
-use Rattle.std.specs.Prelude.{◌<◌, ◌⊎◌, ℕ, Option, None, Some, Result, Ok, Err}
+use Rattle.std.specs.Prelude.{◌≡◌, ◌-◌, ◌<◌, ◌⊎◌, ℕ, Option, None, Some, Result, Ok, Err}
 use Rattle.am_alert.specs.declared.alert.Alert.{Alert}
 use Rattle.am_provider.specs.Showings.{ShowsItem, StaysShown, Shows}
 use Rattle.am_provider.specs.declared.answers.Step.TheVariants as step
@@ -23,10 +23,13 @@ abbrev pub AnswersNext : {E : Type 0} → SubscriptionView → Result Next E →
 AnswersNext old (Ok shown) new = ShowsNext old shown new
 AnswersNext old (Err fault) new = (alert : Alert) × ShowsNext old (next.Alert alert) new
 
--- what an iterator gives that may still be asked this many times: an alert, or a lack of memory, and nothing
--- only if no more will come
-abbrev pub GivesNext : {E : Type 0} → ℕ → SubscriptionView → Option (Result Alert E) → SubscriptionView
+-- what an iterator gives that may still be asked this many times, and then once less: an alert, or a lack of
+-- memory, and nothing only if no more will come
+abbrev pub GivesNext : {E : Type 0} → ℕ → SubscriptionView → Option (Result Alert E) → ℕ → SubscriptionView
     → Type 0
-GivesNext left old (Some (Ok alert)) new = ShowsNext old (next.Alert alert) new
-GivesNext left old (Some (Err fault)) new = (alert : Alert) × ShowsNext old (next.Alert alert) new
-GivesNext left old None new = 0 < left → ShowsNext old next.Closed new ⊎ ShowsNext old next.Cut new
+GivesNext left old (Some (Ok alert)) rest new =
+    (rest ≡ left - 1) × ShowsNext old (next.Alert alert) new
+GivesNext left old (Some (Err fault)) rest new =
+    (rest ≡ left - 1) × ((alert : Alert) × ShowsNext old (next.Alert alert) new)
+GivesNext left old None rest new =
+    (rest ≡ left - 1) × (0 < left → ShowsNext old next.Closed new ⊎ ShowsNext old next.Cut new)

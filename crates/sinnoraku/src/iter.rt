@@ -47,7 +47,7 @@ impl<'r, 'p, N: Recorded, R: Wait> Iterator for Iter<'r, 'p, N, R> {
     type Item = Result<Alert, AllocError>;
 
     ghost next_gives = { λ s given t.
-        GivesNext s.left s.reader.now.subscription given t.reader.now.subscription };
+        GivesNext s.left s.reader.now.subscription given t.left t.reader.now.subscription };
 
     ghost remaining = { λ s. at_most s.left };
 

@@ -3,7 +3,7 @@
 ghost use Rattle.std.specs.Prelude.{◌≡◌, IfOk, length, map};
 ghost use Rattle.std.specs.List.{All};
 ghost use Rattle.am_provider.specs.Callers.{IsNewCaller};
-ghost use Rattle.sinnoraku.specs.Runs.{IsRun};
+ghost use Rattle.sinnoraku.specs.Runs.{IsSettledRun};
 
 use crate::limits::Limits;
 use am_provider::{Caller, Parts, Provider, Recorded, Settled};
@@ -47,7 +47,7 @@ pub fn run<P: Program<R> + Drop, R: Wait>(
     program: P,
 ) -> Result<(P::Outcome, Settled), AllocError>
     ensures { IfOk result (λ done.
-        IsRun (λ fronts. P.comes_to program fronts done.0) limits.callers done.1) }
+        IsSettledRun (λ fronts. P.comes_to program fronts done.0) limits.callers done.1) }
 {
     let parts = Parts::make(alloc, limits.places, limits.callers)?;
     run_over::<Brand, P, R>(rt, alloc, parts, limits, program)
@@ -68,7 +68,7 @@ fn run_over<N: Recorded + Send + Sync, P: Program<R> + Drop, R: Wait>(
     requires limits { (parts.log.places ≡ N.places) × (limits.policy ≡ N.policy) }
     requires parts { (parts.posters ≡ limits.callers) × (parts.log.places ≡ limits.places) }
     ensures { IfOk result (λ done.
-        IsRun (λ fronts. P.comes_to program fronts done.0) limits.callers done.1) }
+        IsSettledRun (λ fronts. P.comes_to program fronts done.0) limits.callers done.1) }
 {
     let (provider, mut callers) = Provider::<N>::begin(
         alloc,

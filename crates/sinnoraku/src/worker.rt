@@ -4,7 +4,7 @@ ghost use Rattle.std.specs.Prelude.{◌≡◌, ◌<◌, IfOk, [], length, map, v
 ghost use Rattle.std.specs.List.{All};
 ghost use Rattle.std.specs.Option.{IsSomeAnd};
 ghost use Rattle.am_provider.specs.Callers.{IsNewCaller};
-ghost use Rattle.sinnoraku.specs.Runs.{AreOutcomes, IsRun};
+ghost use Rattle.sinnoraku.specs.Runs.{AreOutcomes, IsSettledRun};
 
 use crate::limits::Limits;
 use crate::seat::{Rooms, Seat, seat_all, unseat_all};
@@ -53,7 +53,7 @@ pub fn run_workers<W: Worker<R> + Sync, R: Threads + Wait + Sync>(
     worker: &W,
 ) -> Result<(Vec<W::Outcome>, Settled), AllocError>
     ensures { IfOk result (λ done.
-        IsRun (λ fronts. AreOutcomes (W.comes_to worker.now) fronts done.0.items) limits.callers done.1) }
+        IsSettledRun (λ fronts. AreOutcomes (W.comes_to worker.now) fronts done.0.items) limits.callers done.1) }
 {
     let parts = Parts::make(alloc, limits.places, limits.callers)?;
     run_over::<Brand, W, R>(rt, alloc, parts, limits, worker)
@@ -74,7 +74,7 @@ fn run_over<N: Recorded + Send + Sync, W: Worker<R> + Sync, R: Threads + Wait + 
     requires limits { (parts.log.places ≡ N.places) × (limits.policy ≡ N.policy) }
     requires parts { (parts.posters ≡ limits.callers) × (parts.log.places ≡ limits.places) }
     ensures { IfOk result (λ done.
-        IsRun (λ fronts. AreOutcomes (W.comes_to worker.now) fronts done.0.items) limits.callers done.1) }
+        IsSettledRun (λ fronts. AreOutcomes (W.comes_to worker.now) fronts done.0.items) limits.callers done.1) }
 {
     let (provider, callers) = Provider::<N>::begin(
         alloc,
