@@ -60,10 +60,7 @@ some_bytes (b ∷ bytes) d e = omega arith
 pub all_read : (now timeout i : ℕ) (rest : List (Option Postable)) (all : Result Entries PostFault) (valid : List Alert) (faults : List (ℕ × AlertFault)) → length rest ≡ 0
     → with_front (valid, faults) (entries_of now timeout i rest) ≡ all
     → all ≡ Ok (valid, faults)
-all_read now timeout i rest all valid faults none e =
-    sym e
-    ∙ (ap (λ (left : List (Option Postable)). with_front (valid, faults) (entries_of now timeout i left)) (nil_from_length rest none)
-    ∙ (ap (λ (front : List Alert). Ok (front, faults ++ [])) (append-nil valid) ∙ ap (λ (front : List (ℕ × AlertFault)). Ok (valid, front)) (append-nil faults)))
+all_read now timeout i rest all valid faults none e = grind (arith, nil_from_length, append-nil)
 
 pub count_values : (values : List Value) → count (items_view values) ≡ length values
 count_values [] = refl

@@ -52,25 +52,11 @@ next_year date = record { year = date.year + 1; month = 1; day = 1 }
 
 day_is : (days : ℕ) (date : Date) → IsDateAfter days date → date.day < days_in_month (pos date.year) date.month → IsDateAfter (days + 1) (next_day date)
 unfolding next_day
-day_is days date is lt = record {
-  year_in = is.year_in;
-  month_low = is.month_low;
-  month_high = is.month_high;
-  day_low = omega arith;
-  day_high = omega arith;
-  count = omega (arith, is.count, day_count-day (pos date.year) date.month date.day (date.day + 1) is.day_low (omega arith));
-}
+day_is days date is lt = grind (arith, day_count-day)
 
 month_is : (days : ℕ) (date : Date) → IsDateAfter days date → date.day ≡ days_in_month (pos date.year) date.month → date.month < 12 → IsDateAfter (days + 1) (next_month date)
 unfolding next_month
-month_is days date is last lt = record {
-  year_in = is.year_in;
-  month_low = omega arith;
-  month_high = omega arith;
-  day_low = omega arith;
-  day_high = let long = (days_in_month_bounds (pos date.year) (date.month + 1)).1 in omega arith;
-  count = omega (arith, is.count, last, day_count-next_month (pos date.year) date.month is.month_low, day_count-day (pos date.year) date.month date.day 1 is.day_low (omega arith));
-}
+month_is days date is last lt = grind (arith, days_in_month_bounds, day_count-next_month, day_count-day)
 
 year_is : (days : ℕ) (date : Date) → IsDateAfter days date → date.day ≡ days_in_month (pos date.year) date.month → date.month ≡ 12 → IsDateAfter (days + 1) (next_year date)
 unfolding next_year
@@ -155,9 +141,4 @@ pub record HasTime (time : Time) (n : ℕ) : Type 0 where
   pub nanosecond : time.subsec_nanosecond ≡ n % 1_000_000_000
 
 pub time_parts : (time : Time) (n : ℕ) → time_nanos time ≡ n → HasTime time n
-time_parts time n e = record {
-  hour = omega arith;
-  minute = omega arith;
-  second = omega arith;
-  nanosecond = omega arith;
-}
+time_parts time n e = grind arith

@@ -1,5 +1,5 @@
 -- Removing a member of an object.
-use Rattle.std.proofs.Common.{◌≡◌, ℕ, List, [], ◌∷◌, String, refl, sym, ap, ◌∙◌, cond, Less, Equal, Greater, Some, nat_cmp, string_bytes}
+use Rattle.std.proofs.Common.{◌≡◌, ℕ, List, [], ◌∷◌, String, refl, sym, ap, ◌∙◌, cond, Less, Equal, Greater, Some, nat_cmp, string_bytes, arith}
 use Rattle.std.specs.Ordering.{is_eq, match_ordering}
 use Rattle.std.specs.declared.cmp.Ordering.{Ordering}
 use Rattle.std.specs.Cmp.Lexicographic.{slice_cmp}
@@ -30,5 +30,4 @@ one_less Greater name other e es rest is apart more = ap (λ r. match_ordering (
 pub others_stay : (name other : List ℕ) (es : List (String Global × Value)) → (other ≡ name → ⊥)
     → get_member other (members_view (remove_entry (is_at (λ k. slice_cmp nat_cmp name (string_bytes k))) es)) ≡ get_member other (members_view es)
 others_stay name other [] apart = refl
-others_stay name other (e ∷ es) apart =
-    one_less _ name other e es (without name es) refl apart (others_stay name other es apart)
+others_stay name other (e ∷ es) apart = let rest = others_stay name other es in grind (arith, one_less)

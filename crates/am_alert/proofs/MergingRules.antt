@@ -1,6 +1,6 @@
 -- Facts about the words of specs/Merging.antt.
-use Rattle.std.proofs.Common.{◌≡◌, ◌⊎◌, ⊎_elim, inl, inr, ℕ, ◌<◌, ◌≤◌, Bool, true, false, cond, not, ◌&&◌, ◌||◌, nat_lt, nat_le, refl, sym, ap, ◌∙◌, arith}
-use Rattle.std.proofs.lemmas.Bool.{cases_lt, le-ltb, lt-ltb}
+use Rattle.std.proofs.Common.{◌≡◌, ◌⊎◌, ⊎_elim, inl, inr, ℕ, ◌<◌, ◌≤◌, Bool, true, false, cond, not, ◌&&◌, ◌||◌, nat_lt, nat_le, refl, sym, arith}
+use Rattle.std.proofs.lemmas.Bool.{cases_lt}
 use Rattle.am_alert.specs.declared.alert.Alert.{Alert}
 use Rattle.am_alert.specs.Merging.{is_resolved_at, older_end_wins, combined, merged}
 use Rattle.am_alert.specs.Laws.{MergingStartsEarliest, MergingEndsAtAnEnd, YoungerReportDecides, YoungerReportStays, MergingHasNoOrder}
@@ -46,11 +46,7 @@ younger_stays now stored new =
 
 -- the report updated at the lower moment is the older one, whichever came first
 in_order : (now : ℕ) (older later : Alert) → older.updated < later.updated → merged now older later ≡ merged now later older
-in_order now older later lt =
-    let not_before : nat_lt later.updated older.updated ≡ false = le-ltb later.updated older.updated (omega arith) in
-    let before : nat_lt older.updated later.updated ≡ true = lt-ltb older.updated later.updated lt in
-    ap (λ b. cond b (combined now later older) (combined now older later)) not_before
-    ∙ sym (ap (λ b. cond b (combined now older later) (combined now later older)) before)
+in_order now older later lt = grind arith
 
 pub has_no_order : MergingHasNoOrder
 has_no_order now one other apart =

@@ -1,39 +1,25 @@
 -- How long a compact text may be.
-use Rattle.std.proofs.Common.{◌≡◌, ◌∙◌, ℕ, ◌+◌, ◌*◌, ◌≤◌, Bool, true, false, ◌||◌, cond, List, [], ◌∷◌, ◌++◌, length, nat_cmp, nat_lt, Option, Some, None, refl, sym, ap, subst, arith, Ordering, Less, Equal, Greater}
-use Rattle.std.specs.Prelude.{◌/◌, ◌%◌, is_some, IfSome}
-use Rattle.std.specs.Char.{digit_char}
+use Rattle.std.proofs.Common.{◌≡◌, ◌∙◌, ℕ, ◌+◌, ◌*◌, ◌≤◌, Bool, true, false, ◌||◌, List, [], ◌∷◌, length, nat_cmp, Option, Some, None, refl, ap, arith, Ordering, Less, Equal, Greater}
+use Rattle.std.specs.Prelude.{is_some, IfSome}
 use Rattle.std.specs.Cmp.Lexicographic.{slice_cmp}
 use Rattle.std.specs.Ordering.{match_ordering}
 use Rattle.std.proofs.lemmas.List.{length-append}
-use Rattle.json.specs.Print.{escape, escape_byte, escape_letter, quoted}
+use Rattle.json.specs.Print.{escape, escape_byte, quoted}
 use Rattle.serde_json.specs.Data.{Data, array, boolean, object, Items, no_items, item, Members, no_members, member, put}
 use Rattle.serde_json.specs.Written.{compact_text, has_float, items_have_float, items_text, members_have_float, members_text}
 use Rattle.am_alert.specs.inside.Rooms.{HasRoom, ItemsHaveRoom, MembersHaveRoom}
 
-either_short : (b : Bool) (xs ys : List ℕ) → length xs ≤ 6 → length ys ≤ 6 → length (cond b xs ys) ≤ 6
-either_short true xs ys h k = h
-either_short false xs ys h k = k
-
 byte_short : (x : ℕ) → length (escape_byte x) ≤ 6
 unfolding escape_byte
-byte_short x =
-    either_short (nat_lt 0 (escape_letter x)) (92 ∷ escape_letter x ∷ []) _ (omega arith)
-    (either_short (nat_lt x 32) (92 ∷ 117 ∷ 48 ∷ 48 ∷ digit_char (x / 16) ∷ digit_char (x % 16) ∷ []) (x ∷ []) (omega arith) (omega arith))
+byte_short x = grind arith
 
 escape_short : (text : List ℕ) → length (escape text) ≤ length text * 6
 escape_short [] = omega arith
-escape_short (x ∷ text) =
-    let rest = escape_short text in
-    let byte = byte_short x in
-    let long = length-append (escape_byte x) (escape text) in
-    omega (arith, rest, byte, long)
+escape_short (x ∷ text) = let rest = escape_short text in grind (arith, byte_short, length-append)
 
 -- a text as it is written
 pub quoted_short : (text : List ℕ) → length (quoted text) ≤ length text * 6 + 2
-quoted_short text =
-    let long = length-append (escape text) (34 ∷ []) in
-    let short = escape_short text in
-    omega (arith, long, short)
+quoted_short text = grind (arith, length-append, escape_short)
 
 -- one more item was written
 pub item_long : (d : Data) (ds : Items) → length (items_text true (item d ds)) ≡ length (compact_text d) + length (items_text true ds) + 1
@@ -41,10 +27,7 @@ item_long d ds = let long = length-append (compact_text d) (items_text true ds) 
 
 -- one more member was written
 pub member_long : (name : List ℕ) (d : Data) (ms : Members) → length (members_text true (member name d ms)) ≡ length (quoted name) + length (compact_text d) + length (members_text true ms) + 2
-member_long name d ms =
-    let long = length-append (quoted name) (58 ∷ (compact_text d ++ members_text true ms)) in
-    let rest = length-append (compact_text d) (members_text true ms) in
-    omega (arith, long, rest)
+member_long name d ms = grind (arith, length-append)
 
 -- the first item has no comma
 pub items_first : (ds : Items) → length (items_text false ds) ≤ length (items_text true ds)
@@ -58,17 +41,11 @@ members_first (member name d ms) = omega arith
 -- an array has room if its items have, beside the opening bracket
 pub array_room : (d : Data) (ds : Items) (room less : ℕ) (o : Option ℕ) → d ≡ array ds → less + 1 ≤ room → IfSome o (ItemsHaveRoom ds less) → IfSome o (HasRoom d room)
 array_room d ds room less None is fits h = h
-array_room d ds room less (Some left) is fits h =
-    let first = items_first ds in
-    let whole : HasRoom (array ds) room left = (h.0, omega (arith, first, fits, h.1)) in
-    subst (λ (d : Data). HasRoom d room left) (sym is) whole
+array_room d ds room less (Some left) is fits h = grind (arith, items_first)
 
 pub object_room : (d : Data) (ms : Members) (room less : ℕ) (o : Option ℕ) → d ≡ object ms → less + 1 ≤ room → IfSome o (MembersHaveRoom ms less) → IfSome o (HasRoom d room)
 object_room d ms room less None is fits h = h
-object_room d ms room less (Some left) is fits h =
-    let first = members_first ms in
-    let whole : HasRoom (object ms) room left = (h.0, omega (arith, first, fits, h.1)) in
-    subst (λ (d : Data). HasRoom d room left) (sym is) whole
+object_room d ms room less (Some left) is fits h = grind (arith, members_first)
 
 -- what has room leaves the limit
 pub within : (ds : Items) (room : ℕ) (o : Option ℕ) → is_some o ≡ true → IfSome o (ItemsHaveRoom ds room) → (items_have_float ds ≡ false) × (length (items_text false ds) ≤ room)
@@ -82,46 +59,24 @@ put_long_at : (o : Ordering) (k l : List ℕ) (d e : Data) (ms : Members) → sl
     → length (members_text true (match_ordering o (member k d (member l e ms)) (member l d ms) (member l e (put k d ms))))
     ≤ length (quoted k) + length (compact_text d) + length (members_text true (member l e ms)) + 2
 put_long_at Less k l d e ms is rest = let long = member_long k d (member l e ms) in omega (arith, long)
-put_long_at Equal k l d e ms is rest =
-    let new = member_long l d ms in
-    let old = member_long l e ms in
-    omega (arith, new, old)
-put_long_at Greater k l d e ms is rest =
-    let new = member_long l e (put k d ms) in
-    let old = member_long l e ms in
-    omega (arith, new, old, rest)
+put_long_at Equal k l d e ms is rest = grind (arith, member_long)
+put_long_at Greater k l d e ms is rest = grind (arith, member_long)
 
 put_long : (k : List ℕ) (d : Data) (ms : Members)
     → length (members_text true (put k d ms)) ≤ length (quoted k) + length (compact_text d) + length (members_text true ms) + 2
 put_long k d no_members = let long = member_long k d no_members in omega (arith, long)
 put_long k d (member l e ms) = put_long_at _ k l d e ms refl (put_long k d ms)
 
-both_false : (a b : Bool) → (a || b) ≡ false → (a ≡ false) × (b ≡ false)
-both_false true b is = cc
-both_false false b is = (refl, is)
-
 neither : (a b : Bool) → a ≡ false → b ≡ false → (a || b) ≡ false
 neither a b a-is b-is = ap (λ a. a || b) a-is ∙ b-is
 
-put_no_float_at : (o : Ordering) (k l : List ℕ) (d e : Data) (ms : Members) → slice_cmp nat_cmp k l ≡ o → has_float d ≡ false
-    → members_have_float (member l e ms) ≡ false → members_have_float (put k d ms) ≡ false
-    → members_have_float (match_ordering o (member k d (member l e ms)) (member l d ms) (member l e (put k d ms))) ≡ false
-put_no_float_at Less k l d e ms is none before rest = neither (has_float d) (members_have_float (member l e ms)) none before
-put_no_float_at Equal k l d e ms is none before rest =
-    neither (has_float d) (members_have_float ms) none (both_false (has_float e) (members_have_float ms) before).1
-put_no_float_at Greater k l d e ms is none before rest =
-    neither (has_float e) (members_have_float (put k d ms)) (both_false (has_float e) (members_have_float ms) before).0 rest
-
 put_no_float : (k : List ℕ) (d : Data) (ms : Members) → has_float d ≡ false → members_have_float ms ≡ false → members_have_float (put k d ms) ≡ false
 put_no_float k d no_members none before = neither (has_float d) false none refl
-put_no_float k d (member l e ms) none before =
-    put_no_float_at _ k l d e ms refl none before (put_no_float k d ms none (both_false (has_float e) (members_have_float ms) before).1)
+put_no_float k d (member l e ms) none before = let rest = put_no_float k d ms in grind arith
 
 pub one_more_fits : (k : List ℕ) (d : Data) (ms : Members) (room left after_name after : ℕ) → MembersHaveRoom ms room left
     → length (quoted k) + after_name + 2 ≤ left → HasRoom d after_name after → MembersHaveRoom (put k d ms) room after
-one_more_fits k d ms room left after_name after fits name value =
-    let long = put_long k d ms in
-    (put_no_float k d ms value.0 fits.0, omega (arith, long, fits.1, name, value.1))
+one_more_fits k d ms room left after_name after fits name value = grind (arith, put_long, put_no_float)
 
 pub none_fit : (room left : ℕ) → left + 1 ≤ room → MembersHaveRoom no_members room left
 none_fit room left fits = (refl, omega (arith, fits))

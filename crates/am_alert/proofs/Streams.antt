@@ -1,5 +1,5 @@
 -- Facts about the words of specs/inside/Streams.antt: a text that is read token by token.
-use Rattle.std.proofs.Common.{◌≡◌, ◌∙◌, ℕ, ◌+◌, ◌≤◌, true, false, ◌||◌, List, [], ◌∷◌, ◌++◌, length, Option, None, Some, refl, sym, ap, subst, arith, append_assoc, append-nil, Greater, nat_cmp}
+use Rattle.std.proofs.Common.{◌≡◌, ◌∙◌, ℕ, ◌+◌, ◌≤◌, true, false, List, [], ◌∷◌, ◌++◌, length, Option, None, Some, refl, sym, ap, subst, arith, append_assoc, append-nil, Greater, nat_cmp}
 use Rattle.std.specs.Prelude.{IfSome, MatchOption, option_and_then, option_map}
 use Rattle.std.specs.Ordering.{ordering_reverse}
 use Rattle.std.specs.Cmp.Lexicographic.{slice_cmp, nat_list_cmp_total}
@@ -64,31 +64,16 @@ pub record Elements-so-far (values : Items → Items) (elements : List (Option P
   pub long : (rest : Items) → length (items_text true (values rest)) + left + 1 ≤ room + length (items_text true rest)
 
 pub no_element_yet : (room left : ℕ) → left + 1 ≤ room → Elements-so-far (λ rest. rest) [] room left
-no_element_yet room left fits = record {
-  postables = λ rest. refl;
-  floats = λ rest none. none;
-  long = λ rest. omega (arith, fits);
-}
+no_element_yet room left fits = grind arith
 
 pub one_more_element : (values : Items → Items) (elements : List (Option Postable)) (room left before after : ℕ) (d : Data) (element : Option Postable)
     → Elements-so-far values elements room left → postable_of d ≡ element → before + 1 ≤ left → HasRoom d before after
     → Elements-so-far (λ rest. values (item d rest)) (elements ++ element ∷ []) room after
-one_more_element values elements room left before after d element so_far reads comma fits = record {
-  postables = λ rest. so_far.postables (item d rest)
-      ∙ ap (λ (one : Option Postable). elements ++ one ∷ postables_of rest) reads
-      ∙ sym (append_assoc elements (element ∷ []) (postables_of rest));
-  floats = λ rest none. so_far.floats (item d rest) (ap (λ b. b || items_have_float rest) fits.0 ∙ none);
-  long = λ rest.
-      let so = so_far.long (item d rest) in
-      let more = item_long d rest in
-      omega (arith, so, more, comma, fits.1);
-}
+one_more_element values elements room left before after d element so_far reads comma fits = grind (arith, append_assoc, item_long)
 
 pub all_elements : (values : Items → Items) (elements : List (Option Postable)) (room left : ℕ) → Elements-so-far values elements room left
     → (elements ≡ postables_of (values no_items)) × ItemsHaveRoom (values no_items) room left
-all_elements values elements room left so_far =
-    let long = so_far.long no_items in
-    (sym (so_far.postables no_items ∙ append-nil elements), (so_far.floats no_items refl, omega (arith, long)))
+all_elements values elements room left so_far = grind (arith, append-nil)
 
 -- the whole alerts that items are made of
 abbrev pub Alerts-so-far : (Items → Items) → List Alert → Type 0

@@ -67,11 +67,7 @@ one_more_member p all ts s r found k j d so_far key value is shorter =
 
 pub all_members : (depth : ℕ) (old ts r : List Token) (found : Members)
     → Members-so-far (json.value depth) (json.members (json.value depth) (length old) old) ts found → json.read_key ts ≡ Some (None, r) → AreMembers depth old r found
-all_members depth old ts r found so_far key = (
-  so_far.front json.no_members,
-  so_far.is ∙ ap (parse_map so_far.front) (members_end (json.value depth) so_far.n ts r so_far.enough key),
-  so_far.converts json.no_members,
-)
+all_members depth old ts r found so_far key = grind (arith, members_end)
 
 -- the same of items, by the items that those before them make of them
 pub record Items-so-far (p : json.Parse json.Json) (all : Option (json.Items × List Token)) (left : List Token) (values : Items → Items) : Type 0 where
@@ -107,11 +103,7 @@ one_more_item p all ts r values j d so_far going value is shorter =
 
 pub all_items : (depth : ℕ) (old ts r : List Token) (values : Items → Items)
     → Items-so-far (json.value depth) (json.items (json.value depth) (length old) old) ts values → json.after_end_array ts ≡ Some r → AreItems depth old r (values no_items)
-all_items depth old ts r values so_far ended = (
-  so_far.front json.no_items,
-  so_far.is ∙ ap (parse_map so_far.front) (items_end (json.value depth) so_far.n ts r so_far.enough ended),
-  so_far.converts json.no_items,
-)
+all_items depth old ts r values so_far ended = grind (arith, items_end)
 
 -- ---- values
 
@@ -143,5 +135,4 @@ array_next depth old inner new ds is deep read = (
 
 -- a text whose tokens are a value's, and no more
 pub value_read : (text : List ℕ) (d : Data) → IsValueOf 127 (tokens text) [] d → read text ≡ Some d
-value_read text d value =
-    ap (λ o. option_and_then of_json (option_and_then (λ p. json.if_last p.0 p.1) o)) value.1 ∙ value.2
+value_read text d value = grind arith

@@ -1,25 +1,23 @@
 -- Facts about the words of specs/ValidAlerts.antt: what the elements of a post are read as.
-use Rattle.std.proofs.Common.{◌≡◌, ◌≢◌, ℕ, zero, suc, ◌+◌, ◌<◌, ◌≤◌, Bool, true, false, cond, ◌||◌, nat_lt, nat_eq, List, [], ◌∷◌, ◌++◌, length, reverse, Option, None, Some, Result, Ok, Err, refl, sym, ap, subst, ◌∙◌, arith, add-one, All}
+use Rattle.std.proofs.Common.{◌≡◌, ◌≢◌, ℕ, ◌+◌, ◌<◌, ◌≤◌, List, [], ◌∷◌, ◌++◌, length, reverse, Option, None, Some, Result, Ok, Err, refl, sym, ap, subst, ◌∙◌, arith, All}
 use Rattle.std.specs.Prelude.{codes, filter, option_and_then, option_map}
-use Rattle.std.specs.FinMap.{empty, get, len, contains_key, get-from_entries}
+use Rattle.std.specs.FinMap.{empty, get, get-from_entries}
 use Rattle.std.specs.FinMap.Entries.{find}
 use Rattle.std.specs.Cmp.Lexicographic.{nat_list_cmp_total}
 use Rattle.std.proofs.lemmas.List.{reverse-append}
-use Rattle.std.proofs.lemmas.List.Elements.{All-cons, All-nil, All-weaker}
-use Rattle.std.proofs.lemmas.Bool.{ltb-false}
+use Rattle.std.proofs.lemmas.List.Elements.{All-weaker}
 use Rattle.serde_json.specs.Data.{Data, array, Items, no_items, item}
 use Rattle.am_labels.specs.LabelSets.{Labels, last_holds}
 use Rattle.am_labels.specs.Texts.{text_cmp}
 use Rattle.am_alert.specs.Moments.{later}
 use Rattle.am_alert.specs.declared.alert.Alert.{Alert}
 use Rattle.am_alert.specs.declared.post.AlertFault.{AlertFault}
-use Rattle.am_alert.specs.declared.post.AlertFault.TheVariants.{NoLabels, EndBeforeStart, EmptyName}
 use Rattle.am_alert.specs.declared.post.PostFault.{PostFault}
 use Rattle.am_alert.specs.declared.postable.Postable.{Postable}
 use Rattle.am_alert.specs.declared.elements.Element.{Element}
 use Rattle.am_alert.specs.declared.elements.Element.TheVariants.{Valid, Invalid, BadMember, OutOfRange}
-use Rattle.am_alert.specs.Postables.{◌>>=◌, has_value, labels_of, annotations_of, texts_of, given, if_given, time_at, text_at, postable_of}
-use Rattle.am_alert.specs.Posts.{Entries, count, first_given, defaulted, element_of, elements_of, fault_of, in_range, judged, with_end, with_first}
+use Rattle.am_alert.specs.Postables.{◌>>=◌, has_value, labels_of, annotations_of, given, if_given, time_at, text_at, postable_of}
+use Rattle.am_alert.specs.Posts.{Entries, count, first_given, defaulted, element_of, elements_of, fault_of, in_range, with_end, with_first}
 use Rattle.am_alert.specs.Laws.{EachElementCounts, FaultsAreInOrder, ValidAlertsAreWellFormed}
 use Rattle.am_alert.specs.declared.post.Post.{Post}
 use Rattle.am_alert.specs.Posts.{IsArray, IsPostOf}
@@ -32,19 +30,9 @@ abbrev AreValued : List (List ℕ × List ℕ) → Type 0
 AreValued [] = Unit {0}
 AreValued (pair ∷ pairs) = (pair.1 ≢ []) × AreValued pairs
 
-valued : (pair : List ℕ × List ℕ) → has_value pair ≡ true → pair.1 ≢ []
-valued (name, []) h e = cc
-valued (name, c ∷ cs) h e = cc
-
 kept_valued : (pairs : List (List ℕ × List ℕ)) → AreValued (filter has_value pairs)
 kept_valued [] = tt
-kept_valued (pair ∷ pairs) =
-    let case : (b : Bool) → has_value pair ≡ b → AreValued (cond b (pair ∷ filter has_value pairs) (filter has_value pairs)) =
-    λ b. elim b as (λ b. has_value pair ≡ b → AreValued (cond b (pair ∷ filter has_value pairs) (filter has_value pairs))) [
-      | true ↦ λ e. (valued pair e, kept_valued pairs)
-      | false ↦ λ e. kept_valued pairs
-    ]
-    in case (has_value pair) refl
+kept_valued (pair ∷ pairs) = let rest = kept_valued pairs in grind arith
 
 both_valued : (pairs more : List (List ℕ × List ℕ)) → AreValued pairs → AreValued more → AreValued (pairs ++ more)
 both_valued [] more h k = k
@@ -58,13 +46,7 @@ turned_valued (pair ∷ pairs) h =
 -- what is found among them is no empty text
 found_valued : (pairs : List (List ℕ × List ℕ)) (name : List ℕ) → AreValued pairs → find text_cmp name pairs ≢ Some []
 found_valued [] name h = λ e. cc
-found_valued (pair ∷ pairs) name h =
-    let case : (b : Bool) → cond b (Some pair.1) (find text_cmp name pairs) ≢ Some [] =
-    λ b. elim b as (λ b. cond b (Some pair.1) (find text_cmp name pairs) ≢ Some []) [
-      | true ↦ λ e. h.0 (let value : pair.1 ≡ [] = cc in value)
-      | false ↦ found_valued pairs name h.1
-    ]
-    in case _
+found_valued (pair ∷ pairs) name h = let rest = found_valued pairs name in grind arith
 
 pub labels_valued : (pairs : List (List ℕ × List ℕ)) (name : List ℕ) → get (last_holds (filter has_value pairs)) name ≢ Some []
 labels_valued pairs name e =
@@ -91,16 +73,11 @@ labels_part (Some l) None s f g p e = cc
 labels_part (Some l) (Some a) None f g p e = cc
 labels_part (Some l) (Some a) (Some s) None g p e = cc
 labels_part (Some l) (Some a) (Some s) (Some f) None p e = cc
-labels_part (Some l) (Some a) (Some s) (Some f) (Some g) p e =
-    let same : record { labels = l; annotations = a; start = s; end = f; generator = g } ≡ p = cc in
-    ap (λ (q : Postable). Some q.labels) same
+labels_part (Some l) (Some a) (Some s) (Some f) (Some g) p e = grind arith
 
 -- the labels of an element that is read have values
 labels_read : (d : Data) (ls : Labels) → option_and_then labels_of (given (codes "labels") d) ≡ Some ls → (name : List ℕ) → get ls name ≢ Some []
-labels_read d ls e name =
-    let read = bound labels_of (given (codes "labels") d) ls e in
-    let pairs = mapped (λ pairs. last_holds (filter has_value pairs)) (texts_of read.0) ls read.2 in
-    subst (λ (ls : Labels). get ls name ≢ Some []) pairs.2 (labels_valued pairs.0 name)
+labels_read d ls e name = grind (arith, bound, mapped, labels_valued)
 
 postable_valued : (d : Data) (p : Postable) → postable_of d ≡ Some p → (name : List ℕ) → get p.labels name ≢ Some []
 unfolding postable_of
@@ -109,40 +86,13 @@ postable_valued d p e =
     (labels_part (option_and_then labels_of (given (codes "labels") d)) (if_given empty annotations_of (given (codes "annotations") d))
     (time_at (codes "startsAt") d) (time_at (codes "endsAt") d) (text_at (codes "generatorURL") d) p e)
 
-passed : (x y a b : Bool) → cond x (Some NoLabels) (cond y (Some EndBeforeStart) (cond (a || b) (Some EmptyName) None)) ≡ None
-    → (x ≡ false) × (y ≡ false) × (a ≡ false) × (b ≡ false)
-passed true y a b e = cc
-passed false true a b e = cc
-passed false false true b e = cc
-passed false false false true e = cc
-passed false false false false e = (refl, refl, refl, refl)
-
-some_of : (n : ℕ) → nat_eq n 0 ≡ false → 0 < n
-some_of zero e = cc
-some_of (suc n) e = omega arith
-
 -- an alert with no fault has a label, its names, and an end that isn't before its start
 pub no_fault : (alert : Alert) → fault_of alert ≡ None → (values : (n : List ℕ) → get alert.labels n ≢ Some []) → IsWellFormed alert
-no_fault alert none values =
-    let tests = passed (nat_eq (len alert.labels) 0) (nat_lt alert.end alert.start) (contains_key alert.labels []) (contains_key alert.annotations []) none in
-    record {
-      has_label = some_of (len alert.labels) tests.0;
-      has_values = values;
-      has_names = tests.2;
-      has_annotation_names = tests.3;
-      ordered = ltb-false alert.end alert.start tests.1;
-    }
-
-judged_valid : (a alert : Alert) → judged a (fault_of a) ≡ Valid alert → (a ≡ alert) × (fault_of a ≡ None)
-judged_valid a alert = elim (fault_of a) as (λ f. judged a f ≡ Valid alert → (a ≡ alert) × (f ≡ None)) [
-  | None ↦ λ e. (let same : a ≡ alert = cc in same, refl)
-  | Some f ↦ λ e. cc
-]
+no_fault alert none values = grind arith
 
 in_range_valid : (o : Option Alert) (alert : Alert) → in_range o ≡ Valid alert → (o ≡ Some alert) × (fault_of alert ≡ None)
 in_range_valid None alert e = cc
-in_range_valid (Some a) alert e =
-    let j = judged_valid a alert e in (ap Some j.0, subst (λ (b : Alert). fault_of b ≡ None) j.0 j.1)
+in_range_valid (Some a) alert e = grind arith
 
 members_valid : (now timeout : ℕ) (o : Option Postable) (alert : Alert) → element_of now timeout o ≡ Valid alert
     → (p : Postable) × (o ≡ Some p) × (defaulted now timeout p ≡ Some alert) × (fault_of alert ≡ None)
@@ -167,32 +117,13 @@ pub record AreTold (now i : ℕ) (ds : Items) (entries : Entries) : Type 0 where
   pub within : All (λ index. (i ≤ index) × (index < i + count ds)) (indices_of entries.1)
   pub counted : length entries.0 + length entries.1 ≡ count ds
 
-pub rises_more : (i : ℕ) (indices : List ℕ) → Rises indices → All (λ index. i + 1 ≤ index) indices → Rises (i ∷ indices)
-rises_more i indices rising above zero short = let first = above 0 0 (omega arith) in omega arith
-rises_more i indices rising above (suc k) short =
-    let next = rising k (omega arith) in rw (add-one (suc k)) (rw (add-one k) at next)
-
-later_index : (i more : ℕ) (index : ℕ) → (i + 1 ≤ index) × (index < i + 1 + more) → (i ≤ index) × (index < i + (more + 1))
-later_index i more index h = (omega arith, omega arith)
-
 valid_first : (now i : ℕ) (d : Data) (ds : Items) (alert : Alert) (more : Entries) → IsWellFormed alert × (alert.updated ≡ now)
     → AreTold now (i + 1) ds more → AreTold now i (item d ds) (alert ∷ more.0, more.1)
-valid_first now i d ds alert more first told = record {
-  valid = All-cons (λ alert. IsWellFormed alert × (alert.updated ≡ now)) alert more.0 first told.valid;
-  rising = told.rising;
-  within = All-weaker (λ index. (i + 1 ≤ index) × (index < i + 1 + count ds)) (λ index. (i ≤ index) × (index < i + (count ds + 1))) (later_index i (count ds)) (indices_of more.1) told.within;
-  counted = omega (arith, told.counted);
-}
+valid_first now i d ds alert more first told = grind arith
 
 invalid_first : (now i : ℕ) (d : Data) (ds : Items) (fault : AlertFault) (more : Entries)
     → AreTold now (i + 1) ds more → AreTold now i (item d ds) (more.0, (i, fault) ∷ more.1)
-invalid_first now i d ds fault more told = record {
-  valid = told.valid;
-  rising = rises_more i (indices_of more.1) told.rising (All-weaker (λ index. (i + 1 ≤ index) × (index < i + 1 + count ds)) (λ index. i + 1 ≤ index) (λ index h. h.0) (indices_of more.1) told.within);
-  within = All-cons (λ index. (i ≤ index) × (index < i + (count ds + 1))) i (indices_of more.1) (omega arith, omega arith)
-      (All-weaker (λ index. (i + 1 ≤ index) × (index < i + 1 + count ds)) (λ index. (i ≤ index) × (index < i + (count ds + 1))) (later_index i (count ds)) (indices_of more.1) told.within);
-  counted = omega (arith, told.counted);
-}
+invalid_first now i d ds fault more told = grind arith
 
 told_first : (now i : ℕ) (d : Data) (ds : Items) (one : Element) (rest : Result Entries PostFault) (entries : Entries)
     → ((alert : Alert) → one ≡ Valid alert → IsWellFormed alert × (alert.updated ≡ now))
@@ -209,17 +140,8 @@ told_first now i d ds (Invalid fault) (Err f) entries first others e = cc
 told_first now i d ds BadMember rest entries first others e = cc
 told_first now i d ds OutOfRange rest entries first others e = cc
 
-none_told : (now i : ℕ) → AreTold now i no_items ([], [])
-none_told now i = record {
-  valid = All-nil (λ alert. IsWellFormed alert × (alert.updated ≡ now));
-  rising = λ k short. omega arith;
-  within = All-nil (λ index. (i ≤ index) × (index < i + 0));
-  counted = refl;
-}
-
 pub are_told : (now timeout i : ℕ) (ds : Items) (entries : Entries) → elements_of now timeout i ds ≡ Ok entries → AreTold now i ds entries
-are_told now timeout i no_items entries e =
-    let same : ([], []) ≡ entries = cc in subst (AreTold now i no_items) same (none_told now i)
+are_told now timeout i no_items entries e = grind arith
 are_told now timeout i (item d ds) entries e =
     told_first now i d ds (element_of now timeout (postable_of d)) (elements_of now timeout (i + 1) ds) entries
     (λ alert is. well_formed now timeout d alert is) (λ more is. are_told now timeout (i + 1) ds more is) e

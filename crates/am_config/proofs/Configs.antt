@@ -1,5 +1,5 @@
 -- The answers of reading a configuration, by how far it was read.
-use Rattle.std.proofs.Common.{◌≡◌, ◌<◌, ℕ, true, false, List, [], ◌∷◌, length, arith, Option, Some, None, Result, Ok, Err, refl, sym, ap, ◌∙◌}
+use Rattle.std.proofs.Common.{◌≡◌, ◌<◌, ℕ, true, false, List, [], ◌∷◌, length, arith, Option, Some, None, Result, Ok, Err, refl, ap}
 use Rattle.std.specs.Prelude.{ok_or, is_some}
 use Rattle.std.specs.declared.time.Duration.{Duration}
 use Rattle.serde_json.specs.Data.{Data, Members}
@@ -61,8 +61,7 @@ module _ (d : Data) where
 -- bytes that are JSON are some
 some_bytes : (bytes : List ℕ) (d : Data) → read bytes ≡ Some d → 0 < length bytes
 unfolding serde_json_on_literals
-some_bytes [] d e =
-    let none : read [] ≡ None = refl in absurd (let no : None ≡ Some d = sym none ∙ e in cc)
+some_bytes [] d e = grind arith
 some_bytes (b ∷ bytes) d e = omega arith
 
 -- the answer of a value is that of its bytes

@@ -1,5 +1,5 @@
 -- The parts of a duration's text.
-use Rattle.std.proofs.Common.{◌≡◌, ℕ, zero, suc, ◌+◌, ◌-◌, ◌*◌, ◌<◌, ◌≤◌, Bool, true, false, not, cond, ◌&&◌, List, [], ◌∷◌, ◌++◌, length, get_or, take, drop, Option, Some, None, inl, inr, refl, sym, ap, ◌∙◌, subst, append_assoc, one-add, arith, rules}
+use Rattle.std.proofs.Common.{◌≡◌, ℕ, zero, suc, ◌+◌, ◌-◌, ◌*◌, ◌<◌, ◌≤◌, Bool, true, false, cond, ◌&&◌, List, [], ◌∷◌, ◌++◌, length, get_or, take, drop, Option, Some, None, inl, inr, refl, sym, ap, ◌∙◌, subst, append_assoc, one-add, arith, rules}
 use Rattle.std.specs.Prelude.{sum_by, codes, MatchOption}
 use Rattle.std.specs.Option.{SomeIff}
 use Rattle.std.specs.List.{prefix_len, list_all, flat_map}
@@ -70,17 +70,11 @@ unit_of-symbol_of Millisecond = refl
 -- what follows a part is nothing or begins with a digit
 number_begins : (digits rest : List ℕ) → IsNumber digits → begins is_no_digit (digits ++ rest) ≡ false
 number_begins [] rest h = absurd (let no : 0 < 0 = h.0 in omega arith)
-number_begins (d ∷ ds) rest h = first_digit d (list_all is_ascii_digit ds) (is_ascii_digit d) refl h.1
-  where
-    first_digit : (d : ℕ) (more b : Bool) → is_ascii_digit d ≡ b → (b && more) ≡ true → not (is_ascii_digit d) ≡ false
-    first_digit d more true is h = ap not is
-    first_digit d more false is h = (cc)
+number_begins (d ∷ ds) rest h = grind arith
 
 parts_begin : (from : ℕ) (parts : List DurationPart) → AreParts from parts → begins is_no_digit (flat_map written parts) ≡ false
 parts_begin from [] h = refl
-parts_begin from (part ∷ parts) h =
-    ap (begins is_no_digit) (append_assoc part.digits (symbol_of part.unit) (flat_map written parts))
-    ∙ number_begins part.digits (symbol_of part.unit ++ flat_map written parts) h.0
+parts_begin from (part ∷ parts) h = grind (arith, append_assoc, number_begins)
 
 -- a text that begins with a part is cut behind it
 module _ (part : DurationPart) (rest text : List ℕ) (number : IsNumber part.digits) (stop : begins is_no_digit rest ≡ false) (whole : text ≡ written part ++ rest) where
@@ -107,9 +101,7 @@ module _ (part : DurationPart) (rest text : List ℕ) (number : IsNumber part.di
 
 -- the three cuts of a text make it up
 pub cuts_join : (text : List ℕ) → text ≡ digits_of text ++ (symbol_in text ++ rest_of text)
-cuts_join text =
-    sym (ap (λ (behind : List ℕ). digits_of text ++ behind) (take-append-drop (prefix_len is_no_digit (after_digits text)) (after_digits text))
-    ∙ take-append-drop (prefix_len is_ascii_digit text) text)
+cuts_join text = grind (arith, behind, take-append-drop)
 
 -- a number is no greater than one that digits write behind it
 pub behind_number : (n : ℕ) (digits : List ℕ) → n ≤ digits_value_after 10 n digits
@@ -145,32 +137,19 @@ first_part from text (part ∷ parts) are some =
 
 unit_step : (symbol other : List ℕ) (u unit : Unit) (rest : Option Unit) (b : Bool) → same_text symbol other ≡ b → other ≡ symbol_of u
     → (rest ≡ Some unit → symbol ≡ symbol_of unit) → cond b (Some u) rest ≡ Some unit → symbol ≡ symbol_of unit
-unit_step symbol other u unit rest true is spelled later h =
-    let same : u ≡ unit = (cc) in (bytes_eq-Decides symbol other).0 is ∙ (spelled ∙ ap symbol_of same)
+unit_step symbol other u unit rest true is spelled later h = grind (arith, bytes_eq-Decides)
 unit_step symbol other u unit rest false is spelled later h = later h
 
 -- the symbol that a unit is read from is the unit's
 pub symbol_of-unit_of : (symbol : List ℕ) (unit : Unit) → unit_of symbol ≡ Some unit → symbol ≡ symbol_of unit
-symbol_of-unit_of symbol unit is =
-    unit_step symbol (codes "y") Year unit _ _ refl refl (unit_step symbol (codes "w") Week unit _ _ refl refl
-    (unit_step symbol (codes "d") Day unit _ _ refl refl (unit_step symbol (codes "h") Hour unit _ _ refl refl
-    (unit_step symbol (codes "m") Minute unit _ _ refl refl (unit_step symbol (codes "s") Second unit _ _ refl refl
-    (unit_step symbol (codes "ms") Millisecond unit _ _ refl refl (λ h. cc))))))) is
+symbol_of-unit_of symbol unit is = search (rules, unit_step)
 
 -- a text that is cut into a part and more parts has them all
 pub with_first : (from : ℕ) (text : List ℕ) (unit : Unit) (more : List DurationPart)
     → 0 < length (digits_of text) → list_all is_ascii_digit (digits_of text) ≡ true → unit_of (symbol_in text) ≡ Some unit → from ≤ rank_of unit
     → ArePartsOf (rank_of unit + 1) (rest_of text) more
     → ArePartsOf from text (record { digits = digits_of text; unit = unit } ∷ more)
-with_first from text unit more some digits is_unit order later =
-    record {
-      in_order = ((some, digits), order, later.in_order);
-      whole =
-          cuts_join text
-          ∙ (ap (λ (symbol : List ℕ). digits_of text ++ (symbol ++ rest_of text)) (symbol_of-unit_of (symbol_in text) unit is_unit)
-          ∙ (ap (λ (rest : List ℕ). digits_of text ++ (symbol_of unit ++ rest)) later.whole
-          ∙ sym (append_assoc (digits_of text) (symbol_of unit) (flat_map written more))));
-    }
+with_first from text unit more some digits is_unit order later = grind (arith, cuts_join, symbol_of-unit_of, append_assoc)
 
 -- the same, where the unit is known
 pub first_part_at : (from : ℕ) (text : List ℕ) (parts : List DurationPart) (unit : Unit) → unit_of (symbol_in text) ≡ Some unit
@@ -182,10 +161,7 @@ first_part_at from text parts unit is are some =
     (found.1, subst (λ u. IsFirstPart from text parts u found.1) same first)
 
 part_is_some : (from : ℕ) (text : List ℕ) (part : DurationPart) (parts : List DurationPart) → ArePartsOf from text (part ∷ parts) → 0 < length text
-part_is_some from text part parts are =
-    let long = ap length are.whole in
-    let number : 0 < length part.digits = are.in_order.0.0 in
-    omega (arith, long, length-append (written part) (flat_map written parts), length-append part.digits (symbol_of part.unit))
+part_is_some from text part parts are = grind (arith, length-append)
 
 -- the parts of one text have one sum
 pub sums_agree : (from : ℕ) (text : List ℕ) (these those : List DurationPart) → ArePartsOf from text these → ArePartsOf from text those → sum_by worth these ≡ sum_by worth those
@@ -228,29 +204,17 @@ module _ (most from : ℕ) (text : List ℕ) (some : 0 < length text) (parts : L
     out_of_order before = absurd (let order = (first_part_at from text parts unit is_unit are some).1.in_order in omega arith)
 
     pub large_number : most ≤ digits_value 10 (digits_of text) → most ≤ sum_by worth parts
-    large_number large =
-        let sum = (first_part_at from text parts unit is_unit are some).1.sum in
-        let n = digits_value 10 (digits_of text) in
-        let at_least : n ≤ n * milliseconds_of unit = number_le_worth n unit in
-        omega arith
+    large_number large = grind (arith, first_part_at, number_le_worth)
 
     pub large_others : ((more : List DurationPart) → ArePartsOf (rank_of unit + 1) (rest_of text) more → most ≤ sum_by worth more) → most ≤ sum_by worth parts
-    large_others large =
-        let first = first_part_at from text parts unit is_unit are some in
-        let sum = first.1.sum in
-        let others = large first.0 first.1.later in
-        omega arith
+    large_others large = grind (arith, first_part_at)
 
     pub large_worth : most ≤ digits_value 10 (digits_of text) * milliseconds_of unit → most ≤ sum_by worth parts
     large_worth large = let sum = (first_part_at from text parts unit is_unit are some).1.sum in omega arith
 
     pub large_sum : (more : List DurationPart) → ArePartsOf (rank_of unit + 1) (rest_of text) more
         → most ≤ digits_value 10 (digits_of text) * milliseconds_of unit + sum_by worth more → most ≤ sum_by worth parts
-    large_sum more are_more large =
-        let first = first_part_at from text parts unit is_unit are some in
-        let sum = first.1.sum in
-        let same = sums_agree (rank_of unit + 1) (rest_of text) first.0 more first.1.later are_more in
-        omega arith
+    large_sum more are_more large = grind (arith, first_part_at, sums_agree)
 
 -- ---- the number that digits write
 
@@ -265,11 +229,7 @@ digit_at p (x ∷ xs) (suc i) all inside = digit_at p xs i (first_of (grind (ari
 -- a number so far and the next digit are no greater than the whole number
 pub number_so_far : (digits : List ℕ) (n i : ℕ) → i < length digits → digits_value_after 10 n (drop i digits) ≡ digits_value 10 digits
     → n * 10 + digit_value (get_or digits i 0) ≤ digits_value 10 digits
-number_so_far digits n i inside whole =
-    let cut = drop-cons digits i 0 inside in
-    let on = ap (digits_value_after 10 n) (sym cut) ∙ whole in
-    let more = behind_number (n * 10 + digit_value (get_or digits i 0)) (drop (suc i) digits) in
-    omega arith
+number_so_far digits n i inside whole = grind (arith, drop-cons, behind_number)
 
 pub next_digit : (digits : List ℕ) (i : ℕ) → list_all is_ascii_digit digits ≡ true → i < length digits → digit_value (get_or digits i 0) ≡ get_or digits i 0 - 48
 next_digit digits i all inside = digit_value_is (get_or digits i 0) (digit_at is_ascii_digit digits i all inside)

@@ -1,5 +1,5 @@
 -- The elements of an array, as the program holds them.
-use Rattle.std.proofs.Common.{◌≡◌, ℕ, zero, suc, List, [], ◌∷◌, length, get_or, map, refl, sym, ap, ◌∙◌}
+use Rattle.std.proofs.Common.{◌≡◌, ℕ, zero, suc, List, [], ◌∷◌, length, get_or, map, refl, ap, ◌∙◌, arith}
 use Rattle.serde_json.specs.Data.{Data}
 use Rattle.serde_json.specs.View.{view, items_of, items_view}
 use Rattle.serde_json.specs.declared.value.Value.{Value}
@@ -26,6 +26,4 @@ length-elements vs = ap length (elements-items_view vs) ∙ map_length vs
 
 -- the element at an index
 pub element_at : (vs : List Value) (i : ℕ) (v d : Value) → v ≡ get_or vs i d → view v ≡ get_or (elements (items_view vs)) i (view d)
-element_at vs i v d here =
-    ap view here
-    ∙ sym (ap (λ (ds : List Data). get_or ds i (view d)) (elements-items_view vs) ∙ map_get_or vs i d)
+element_at vs i v d here = grind (arith, elements-items_view, map_get_or)

@@ -1,9 +1,9 @@
 -- Readings one after another, and of lists element by element.
-use Rattle.std.proofs.Common.{◌≡◌, ℕ, ◌+◌, ◌<◌, ◌≤◌, length, get_or, drop, add-one, suc, List, [], ◌∷◌, ◌++◌, append_assoc, append-nil, Result, Ok, Err, refl, sym, ap, ◌∙◌, subst}
+use Rattle.std.proofs.Common.{◌≡◌, ℕ, ◌+◌, ◌<◌, ◌≤◌, length, get_or, drop, add-one, List, [], ◌∷◌, ◌++◌, append_assoc, append-nil, Result, Ok, Err, refl, sym, subst, arith}
 use Rattle.std.proofs.Math.Seq.{drop-cons}
 use Rattle.std.proofs.Math.ListN.{drop_of_length-le}
 use Rattle.am_config.specs.Members.{ReadsMember}
-use Rattle.am_config.specs.Readings.{Reading, Is, Then, refused, goes_on, each, AllowsResult}
+use Rattle.am_config.specs.Readings.{Reading, Is, refused, goes_on, each, AllowsResult}
 use Rattle.am_config.specs.declared.fault.ConfigFault.{ConfigFault}
 use Rattle.am_config.specs.declared.fault.ConfigFault.TheVariants.{NoMemory, NoOperator, BadName, BadQuote, BadPattern, NotJson, Missing, Deprecated, RootMatchers, TooDeep, BadDuration, WrongKind}
 
@@ -23,17 +23,6 @@ err_weaker m n TooDeep weaker h = weaker h
 err_weaker m n BadDuration weaker h = weaker h
 err_weaker m n (WrongKind at) weaker h = weaker h
 
--- the first reading is refused
-pub first_refused : {A B : Type 0} (m : Reading A) (k : A → Reading B) (fault : ConfigFault)
-    → AllowsResult m (Err fault) → AllowsResult (Then m k) (Err fault)
-first_refused m k fault h = err_weaker m (Then m k) fault (λ r. refused r) h
-
--- the first reading gave this, and the next one answers
-pub first_read : {A B : Type 0} (m : Reading A) (k : A → Reading B) (x : A) (result : Result B ConfigFault)
-    → m (Ok x) → AllowsResult (k x) result → AllowsResult (Then m k) result
-first_read m k x (Ok y) first h = goes_on first h
-first_read m k x (Err fault) first h = err_weaker (k x) (Then m k) fault (λ r. goes_on first r) h
-
 -- elements that were read before others
 abbrev pub with_front : {A : Type 0} → List A → Result (List A) ConfigFault → Result (List A) ConfigFault
 with_front front (Ok rest) = Ok (front ++ rest)
@@ -45,19 +34,9 @@ pub record IsReadUpTo {X A : Type 0} (reads : ℕ → X → Reading A) (all : Li
 
 -- what is left from an index on is its element and what is left behind it
 drop_at : {X : Type 0} (all : List X) (i : ℕ) (x d : X) → i < length all → x ≡ get_or all i d → drop i all ≡ x ∷ drop (i + 1) all
-drop_at all i x d inside here =
-    drop-cons all i d inside
-    ∙ (ap (λ y. y ∷ drop (suc i) all) (sym here) ∙ ap (λ n. x ∷ drop n all) (sym (add-one i)))
+drop_at all i x d inside here = grind (arith, drop-cons, add-one)
 
 module _ {X A : Type 0} (reads : ℕ → X → Reading A) (all : List X) where
-  none_front : (result : Result (List A) ConfigFault) → with_front [] result ≡ result
-  none_front (Ok xs) = refl
-  none_front (Err fault) = refl
-
-  -- nothing is read yet
-  pub none_read : IsReadUpTo reads all [] 0 all
-  none_read = record { answers = λ result h. subst (each reads 0 all) (sym (none_front result)) h }
-
   later : (front : List A) (a : A) (result : Result (List A) ConfigFault) (i : ℕ) (x : X) (rest : List X)
       → reads i x (Ok a) → IsReadUpTo reads all front i (x ∷ rest)
       → each reads (i + 1) rest result → each reads 0 all (with_front (front ++ a ∷ []) result)
@@ -86,19 +65,13 @@ module _ {X A : Type 0} (reads : ℕ → X → Reading A) (all : List X) where
   pub read_at : (front new : List A) (a : A) (i : ℕ) (x d : X) → i < length all → x ≡ get_or all i d
       → reads i x (Ok a) → new ≡ front ++ a ∷ []
       → IsReadUpTo reads all front i (drop i all) → IsReadUpTo reads all new (i + 1) (drop (i + 1) all)
-  read_at front new a i x d inside here first grown so_far =
-      let cut = drop_at all i x d inside here in
-      subst (λ (list : List A). IsReadUpTo reads all list (i + 1) (drop (i + 1) all)) (sym grown)
-      (one_read front a i x (drop (i + 1) all) first (subst (λ (rest : List X). IsReadUpTo reads all front i rest) cut so_far))
+  read_at front new a i x d inside here first grown so_far = grind (arith, drop_at, one_read)
 
   -- an element is refused, at its index
   pub refused_at : (front : List A) (i : ℕ) (x d : X) (fault : ConfigFault) (result : Result (List A) ConfigFault)
       → i < length all → x ≡ get_or all i d → IsReadUpTo reads all front i (drop i all)
       → AllowsResult (reads i x) (Err fault) → result ≡ Err fault → AllowsResult (each reads 0 all) result
-  refused_at front i x d fault result inside here so_far h told =
-      let cut = drop_at all i x d inside here in
-      subst (λ (r : Result (List A) ConfigFault). AllowsResult (each reads 0 all) r) (sym told)
-      (one_refused front i x (drop (i + 1) all) fault (subst (λ (rest : List X). IsReadUpTo reads all front i rest) cut so_far) h)
+  refused_at front i x d fault result inside here so_far h told = grind (arith, drop_at, one_refused)
 
   -- all elements are read
   pub read_all : (front : List A) (i : ℕ) → length all ≤ i → IsReadUpTo reads all front i (drop i all) → each reads 0 all (Ok front)

@@ -29,31 +29,13 @@ take_last xs x =
 pub source_joins : (entries : SourceEntries) (values : List (List ℕ)) (source : Source) (sources : List Source) → lookup (same_values values) entries ≡ Some sources
     → insert_entry same_values entries values (sources ++ source ∷ []) ≡ with_source values source entries
 source_joins [] values source sources found = absurd (cc)
-source_joins (entry ∷ entries) values source sources found =
-    by_bool {P = insert_entry same_values (entry ∷ entries) values (sources ++ source ∷ []) ≡ with_source values source (entry ∷ entries)} (same_values values entry.0)
-    (λ t.
-    let here : Some entry.1 ≡ Some sources = sym (ap (λ b. cond b (Some entry.1) (lookup (same_values values) entries)) t) ∙ found in
-    let is : sources ≡ entry.1 = (cc) in
-    ap (λ b. cond b ((entry.0, sources ++ source ∷ []) ∷ entries) (entry ∷ insert_entry same_values entries values (sources ++ source ∷ []))) t
-    ∙ (ap (λ l. (entry.0, l ++ source ∷ []) ∷ entries) is
-    ∙ sym (ap (λ b. cond b ((entry.0, entry.1 ++ source ∷ []) ∷ entries) (entry ∷ with_source values source entries)) t)))
-    (λ f.
-    let later : lookup (same_values values) entries ≡ Some sources = sym (ap (λ b. cond b (Some entry.1) (lookup (same_values values) entries)) f) ∙ found in
-    ap (λ b. cond b ((entry.0, sources ++ source ∷ []) ∷ entries) (entry ∷ insert_entry same_values entries values (sources ++ source ∷ []))) f
-    ∙ (ap (λ l. entry ∷ l) (source_joins entries values source sources later)
-    ∙ sym (ap (λ b. cond b ((entry.0, entry.1 ++ source ∷ []) ∷ entries) (entry ∷ with_source values source entries)) f)))
+source_joins (entry ∷ entries) values source sources found = let rest = source_joins entries values source sources in grind arith
 
 -- one whose values aren't there begins them
 pub source_begins : (entries : SourceEntries) (values : List (List ℕ)) (source : Source) → lookup (same_values values) entries ≡ None
     → with_source values source entries ≡ entries ++ (values, source ∷ []) ∷ []
 source_begins [] values source missing = refl
-source_begins (entry ∷ entries) values source missing =
-    by_bool {P = with_source values source (entry ∷ entries) ≡ entry ∷ entries ++ (values, source ∷ []) ∷ []} (same_values values entry.0)
-    (λ t. absurd (let no : Some entry.1 ≡ None = sym (ap (λ b. cond b (Some entry.1) (lookup (same_values values) entries)) t) ∙ missing in (cc)))
-    (λ f.
-    let later : lookup (same_values values) entries ≡ None = sym (ap (λ b. cond b (Some entry.1) (lookup (same_values values) entries)) f) ∙ missing in
-    ap (λ b. cond b ((entry.0, entry.1 ++ source ∷ []) ∷ entries) (entry ∷ with_source values source entries)) f
-    ∙ ap (λ l. entry ∷ l) (source_begins entries values source later))
+source_begins (entry ∷ entries) values source missing = let rest = source_begins entries values source in grind arith
 
 pub written_at : (entries : SourceEntries) (values : List (List ℕ)) (sources : List Source) (at : ℕ) → position (same_values values) (keys_of entries) ≡ Some at → set_value_at entries at sources ≡ insert_entry same_values entries values sources
 written_at entries values sources at found = sym (insert_entry-first same_values values sources entries at (Found-position (same_values values) entries at found).first)
@@ -67,9 +49,7 @@ written_same (entry ∷ entries) (suc at) sources got = ap (λ rest. entry ∷ r
 pub joined_back : (entries : SourceEntries) (at : ℕ) (sources : List Source) (source : Source) → slice_get (values_of entries) at ≡ Some sources
     → left_back at (set_value_at entries at (sources ++ source ∷ [])) ≡ entries
 joined_back [] at sources source got = refl
-joined_back (entry ∷ entries) zero sources source got =
-    let same : sources ≡ entry.1 = (cc) in
-    ap (λ l. (entry.0, l) ∷ entries) (take_last sources source ∙ same)
+joined_back (entry ∷ entries) zero sources source got = grind (arith, take_last)
 joined_back (entry ∷ entries) (suc at) sources source got = ap (λ rest. entry ∷ rest) (joined_back entries at sources source got)
 
 pub last_left_out : (entries : SourceEntries) (at : ℕ) (sources : List Source) → slice_get (values_of entries) at ≡ Some sources
@@ -90,8 +70,7 @@ pub back_one : (changes : List SourceChange) (change : SourceChange) (indexes : 
     → indexes_before changes (set indexes (length changes) (index_before change index)) ≡ indexes_before (changes ++ change ∷ []) indexes
 back_one changes change [] index early is = absurd (omega arith)
 back_one [] change (first ∷ indexes) index early is = ap (λ i. index_before change i ∷ indexes) is
-back_one (one ∷ changes) change (first ∷ indexes) index early is =
-    ap (λ l. index_before one first ∷ l) (back_one changes change indexes index (omega arith) is)
+back_one (one ∷ changes) change (first ∷ indexes) index early is = let rest = back_one changes change indexes index in grind arith
 
 -- one more of a list, as a function leaves it
 pub map_more : {A : Type 0} (f : A → A) (olds now : List A) (at : ℕ) (x : A) → at < length olds → now ≡ map f (take at olds) ++ drop at olds → x ≡ get_or now at x
@@ -114,8 +93,7 @@ pub same_are : (a b : List (List ℕ)) → same_values a b ≡ true → a ≡ b
 same_are a b e = (pointwise_decides (pointwise_decides unsigned_Decides) a b).0 e
 
 pub sources_listed-with : (wanted values : List (List ℕ)) (source : Source) (entries : SourceEntries) → sources_listed wanted (with_source values source entries) ≡ sources_listed wanted entries ++ cond (same_values wanted values) (source ∷ []) []
-sources_listed-with wanted values source [] =
-    elim (same_values wanted values) as (λ b. unwrap_or (cond b (Some (source ∷ [])) None) [] ≡ cond b (source ∷ []) []) [ true ↦ refl | false ↦ refl ]
+sources_listed-with wanted values source [] = grind arith
 sources_listed-with wanted values source (entry ∷ entries) =
     by_bool {P = sources_listed wanted (with_source values source (entry ∷ entries)) ≡ sources_listed wanted (entry ∷ entries) ++ cond (same_values wanted values) (source ∷ []) []} (same_values values entry.0)
     (λ t.
@@ -139,35 +117,21 @@ sources_listed-with wanted values source (entry ∷ entries) =
 
 sources_listed-labels : (rule : InhibitRule) (values : List (List ℕ)) (at : ℕ) (labels : Labels) (entries : SourceEntries)
     → sources_listed values (with_labels rule at labels entries) ≡ sources_listed values entries ++ cond (all_admitted rule.source labels && same_values values (values_for rule.equal labels)) (source_of rule at labels ∷ []) []
-sources_listed-labels rule values at labels entries =
-    let source = source_of rule at labels in
-    let own = values_for rule.equal labels in
-    let more = λ (b : Bool). sources_listed values entries ++ cond (b && same_values values own) (source ∷ []) [] in
-    by_bool {P = sources_listed values (with_labels rule at labels entries) ≡ more (all_admitted rule.source labels)} (all_admitted rule.source labels)
-    (λ t. ap (λ b. sources_listed values (cond b (with_source own source entries) entries)) t ∙ (sources_listed-with values own source entries ∙ ap more (sym t)))
-    (λ f. ap (λ b. sources_listed values (cond b (with_source own source entries) entries)) f ∙ (sym (append-nil (sources_listed values entries)) ∙ ap more (sym f)))
+sources_listed-labels rule values at labels entries = grind (arith, sources_listed-with, append-nil)
 
 sources_from-push : (rule : InhibitRule) (values : List (List ℕ)) (at : ℕ) (sets : List Labels) (labels : Labels)
     → sources_from rule values at (sets ++ labels ∷ []) ≡ sources_from rule values at sets ++ cond (all_admitted rule.source labels && same_values values (values_for rule.equal labels)) (source_of rule (at + length sets) labels ∷ []) []
-sources_from-push rule values at [] labels =
-    let here : at ≡ at + 0 = omega arith in
-    ap (λ n. cond (all_admitted rule.source labels && same_values values (values_for rule.equal labels)) (source_of rule n labels ∷ []) []) here
+sources_from-push rule values at [] labels = grind arith
 sources_from-push rule values at (first ∷ sets) labels =
-    let last = λ (n : ℕ). cond (all_admitted rule.source labels && same_values values (values_for rule.equal labels)) (source_of rule n labels ∷ []) [] in
-    let along : at + 1 + length sets ≡ at + length (first ∷ sets) = omega arith in
-    let rest : sources_from rule values (at + 1) (sets ++ labels ∷ []) ≡ sources_from rule values (at + 1) sets ++ last (at + length (first ∷ sets)) =
-    sources_from-push rule values (at + 1) sets labels ∙ ap (λ n. sources_from rule values (at + 1) sets ++ last n) along in
-    let source = source_of rule at first in
-    elim (all_admitted rule.source first && same_values values (values_for rule.equal first)) as (λ b. cond b (source ∷ sources_from rule values (at + 1) (sets ++ labels ∷ [])) (sources_from rule values (at + 1) (sets ++ labels ∷ [])) ≡ cond b (source ∷ sources_from rule values (at + 1) sets) (sources_from rule values (at + 1) sets) ++ last (at + length (first ∷ sets))) [ true ↦ ap (λ l. source ∷ l) rest | false ↦ rest ]
+    let rest = sources_from-push rule values (at + 1) sets labels in
+    grind arith
 
 -- ---- no values stand twice
 
 none-with : (wanted values : List (List ℕ)) (source : Source) (entries : SourceEntries) → same_values wanted values ≡ false → AllByRecursion (λ other. same_values wanted other ≡ false) (keys_of entries)
     → AllByRecursion (λ other. same_values wanted other ≡ false) (keys_of (with_source values source entries))
 none-with wanted values source [] unlike none = (unlike, tt)
-none-with wanted values source (entry ∷ entries) unlike none =
-    let rest = none-with wanted values source entries unlike none.1 in
-    elim (same_values values entry.0) as (λ b. AllByRecursion (λ other. same_values wanted other ≡ false) (keys_of (cond b ((entry.0, entry.1 ++ source ∷ []) ∷ entries) (entry ∷ with_source values source entries)))) [ true ↦ none | false ↦ (none.0, rest) ]
+none-with wanted values source (entry ∷ entries) unlike none = let rest = none-with wanted values source entries in grind arith
 
 distinct-with : (values : List (List ℕ)) (source : Source) (entries : SourceEntries) → IsDistinct same_values (keys_of entries) → IsDistinct same_values (keys_of (with_source values source entries))
 unfolding IsDistinct
@@ -181,19 +145,7 @@ distinct-with values source (entry ∷ entries) distinct =
 -- ---- one alert more
 
 is_index-with : (sets : List Labels) (labels : Labels) (index : IndexView) → IsSourceIndexOf sets index → IsSourceIndexOf (sets ++ labels ∷ []) (index_with (length sets) labels index)
-is_index-with sets labels index is =
-    let rule = index.rule in
-    let own = values_for rule.equal labels in
-    let source = source_of rule (length sets) labels in (
-      elim (all_admitted rule.source labels) as (λ b. IsDistinct same_values (keys_of (cond b (with_source own source index.entries) index.entries))) [ true ↦ distinct-with own source index.entries is.0 | false ↦ is.0 ],
-      λ values.
-          let last = λ (n : ℕ). cond (all_admitted rule.source labels && same_values values own) (source_of rule n labels ∷ []) [] in
-          let here : length sets ≡ 0 + length sets = omega arith in
-          sources_listed-labels rule values (length sets) labels index.entries
-          ∙ (ap (λ l. l ++ last (length sets)) (is.1 values)
-          ∙ (ap (λ n. sources_from rule values 0 sets ++ last n) here
-          ∙ sym (sources_from-push rule values 0 sets labels))),
-    )
+is_index-with sets labels index is = grind (arith, distinct-with, sources_listed-labels, sources_from-push)
 
 rules_indexed-map : (f : IndexView → IndexView) (indexes : List IndexView) → ((index : IndexView) → (f index).rule ≡ index.rule) → rules_indexed (map f indexes) ≡ rules_indexed indexes
 rules_indexed-map f [] same = refl

@@ -1,5 +1,5 @@
 -- The alerts that are kept after takes and sweeps.
-use Rattle.std.proofs.Common.{◌≡◌, ◌⊎◌, inl, inr, Bool, true, false, not, ◌||◌, cond, List, [], ◌∷◌, ◌++◌, map, filter, fold, Option, Some, None, append_assoc, append-nil, refl, sym, ap, ◌∙◌}
+use Rattle.std.proofs.Common.{◌≡◌, ◌⊎◌, inl, inr, Bool, true, false, not, cond, List, [], ◌∷◌, ◌++◌, map, filter, fold, Option, Some, None, append_assoc, append-nil, refl, sym, ap, ◌∙◌, arith}
 use Rattle.std.proofs.Common.{ℕ}
 use Rattle.std.specs.List.{find}
 use Rattle.std.specs.Option.{option_map, option_and_then}
@@ -29,27 +29,20 @@ next_or_last next last = cond (same_labels last.labels next.labels) next last
 lasting-labels : (events : List InhibitorEvent) (alert last : Alert) → lasting events alert ≡ Some last → last.labels ≡ alert.labels
 lasting-labels [] alert last e = let same : alert ≡ last = (cc) in ap (λ (a : Alert). a.labels) (sym same)
 lasting-labels (Take next ∷ events) alert last e =
-    lasting-labels events (cond (same_labels alert.labels next.labels) next alert) last e
-    ∙ by_bool {P = (cond (same_labels alert.labels next.labels) next alert).labels ≡ alert.labels} (same_labels alert.labels next.labels)
-    (λ t. ap (λ b. (cond b next alert).labels) t ∙ sym ((labels_decide alert.labels next.labels).0 t))
-    (λ f. ap (λ b. (cond b next alert).labels) f)
-lasting-labels (Sweep now ∷ events) alert last e =
-    by_bool {P = last.labels ≡ alert.labels} (is_resolved_at now alert)
-    (λ t. absurd (let no : None ≡ Some last = sym (ap (λ b. cond b None (lasting events alert)) t) ∙ e in (cc)))
-    (λ f. lasting-labels events alert last (sym (ap (λ b. cond b None (lasting events alert)) f) ∙ e))
+    let rest = lasting-labels events (cond (same_labels alert.labels next.labels) next alert) last in
+    grind (arith, labels_decide)
+lasting-labels (Sweep now ∷ events) alert last e = let rest = lasting-labels events alert last in grind arith
 
 lasting-take : (events : List InhibitorEvent) (next alert : Alert) → lasting (events ++ Take next ∷ []) alert ≡ option_map (next_or_last next) (lasting events alert)
 unfolding next_or_last
 lasting-take [] next alert = refl
 lasting-take (Take other ∷ events) next alert = lasting-take events next (cond (same_labels alert.labels other.labels) other alert)
-lasting-take (Sweep now ∷ events) next alert =
-    elim (is_resolved_at now alert) as (λ b. cond b None (lasting (events ++ Take next ∷ []) alert) ≡ option_map (next_or_last next) (cond b None (lasting events alert))) [ true ↦ refl | false ↦ lasting-take events next alert ]
+lasting-take (Sweep now ∷ events) next alert = let rest = lasting-take events next alert in grind arith
 
 lasting-sweep : (events : List InhibitorEvent) (now : ℕ) (alert : Alert) → lasting (events ++ Sweep now ∷ []) alert ≡ option_and_then (unless_resolved now) (lasting events alert)
 lasting-sweep [] now alert = refl
 lasting-sweep (Take other ∷ events) now alert = lasting-sweep events now (cond (same_labels alert.labels other.labels) other alert)
-lasting-sweep (Sweep before ∷ events) now alert =
-    elim (is_resolved_at before alert) as (λ b. cond b None (lasting (events ++ Sweep now ∷ []) alert) ≡ option_and_then (unless_resolved now) (cond b None (lasting events alert))) [ true ↦ refl | false ↦ lasting-sweep events now alert ]
+lasting-sweep (Sweep before ∷ events) now alert = let rest = lasting-sweep events now alert in grind arith
 
 -- ---- what a label set holds
 
@@ -57,57 +50,29 @@ lasting-sweep (Sweep before ∷ events) now alert =
 held_lasting : (labels : Labels) (events : List InhibitorEvent) (alert last : Alert) → alert.labels ≡ labels → lasting events alert ≡ Some last → fold (after_event labels) (Some alert) events ≡ Some last
 held_lasting labels [] alert last own e = e
 held_lasting labels (Take next ∷ events) alert last own e =
-    let after = λ (b : Bool). fold (after_event labels) (cond b (Some next) (Some alert)) events in
-    let first = λ (b : Bool). lasting events (cond b next alert) in
-    let same : same_labels alert.labels next.labels ≡ same_labels labels next.labels = ap (λ l. same_labels l next.labels) own in
-    by_bool {P = after (same_labels labels next.labels) ≡ Some last} (same_labels labels next.labels)
-    (λ t. ap after t ∙ held_lasting labels events next last (sym ((labels_decide labels next.labels).0 t)) (sym (ap first (same ∙ t)) ∙ e))
-    (λ f. ap after f ∙ held_lasting labels events alert last own (sym (ap first (same ∙ f)) ∙ e))
-held_lasting labels (Sweep now ∷ events) alert last own e =
-    by_bool {P = fold (after_event labels) (cond (is_resolved_at now alert) None (Some alert)) events ≡ Some last} (is_resolved_at now alert)
-    (λ t. absurd (let no : None ≡ Some last = sym (ap (λ b. cond b None (lasting events alert)) t) ∙ e in (cc)))
-    (λ f. ap (λ b. fold (after_event labels) (cond b None (Some alert)) events) f ∙ held_lasting labels events alert last own (sym (ap (λ b. cond b None (lasting events alert)) f) ∙ e))
+    let rest = held_lasting labels events next last in
+    let other = held_lasting labels events alert last in
+    grind (arith, labels_decide)
+held_lasting labels (Sweep now ∷ events) alert last own e = let rest = held_lasting labels events alert last in grind arith
 
 -- one whose alert a sweep removed holds what it would hold without it
 held_gone : (labels : Labels) (events : List InhibitorEvent) (alert : Alert) → alert.labels ≡ labels → lasting events alert ≡ None → fold (after_event labels) (Some alert) events ≡ fold (after_event labels) None events
 held_gone labels [] alert own e = absurd (cc)
-held_gone labels (Take next ∷ events) alert own e =
-    let after = λ (held : Option Alert) (b : Bool). fold (after_event labels) (cond b (Some next) held) events in
-    let first = λ (b : Bool). lasting events (cond b next alert) in
-    let same : same_labels alert.labels next.labels ≡ same_labels labels next.labels = ap (λ l. same_labels l next.labels) own in
-    by_bool {P = after (Some alert) (same_labels labels next.labels) ≡ after None (same_labels labels next.labels)} (same_labels labels next.labels)
-    (λ t. ap (after (Some alert)) t ∙ sym (ap (after None) t))
-    (λ f. ap (after (Some alert)) f ∙ (held_gone labels events alert own (sym (ap first (same ∙ f)) ∙ e) ∙ sym (ap (after None) f)))
-held_gone labels (Sweep now ∷ events) alert own e =
-    let after = λ (b : Bool). fold (after_event labels) (cond b None (Some alert)) events in
-    by_bool {P = after (is_resolved_at now alert) ≡ fold (after_event labels) None events} (is_resolved_at now alert)
-    (λ t. ap after t)
-    (λ f. ap after f ∙ held_gone labels events alert own (sym (ap (λ b. cond b None (lasting events alert)) f) ∙ e))
+held_gone labels (Take next ∷ events) alert own e = let rest = held_gone labels events alert in grind arith
+held_gone labels (Sweep now ∷ events) alert own e = let rest = held_gone labels events alert in grind arith
 
 -- without an alert at first it holds nothing, or the same
 held_or : (labels : Labels) (events : List InhibitorEvent) (alert : Alert) → (fold (after_event labels) None events ≡ None) ⊎ (fold (after_event labels) None events ≡ fold (after_event labels) (Some alert) events)
 held_or labels [] alert = inl refl
-held_or labels (Take next ∷ events) alert =
-    let after = λ (held : Option Alert) (b : Bool). fold (after_event labels) (cond b (Some next) held) events in
-    let P = λ (b : Bool). (after None b ≡ None) ⊎ (after None b ≡ after (Some alert) b) in
-    elim (same_labels labels next.labels) as P [ true ↦ inr refl | false ↦ held_or labels events alert ]
-held_or labels (Sweep now ∷ events) alert =
-    let after = λ (b : Bool). fold (after_event labels) (cond b None (Some alert)) events in
-    let none = fold (after_event labels) None events in
-    elim (is_resolved_at now alert) as (λ b. (none ≡ None) ⊎ (none ≡ after b)) [ true ↦ inr refl | false ↦ held_or labels events alert ]
+held_or labels (Take next ∷ events) alert = let rest = held_or labels events alert in grind arith
+held_or labels (Sweep now ∷ events) alert = let rest = held_or labels events alert in grind arith
 
 -- what is left without another label set has the same alert of this one
 alert_of-without : (labels other : Labels) (alerts : List Alert) → same_labels other labels ≡ false → alert_of labels (without other alerts) ≡ alert_of labels alerts
 alert_of-without labels other [] unlike = refl
 alert_of-without labels other (alert ∷ alerts) unlike =
-    let rest = alert_of-without labels other alerts unlike in
-    let left = λ (b : Bool). alert_of labels (cond (not b) (alert ∷ without other alerts) (without other alerts)) in
-    let found = λ (b : Bool). cond b (Some alert) (alert_of labels alerts) in
-    by_bool {P = left (same_labels other alert.labels) ≡ found (same_labels labels alert.labels)} (same_labels other alert.labels)
-    (λ t.
-    let apart : same_labels labels alert.labels ≡ false = same_turned labels alert.labels ∙ (sym (same_along other alert.labels labels t) ∙ unlike) in
-    ap left t ∙ (rest ∙ sym (ap found apart)))
-    (λ f. ap left f ∙ ap (cond (same_labels labels alert.labels) (Some alert)) rest)
+    let rest = alert_of-without labels other alerts in
+    grind (arith, same_turned, same_along)
 
 -- the alert kept of a label set is what it holds
 pub kept_is_held : (labels : Labels) (events : List InhibitorEvent) → alert_of labels (kept_alerts events) ≡ held_after labels events
@@ -148,38 +113,13 @@ kept_apart (Take alert ∷ events) =
 
 without-same : (next : Alert) (alerts : List Alert) → without next.labels (set_last next alerts) ≡ without next.labels alerts
 without-same next [] = ap (λ b. cond (not b) (next ∷ []) []) (labels_equiv.refl next.labels)
-without-same next (old ∷ olds) =
-    let set = λ (b : Bool). cond b (next ∷ olds) (old ∷ set_last next olds) in
-    let left = λ (b : Bool). cond (not b) (old ∷ without next.labels olds) (without next.labels olds) in
-    by_bool {P = without next.labels (set (same_labels next.labels old.labels)) ≡ left (same_labels next.labels old.labels)} (same_labels next.labels old.labels)
-    (λ t.
-    ap (λ b. without next.labels (set b)) t
-    ∙ (ap (λ b. cond (not b) (next ∷ without next.labels olds) (without next.labels olds)) (labels_equiv.refl next.labels)
-    ∙ sym (ap left t)))
-    (λ f.
-    ap (λ b. without next.labels (set b)) f
-    ∙ (ap (λ b. cond (not b) (old ∷ without next.labels (set_last next olds)) (without next.labels (set_last next olds))) f
-    ∙ (ap (λ l. old ∷ l) (without-same next olds) ∙ sym (ap left f))))
+without-same next (old ∷ olds) = let rest = without-same next olds in grind (arith, set_last, labels_equiv)
 
 without-other : (labels : Labels) (next : Alert) (alerts : List Alert) → same_labels labels next.labels ≡ false → without labels (set_last next alerts) ≡ set_last next (without labels alerts)
 without-other labels next [] unlike = ap (λ b. cond (not b) (next ∷ []) []) unlike
 without-other labels next (old ∷ olds) unlike =
-    let rest = without-other labels next olds unlike in
-    let set = λ (b : Bool). cond b (next ∷ olds) (old ∷ set_last next olds) in
-    let left = λ (b : Bool). set_last next (cond (not b) (old ∷ without labels olds) (without labels olds)) in
-    let put = λ (b : Bool). cond b (next ∷ without labels olds) (old ∷ set_last next (without labels olds)) in
-    let more = λ (b : Bool). cond (not b) (old ∷ without labels (set_last next olds)) (without labels (set_last next olds)) in
-    by_bool {P = without labels (set (same_labels next.labels old.labels)) ≡ left (same_labels labels old.labels)} (same_labels next.labels old.labels)
-    (λ t.
-    let away : same_labels labels old.labels ≡ false = ap (same_labels labels) (sym ((labels_decide next.labels old.labels).0 t)) ∙ unlike in
-    ap (λ b. without labels (set b)) t
-    ∙ (ap (λ b. cond (not b) (next ∷ without labels olds) (without labels olds)) unlike
-    ∙ sym (ap left away ∙ ap put t)))
-    (λ f.
-    ap (λ b. without labels (set b)) f
-    ∙ by_bool {P = more (same_labels labels old.labels) ≡ left (same_labels labels old.labels)} (same_labels labels old.labels)
-    (λ here. ap more here ∙ (rest ∙ sym (ap left here)))
-    (λ away. ap more away ∙ (ap (λ l. old ∷ l) rest ∙ sym (ap left away ∙ ap put f))))
+    let rest = without-other labels next olds in
+    grind (arith, set_last, labels_decide)
 
 pub kept-take : (events : List InhibitorEvent) (next : Alert) → kept_alerts (events ++ Take next ∷ []) ≡ set_last next (kept_alerts events)
 unfolding next_or_last
@@ -208,60 +148,25 @@ kept-take (Take alert ∷ events) next =
     ∙ sym (ap goal_of lasts))))
 
 pub kept_goes_on : (events : List InhibitorEvent) (next : Alert) → kept_alerts (events ++ Take next ∷ []) ≡ last_alerts (kept_alerts events ++ next ∷ [])
-kept_goes_on events next =
-    kept-take events next
-    ∙ sym (last_alerts-push (kept_alerts events) next ∙ ap (set_last next) (last_alerts-apart (kept_alerts events) (kept_apart events)))
+kept_goes_on events next = grind (arith, kept-take, last_alerts-push, set_last, last_alerts-apart, kept_apart)
 
 -- ---- one sweep more
 
 pub filters_commute : {X : Type 0} (one other : X → Bool) (xs : List X) → filter one (filter other xs) ≡ filter other (filter one xs)
 filters_commute one other [] = refl
-filters_commute one other (x ∷ xs) =
-    let rest = filters_commute one other xs in
-    let first = λ (b : Bool). filter one (cond b (x ∷ filter other xs) (filter other xs)) in
-    let second = λ (b : Bool). filter other (cond b (x ∷ filter one xs) (filter one xs)) in
-    by_bool {P = first (other x) ≡ second (one x)} (one x)
-    (λ t.
-    by_bool {P = first (other x) ≡ second (one x)} (other x)
-    (λ u.
-    ap first u ∙ (ap (λ b. cond b (x ∷ filter one (filter other xs)) (filter one (filter other xs))) t
-    ∙ (ap (λ l. x ∷ l) rest
-    ∙ sym (ap second t ∙ ap (λ b. cond b (x ∷ filter other (filter one xs)) (filter other (filter one xs))) u))))
-    (λ f. ap first f ∙ (rest ∙ sym (ap second t ∙ ap (λ b. cond b (x ∷ filter other (filter one xs)) (filter other (filter one xs))) f))))
-    (λ g.
-    by_bool {P = first (other x) ≡ second (one x)} (other x)
-    (λ u. ap first u ∙ (ap (λ b. cond b (x ∷ filter one (filter other xs)) (filter one (filter other xs))) g ∙ (rest ∙ sym (ap second g))))
-    (λ f. ap first f ∙ (rest ∙ sym (ap second g))))
+filters_commute one other (x ∷ xs) = let rest = filters_commute one other xs in grind arith
 
 without-none : (labels : Labels) (alerts : List Alert) → has labels alerts ≡ false → without labels alerts ≡ alerts
 without-none labels [] none = refl
-without-none labels (alert ∷ alerts) none =
-    by_bool {P = without labels (alert ∷ alerts) ≡ alert ∷ alerts} (same_labels labels alert.labels)
-    (λ t. absurd (let no : true ≡ false = sym (ap (λ b. b || has labels alerts) t) ∙ none in (cc)))
-    (λ f.
-    ap (λ b. cond (not b) (alert ∷ without labels alerts) (without labels alerts)) f
-    ∙ ap (λ l. alert ∷ l) (without-none labels alerts (sym (ap (λ b. b || has labels alerts) f) ∙ none)))
+without-none labels (alert ∷ alerts) none = let rest = without-none labels alerts in grind arith
 
 -- a label set whose alert is resolved has nothing more to lose
 resolved_gone : (now : ℕ) (last : Alert) (alerts : List Alert) → AreApart alerts → is_resolved_at now last ≡ true → (alert_of last.labels alerts ≡ None) ⊎ (alert_of last.labels alerts ≡ Some last)
     → unresolved now alerts ≡ unresolved now (without last.labels alerts)
 resolved_gone now last [] apart ended found = refl
 resolved_gone now last (alert ∷ alerts) apart ended found =
-    let left = λ (b : Bool). unresolved now (cond (not b) (alert ∷ without last.labels alerts) (without last.labels alerts)) in
-    let kept = λ (b : Bool). cond (not b) (alert ∷ unresolved now alerts) (unresolved now alerts) in
-    let first = λ (b : Bool). cond b (Some alert) (alert_of last.labels alerts) in
-    by_bool {P = kept (is_resolved_at now alert) ≡ left (same_labels last.labels alert.labels)} (same_labels last.labels alert.labels)
-    (λ t.
-    let own : last.labels ≡ alert.labels = (labels_decide last.labels alert.labels).0 t in
-    let none : has last.labels alerts ≡ false = ap (λ l. has l alerts) own ∙ apart.0 in
-    let gone : is_resolved_at now alert ≡ true = elim found [
-      | inl missing ↦ absurd (let e : Some alert ≡ None = sym (ap first t) ∙ missing in (cc))
-      | inr there ↦ (let e : Some alert ≡ Some last = sym (ap first t) ∙ there in let same : alert ≡ last = (cc) in ap (is_resolved_at now) same ∙ ended)
-    ] in
-    ap kept gone ∙ sym (ap left t ∙ ap (unresolved now) (without-none last.labels alerts none)))
-    (λ f.
-    let rest = resolved_gone now last alerts apart.1 ended (elim found [ inl missing ↦ inl (sym (ap first f) ∙ missing) | inr there ↦ inr (sym (ap first f) ∙ there) ]) in
-    ap (λ l. cond (not (is_resolved_at now alert)) (alert ∷ l) l) rest ∙ sym (ap left f))
+    let rest = resolved_gone now last alerts in
+    grind (arith, labels_decide, has, without-none)
 
 pub kept-sweep : (events : List InhibitorEvent) (now : ℕ) → kept_alerts (events ++ Sweep now ∷ []) ≡ unresolved now (kept_alerts events)
 kept-sweep [] now = refl
@@ -298,11 +203,8 @@ kept-sweep (Take alert ∷ events) now =
 taken_last : (done rest : List Alert) → kept_alerts (map Take done) ≡ last_alerts done → kept_alerts (map Take (done ++ rest)) ≡ last_alerts (done ++ rest)
 taken_last done [] e = ap (λ l. kept_alerts (map Take l)) (append-nil done) ∙ (e ∙ ap last_alerts (sym (append-nil done)))
 taken_last done (next ∷ rest) e =
-    let along : done ++ next ∷ rest ≡ (done ++ next ∷ []) ++ rest = sym (append_assoc done (next ∷ []) rest) in
-    let more : kept_alerts (map Take (done ++ next ∷ [])) ≡ last_alerts (done ++ next ∷ []) =
-    ap kept_alerts (map_more Take done next)
-    ∙ (kept-take (map Take done) next ∙ (ap (set_last next) e ∙ sym (last_alerts-push done next))) in
-    ap (λ l. kept_alerts (map Take l)) along ∙ (taken_last (done ++ next ∷ []) rest more ∙ ap last_alerts (sym along))
+    let other = taken_last (done ++ next ∷ []) rest in
+    grind (arith, append_assoc, map_more, kept-take, set_last, last_alerts-push)
 
 pub kept_without_sweeps : (given : List Alert) → kept_alerts (map Take given) ≡ last_alerts given
 kept_without_sweeps given = taken_last [] given refl

@@ -1,5 +1,5 @@
 -- The last alerts, as a list that alerts are put into, one after another.
-use Rattle.std.proofs.Common.{◌≡◌, Bool, true, false, not, ◌||◌, cond, List, [], ◌∷◌, ◌++◌, map, filter, append_assoc, append-nil, refl, sym, ap, subst, ◌∙◌}
+use Rattle.std.proofs.Common.{◌≡◌, Bool, true, false, not, ◌||◌, cond, List, [], ◌∷◌, ◌++◌, map, filter, append_assoc, append-nil, refl, sym, ap, ◌∙◌, arith}
 use Rattle.std.specs.List.{list_any, IsDistinct, AllByRecursion}
 use Rattle.std.proofs.lemmas.List.Elements.{filter-append}
 use Rattle.am_labels.specs.LabelSets.{Labels, same_labels}
@@ -33,50 +33,30 @@ same_along a b c e = ap (λ l. same_labels l c) ((labels_decide a b).0 e)
 pub last_of-labels : (alerts : List Alert) (alert : Alert) → (last_of alerts alert).labels ≡ alert.labels
 last_of-labels [] alert = refl
 last_of-labels (next ∷ alerts) alert =
-    last_of-labels alerts (cond (same_labels alert.labels next.labels) next alert)
-    ∙ by_bool {P = (cond (same_labels alert.labels next.labels) next alert).labels ≡ alert.labels} (same_labels alert.labels next.labels)
-    (λ t. ap (λ b. (cond b next alert).labels) t ∙ sym ((labels_decide alert.labels next.labels).0 t))
-    (λ f. ap (λ b. (cond b next alert).labels) f)
+    let rest = last_of-labels alerts (cond (same_labels alert.labels next.labels) next alert) in
+    grind (arith, labels_decide)
 
 last_of_more : (alerts : List Alert) (next alert : Alert) → last_of (alerts ++ next ∷ []) alert ≡ cond (same_labels (last_of alerts alert).labels next.labels) next (last_of alerts alert)
 last_of_more [] next alert = refl
 last_of_more (other ∷ alerts) next alert = last_of_more alerts next (cond (same_labels alert.labels other.labels) other alert)
 
 pub last_of-push : (alerts : List Alert) (next alert : Alert) → last_of (alerts ++ next ∷ []) alert ≡ cond (same_labels next.labels alert.labels) next (last_of alerts alert)
-last_of-push alerts next alert =
-    last_of_more alerts next alert
-    ∙ (ap (λ l. cond (same_labels l next.labels) next (last_of alerts alert)) (last_of-labels alerts alert)
-    ∙ ap (λ b. cond b next (last_of alerts alert)) (same_turned alert.labels next.labels))
+last_of-push alerts next alert = grind (arith, last_of_more, last_of-labels, same_turned)
 
 -- ---- the first alerts
 
 pub has_no_sources : (labels : Labels) (alerts : List Alert) → has labels (filter (λ other. not (same_labels labels other.labels)) alerts) ≡ false
 has_no_sources labels [] = refl
-has_no_sources labels (alert ∷ alerts) =
-    by_bool {P = has labels (filter (λ other. not (same_labels labels other.labels)) (alert ∷ alerts)) ≡ false} (same_labels labels alert.labels)
-    (λ t. ap (λ b. has labels (cond (not b) (alert ∷ filter (λ other. not (same_labels labels other.labels)) alerts) (filter (λ other. not (same_labels labels other.labels)) alerts))) t ∙ has_no_sources labels alerts)
-    (λ f. ap (λ b. has labels (cond (not b) (alert ∷ filter (λ other. not (same_labels labels other.labels)) alerts) (filter (λ other. not (same_labels labels other.labels)) alerts))) f
-    ∙ (ap (λ b. b || has labels (filter (λ other. not (same_labels labels other.labels)) alerts)) f ∙ has_no_sources labels alerts))
+has_no_sources labels (alert ∷ alerts) = let rest = has_no_sources labels alerts in grind arith
 
 -- what a test leaves has no alert that wasn't there
 has_less : (labels : Labels) (test : Alert → Bool) (alerts : List Alert) → has labels alerts ≡ false → has labels (filter test alerts) ≡ false
 has_less labels test [] none = refl
-has_less labels test (alert ∷ alerts) none =
-    by_bool {P = has labels (filter test (alert ∷ alerts)) ≡ false} (same_labels labels alert.labels)
-    (λ t. absurd (let no : true ≡ false = sym (ap (λ b. b || has labels alerts) t) ∙ none in (cc)))
-    (λ f.
-    let rest : has labels alerts ≡ false = sym (ap (λ b. b || has labels alerts) f) ∙ none in
-    let left = has_less labels test alerts rest in
-    by_bool {P = has labels (filter test (alert ∷ alerts)) ≡ false} (test alert)
-    (λ yes. ap (λ b. has labels (cond b (alert ∷ filter test alerts) (filter test alerts))) yes ∙ (ap (λ b. b || has labels (filter test alerts)) f ∙ left))
-    (λ no. ap (λ b. has labels (cond b (alert ∷ filter test alerts) (filter test alerts))) no ∙ left))
+has_less labels test (alert ∷ alerts) none = let rest = has_less labels test alerts in grind arith
 
 pub apart_less : (test : Alert → Bool) (alerts : List Alert) → AreApart alerts → AreApart (filter test alerts)
 apart_less test [] apart = tt
-apart_less test (alert ∷ alerts) apart =
-    by_bool {P = AreApart (filter test (alert ∷ alerts))} (test alert)
-    (λ yes. subst (λ b. AreApart (cond b (alert ∷ filter test alerts) (filter test alerts))) (sym yes) (has_less alert.labels test alerts apart.0, apart_less test alerts apart.1))
-    (λ no. subst (λ b. AreApart (cond b (alert ∷ filter test alerts) (filter test alerts))) (sym no) (apart_less test alerts apart.1))
+apart_less test (alert ∷ alerts) apart = let rest = apart_less test alerts in grind (arith, has_less)
 
 pub first_alerts_apart : (alerts : List Alert) → AreApart (first_alerts alerts)
 first_alerts_apart [] = tt
@@ -87,15 +67,8 @@ first_alerts_apart (alert ∷ alerts) =
 has_still : (labels other : Labels) (alerts : List Alert) → same_labels other labels ≡ false → has labels (filter (λ alert. not (same_labels other alert.labels)) alerts) ≡ has labels alerts
 has_still labels other [] unlike = refl
 has_still labels other (alert ∷ alerts) unlike =
-    let rest = filter (λ alert. not (same_labels other alert.labels)) alerts in
-    by_bool {P = has labels (filter (λ alert. not (same_labels other alert.labels)) (alert ∷ alerts)) ≡ has labels (alert ∷ alerts)} (same_labels other alert.labels)
-    (λ t.
-    let apart : same_labels labels alert.labels ≡ false = same_turned labels alert.labels ∙ (sym (same_along other alert.labels labels t) ∙ unlike) in
-    ap (λ b. has labels (cond (not b) (alert ∷ rest) rest)) t
-    ∙ (has_still labels other alerts unlike ∙ sym (ap (λ b. b || has labels alerts) apart)))
-    (λ f.
-    ap (λ b. has labels (cond (not b) (alert ∷ rest) rest)) f
-    ∙ ap (λ b. same_labels labels alert.labels || b) (has_still labels other alerts unlike))
+    let rest = has_still labels other alerts in
+    grind (arith, same_turned, same_along)
 
 pub first_alerts-push : (alerts : List Alert) (next : Alert) → first_alerts (alerts ++ next ∷ []) ≡ cond (has next.labels (first_alerts alerts)) (first_alerts alerts) (first_alerts alerts ++ next ∷ [])
 first_alerts-push [] next = refl
@@ -130,45 +103,21 @@ next_or next one alert = cond (same_labels next.labels alert.labels) next (one a
 untouched : (next : Alert) (one : Alert → Alert) (alerts : List Alert) → has next.labels alerts ≡ false → map (next_or next one) alerts ≡ map one alerts
 unfolding next_or
 untouched next one [] none = refl
-untouched next one (alert ∷ alerts) none =
-    by_bool {P = map (next_or next one) (alert ∷ alerts) ≡ map one (alert ∷ alerts)} (same_labels next.labels alert.labels)
-    (λ t. absurd (let no : true ≡ false = sym (ap (λ b. b || has next.labels alerts) t) ∙ none in (cc)))
-    (λ f.
-    let rest : has next.labels alerts ≡ false = sym (ap (λ b. b || has next.labels alerts) f) ∙ none in
-    ap (λ b. cond b next (one alert) ∷ map (next_or next one) alerts) f ∙ ap (λ l. one alert ∷ l) (untouched next one alerts rest))
+untouched next one (alert ∷ alerts) none = let rest = untouched next one alerts in grind arith
 
 set_in : (next : Alert) (one : Alert → Alert) (alerts : List Alert) → Keeps one → AreApart alerts → has next.labels alerts ≡ true → map (next_or next one) alerts ≡ set_last next (map one alerts)
 unfolding next_or
 set_in next one [] keeps apart there = absurd (let no : false ≡ true = there in (cc))
-set_in next one (alert ∷ alerts) keeps apart there =
-    let test : same_labels next.labels (one alert).labels ≡ same_labels next.labels alert.labels = ap (same_labels next.labels) (keeps.labels alert) in
-    by_bool {P = map (next_or next one) (alert ∷ alerts) ≡ set_last next (map one (alert ∷ alerts))} (same_labels next.labels alert.labels)
-    (λ t.
-    let none : has next.labels alerts ≡ false = ap (λ l. has l alerts) ((labels_decide next.labels alert.labels).0 t) ∙ apart.0 in
-    ap (λ b. cond b next (one alert) ∷ map (next_or next one) alerts) t
-    ∙ (ap (λ l. next ∷ l) (untouched next one alerts none)
-    ∙ sym (ap (λ b. cond b (next ∷ map one alerts) (one alert ∷ set_last next (map one alerts))) (test ∙ t))))
-    (λ f.
-    let rest : has next.labels alerts ≡ true = sym (ap (λ b. b || has next.labels alerts) f) ∙ there in
-    ap (λ b. cond b next (one alert) ∷ map (next_or next one) alerts) f
-    ∙ (ap (λ l. one alert ∷ l) (set_in next one alerts keeps apart.1 rest)
-    ∙ sym (ap (λ b. cond b (next ∷ map one alerts) (one alert ∷ set_last next (map one alerts))) (test ∙ f))))
+set_in next one (alert ∷ alerts) keeps apart there = let rest = set_in next one alerts in grind (arith, labels_decide, untouched)
 
 -- a new label set's alert stands last
 pub set_last-new : (next : Alert) (alerts : List Alert) → has next.labels alerts ≡ false → set_last next alerts ≡ alerts ++ next ∷ []
 set_last-new next [] none = refl
-set_last-new next (alert ∷ alerts) none =
-    by_bool {P = set_last next (alert ∷ alerts) ≡ alert ∷ alerts ++ next ∷ []} (same_labels next.labels alert.labels)
-    (λ t. absurd (let no : true ≡ false = sym (ap (λ b. b || has next.labels alerts) t) ∙ none in (cc)))
-    (λ f.
-    let rest : has next.labels alerts ≡ false = sym (ap (λ b. b || has next.labels alerts) f) ∙ none in
-    ap (λ b. cond b (next ∷ alerts) (alert ∷ set_last next alerts)) f ∙ ap (λ l. alert ∷ l) (set_last-new next alerts rest))
+set_last-new next (alert ∷ alerts) none = let rest = set_last-new next alerts in grind arith
 
 has_kept : (labels : Labels) (one : Alert → Alert) (alerts : List Alert) → Keeps one → has labels (map one alerts) ≡ has labels alerts
 has_kept labels one [] keeps = refl
-has_kept labels one (alert ∷ alerts) keeps =
-    ap (λ l. same_labels labels l || has labels (map one alerts)) (keeps.labels alert)
-    ∙ ap (λ b. same_labels labels alert.labels || b) (has_kept labels one alerts keeps)
+has_kept labels one (alert ∷ alerts) keeps = let rest = has_kept labels one alerts in grind arith
 
 pub map_more : {A B : Type 0} (f : A → B) (xs : List A) (x : A) → map f (xs ++ x ∷ []) ≡ map f xs ++ f x ∷ []
 map_more f [] x = refl
@@ -181,22 +130,10 @@ map_same f g (x ∷ xs) e = ap (λ y. y ∷ map f xs) (e x) ∙ ap (λ l. g x �
 pub last_alerts-push : (alerts : List Alert) (next : Alert) → last_alerts (alerts ++ next ∷ []) ≡ set_last next (last_alerts alerts)
 unfolding next_or
 last_alerts-push alerts next =
-    let firsts = first_alerts alerts in
-    let one = last_of alerts in
-    let keeps : Keeps one = record { labels = last_of-labels alerts } in
-    let each : map (last_of (alerts ++ next ∷ [])) (first_alerts (alerts ++ next ∷ [])) ≡ map (next_or next one) (first_alerts (alerts ++ next ∷ [])) =
-    map_same (last_of (alerts ++ next ∷ [])) (next_or next one) (first_alerts (alerts ++ next ∷ [])) (last_of-push alerts next) in
-    each
-    ∙ (ap (map (next_or next one)) (first_alerts-push alerts next)
-    ∙ by_bool {P = map (next_or next one) (cond (has next.labels firsts) firsts (firsts ++ next ∷ [])) ≡ set_last next (map one firsts)} (has next.labels firsts)
-    (λ t. ap (λ b. map (next_or next one) (cond b firsts (firsts ++ next ∷ []))) t ∙ set_in next one firsts keeps (first_alerts_apart alerts) t)
-    (λ f.
-    let own : next_or next one next ≡ next = ap (λ b. cond b next (one next)) (labels_equiv.refl next.labels) in
-    ap (λ b. map (next_or next one) (cond b firsts (firsts ++ next ∷ []))) f
-    ∙ (map_more (next_or next one) firsts next
-    ∙ (ap (λ l. l ++ next_or next one next ∷ []) (untouched next one firsts f)
-    ∙ (ap (λ a. map one firsts ++ a ∷ []) own
-    ∙ sym (set_last-new next (map one firsts) (has_kept next.labels one firsts keeps ∙ f)))))))
+    let keeps : Keeps (last_of alerts) = record { labels = last_of-labels alerts } in
+    let each : map (last_of (alerts ++ next ∷ [])) (first_alerts (alerts ++ next ∷ [])) ≡ map (next_or next (last_of alerts)) (first_alerts (alerts ++ next ∷ [])) =
+    map_same (last_of (alerts ++ next ∷ [])) (next_or next (last_of alerts)) (first_alerts (alerts ++ next ∷ [])) (last_of-push alerts next) in
+    grind (arith, first_alerts-push, set_in, first_alerts_apart, labels_equiv, map_more, untouched, set_last-new, has_kept)
 
 -- ---- alerts of which no two are of one label set
 
@@ -220,20 +157,15 @@ apart_at (alert ∷ before) next rest apart =
 all_last : (done rest : List Alert) → AreApart (done ++ rest) → last_alerts done ≡ done → last_alerts (done ++ rest) ≡ done ++ rest
 all_last done [] apart e = ap last_alerts (append-nil done) ∙ (e ∙ sym (append-nil done))
 all_last done (next ∷ rest) apart e =
-    let along : done ++ next ∷ rest ≡ (done ++ next ∷ []) ++ rest = sym (append_assoc done (next ∷ []) rest) in
-    let more : last_alerts (done ++ next ∷ []) ≡ done ++ next ∷ [] =
-    last_alerts-push done next ∙ (ap (set_last next) e ∙ set_last-new next done (apart_at done next rest apart)) in
-    ap last_alerts along ∙ (all_last (done ++ next ∷ []) rest (subst AreApart along apart) more ∙ sym along)
+    let other = all_last (done ++ next ∷ []) rest in
+    grind (arith, append_assoc, last_alerts-push, set_last-new, apart_at)
 
 pub last_alerts-apart : (alerts : List Alert) → AreApart alerts → last_alerts alerts ≡ alerts
 last_alerts-apart alerts apart = all_last [] alerts apart refl
 
 apart_kept : (one : Alert → Alert) (alerts : List Alert) → Keeps one → AreApart alerts → AreApart (map one alerts)
 apart_kept one [] keeps apart = tt
-apart_kept one (alert ∷ alerts) keeps apart = (
-  ap (λ l. has l (map one alerts)) (keeps.labels alert) ∙ (has_kept alert.labels one alerts keeps ∙ apart.0),
-  apart_kept one alerts keeps apart.1,
-)
+apart_kept one (alert ∷ alerts) keeps apart = let rest = apart_kept one alerts in grind (arith, has_kept)
 
 pub last_alerts_apart : (alerts : List Alert) → AreApart (last_alerts alerts)
 last_alerts_apart alerts = apart_kept (last_of alerts) (first_alerts alerts) (record { labels = last_of-labels alerts }) (first_alerts_apart alerts)
@@ -254,9 +186,4 @@ apart_distinct (alert ∷ alerts) distinct = (none_of alert.labels alerts distin
 -- the label sets stay where an alert is put in the place of its label set's
 pub label_sets-set_last : (next : Alert) (alerts : List Alert) → has next.labels alerts ≡ true → label_sets (set_last next alerts) ≡ label_sets alerts
 label_sets-set_last next [] there = absurd (let no : false ≡ true = there in (cc))
-label_sets-set_last next (alert ∷ alerts) there =
-    by_bool {P = label_sets (set_last next (alert ∷ alerts)) ≡ label_sets (alert ∷ alerts)} (same_labels next.labels alert.labels)
-    (λ t. ap (λ b. label_sets (cond b (next ∷ alerts) (alert ∷ set_last next alerts))) t ∙ ap (λ l. l ∷ label_sets alerts) ((labels_decide next.labels alert.labels).0 t))
-    (λ f.
-    let rest : has next.labels alerts ≡ true = sym (ap (λ b. b || has next.labels alerts) f) ∙ there in
-    ap (λ b. label_sets (cond b (next ∷ alerts) (alert ∷ set_last next alerts))) f ∙ ap (λ l. alert.labels ∷ l) (label_sets-set_last next alerts rest))
+label_sets-set_last next (alert ∷ alerts) there = let rest = label_sets-set_last next alerts in grind (arith, labels_decide)

@@ -1,12 +1,10 @@
 -- The leading sources that match the target side too: how many there are as sources come and go, and that they
 -- mute no target that is on both sides.
-use Rattle.std.proofs.Common.{◌≡◌, ◌≢◌, ℕ, zero, suc, ◌+◌, min, Bool, true, false, not, ◌&&◌, cond, List, [], ◌∷◌, ◌++◌, length, take, drop, refl, sym, ap, ◌∙◌, arith}
-use Rattle.std.specs.List.{find, slice_get}
-use Rattle.std.specs.Option.{option_map_or}
+use Rattle.std.proofs.Common.{◌≡◌, ◌≢◌, ℕ, zero, suc, ◌+◌, min, Bool, true, false, cond, List, [], ◌∷◌, ◌++◌, length, take, drop, refl, sym, ap, ◌∙◌, arith}
+use Rattle.std.specs.List.{find}
 use Rattle.std.proofs.lemmas.Bool.{eq-eqb, ne_eqb}
 use Rattle.std.proofs.lemmas.List.Folds.{prefix_len-append}
 use Rattle.am_alert.specs.declared.alert.Alert.{Alert}
-use Rattle.am_alert.specs.Merging.{is_resolved_at}
 use Rattle.am_inhibit.specs.declared.source.Source.{Source}
 use Rattle.am_inhibit.specs.Muting.{count_to}
 use Rattle.am_inhibit.specs.inside.Indexes.{source_inhibits}
@@ -18,33 +16,22 @@ use Rattle.am_inhibit.proofs.Counting.{count_to-no, find-no}
 
 -- one more source after leading ones alone is a leading one too if it matches the target side
 pub leading-all : (leading : ℕ) (sources : List Source) (source : Source) → leading ≡ leading_targets sources → leading ≡ length sources → leading_targets (sources ++ source ∷ []) ≡ leading + cond source.is_target 1 0
-leading-all leading sources source counts all =
-    prefix_len-append (λ (s : Source). s.is_target) sources (source ∷ [])
-    ∙ (ap (λ b. cond b (length sources + cond source.is_target 1 0) (leading_targets sources)) (eq-eqb (leading_targets sources) (length sources) (sym counts ∙ all))
-    ∙ ap (λ n. n + cond source.is_target 1 0) (sym all))
+leading-all leading sources source counts all = grind (arith, prefix_len-append, eq-eqb)
 
 -- after another one it is none
 pub leading-not_all : (leading : ℕ) (sources : List Source) (source : Source) → leading ≡ leading_targets sources → leading ≢ length sources → leading_targets (sources ++ source ∷ []) ≡ leading
-leading-not_all leading sources source counts not_all =
-    prefix_len-append (λ (s : Source). s.is_target) sources (source ∷ [])
-    ∙ (ap (λ b. cond b (length sources + cond source.is_target 1 0) (leading_targets sources)) (ne_eqb (leading_targets sources) (length sources) (λ all. not_all (counts ∙ all)))
-    ∙ sym counts)
+leading-not_all leading sources source counts not_all = grind (arith, prefix_len-append, ne_eqb)
 
 pub leading-taken : (n : ℕ) (sources : List Source) → leading_targets (take n sources) ≡ min (leading_targets sources) n
 leading-taken zero sources = omega arith
 leading-taken (suc n) [] = omega arith
-leading-taken (suc n) (source ∷ sources) =
-    let rest = leading-taken n sources in
-    elim source.is_target as (λ b. cond b (1 + leading_targets (take n sources)) 0 ≡ min (cond b (1 + leading_targets sources) 0) (suc n)) [ true ↦ omega arith | false ↦ omega arith ]
+leading-taken (suc n) (source ∷ sources) = let rest = leading-taken n sources in grind arith
 
 -- ---- a target on both sides
 
 -- a source on both sides doesn't mute it
 both_mute_none : (now : ℕ) (alerts : List Alert) (source : Source) → source.is_target ≡ true → source_inhibits true now alerts source ≡ false
-both_mute_none now alerts source both =
-    let fires = option_map_or (λ alert. not (is_resolved_at now alert)) (slice_get alerts source.at) false in
-    ap (λ b. fires && not b) both
-    ∙ elim fires as (λ b. (b && false) ≡ false) [ true ↦ refl | false ↦ refl ]
+both_mute_none now alerts source both = grind arith
 
 -- the first source that mutes it comes after the leading ones
 pub found-past : (now : ℕ) (alerts : List Alert) (sources : List Source)

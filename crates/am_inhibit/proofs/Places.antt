@@ -1,11 +1,10 @@
 -- What a sweep leaves of the indexes: those of the alerts that stay.
-use Rattle.std.proofs.Common.{◌≡◌, ℕ, ◌+◌, Bool, true, false, not, ◌&&◌, cond, List, [], ◌∷◌, ◌++◌, map, length, drop, Option, Some, None, is_some, refl, sym, ap, subst, ◌∙◌, arith}
+use Rattle.std.proofs.Common.{◌≡◌, ℕ, ◌+◌, Bool, true, false, not, cond, List, [], ◌∷◌, ◌++◌, map, length, drop, Option, Some, None, is_some, refl, sym, ap, subst, ◌∙◌, arith}
 use Rattle.std.specs.List.{cons_option, AllByRecursion, IsDistinct}
 use Rattle.std.specs.List.Retain.{RetainsInTurn}
 use Rattle.std.specs.Map.{keys_of, lookup}
 use Rattle.std.specs.Map.Calls.{RetainsPairs}
-use Rattle.std.specs.Option.{unwrap_or, option_map}
-use Rattle.am_labels.specs.Matchers.{all_admitted}
+use Rattle.std.specs.Option.{unwrap_or}
 use Rattle.am_alert.specs.declared.alert.Alert.{Alert}
 use Rattle.am_alert.specs.Merging.{is_resolved_at}
 use Rattle.am_config.specs.declared.inhibit_rule.InhibitRule.{InhibitRule}
@@ -13,7 +12,7 @@ use Rattle.am_inhibit.specs.declared.source.Source.{Source}
 use Rattle.am_inhibit.specs.LastAlerts.{label_sets}
 use Rattle.am_alert.specs.Merging.{unresolved}
 use Rattle.am_inhibit.specs.inside.Sources.{same_values}
-use Rattle.am_inhibit.specs.inside.Indexes.{SourceEntries, IndexView, values_of as values_for, source_of, sources_listed, sources_from, IsSourceIndexOf, AreSourceIndexesOf}
+use Rattle.am_inhibit.specs.inside.Indexes.{SourceEntries, IndexView, sources_listed, sources_from, IsSourceIndexOf, AreSourceIndexesOf}
 use Rattle.am_inhibit.specs.inside.Places.{new_places, moved, moved_sources, has_no_sources, swept_entries, index_swept}
 use Rattle.am_inhibit.proofs.Cases.{by_bool}
 use Rattle.am_inhibit.proofs.Indexes.{same_are, are_mapped}
@@ -26,26 +25,9 @@ moved-all : (rule : InhibitRule) (values : List (List ℕ)) (now : ℕ) (places 
     → moved_sources places (sources_from rule values at (label_sets alerts)) ≡ sources_from rule values place (label_sets (unresolved now alerts))
 moved-all rule values now places [] at place e = refl
 moved-all rule values now places (alert ∷ alerts) at place e =
-    let chosen = all_admitted rule.source alert.labels && same_values values (values_for rule.equal alert.labels) in
-    let source = source_of rule at alert.labels in
-    let more = sources_from rule values (at + 1) (label_sets alerts) in
-    let left = unresolved now alerts in
-    let later = λ (b : Bool). cond b (None ∷ new_places place now alerts) (Some place ∷ new_places (place + 1) now alerts) in
-    let kept = λ (b : Bool). sources_from rule values place (label_sets (cond (not b) (alert ∷ left) left)) in
-    by_bool {P = moved_sources places (cond chosen (source ∷ more) more) ≡ kept (is_resolved_at now alert)} (is_resolved_at now alert)
-    (λ t.
-    let next = drop_next places at None (new_places place now alerts) (e ∙ ap later t) in
-    let gone : moved places source ≡ None = ap (λ o. option_map (λ n. record source { at = n }) (unwrap_or o None)) next.0 in
-    let rest = moved-all rule values now places alerts (at + 1) place next.1 in
-    elim chosen as (λ b. moved_sources places (cond b (source ∷ more) more) ≡ moved_sources places more) [ true ↦ ap (λ o. cons_option o (moved_sources places more)) gone | false ↦ refl ]
-    ∙ (rest ∙ ap kept (sym t)))
-    (λ f.
-    let next = drop_next places at (Some place) (new_places (place + 1) now alerts) (e ∙ ap later f) in
-    let there = source_of rule place alert.labels in
-    let stays : moved places source ≡ Some there = ap (λ o. option_map (λ n. record source { at = n }) (unwrap_or o None)) next.0 in
-    let rest = moved-all rule values now places alerts (at + 1) (place + 1) next.1 in
-    elim chosen as (λ b. moved_sources places (cond b (source ∷ more) more) ≡ cond b (there ∷ moved_sources places more) (moved_sources places more)) [ true ↦ ap (λ o. cons_option o (moved_sources places more)) stays | false ↦ refl ]
-    ∙ (ap (λ l. cond chosen (there ∷ l) l) rest ∙ ap kept (sym f)))
+    let rest = moved-all rule values now places alerts (at + 1) place in
+    let other = moved-all rule values now places alerts (at + 1) (place + 1) in
+    grind (arith, drop_next)
 
 -- ---- the entries of one index
 
@@ -56,10 +38,7 @@ none_is (source ∷ sources) e = absurd (cc)
 none-swept : (places : List (Option ℕ)) (wanted : List (List ℕ)) (entries : SourceEntries) → AllByRecursion (λ other. same_values wanted other ≡ false) (keys_of entries)
     → AllByRecursion (λ other. same_values wanted other ≡ false) (keys_of (swept_entries places entries))
 none-swept places wanted [] none = tt
-none-swept places wanted (entry ∷ entries) none =
-    let here : List (List ℕ) × List Source = (entry.0, moved_sources places entry.1) in
-    let rest = none-swept places wanted entries none.1 in
-    elim (has_no_sources (moved_sources places entry.1)) as (λ b. AllByRecursion (λ other. same_values wanted other ≡ false) (keys_of (cond (not b) (here ∷ swept_entries places entries) (swept_entries places entries)))) [ true ↦ rest | false ↦ (none.0, rest) ]
+none-swept places wanted (entry ∷ entries) none = let rest = none-swept places wanted entries in grind arith
 
 distinct-swept : (places : List (Option ℕ)) (entries : SourceEntries) → IsDistinct same_values (keys_of entries) → IsDistinct same_values (keys_of (swept_entries places entries))
 unfolding IsDistinct
@@ -72,11 +51,7 @@ distinct-swept places (entry ∷ entries) distinct =
 -- what isn't listed isn't listed after a sweep
 unlisted-swept : (places : List (Option ℕ)) (wanted : List (List ℕ)) (entries : SourceEntries) → AllByRecursion (λ other. same_values wanted other ≡ false) (keys_of entries) → sources_listed wanted (swept_entries places entries) ≡ []
 unlisted-swept places wanted [] none = refl
-unlisted-swept places wanted (entry ∷ entries) none =
-    let here = moved_sources places entry.1 in
-    let after = swept_entries places entries in
-    let rest = unlisted-swept places wanted entries none.1 in
-    elim (has_no_sources here) as (λ b. sources_listed wanted (cond (not b) ((entry.0, here) ∷ after) after) ≡ []) [ true ↦ rest | false ↦ ap (λ b. unwrap_or (cond b (Some here) (lookup (same_values wanted) after)) []) none.0 ∙ rest ]
+unlisted-swept places wanted (entry ∷ entries) none = let rest = unlisted-swept places wanted entries in grind arith
 
 sources_listed-swept : (places : List (Option ℕ)) (wanted : List (List ℕ)) (entries : SourceEntries) → IsDistinct same_values (keys_of entries) → sources_listed wanted (swept_entries places entries) ≡ moved_sources places (sources_listed wanted entries)
 unfolding IsDistinct
@@ -103,13 +78,7 @@ sources_listed-swept places wanted (entry ∷ entries) distinct =
 -- ---- the indexes of all rules
 
 is_index-swept : (now : ℕ) (alerts : List Alert) (index : IndexView) → IsSourceIndexOf (label_sets alerts) index → IsSourceIndexOf (label_sets (unresolved now alerts)) (index_swept (new_places 0 now alerts) index)
-is_index-swept now alerts index is =
-    let places = new_places 0 now alerts in (
-      distinct-swept places index.entries is.0,
-      λ values.
-          sources_listed-swept places values index.entries is.0
-          ∙ (ap (moved_sources places) (is.1 values) ∙ moved-all index.rule values now places alerts 0 0 refl),
-    )
+is_index-swept now alerts index is = grind (arith, distinct-swept, sources_listed-swept, moved-all)
 
 pub are_indexes-swept : (rules : List InhibitRule) (now : ℕ) (alerts : List Alert) (indexes : List IndexView) → AreSourceIndexesOf rules (label_sets alerts) indexes
     → AreSourceIndexesOf rules (label_sets (unresolved now alerts)) (map (index_swept (new_places 0 now alerts)) indexes)
@@ -120,14 +89,11 @@ are_indexes-swept rules now alerts indexes are =
 
 pub new_places-push : (place now : ℕ) (alerts : List Alert) (alert : Alert)
     → new_places place now (alerts ++ alert ∷ []) ≡ new_places place now alerts ++ cond (is_resolved_at now alert) None (Some (place + length (unresolved now alerts))) ∷ []
-new_places-push place now [] alert =
-    let here : place ≡ place + 0 = omega arith in
-    elim (is_resolved_at now alert) as (λ b. cond b (None ∷ []) (Some place ∷ []) ≡ cond b None (Some (place + 0)) ∷ []) [ true ↦ refl | false ↦ ap (λ n. Some n ∷ []) here ]
+new_places-push place now [] alert = grind arith
 new_places-push place now (first ∷ alerts) alert =
-    let last = λ (n : ℕ). cond (is_resolved_at now alert) None (Some n) ∷ [] in
-    let count = length (unresolved now alerts) in
-    let along : place + 1 + count ≡ place + length (first ∷ unresolved now alerts) = omega arith in
-    elim (is_resolved_at now first) as (λ b. cond b (None ∷ new_places place now (alerts ++ alert ∷ [])) (Some place ∷ new_places (place + 1) now (alerts ++ alert ∷ [])) ≡ cond b (None ∷ new_places place now alerts) (Some place ∷ new_places (place + 1) now alerts) ++ last (place + length (cond (not b) (first ∷ unresolved now alerts) (unresolved now alerts)))) [ true ↦ ap (λ l. None ∷ l) (new_places-push place now alerts alert) | false ↦ ap (λ l. Some place ∷ l) (new_places-push (place + 1) now alerts alert ∙ ap (λ n. new_places (place + 1) now alerts ++ last n) along) ]
+    let rest = new_places-push place now alerts alert in
+    let other = new_places-push (place + 1) now alerts alert in
+    grind arith
 
 -- ---- what closures leave
 
@@ -154,7 +120,4 @@ entries-retained T f places says [] kept h = h
 entries-retained T f places says (entry ∷ entries) kept h =
     let said = says entry.0 entry.1 h.0 h.1 h.2 h.4 in
     let rest = entries-retained T f places says entries h.3 (subst (λ g. RetainsPairs T g entries h.3) said.1.1 h.5) in
-    h.6
-    ∙ (ap (λ b. cond b ((entry.0, h.1) ∷ h.3) h.3) said.0
-    ∙ (ap (λ l. cond (not (has_no_sources l)) ((entry.0, l) ∷ h.3) h.3) said.1.0
-    ∙ ap (λ l. cond (not (has_no_sources (moved_sources places entry.1))) ((entry.0, moved_sources places entry.1) ∷ l) l) rest))
+    (cc)

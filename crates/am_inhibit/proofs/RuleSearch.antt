@@ -1,5 +1,5 @@
 -- A search through the rules finds the first candidate that mutes the target.
-use Rattle.std.proofs.Common.{◌≡◌, ℕ, zero, suc, ◌+◌, ◌<◌, Bool, true, false, cond, List, [], ◌∷◌, ◌++◌, map, filter, length, Option, Some, None, refl, sym, ap, ◌∙◌, arith}
+use Rattle.std.proofs.Common.{◌≡◌, ℕ, zero, suc, ◌<◌, Bool, List, [], ◌∷◌, ◌++◌, map, filter, length, Option, Some, None, refl, sym, ap, ◌∙◌, arith}
 use Rattle.std.specs.List.{find, slice_get}
 use Rattle.std.specs.Option.{option_map, option_and_then, option_or}
 use Rattle.std.proofs.lemmas.List.Folds.{find-append}
@@ -9,8 +9,6 @@ use Rattle.am_labels.specs.LabelSets.{Labels}
 use Rattle.am_config.specs.declared.inhibit_rule.InhibitRule.{InhibitRule}
 use Rattle.am_inhibit.specs.LastAlerts.{label_sets}
 use Rattle.am_inhibit.specs.Muting.{is_candidate, inhibits, Candidate, rule_candidates, candidate_inhibits, count_to}
-use Rattle.am_inhibit.proofs.Cases.{by_bool}
-use Rattle.am_inhibit.proofs.Counting.{count_to-yes, count_to-no}
 
 -- an alert as a candidate of a rule
 abbrev pub candidate_of : ℕ → InhibitRule → Alert → Candidate
@@ -18,18 +16,11 @@ candidate_of number rule alert = record { number = number; rule = rule; alert = 
 
 find-shown : (labels : Labels) (now number : ℕ) (rule : InhibitRule) (alerts : List Alert) → find (candidate_inhibits labels now) (map (candidate_of number rule) alerts) ≡ option_map (candidate_of number rule) (find (inhibits rule labels now) alerts)
 find-shown labels now number rule [] = refl
-find-shown labels now number rule (alert ∷ alerts) =
-    elim (inhibits rule labels now alert) as (λ b. cond b (Some (candidate_of number rule alert)) (find (candidate_inhibits labels now) (map (candidate_of number rule) alerts)) ≡ option_map (candidate_of number rule) (cond b (Some alert) (find (inhibits rule labels now) alerts))) [ true ↦ refl | false ↦ find-shown labels now number rule alerts ]
+find-shown labels now number rule (alert ∷ alerts) = let rest = find-shown labels now number rule alerts in grind arith
 
 count-shown : (labels : Labels) (now number : ℕ) (rule : InhibitRule) (alerts : List Alert) → count_to (candidate_inhibits labels now) (map (candidate_of number rule) alerts) ≡ count_to (inhibits rule labels now) alerts
 count-shown labels now number rule [] = refl
-count-shown labels now number rule (alert ∷ alerts) =
-    let test = candidate_inhibits labels now in
-    let one = candidate_of number rule alert in
-    let rest = map (candidate_of number rule) alerts in
-    by_bool {P = count_to test (one ∷ rest) ≡ count_to (inhibits rule labels now) (alert ∷ alerts)} (inhibits rule labels now alert)
-    (λ passes. count_to-yes test one rest passes ∙ sym (count_to-yes (inhibits rule labels now) alert alerts passes))
-    (λ fails. count_to-no test one rest fails ∙ (ap (λ n. 1 + n) (count-shown labels now number rule alerts) ∙ sym (count_to-no (inhibits rule labels now) alert alerts fails)))
+count-shown labels now number rule (alert ∷ alerts) = let rest = count-shown labels now number rule alerts in grind arith
 
 -- what the search of one rule found: the index of an alert, or none, and how many it looked at
 pub record IsFound (labels : Labels) (now : ℕ) (alerts : List Alert) (rule : InhibitRule) (at : Option ℕ) (looked : ℕ) : Type 0 where
@@ -37,13 +28,11 @@ pub record IsFound (labels : Labels) (now : ℕ) (alerts : List Alert) (rule : I
   pub count : looked ≡ count_to (inhibits rule labels now) (filter (is_candidate rule labels) alerts)
 
 pub rule-none : (labels : Labels) (now number : ℕ) (alerts : List Alert) (rule : InhibitRule) (looked : ℕ) → IsFound labels now alerts rule None looked → find (candidate_inhibits labels now) (rule_candidates labels alerts (number, rule)) ≡ None
-rule-none labels now number alerts rule looked is =
-    find-shown labels now number rule (filter (is_candidate rule labels) alerts) ∙ ap (option_map (candidate_of number rule)) (sym is.found)
+rule-none labels now number alerts rule looked is = grind (arith, find-shown)
 
 pub rule-some : (labels : Labels) (now number : ℕ) (alerts : List Alert) (rule : InhibitRule) (at looked : ℕ) (alert : Alert) → IsFound labels now alerts rule (Some at) looked → slice_get alerts at ≡ Some alert
     → find (candidate_inhibits labels now) (rule_candidates labels alerts (number, rule)) ≡ Some (candidate_of number rule alert)
-rule-some labels now number alerts rule at looked alert is got =
-    find-shown labels now number rule (filter (is_candidate rule labels) alerts) ∙ ap (option_map (candidate_of number rule)) (sym is.found ∙ got)
+rule-some labels now number alerts rule at looked alert is got = grind (arith, find-shown)
 
 pub rule-count : (labels : Labels) (now number : ℕ) (alerts : List Alert) (rule : InhibitRule) (at : Option ℕ) (looked : ℕ) → IsFound labels now alerts rule at looked → count_to (candidate_inhibits labels now) (rule_candidates labels alerts (number, rule)) ≡ looked
 rule-count labels now number alerts rule at looked is = count-shown labels now number rule (filter (is_candidate rule labels) alerts) ∙ sym is.count

@@ -1,17 +1,16 @@
 -- The sources that an index lists for a target are those that come into question.
-use Rattle.std.proofs.Common.{◌≡◌, ℕ, zero, suc, ◌+◌, ◌<◌, ◌≤◌, Bool, true, false, not, ◌&&◌, cond, List, [], ◌∷◌, map, filter, length, drop, Some, refl, sym, ap, ◌∙◌, arith}
+use Rattle.std.proofs.Common.{◌≡◌, ℕ, zero, suc, ◌+◌, ◌<◌, ◌≤◌, Bool, true, false, ◌&&◌, cond, List, [], ◌∷◌, map, filter, length, drop, Some, refl, sym, ap, ◌∙◌, arith}
 use Rattle.std.specs.List.{slice_get, find, All, AllByRecursion}
-use Rattle.std.specs.Option.{option_map, option_map_or, option_and_then}
+use Rattle.std.specs.Option.{option_map, option_and_then}
 use Rattle.std.proofs.lemmas.List.Elements.{All-from_recursion}
 use Rattle.am_labels.specs.LabelSets.{Labels, value_of}
 use Rattle.am_labels.specs.Matchers.{all_admitted}
 use Rattle.am_labels.specs.Texts.{same_text}
 use Rattle.am_alert.specs.declared.alert.Alert.{Alert}
-use Rattle.am_alert.specs.Merging.{is_resolved_at}
 use Rattle.am_config.specs.declared.inhibit_rule.InhibitRule.{InhibitRule}
 use Rattle.am_inhibit.specs.declared.source.Source.{Source}
 use Rattle.am_inhibit.specs.LastAlerts.{label_sets}
-use Rattle.am_inhibit.specs.Muting.{agree_on, is_on_both_sides, is_candidate, inhibits, count_to}
+use Rattle.am_inhibit.specs.Muting.{agree_on, is_candidate, inhibits, count_to}
 use Rattle.am_inhibit.specs.inside.Sources.{same_values}
 use Rattle.am_inhibit.specs.inside.Indexes.{IndexView, values_of as values_for, source_of, sources_listed, sources_from, IsSourceIndexOf, source_inhibits}
 use Rattle.am_inhibit.proofs.Cases.{by_bool}
@@ -20,8 +19,7 @@ use Rattle.am_inhibit.proofs.Counting.{count_to-yes, count_to-no, find-yes, find
 -- what is listed for a target's values are the sources among the label sets that agree with it
 pub listed_are : (index : IndexView) (labels : Labels) (sets : List Labels) (names values : List (List ℕ)) → IsSourceIndexOf sets index → names ≡ index.rule.equal → values ≡ map (value_of labels) names
     → sources_listed values index.entries ≡ sources_from index.rule (values_for index.rule.equal labels) 0 sets
-listed_are index labels sets names values is named have =
-    is.1 values ∙ ap (λ v. sources_from index.rule v 0 sets) (have ∙ ap (map (value_of labels)) named)
+listed_are index labels sets names values is named have = grind arith
 
 -- ---- a target
 
@@ -36,16 +34,12 @@ drop_suc (y ∷ xs) zero x rest e = ((let same : y ≡ x = (cc) in ap Some same)
 drop_suc (y ∷ xs) (suc at) x rest e = drop_suc xs at x rest e
 
 pub drop_next : {X : Type 0} (xs : List X) (at : ℕ) (x : X) (rest : List X) → drop at xs ≡ x ∷ rest → (slice_get xs at ≡ Some x) × (drop (at + 1) xs ≡ rest)
-drop_next xs at x rest e =
-    let next = drop_suc xs at x rest e in
-    let more : at + 1 ≡ suc at = omega arith in (next.0, ap (λ n. drop n xs) more ∙ next.1)
+drop_next xs at x rest e = grind (arith, drop_suc)
 
 -- nothing comes into question for a label set that is no target
 pub none_candidates : (rule : InhibitRule) (labels : Labels) (alerts : List Alert) → all_admitted rule.target labels ≡ false → filter (is_candidate rule labels) alerts ≡ []
 none_candidates rule labels [] none = refl
-none_candidates rule labels (alert ∷ alerts) none =
-    ap (λ b. cond (b && (all_admitted rule.source alert.labels && agree_on rule.equal labels alert.labels)) (alert ∷ filter (is_candidate rule labels) alerts) (filter (is_candidate rule labels) alerts)) none
-    ∙ none_candidates rule labels alerts none
+none_candidates rule labels (alert ∷ alerts) none = let rest = none_candidates rule labels alerts in grind arith
 
 -- a target of a rule, and where its search stands
 pub record Target (rule : InhibitRule) (labels : Labels) (is_source : Bool) : Type 0 where
@@ -54,15 +48,7 @@ pub record Target (rule : InhibitRule) (labels : Labels) (is_source : Bool) : Ty
 
 same_test : (rule : InhibitRule) (labels : Labels) (is_source : Bool) (now : ℕ) (alerts : List Alert) (at : ℕ) (alert : Alert) → Target rule labels is_source → slice_get alerts at ≡ Some alert → all_admitted rule.source alert.labels ≡ true
     → source_inhibits is_source now alerts (source_of rule at alert.labels) ≡ inhibits rule labels now alert
-same_test rule labels is_source now alerts at alert is got source =
-    ap (λ o. option_map_or (λ a. not (is_resolved_at now a)) o false && not (is_source && all_admitted rule.target alert.labels)) got
-    ∙ (ap (λ b. not (is_resolved_at now alert) && not (b && all_admitted rule.target alert.labels)) (is.source ∙ sym (and_true (all_admitted rule.source labels)))
-    ∙ (ap (λ b. not (is_resolved_at now alert) && not ((all_admitted rule.source labels && b) && all_admitted rule.target alert.labels)) (sym is.target)
-    ∙ ap (λ b. not (is_resolved_at now alert) && not (is_on_both_sides rule labels && (b && all_admitted rule.target alert.labels))) (sym source)))
-  where
-    and_true : (a : Bool) → (a && true) ≡ a
-    and_true true = refl
-    and_true false = refl
+same_test rule labels is_source now alerts at alert is got source = grind arith
 
 both_of : (a b : Bool) → (a && b) ≡ true → (a ≡ true) × (b ≡ true)
 both_of true b e = (refl, e)
@@ -70,9 +56,7 @@ both_of false b e = absurd (let e' : false ≡ true = e in (cc))
 
 chosen : (rule : InhibitRule) (labels : Labels) (is_source : Bool) (alert : Alert) → Target rule labels is_source
     → (all_admitted rule.source alert.labels && same_values (values_for rule.equal labels) (values_for rule.equal alert.labels)) ≡ is_candidate rule labels alert
-chosen rule labels is_source alert is =
-    ap (λ b. all_admitted rule.source alert.labels && b) (agree-same rule.equal labels alert.labels)
-    ∙ ap (λ b. b && (all_admitted rule.source alert.labels && agree_on rule.equal labels alert.labels)) (sym is.target)
+chosen rule labels is_source alert is = grind (arith, agree-same)
 
 -- the first that mutes the target is the first alert that does
 pub found-first : (rule : InhibitRule) (labels : Labels) (is_source : Bool) (now : ℕ) (alerts : List Alert) → Target rule labels is_source → (at : ℕ) (rest : List Alert) → drop at alerts ≡ rest
@@ -136,10 +120,7 @@ looked-count rule labels is_source now alerts is at (alert ∷ rest) e =
 -- each source stands for an alert
 within : (rule : InhibitRule) (values : List (List ℕ)) (at : ℕ) (sets : List Labels) (end : ℕ) → at + length sets ≤ end → AllByRecursion (λ (source : Source). source.at < end) (sources_from rule values at sets)
 within rule values at [] end e = tt
-within rule values at (labels ∷ sets) end e =
-    let rest = within rule values (at + 1) sets end (omega arith) in
-    let here : at < end = omega arith in
-    elim (all_admitted rule.source labels && same_values values (values_for rule.equal labels)) as (λ b. AllByRecursion (λ (source : Source). source.at < end) (cond b (source_of rule at labels ∷ sources_from rule values (at + 1) sets) (sources_from rule values (at + 1) sets))) [ true ↦ (here, rest) | false ↦ rest ]
+within rule values at (labels ∷ sets) end e = let rest = within rule values (at + 1) sets end in grind arith
 
 pub all_within : (rule : InhibitRule) (values : List (List ℕ)) (sets : List Labels) (end : ℕ) → length sets ≤ end → All (λ (source : Source). source.at < end) (sources_from rule values 0 sets)
 all_within rule values sets end e = All-from_recursion (λ (source : Source). source.at < end) (sources_from rule values 0 sets) (within rule values 0 sets end (omega arith))

@@ -1,13 +1,11 @@
 -- What an index of routes finds, and that it passes over no route that may match.
-use Rattle.std.proofs.Common.{◌≡◌, ℕ, zero, suc, ◌+◌, ◌<◌, ◌≤◌, Bool, true, false, cond, ◌&&◌, ◌||◌, List, [], ◌∷◌, ◌++◌, Option, Some, None, length, get_or, take, drop, ◌-◌, nat_eq, nat_lt, nat_le, bytes_eq, refl, sym, ap, subst, ◌∙◌, arith}
+use Rattle.std.proofs.Common.{◌≡◌, ℕ, zero, suc, ◌+◌, ◌<◌, ◌≤◌, Bool, true, false, cond, ◌&&◌, ◌||◌, List, [], ◌∷◌, ◌++◌, Option, Some, None, length, get_or, take, drop, ◌-◌, nat_eq, nat_le, bytes_eq, refl, sym, ap, subst, ◌∙◌, arith, rules}
 use Rattle.std.proofs.lemmas.List.{take_more, length-take-le}
 use Rattle.std.specs.Cmp.Lexicographic.{bytes_decides}
 use Rattle.std.specs.List.{AllByRecursion, find, list_any, list_all, slice_get}
 use Rattle.std.specs.List.Sorted.{IsNonDecreasing}
-use Rattle.am_labels.specs.declared.operator.Operator.{Operator}
-use Rattle.am_labels.specs.declared.operator.Operator.TheVariants.{Equal, NotEqual, MatchRegexp, MatchNotRegexp}
 use Rattle.am_labels.specs.LabelSets.{Labels, value_of}
-use Rattle.am_labels.specs.Matchers.{MatcherView, accepts, admitted, all_admitted}
+use Rattle.am_labels.specs.Matchers.{MatcherView, admitted, all_admitted}
 use Rattle.am_config.specs.declared.route.Route.{Route}
 use Rattle.am_config.specs.Routes.{Forest, no_routes, route, count_of}
 use Rattle.am_config.specs.RouteLists.{route_view, forest_of}
@@ -21,12 +19,7 @@ use Rattle.am_routes.proofs.Cases.{by_bool}
 
 pub places-push : {X : Type 0} (test : X → Bool) (at : ℕ) (xs : List X) (x : X) → places_from test at (xs ++ x ∷ []) ≡ places_from test at xs ++ cond (test x) ((at + length xs) ∷ []) []
 places-push test at [] x = let here : at ≡ at + 0 = omega arith in ap (λ n. cond (test x) (n ∷ []) []) here
-places-push test at (first ∷ xs) x =
-    let last = λ (n : ℕ). cond (test x) (n ∷ []) [] in
-    let along : at + 1 + length xs ≡ at + length (first ∷ xs) = omega arith in
-    let rest : places_from test (at + 1) (xs ++ x ∷ []) ≡ places_from test (at + 1) xs ++ last (at + length (first ∷ xs)) =
-    places-push test (at + 1) xs x ∙ ap (λ n. places_from test (at + 1) xs ++ last n) along in
-    elim (test first) as (λ b. cond b (at ∷ places_from test (at + 1) (xs ++ x ∷ [])) (places_from test (at + 1) (xs ++ x ∷ [])) ≡ cond b (at ∷ places_from test (at + 1) xs) (places_from test (at + 1) xs) ++ last (at + length (first ∷ xs))) [ true ↦ ap (λ l. at ∷ l) rest | false ↦ rest ]
+places-push test at (first ∷ xs) x = let rest = places-push test (at + 1) xs x in grind arith
 
 least_first : (at : ℕ) (rest : List ℕ) → ((i d : ℕ) → i < length rest → at + 1 ≤ get_or rest i d) → (i d : ℕ) → i < length (at ∷ rest) → at ≤ get_or (at ∷ rest) i d
 least_first at rest later zero d h = omega arith
@@ -35,12 +28,8 @@ least_first at rest later (suc i) d h = let above : at + 1 ≤ get_or rest i d =
 at_least : {X : Type 0} (test : X → Bool) (at : ℕ) (xs : List X) (i d : ℕ) → i < length (places_from test at xs) → at ≤ get_or (places_from test at xs) i d
 at_least test at [] i d = λ h. absurd (omega arith)
 at_least test at (x ∷ xs) i d =
-    let rest = places_from test (at + 1) xs in
-    let later : (i d : ℕ) → i < length rest → at + 1 ≤ get_or rest i d = at_least test (at + 1) xs in
-    elim (test x) as (λ b. i < length (cond b (at ∷ rest) rest) → at ≤ get_or (cond b (at ∷ rest) rest) i d) [
-      | true ↦ least_first at rest later i d
-      | false ↦ λ h. let above : at + 1 ≤ get_or rest i d = later i d h in omega arith
-    ]
+    let later : (i d : ℕ) → i < length (places_from test (at + 1) xs) → at + 1 ≤ get_or (places_from test (at + 1) xs) i d = at_least test (at + 1) xs in
+    grind (arith, least_first)
 
 rises_first : (at : ℕ) (rest : List ℕ) → ((i d : ℕ) → i < length rest → at + 1 ≤ get_or rest i d) → IsNonDecreasing rest → IsNonDecreasing (at ∷ rest)
 rises_first at rest later rise zero zero d h k = omega arith
@@ -51,11 +40,7 @@ rises_first at rest later rise (suc i) (suc j) d h k = rise i j d (omega arith) 
 -- indexes rise
 pub places-rise : {X : Type 0} (test : X → Bool) (at : ℕ) (xs : List X) → IsNonDecreasing (places_from test at xs)
 places-rise test at [] = λ i j d h k. absurd (omega arith)
-places-rise test at (x ∷ xs) =
-    let rest = places_from test (at + 1) xs in
-    let later : (i d : ℕ) → i < length rest → at + 1 ≤ get_or rest i d = at_least test (at + 1) xs in
-    let rise : IsNonDecreasing rest = places-rise test (at + 1) xs in
-    elim (test x) as (λ b. IsNonDecreasing (cond b (at ∷ rest) rest)) [ true ↦ rises_first at rest later rise | false ↦ rise ]
+places-rise test at (x ∷ xs) = let rest = places-rise test (at + 1) xs in grind (arith, at_least, rises_first)
 
 -- what fails before an index and passes there is found there
 pub found-at : {X : Type 0} (test : X → Bool) (xs : List X) (i : ℕ) → ((k : ℕ) (d : X) → k < i → test (get_or xs k d) ≡ false) → ((d : X) → i < length xs → test (get_or xs i d) ≡ true) → slice_get xs i ≡ find test xs
@@ -75,11 +60,7 @@ IsFound {X} test from n xs (Some at) =
     × ((i : ℕ) → (x : X) → from ≤ n + i → i < j → slice_get xs i ≡ Some x → test x ≡ false)
 
 later_found : {X : Type 0} (test : X → Bool) (from n : ℕ) (x : X) (xs : List X) (found : Option ℕ) → (from ≤ n → test x ≡ false) → IsFound test from (n + 1) xs found → IsFound test from n (x ∷ xs) found
-later_found {X} test from n x xs None fails rest = none
-  where
-    none : (j : ℕ) → (y : X) → from ≤ n + j → slice_get (x ∷ xs) j ≡ Some y → test y ≡ false
-    none zero y h is = let same : x ≡ y = (cc) in subst (λ z. test z ≡ false) same (fails (omega arith))
-    none (suc j) y h is = rest j y (omega arith) is
+later_found {X} test from n x xs None fails rest = grind arith
 later_found {X} test from n x xs (Some at) fails rest = (suc rest.0, omega (arith, rest.1), rest.2, rest.3, before)
   where
     before : (i : ℕ) → (y : X) → from ≤ n + i → i < suc rest.0 → slice_get (x ∷ xs) i ≡ Some y → test y ≡ false
@@ -88,31 +69,11 @@ later_found {X} test from n x xs (Some at) fails rest = (suc rest.0, omega (arit
 
 is_found_from : {X : Type 0} (test : X → Bool) (from n : ℕ) (xs : List X) → IsFound test from n xs (find (nat_le from) (places_from test n xs))
 is_found_from test from n [] = λ j x h is. absurd (cc)
-is_found_from {X} test from n (x ∷ xs) =
-    let rest = is_found_from test from (n + 1) xs in
-    let next = find (nat_le from) (places_from test (n + 1) xs) in
-    by_bool {P = IsFound test from n (x ∷ xs) (find (nat_le from) (places_from test n (x ∷ xs)))} (test x)
-    (λ t. subst (λ (b : Bool). IsFound test from n (x ∷ xs) (find (nat_le from) (cond b (n ∷ places_from test (n + 1) xs) (places_from test (n + 1) xs)))) (sym t)
-    (by_bool {P = IsFound test from n (x ∷ xs) (cond (nat_le from n) (Some n) next)} (nat_le from n)
-    (λ low. subst (λ (b : Bool). IsFound test from n (x ∷ xs) (cond b (Some n) next)) (sym low) (0, omega arith, reached from n low, (x, refl, t), λ i y h k is. absurd (omega arith)))
-    (λ high. subst (λ (b : Bool). IsFound test from n (x ∷ xs) (cond b (Some n) next)) (sym high) (later_found test from n x xs next (λ h. absurd (passed from n high h)) rest))))
-    (λ f. subst (λ (b : Bool). IsFound test from n (x ∷ xs) (find (nat_le from) (cond b (n ∷ places_from test (n + 1) xs) (places_from test (n + 1) xs)))) (sym f) (later_found test from n x xs next (λ h. f) rest))
-  where
-    reached : (a b : ℕ) → nat_le a b ≡ true → a ≤ b
-    reached a b t = grind arith
-
-    passed : (a b : ℕ) → nat_le a b ≡ false → a ≤ b → ⊥
-    passed a b f h = grind arith
+is_found_from {X} test from n (x ∷ xs) = let rest = is_found_from test from (n + 1) xs in grind (arith, later_found)
 
 -- the first of the indexes of what passes, from one on
 pub first-place : {X : Type 0} (test : X → Bool) (from : ℕ) (xs : List X) → IsFirstFrom test from xs (find (nat_le from) (places_from test 0 xs))
-first-place {X} test from xs = counted (find (nat_le from) (places_from test 0 xs)) (is_found_from test from 0 xs)
-  where
-    counted : (found : Option ℕ) → IsFound test from 0 xs found → IsFirstFrom test from xs found
-    counted None none = λ k x h is. none k x (omega arith) is
-    counted (Some at) some =
-        let here : some.0 ≡ at = omega (arith, some.1) in
-        (some.2, (some.3.0, ap (slice_get xs) (sym here) ∙ some.3.1, some.3.2), λ k x h less is. some.4 k x (omega arith) (omega (arith, here, less)) is)
+first-place {X} test from xs = grind (arith, is_found_from)
 
 pub first-alike : {X : Type 0} (one other : X → Bool) (from : ℕ) (xs : List X) (found : Option ℕ) → ((k : ℕ) (x : X) → slice_get xs k ≡ Some x → one x ≡ other x) → IsFirstFrom one from xs found → IsFirstFrom other from xs found
 first-alike one other from xs None alike first = λ k x h is. sym (alike k x is) ∙ first k x h is
@@ -142,12 +103,7 @@ slice_get-drop (suc k) (x ∷ xs) i (suc j) e = slice_get-drop k xs i j (omega a
 
 first_counted : {X : Type 0} (test : X → Bool) (from n : ℕ) (xs : List X) → from ≤ n → IsFound test from n xs (slice_get (places_from test n xs) 0)
 first_counted test from n [] low = λ j x h is. absurd (cc)
-first_counted {X} test from n (x ∷ xs) low =
-    let rest = first_counted test from (n + 1) xs (omega arith) in
-    let others = places_from test (n + 1) xs in
-    by_bool {P = IsFound test from n (x ∷ xs) (slice_get (places_from test n (x ∷ xs)) 0)} (test x)
-    (λ t. subst (λ (b : Bool). IsFound test from n (x ∷ xs) (slice_get (cond b (n ∷ others) others) 0)) (sym t) (0, omega arith, low, (x, refl, t), λ i y h k is. absurd (omega arith)))
-    (λ f. subst (λ (b : Bool). IsFound test from n (x ∷ xs) (slice_get (cond b (n ∷ others) others) 0)) (sym f) (later_found test from n x xs (slice_get others 0) (λ h. f) rest))
+first_counted {X} test from n (x ∷ xs) low = let rest = first_counted test from (n + 1) xs in grind (arith, later_found)
 
 -- the first of them is the first that passes
 pub first-left : {X : Type 0} (test : X → Bool) (from : ℕ) (xs : List X) → IsFirstFrom test from xs (slice_get (places_left test from xs) 0)
@@ -164,9 +120,7 @@ first-left {X} test from xs = counted (slice_get (places_left test from xs) 0) (
 -- what stays the same at each step is the same at the end
 pub same-along : {X : Type 0} (F : ℕ → X) (from steps : ℕ) → ((k : ℕ) → from ≤ k → k < from + steps → F k ≡ F (suc k)) → F from ≡ F (from + steps)
 same-along F from zero step = let here : from ≡ from + 0 = omega arith in ap F here
-same-along F from (suc steps) step =
-    let on : suc (from + steps) ≡ from + suc steps = omega arith in
-    same-along F from steps (λ k h less. step k h (omega arith)) ∙ (step (from + steps) (omega arith) (omega arith) ∙ ap F on)
+same-along F from (suc steps) step = let rest = same-along F from steps in grind arith
 
 left_passed : {X : Type 0} (test : X → Bool) (n k : ℕ) (xs : List X) → ((x : X) → slice_get xs k ≡ Some x → test x ≡ false) → places_from test n (drop k xs) ≡ places_from test (n + 1) (drop (suc k) xs)
 left_passed test n zero [] fails = refl
@@ -184,10 +138,7 @@ not_first n (place ∷ places) above =
 left_without : {X : Type 0} (test : X → Bool) (n k : ℕ) (xs : List X) → without n (places_from test n (drop k xs)) ≡ places_from test (n + 1) (drop (suc k) xs)
 left_without test n zero [] = refl
 left_without test n (suc k) [] = refl
-left_without test n zero (x ∷ xs) =
-    let rest = places_from test (n + 1) xs in
-    let same : nat_eq n n ≡ true = grind arith in
-    elim (test x) as (λ b. without n (cond b (n ∷ rest) rest) ≡ rest) [ true ↦ ap (λ b. cond b rest (n ∷ rest)) same | false ↦ not_first n rest (at_least test (n + 1) xs) ]
+left_without test n zero (x ∷ xs) = grind (arith, not_first, at_least)
 left_without test n (suc k) (x ∷ xs) = left_without test n k xs
 
 -- those after one before which none passes
@@ -202,12 +153,6 @@ left-past test from at xs reach before =
     ap (without at) (same-along (λ k. places_left test k xs) from steps step ∙ ap (λ k. places_left test k xs) on)
     ∙ (left_without test at at xs ∙ ap (λ k. places_from test (at + 1) (drop k xs)) next)
 
-pub places-alike : {X : Type 0} (one other : X → Bool) (at : ℕ) (xs : List X) → ((x : X) → one x ≡ other x) → places_from one at xs ≡ places_from other at xs
-places-alike one other at [] alike = refl
-places-alike one other at (x ∷ xs) alike =
-    ap (λ b. cond b (at ∷ places_from one (at + 1) xs) (places_from one (at + 1) xs)) (alike x)
-    ∙ ap (λ l. cond (other x) (at ∷ l) l) (places-alike one other (at + 1) xs alike)
-
 pub places-none : {X : Type 0} (at : ℕ) (xs : List X) → [] ≡ places_from (λ x. false) at xs
 places-none at [] = refl
 places-none at (x ∷ xs) = places-none (at + 1) xs
@@ -216,18 +161,9 @@ places-none at (x ∷ xs) = places-none (at + 1) xs
 
 pub first-either : {X : Type 0} (one other : X → Bool) (from : ℕ) (xs : List X) (a b : Option ℕ) → IsFirstFrom one from xs a → IsFirstFrom other from xs b → IsFirstFrom (λ x. one x || other x) from xs (earlier a b)
 first-either one other from xs None None p q = λ k x h is. neither (one x) (other x) (p k x h is) (q k x h is)
-first-either one other from xs None (Some at) p q =
-    (q.0, (q.1.0, q.1.1, right_holds (one q.1.0) (other q.1.0) q.1.2), λ k x h less is. neither (one x) (other x) (p k x h is) (q.2 k x h less is))
-first-either one other from xs (Some at) None p q =
-    (p.0, (p.1.0, p.1.1, left_holds (one p.1.0) (other p.1.0) p.1.2), λ k x h less is. neither (one x) (other x) (p.2 k x h less is) (q k x h is))
-first-either one other from xs (Some a) (Some b) p q =
-    by_bool {P = IsFirstFrom (λ x. one x || other x) from xs (cond (nat_lt b a) (Some b) (Some a))} (nat_lt b a)
-    (λ t. subst (λ (c : Bool). IsFirstFrom (λ x. one x || other x) from xs (cond c (Some b) (Some a))) (sym t)
-    (let below : b < a = grind arith in
-    (q.0, (q.1.0, q.1.1, right_holds (one q.1.0) (other q.1.0) q.1.2), λ k x h less is. neither (one x) (other x) (p.2 k x h (omega arith) is) (q.2 k x h less is))))
-    (λ f. subst (λ (c : Bool). IsFirstFrom (λ x. one x || other x) from xs (cond c (Some b) (Some a))) (sym f)
-    (let above : a ≤ b = grind arith in
-    (p.0, (p.1.0, p.1.1, left_holds (one p.1.0) (other p.1.0) p.1.2), λ k x h less is. neither (one x) (other x) (p.2 k x h less is) (q.2 k x h (omega arith) is))))
+first-either one other from xs None (Some at) p q = grind arith
+first-either one other from xs (Some at) None p q = grind arith
+first-either one other from xs (Some a) (Some b) p q = grind arith
 
 -- ---- what routes are filed under
 
@@ -256,13 +192,7 @@ places-step test rs i r early is =
 
 equality_is_equal : (matchers : List MatcherView) (m : MatcherView) → first_equality matchers ≡ Some m → is_equal m.operator ≡ true
 equality_is_equal [] m is = absurd (cc)
-equality_is_equal (one ∷ matchers) m is =
-    by_bool {P = is_equal m.operator ≡ true} (is_equal one.operator)
-    (λ t.
-    let here : Some one ≡ Some m = sym (ap (λ b. cond b (Some one) (first_equality matchers)) t) ∙ is in
-    let same : one ≡ m = (cc) in
-    subst (λ (one : MatcherView). is_equal one.operator ≡ true) same t)
-    (λ f. equality_is_equal matchers m (sym (ap (λ b. cond b (Some one) (first_equality matchers)) f) ∙ is))
+equality_is_equal (one ∷ matchers) m is = let rest = equality_is_equal matchers m in grind arith
 
 -- a route is filed under a matcher that asks for one value
 pub filed-equal : (f : Forest) (k : ℕ) (m : MatcherView) → slice_get (filings f) k ≡ Some (Some m) → is_equal m.operator ≡ true
@@ -273,22 +203,14 @@ filed-equal (route first below others) (suc k) m is = filed-equal others k m is
 -- a route whose first equality matcher fails doesn't match
 pub filed-fails : (labels : Labels) (matchers : List MatcherView) → may_match labels (first_equality matchers) ≡ false → all_admitted matchers labels ≡ false
 filed-fails labels [] fails = absurd (cc)
-filed-fails labels (one ∷ matchers) fails =
-    by_bool {P = all_admitted (one ∷ matchers) labels ≡ false} (is_equal one.operator)
-    (λ t. ap (λ b. b && all_admitted matchers labels) (sym (ap (λ b. may_match labels (cond b (Some one) (first_equality matchers))) t) ∙ fails))
-    (λ f.
-    let rest : all_admitted matchers labels ≡ false = filed-fails labels matchers (sym (ap (λ b. may_match labels (cond b (Some one) (first_equality matchers))) f) ∙ fails) in
-    elim (admitted one labels) as (λ b. (b && all_admitted matchers labels) ≡ false) [ true ↦ rest | false ↦ refl ])
+filed-fails labels (one ∷ matchers) fails = let rest = filed-fails labels matchers in grind arith
 
 -- ---- which are found
 
 all_get : {X : Type 0} (test : X → Bool) (xs : List X) (k : ℕ) (x : X) → list_all test xs ≡ true → slice_get xs k ≡ Some x → test x ≡ true
 all_get test [] k x all is = absurd (cc)
-all_get test (y ∷ xs) zero x all is =
-    let same : y ≡ x = (cc) in
-    subst (λ z. test z ≡ true) same (by_bool {P = test y ≡ true} (test y) (λ t. t) (λ f. absurd (let no : false ≡ true = sym (ap (λ b. b && list_all test xs) f) ∙ all in (cc))))
-all_get test (y ∷ xs) (suc k) x all is =
-    all_get test xs k x (by_bool {P = list_all test xs ≡ true} (test y) (λ t. sym (ap (λ b. b && list_all test xs) t) ∙ all) (λ f. absurd (let no : false ≡ true = sym (ap (λ b. b && list_all test xs) f) ∙ all in (cc)))) is
+all_get test (y ∷ xs) zero x all is = grind arith
+all_get test (y ∷ xs) (suc k) x all is = let rest = all_get test xs k x in grind arith
 
 -- the index of a name keeps for the label's value exactly what asks for it
 met_by : (labels : Labels) (m : MatcherView) (indexes : List NameIndex)
@@ -317,13 +239,7 @@ met_by labels m (index ∷ indexes) =
     absorbed false false = refl
 
 admitted_equal : (labels : Labels) (m : MatcherView) → is_equal m.operator ≡ true → admitted m labels ≡ bytes_eq (value_of labels m.name) m.value
-admitted_equal labels m is = equal m.operator is
-  where
-    equal : (op : Operator) → is_equal op ≡ true → accepts op m.value (value_of labels m.name) ≡ bytes_eq (value_of labels m.name) m.value
-    equal Equal is = refl
-    equal NotEqual is = absurd (cc)
-    equal MatchRegexp is = absurd (cc)
-    equal MatchNotRegexp is = absurd (cc)
+admitted_equal labels m is = grind arith
 
 -- what is found is what may match
 pub met-may_match : (labels : Labels) (indexes : List NameIndex) (f : Forest) (k : ℕ) (filing : Option MatcherView) → list_all (is_found indexes) (filings f) ≡ true → slice_get (filings f) k ≡ Some filing → is_met labels indexes filing ≡ may_match labels filing
@@ -347,19 +263,14 @@ seen offset r = record { offset = offset; first = route_view r; below = r.childr
 pub child-at : (offset : ℕ) (rs : List Route) (at : ℕ) (r : Route) (own : ChildEntry) → at < length rs → r ≡ get_or rs at r → own ≡ get_or (entries_from offset (forest_of rs)) at own
     → (slice_get (children_from offset (forest_of rs)) at ≡ Some (seen own.offset r)) × (own ≡ child_entry_of (seen own.offset r))
 child-at offset [] at r own early is comes = absurd (omega arith)
-child-at offset (one ∷ rs) zero r own early is comes =
-    let place : own.offset ≡ offset = ap (λ (e : ChildEntry). e.offset) comes in (
-      ap (λ (r : Route). Some (seen offset r)) (sym is) ∙ ap (λ n. Some (seen n r)) (sym place),
-      comes ∙ (ap (λ (r : Route). child_entry_of (seen offset r)) (sym is) ∙ ap (λ n. child_entry_of (seen n r)) (sym place)),
-    )
+child-at offset (one ∷ rs) zero r own early is comes = grind arith
 child-at offset (one ∷ rs) (suc at) r own early is comes = child-at (offset + 1 + count_of one.children) rs at r own (omega arith) is comes
 
 -- by how far it comes after the route above it
 pub entry-at : (offset : ℕ) (rs : List Route) (at : ℕ) (r : Route) (own : ℕ) (d : ChildEntry) → at < length rs → r ≡ get_or rs at r → own ≡ get_or (offsets_from offset (forest_of rs)) at own
     → get_or (entries_from offset (forest_of rs)) at d ≡ child_entry_of (seen own r)
 entry-at offset [] at r own d early is comes = absurd (omega arith)
-entry-at offset (one ∷ rs) zero r own d early is comes =
-    ap (λ (r : Route). child_entry_of (seen offset r)) (sym is) ∙ ap (λ n. child_entry_of (seen n r)) (sym comes)
+entry-at offset (one ∷ rs) zero r own d early is comes = grind arith
 entry-at offset (one ∷ rs) (suc at) r own d early is comes = entry-at (offset + 1 + count_of one.children) rs at r own d (omega arith) is comes
 
 pub get_or-default : {X : Type 0} (xs : List X) (i : ℕ) (d e : X) → i < length xs → get_or xs i d ≡ get_or xs i e
@@ -377,9 +288,7 @@ length-offsets offset (r ∷ rs) = let rest : length (offsets_from (offset + 1 +
 
 pub offsets-push : (offset : ℕ) (rs : List Route) (r : Route) → offsets_from offset (forest_of (rs ++ r ∷ [])) ≡ offsets_from offset (forest_of rs) ++ (offset + count_of (forest_of rs)) ∷ []
 offsets-push offset [] r = let here : offset ≡ offset + 0 = omega arith in ap (λ n. n ∷ []) here
-offsets-push offset (one ∷ rs) r =
-    let along : offset + 1 + count_of one.children + count_of (forest_of rs) ≡ offset + count_of (forest_of (one ∷ rs)) = omega arith in
-    ap (λ l. offset ∷ l) (offsets-push (offset + 1 + count_of one.children) rs r ∙ ap (λ n. offsets_from (offset + 1 + count_of one.children) (forest_of rs) ++ n ∷ []) along)
+offsets-push offset (one ∷ rs) r = let rest = offsets-push (offset + 1 + count_of one.children) rs r in grind arith
 
 pub offsets-more : (offset : ℕ) (rs : List Route) (i : ℕ) (r : Route) → i < length rs → r ≡ get_or rs i r
     → offsets_from offset (forest_of (take (i + 1) rs)) ≡ offsets_from offset (forest_of (take i rs)) ++ (offset + count_of (forest_of (take i rs))) ∷ []
@@ -400,24 +309,17 @@ all_by-get P (x ∷ xs) (suc i) d all early = all_by-get P xs i d all.1 (omega a
 
 list_any-push : {X : Type 0} (test : X → Bool) (xs : List X) (x : X) → list_any test (xs ++ x ∷ []) ≡ (list_any test xs || test x)
 list_any-push test [] x = elim (test x) as (λ b. (b || false) ≡ b) [ true ↦ refl | false ↦ refl ]
-list_any-push test (y ∷ xs) x =
-    let rest = list_any-push test xs x in
-    elim (test y) as (λ b. (b || list_any test (xs ++ x ∷ [])) ≡ ((b || list_any test xs) || test x)) [ true ↦ refl | false ↦ rest ]
+list_any-push test (y ∷ xs) x = let rest = list_any-push test xs x in grind arith
 
 list_all-push : {X : Type 0} (test : X → Bool) (xs : List X) (x : X) → list_all test xs ≡ true → test x ≡ true → list_all test (xs ++ x ∷ []) ≡ true
 list_all-push test [] x all one = ap (λ b. b && true) one
-list_all-push test (y ∷ xs) x all one =
-    let first : test y ≡ true = all_get test (y ∷ xs) 0 y all refl in
-    let rest : list_all test xs ≡ true = sym (ap (λ b. b && list_all test xs) first) ∙ all in
-    ap (λ b. b && list_all test (xs ++ x ∷ [])) first ∙ list_all-push test xs x rest one
+list_all-push test (y ∷ xs) x all one = let rest = list_all-push test xs x in grind arith
 
 pub named-more : (name : List ℕ) (indexes : List NameIndex) (index : NameIndex) → has_name name indexes ≡ true → has_name name (indexes ++ index ∷ []) ≡ true
 named-more name indexes index is = list_any-push (λ (index : NameIndex). bytes_eq name index.name.now) indexes index ∙ left_holds (has_name name indexes) (bytes_eq name index.name.now) is
 
 pub named-push : (name : List ℕ) (indexes : List NameIndex) (index : NameIndex) → index.name.now ≡ name → has_name name (indexes ++ index ∷ []) ≡ true
-named-push name indexes index is =
-    let same : bytes_eq name index.name.now ≡ true = (bytes_decides name index.name.now).1 (sym is) in
-    list_any-push (λ (index : NameIndex). bytes_eq name index.name.now) indexes index ∙ right_holds (has_name name indexes) (bytes_eq name index.name.now) same
+named-push name indexes index is = search (rules, list_any-push, right_holds)
 
 -- what is found stays found with an index more
 found_more : (indexes : List NameIndex) (index : NameIndex) (all : List (Option MatcherView)) → list_all (is_found indexes) all ≡ true → list_all (is_found (indexes ++ index ∷ [])) all ≡ true
@@ -445,16 +347,12 @@ found-begins indexes index rs i r early is found one = found-step (indexes ++ in
 
 -- the first of the places that are kept
 pub kept-first : {X : Type 0} (test : X → Bool) (places : List ℕ) (from : ℕ) (xs : List X) (found : Option ℕ) → (IsNonDecreasing places → found ≡ find (nat_le from) places) → places ≡ places_from test 0 xs → IsFirstFrom test from xs found
-kept-first test places from xs found answer are =
-    let is : found ≡ find (nat_le from) (places_from test 0 xs) = answer (subst IsNonDecreasing (sym are) (places-rise test 0 xs)) ∙ ap (find (nat_le from)) are in
-    subst (IsFirstFrom test from xs) (sym is) (first-place test from xs)
+kept-first test places from xs found answer are = grind (arith, places-rise, first-place)
 
 -- with one more those too that it keeps for the label's value
 pub met-more : (labels : Labels) (indexes : List NameIndex) (index : NameIndex) (filing : Option MatcherView)
     → (is_met labels indexes filing || is_filed index.name.now (value_of labels index.name.now) filing) ≡ is_met labels (indexes ++ index ∷ []) filing
-met-more labels indexes index filing =
-    let test = λ (index : NameIndex). is_filed index.name.now (value_of labels index.name.now) filing in
-    elim (is_unfiled filing) as (λ b. ((b || list_any test indexes) || test index) ≡ (b || list_any test (indexes ++ index ∷ []))) [ true ↦ refl | false ↦ sym (list_any-push test indexes index) ]
+met-more labels indexes index filing = grind (arith, list_any-push)
 
 -- what can't match has an equality matcher, and the first of the indexes doesn't keep it
 pub unfiled-fails : (labels : Labels) (filing : Option MatcherView) → may_match labels filing ≡ false → is_unfiled filing ≡ false
@@ -463,25 +361,10 @@ unfiled-fails labels (Some m) fails = refl
 
 first_fails : (labels : Labels) (indexes : List NameIndex) (filing : Option MatcherView) → is_met labels indexes filing ≡ false → is_kept labels (take 1 indexes) filing ≡ false
 first_fails labels [] filing fails = refl
-first_fails labels (index ∷ indexes) filing fails = part (is_unfiled filing) (is_filed index.name.now (value_of labels index.name.now) filing) (is_kept labels indexes filing) fails
-  where
-    part : (a b c : Bool) → (a || (b || c)) ≡ false → (b || false) ≡ false
-    part false false c f = refl
-    part false true c f = absurd (cc)
-    part true b c f = absurd (cc)
+first_fails labels (index ∷ indexes) filing fails = grind arith
 
 pub kept-fails : (labels : Labels) (indexes : List NameIndex) (f : Forest) (k : ℕ) (filing : Option MatcherView) → list_all (is_found indexes) (filings f) ≡ true → slice_get (filings f) k ≡ Some filing → may_match labels filing ≡ false → is_kept labels (take 1 indexes) filing ≡ false
 kept-fails labels indexes f k filing all is fails = first_fails labels indexes filing (met-may_match labels indexes f k filing all is ∙ fails)
-
--- what the first index keeps for a label set's value
-pub kept-indexes_kept : (labels : Labels) (index : NameIndex) (all : List (Option MatcherView)) → IsIndexOf all index → indexes_kept (value_of labels index.name.now) index ≡ places_from (is_kept labels (index ∷ [])) 0 all
-kept-indexes_kept labels index all is =
-    is (value_of labels index.name.now)
-    ∙ places-alike (is_filed index.name.now (value_of labels index.name.now)) (is_kept labels (index ∷ [])) 0 all (λ filing. sym (alone (is_filed index.name.now (value_of labels index.name.now) filing)))
-  where
-    alone : (b : Bool) → (b || false) ≡ b
-    alone true = refl
-    alone false = refl
 
 pub filed-none : (labels : Labels) (indexes : List NameIndex) (all : List (Option MatcherView)) → slice_get indexes 0 ≡ None → [] ≡ places_left (is_kept labels (take 1 indexes)) 0 all
 filed-none labels [] all none = places-none 0 all
@@ -490,9 +373,7 @@ filed-none labels (index ∷ indexes) all none = absurd (cc)
 pub filed-first : (labels : Labels) (indexes : List NameIndex) (index : NameIndex) (all : List (Option MatcherView)) → slice_get indexes 0 ≡ Some index → AllByRecursion (IsIndexOf all) indexes
     → indexes_kept (value_of labels index.name.now) index ≡ places_left (is_kept labels (take 1 indexes)) 0 all
 filed-first labels [] index all some are = absurd (cc)
-filed-first labels (one ∷ indexes) index all some are =
-    let same : one ≡ index = (cc) in
-    subst (λ (index : NameIndex). indexes_kept (value_of labels index.name.now) index ≡ places_from (is_kept labels (one ∷ [])) 0 all) same (kept-indexes_kept labels one all are.0)
+filed-first labels (one ∷ indexes) index all some are = grind arith
 
 -- what is left after the first one that may match
 pub left-after : (labels : Labels) (from : ℕ) (routes : Forest) (entries : List ChildEntry) (unfiled filed : List ℕ) (indexes : List NameIndex) (at : ℕ)

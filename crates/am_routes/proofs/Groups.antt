@@ -1,32 +1,28 @@
 -- The groups go on alert by alert and sweep by sweep.
-use Rattle.std.proofs.Common.{◌≡◌, ◌≢◌, ℕ, Bool, true, false, not, ◌&&◌, cond, nat_eq, List, [], ◌∷◌, ◌++◌, map, fold, Option, Some, None, refl, sym, ap, subst, ◌∙◌}
+use Rattle.std.proofs.Common.{◌≡◌, ◌≢◌, ℕ, Bool, true, false, ◌&&◌, cond, List, [], ◌∷◌, ◌++◌, map, fold, Option, Some, None, refl, sym, ap, subst, ◌∙◌, arith, rules}
 use Rattle.std.specs.Option.{option_map, option_and_then, option_map_or, IfSome}
 use Rattle.std.specs.Bool.{Decides}
-use Rattle.std.specs.List.{filter_map, cons_option}
+use Rattle.std.specs.List.{filter_map}
 use Rattle.std.proofs.lemmas.List.{append_assoc, append-nil}
 use Rattle.std.proofs.lemmas.List.Sums.{fold-append}
 use Rattle.std.proofs.lemmas.Bool.Decides.{Decides-and, Decides-like, Decides-eqb}
 use Rattle.am_alert.specs.declared.alert.Alert.{Alert}
-use Rattle.am_alert.specs.Merging.{is_resolved_at, unless_resolved, unresolved}
+use Rattle.am_alert.specs.Merging.{unless_resolved, unresolved}
 use Rattle.am_labels.specs.LabelSets.{Labels, same_labels}
 use Rattle.am_labels.specs.LabelLaws.{labels_decide}
 use Rattle.am_config.specs.Routes.{Forest}
 use Rattle.am_routes.specs.RouteAnswers.{Node, answer_of}
 use Rattle.am_config.specs.GroupLabels.{group_labels}
 use Rattle.am_routes.specs.InOrder.{in_order}
-use Rattle.am_routes.specs.Groups.{DispatchEvent, Take, Sweep, GroupUpdate, Join, Resolve, joins, updates_of_event, group_updates, GroupIdentity, same_group, group_key, label_set, after_group_update, held_in, alerts_of_group, some_of, members, GroupView, group_of, groups_after, groups_of}
+use Rattle.am_routes.specs.Groups.{DispatchEvent, Take, Sweep, GroupUpdate, Join, Resolve, joins, updates_of_event, group_updates, GroupIdentity, same_group, group_key, label_set, after_group_update, held_in, alerts_of_group, some_of, members, group_of, groups_after, groups_of}
 use Rattle.am_routes.specs.inside.GroupLists.{alerts_with, with_member, with_members, swept}
-use Rattle.am_routes.proofs.Cases.{by_bool, by_option}
+use Rattle.am_routes.proofs.Cases.{by_bool}
 use Rattle.am_routes.proofs.InOrder.{GoesByKeys, put, in_order-each, in_order-own, AllHold, in_order_hold}
 
 -- ---- tests
 
 group_decides : (a b : GroupIdentity) → Decides (same_group a b) (a ≡ b)
-group_decides a b =
-    Decides-like (same_group a b)
-    (λ (both : (a.route ≡ b.route) × (a.labels ≡ b.labels)) i. record { route = both.0 i; labels = both.1 i })
-    (λ e. (ap (λ (k : GroupIdentity). k.route) e, ap (λ (k : GroupIdentity). k.labels) e))
-    (Decides-and (nat_eq a.route b.route) (same_labels a.labels b.labels) (Decides-eqb a.route b.route) (labels_decide a.labels b.labels))
+group_decides a b = grind (arith, Decides-like, Decides-and, Decides-eqb, labels_decide)
 
 -- ---- one label set in one group
 
@@ -37,58 +33,27 @@ no_more : GroupUpdate → Alert → Option Alert
 no_more (Join node labels alert) held = Some held
 no_more (Resolve now) held = unless_resolved now held
 
-keep_all : {A : Type 0} (o : Option A) → o ≡ option_and_then (λ (x : A). Some x) o
-keep_all None = refl
-keep_all (Some x) = refl
-
 differs : (key group : GroupIdentity) (labels one : Labels) (alert : Alert) → cond (same_group key group) (Some alert.labels) None ≡ Some one → labels ≢ one → (same_group key group && same_labels labels alert.labels) ≡ false
-differs key group labels one alert is apart =
-    by_bool (same_group key group)
-    (λ t.
-    let own : Some alert.labels ≡ Some one = sym (ap (λ b. cond b (Some alert.labels) None) t) ∙ is in
-    let labels_is : alert.labels ≡ one = (cc) in
-    by_bool (same_labels labels alert.labels)
-    (λ u. absurd (apart ((labels_decide labels alert.labels).0 u ∙ labels_is)))
-    (λ f. ap (λ b. b && same_labels labels alert.labels) t ∙ f))
-    (λ f. ap (λ b. b && same_labels labels alert.labels) f)
+differs key group labels one alert is apart = grind (arith, labels_decide)
 
 other_set : (key : GroupIdentity) (labels one : Labels) (held : Option Alert) (update : GroupUpdate) → label_set key update ≡ Some one → labels ≢ one → after_group_update key labels held update ≡ held
-other_set key labels one held (Join node group alert) is apart =
-    ap (λ b. cond b (Some alert) held) (differs key (record { route = node.number; labels = group }) labels one alert is apart)
+other_set key labels one held (Join node group alert) is apart = grind (arith, differs, labels_decide, append_assoc, append-nil)
 other_set key labels one held (Resolve now) is apart = absurd (let no : None ≡ Some one = is in (cc))
-
-is_other : (key group : GroupIdentity) (labels : Labels) → cond (same_group key group) (Some labels) None ≡ None → same_group key group ≡ false
-is_other key group labels none =
-    by_bool (same_group key group)
-    (λ t. absurd (let no : Some labels ≡ None = sym (ap (λ b. cond b (Some labels) None) t) ∙ none in (cc)))
-    (λ f. f)
 
 no_set : (key : GroupIdentity) (labels : Labels) (held : Option Alert) (update : GroupUpdate) → label_set key update ≡ None → after_group_update key labels held update ≡ option_and_then (no_more update) held
 unfolding no_more
-no_set key labels held (Join node group alert) none =
-    ap (λ b. cond (b && same_labels labels alert.labels) (Some alert) held) (is_other key (record { route = node.number; labels = group }) alert.labels none)
-    ∙ keep_all held
+no_set key labels held (Join node group alert) none = grind arith
 no_set key labels held (Resolve now) none = refl
 
 label_sets : (key : GroupIdentity) → GoesByKeys (label_set key) (held_in key) no_more
-label_sets key = record {
-  nothing = λ labels. refl;
-  other = λ all update labels one is apart. held_last key labels all update ∙ other_set key labels one (held_in key labels all) update is apart;
-  each = λ all update labels none. held_last key labels all update ∙ no_set key labels (held_in key labels all) update none;
-}
+label_sets key = grind (arith, held_last, other_set, no_set)
 
 -- ---- the alerts of one group
 
 values_kept : (f : Alert → Option Alert) (entries : List (GroupUpdate × Alert))
     → map (λ (entry : GroupUpdate × Alert). entry.1) (filter_map (λ (entry : GroupUpdate × Alert). option_map {U = GroupUpdate × Alert} (λ value. (entry.0, value)) (f entry.1)) entries) ≡ filter_map f (map (λ (entry : GroupUpdate × Alert). entry.1) entries)
 values_kept f [] = refl
-values_kept f (entry ∷ entries) =
-    front (f entry.1) (filter_map (λ (entry : GroupUpdate × Alert). option_map {U = GroupUpdate × Alert} (λ value. (entry.0, value)) (f entry.1)) entries)
-    ∙ ap (cons_option (f entry.1)) (values_kept f entries)
-  where
-    front : (o : Option Alert) (rest : List (GroupUpdate × Alert)) → map (λ (entry : GroupUpdate × Alert). entry.1) (cons_option (option_map {U = GroupUpdate × Alert} (λ value. (entry.0, value)) o) rest) ≡ cons_option o (map (λ (entry : GroupUpdate × Alert). entry.1) rest)
-    front None rest = refl
-    front (Some v) rest = refl
+values_kept f (entry ∷ entries) = let rest = values_kept f entries in grind arith
 
 keep_each : (alerts : List Alert) → filter_map (λ (alert : Alert). Some alert) alerts ≡ alerts
 keep_each [] = refl
@@ -96,9 +61,7 @@ keep_each (alert ∷ alerts) = ap (λ rest. alert ∷ rest) (keep_each alerts)
 
 keep_unresolved : (now : ℕ) (alerts : List Alert) → filter_map (unless_resolved now) alerts ≡ unresolved now alerts
 keep_unresolved now [] = refl
-keep_unresolved now (alert ∷ alerts) =
-    elim (is_resolved_at now alert) as (λ b. cons_option (cond b None (Some alert)) (filter_map (unless_resolved now) alerts) ≡ cond (not b) (alert ∷ filter_map (unless_resolved now) alerts) (filter_map (unless_resolved now) alerts)) [ true ↦ refl | false ↦ refl ]
-    ∙ ap (λ rest. cond (not (is_resolved_at now alert)) (alert ∷ rest) rest) (keep_unresolved now alerts)
+keep_unresolved now (alert ∷ alerts) = let rest = keep_unresolved now alerts in grind arith
 
 alerts_each : (key : GroupIdentity) (all : List GroupUpdate) (update : GroupUpdate) → label_set key update ≡ None → alerts_of_group key (all ++ update ∷ []) ≡ filter_map (no_more update) (alerts_of_group key all)
 alerts_each key all update none =
@@ -121,18 +84,9 @@ Own labels held = IfSome held (λ alert. alert.labels ≡ labels)
 
 own_after : (key : GroupIdentity) (labels : Labels) (held : Option Alert) (update : GroupUpdate) → Own labels held → Own labels (after_group_update key labels held update)
 unfolding Own
-own_after key labels held (Join node group alert) own =
-    let here : GroupIdentity = record { route = node.number; labels = group } in
-    by_bool {P = Own labels (after_group_update key labels held (Join node group alert))} (same_labels labels alert.labels)
-    (λ t. elim (same_group key here && same_labels labels alert.labels) as (λ b. IfSome (cond b (Some alert) held) (λ alert. alert.labels ≡ labels)) [ true ↦ sym ((labels_decide labels alert.labels).0 t) | false ↦ own ])
-    (λ f. subst (λ b. IfSome (cond b (Some alert) held) (λ alert. alert.labels ≡ labels)) (sym (both_false (same_group key here) (same_labels labels alert.labels) f)) own)
-  where
-    both_false : (a b : Bool) → b ≡ false → (a && b) ≡ false
-    both_false true b e = e
-    both_false false b e = refl
+own_after key labels held (Join node group alert) own = grind (arith, labels_decide)
 own_after key labels None (Resolve now) own = tt
-own_after key labels (Some alert) (Resolve now) own =
-    elim (is_resolved_at now alert) as (λ b. IfSome (cond b None (Some alert)) (λ alert. alert.labels ≡ labels)) [ true ↦ tt | false ↦ own ]
+own_after key labels (Some alert) (Resolve now) own = grind arith
 
 own_from : (key : GroupIdentity) (labels : Labels) (held : Option Alert) (all : List GroupUpdate) → Own labels held → Own labels (fold (after_group_update key labels) held all)
 own_from key labels held [] own = own
@@ -148,10 +102,7 @@ is_of key labels update = option_map_or (λ own. same_labels labels own) (label_
 
 is_of_own : (key : GroupIdentity) (labels : Labels) (update : GroupUpdate) → is_of key labels update ≡ true → label_set key update ≡ Some labels
 unfolding is_of
-is_of_own key labels update e =
-    by_option {P = label_set key update ≡ Some labels} (label_set key update)
-    (λ none. absurd (let no : false ≡ true = sym (ap (λ o. option_map_or (λ own. same_labels labels own) o false) none) ∙ e in (cc)))
-    (λ own some. some ∙ ap Some (sym ((labels_decide labels own).0 (sym (ap (λ o. option_map_or (λ own. same_labels labels own) o false) some) ∙ e))))
+is_of_own key labels update e = grind (arith, labels_decide)
 
 own_is_of : (key : GroupIdentity) (labels : Labels) (update : GroupUpdate) → label_set key update ≡ Some labels → is_of key labels update ≡ true
 unfolding is_of
@@ -162,13 +113,8 @@ values_put : (key : GroupIdentity) (all : List GroupUpdate) (alert : Alert) (upd
 unfolding put AllHold is_of
 values_put key all alert update [] hold = refl
 values_put key all alert update (entry ∷ entries) hold =
-    let own : entry.1.labels ≡ hold.0.0 = held_own key hold.0.0 all entry.1 hold.0.2 in
-    let test : is_of key alert.labels entry.0 ≡ same_labels alert.labels entry.1.labels =
-    ap (λ o. option_map_or (λ own. same_labels alert.labels own) o false) hold.0.1 ∙ ap (same_labels alert.labels) (sym own) in
-    let rest = put (is_of key alert.labels) (λ (held : Option Alert). alert) update entries in
-    elim (is_of key alert.labels entry.0) as (λ b. map (λ (entry : GroupUpdate × Alert). entry.1) (cond b ((entry.0, alert) ∷ entries) (entry ∷ rest)) ≡ cond b (alert ∷ map (λ (entry : GroupUpdate × Alert). entry.1) entries) (entry.1 ∷ map (λ (entry : GroupUpdate × Alert). entry.1) rest)) [ true ↦ refl | false ↦ refl ]
-    ∙ (ap (λ rest. cond (is_of key alert.labels entry.0) (alert ∷ map (λ (entry : GroupUpdate × Alert). entry.1) entries) (entry.1 ∷ rest)) (values_put key all alert update entries hold.1)
-    ∙ ap (λ b. cond b (alert ∷ map (λ (entry : GroupUpdate × Alert). entry.1) entries) (entry.1 ∷ alerts_with alert (map (λ (entry : GroupUpdate × Alert). entry.1) entries))) test)
+    let rest = values_put key all alert update entries in
+    grind (arith, held_own, put)
 
 alerts_own : (key : GroupIdentity) (all : List GroupUpdate) (node : Node) (labels : Labels) (alert : Alert) → same_group key (record { route = node.number; labels = labels }) ≡ true
     → alerts_of_group key (all ++ Join node labels alert ∷ []) ≡ alerts_with alert (alerts_of_group key all)
@@ -208,11 +154,7 @@ each_members key all (Join node labels alert) none = absurd (cc)
 each_members key all (Resolve now) none = ap some_of (alerts_resolve key all now) ∙ some_left now (alerts_of_group key all)
 
 group_sets : GoesByKeys group_key members left_of
-group_sets = record {
-  nothing = λ key. refl;
-  other = λ all update key one is apart. other_members key one all update is apart;
-  each = λ all update key none. each_members key all update none;
-}
+group_sets = search (rules, other_members, each_members)
 
 is_in : GroupIdentity → GroupUpdate → Bool
 is_in key update = option_map_or (λ own. same_group key own) (group_key update) false
@@ -240,11 +182,8 @@ groups_put : (node : Node) (labels : Labels) (alert : Alert) (entries : List (Gr
 unfolding put is_in with_one
 groups_put node labels alert [] = refl
 groups_put node labels alert ((Join other own first, alerts) ∷ entries) =
-    let here : GroupIdentity = record { route = node.number; labels = labels } in
-    let there : GroupView = record { route = other.number; receiver = other.route.receiver; labels = own; alerts = alerts } in
-    let rest = put (is_in here) (with_one alert) (Join node labels alert) entries in
-    elim (nat_eq node.number other.number && same_labels labels own) as (λ b. filter_map group_of (cond b ((Join other own first, alerts_with alert alerts) ∷ entries) ((Join other own first, alerts) ∷ rest)) ≡ cond b (record there { alerts = alerts_with alert alerts } ∷ filter_map group_of entries) (there ∷ filter_map group_of rest)) [ true ↦ refl | false ↦ refl ]
-    ∙ ap (λ rest. cond (nat_eq node.number other.number && same_labels labels own) (record there { alerts = alerts_with alert alerts } ∷ filter_map group_of entries) (there ∷ rest)) (groups_put node labels alert entries)
+    let rest = groups_put node labels alert entries in
+    grind arith
 groups_put node labels alert ((Resolve now, alerts) ∷ entries) = groups_put node labels alert entries
 
 -- an alert that joins a group is put into it
@@ -261,21 +200,8 @@ groups-join all node labels alert =
 groups_kept : (now : ℕ) (entries : List (GroupUpdate × List Alert))
     → filter_map group_of (filter_map (λ (entry : GroupUpdate × List Alert). option_map {U = GroupUpdate × List Alert} (λ value. (entry.0, value)) (some_of (unresolved now entry.1))) entries) ≡ swept now (filter_map group_of entries)
 groups_kept now [] = refl
-groups_kept now ((Join node labels alert, alerts) ∷ entries) =
-    front (some_of (unresolved now alerts)) (filter_map (λ (entry : GroupUpdate × List Alert). option_map {U = GroupUpdate × List Alert} (λ value. (entry.0, value)) (some_of (unresolved now entry.1))) entries)
-    ∙ ap (cons_option (option_map {U = GroupView} (λ left. record { route = node.number; receiver = node.route.receiver; labels = labels; alerts = left }) (some_of (unresolved now alerts)))) (groups_kept now entries)
-  where
-    front : (o : Option (List Alert)) (rest : List (GroupUpdate × List Alert)) → filter_map group_of (cons_option (option_map {U = GroupUpdate × List Alert} (λ value. (Join node labels alert, value)) o) rest)
-        ≡ cons_option (option_map {U = GroupView} (λ left. record { route = node.number; receiver = node.route.receiver; labels = labels; alerts = left }) o) (filter_map group_of rest)
-    front None rest = refl
-    front (Some left) rest = refl
-groups_kept now ((Resolve then, alerts) ∷ entries) =
-    front (some_of (unresolved now alerts)) (filter_map (λ (entry : GroupUpdate × List Alert). option_map {U = GroupUpdate × List Alert} (λ value. (entry.0, value)) (some_of (unresolved now entry.1))) entries)
-    ∙ groups_kept now entries
-  where
-    front : (o : Option (List Alert)) (rest : List (GroupUpdate × List Alert)) → filter_map group_of (cons_option (option_map {U = GroupUpdate × List Alert} (λ value. (Resolve then, value)) o) rest) ≡ filter_map group_of rest
-    front None rest = refl
-    front (Some left) rest = refl
+groups_kept now ((Join node labels alert, alerts) ∷ entries) = let rest = groups_kept now entries in grind arith
+groups_kept now ((Resolve then, alerts) ∷ entries) = let rest = groups_kept now entries in grind arith
 
 -- what is resolved goes, with the groups that are left empty
 pub groups-resolve : (all : List GroupUpdate) (now : ℕ) → groups_after (all ++ Resolve now ∷ []) ≡ swept now (groups_after all)
@@ -288,16 +214,12 @@ groups-resolve all now =
 groups_joins : (all : List GroupUpdate) (nodes : List Node) (alert : Alert) → groups_after (all ++ joins nodes alert) ≡ with_members nodes alert (groups_after all)
 groups_joins all [] alert = ap groups_after (append-nil all)
 groups_joins all (node ∷ nodes) alert =
-    let labels = group_labels node.route.group_by alert.labels in
-    ap groups_after (sym (append_assoc all (Join node labels alert ∷ []) (joins nodes alert)))
-    ∙ (groups_joins (all ++ Join node labels alert ∷ []) nodes alert
-    ∙ ap (with_members nodes alert) (groups-join all node labels alert))
+    let rest = groups_joins (all ++ Join node (group_labels node.route.group_by alert.labels) alert ∷ []) nodes alert in
+    grind (arith, append_assoc, groups-join)
 
 updates_last : (tree : Forest) (events : List DispatchEvent) (event : DispatchEvent) → group_updates tree (events ++ event ∷ []) ≡ group_updates tree events ++ updates_of_event tree event
 updates_last tree [] event = append-nil (updates_of_event tree event)
-updates_last tree (first ∷ events) event =
-    ap (λ rest. updates_of_event tree first ++ rest) (updates_last tree events event)
-    ∙ sym (append_assoc (updates_of_event tree first) (group_updates tree events) (updates_of_event tree event))
+updates_last tree (first ∷ events) event = let rest = updates_last tree events event in grind (arith, append_assoc)
 
 pub groups-take : (tree : Forest) (events : List DispatchEvent) (alert : Alert)
     → groups_of tree (events ++ Take alert ∷ []) ≡ with_members (answer_of alert.labels 0 tree) alert (groups_of tree events)

@@ -1,5 +1,6 @@
 -- The list of what keys hold goes on update by update.
 use Rattle.std.proofs.Common.{◌≡◌, ◌≢◌, ℕ, zero, suc, ◌+◌, ◌<◌, ◌≤◌, Bool, true, false, cond, nat_eq, List, [], ◌∷◌, ◌++◌, length, take, drop, get_or, eq-eqb, Option, Some, None, is_none, refl, sym, ap, subst, ◌∙◌, arith, length-append}
+use Rattle.std.proofs.lemmas.Grind.{common_steps}
 use Rattle.std.specs.Option.{option_map, option_and_then}
 use Rattle.std.specs.List.{cons_option, filter_map}
 use Rattle.std.specs.Bool.{Decides}
@@ -11,17 +12,9 @@ use Rattle.am_routes.proofs.Cases.{by_bool, by_option}
 
 -- ---- the last number that passes
 
-last_passing-le : (test : ℕ → Bool) (n : ℕ) → last_passing test n ≤ n
-last_passing-le test zero = omega arith
-last_passing-le test (suc n) =
-    let before : last_passing test n ≤ n = last_passing-le test n in
-    elim (test (suc n)) as (λ b. cond b (suc n) (last_passing test n) ≤ suc n) [ true ↦ omega arith | false ↦ omega arith ]
-
 last_passing-same : (p q : ℕ → Bool) (n : ℕ) → ((m : ℕ) → m ≤ n → p m ≡ q m) → last_passing p n ≡ last_passing q n
 last_passing-same p q zero same = refl
-last_passing-same p q (suc n) same =
-    ap (λ b. cond b (suc n) (last_passing p n)) (same (suc n) (omega arith))
-    ∙ ap (λ rest. cond (q (suc n)) (suc n) rest) (last_passing-same p q n (λ m h. same m (omega arith)))
+last_passing-same p q (suc n) same = let rest = last_passing-same p q n in grind arith
 
 last_passing-here : (p : ℕ → Bool) (n : ℕ) → p n ≡ true → last_passing p n ≡ n
 last_passing-here p zero here = refl
@@ -34,59 +27,37 @@ last_passing-before p n past = ap (λ b. cond b (suc n) (last_passing p n)) past
 
 module _ {U V : Type 0} (held : List U → Option V) where
   without_now : (all : List U) → held all ≡ None → last_without held all ≡ length all
-  without_now all none =
-      last_passing-here (λ n. is_none (held (take n all))) (length all)
-      (ap (λ us. is_none (held us)) (take_all (length all) all (omega arith)) ∙ ap is_none none)
+  without_now all none = grind (arith, last_passing-here, take_all)
 
   grown : (all : List U) (u : U) → length (all ++ u ∷ []) ≡ suc (length all)
   grown all u = omega (arith, length-append all (u ∷ []))
 
   without_stays : (all : List U) (u : U) (v : V) → held (all ++ u ∷ []) ≡ Some v → last_without held (all ++ u ∷ []) ≡ last_without held all
-  without_stays all u v some =
-      let more = all ++ u ∷ [] in
-      ap (last_passing (λ n. is_none (held (take n more)))) (grown all u)
-      ∙ (last_passing-before (λ n. is_none (held (take n more))) (length all)
-      (ap (λ us. is_none (held us)) (take_all (suc (length all)) more (omega (arith, grown all u))) ∙ ap is_none some)
-      ∙ last_passing-same (λ n. is_none (held (take n more))) (λ n. is_none (held (take n all))) (length all)
-      (λ m h. ap (λ us. is_none (held us)) (take-append-le m all (u ∷ []) h)))
+  without_stays all u v some = grind (arith, grown, last_passing-before, take_all, last_passing-same, take-append-le)
 
   since_nothing : (at : ℕ) (all : List U) → held all ≡ None → held_since at held all ≡ None
-  since_nothing at all none =
-      ap (λ o. cond (nat_eq (last_without held all) at) o None) none
-      ∙ elim (nat_eq (last_without held all) at) as (λ b. cond {A = Option V} b None None ≡ None) [ true ↦ refl | false ↦ refl ]
+  since_nothing at all none = grind arith
 
   since_elsewhere : (at : ℕ) (all : List U) → last_without held all ≢ at → held_since at held all ≡ None
   since_elsewhere at all other = ap (λ b. cond b (held all) None) (ne_eqb (last_without held all) at other)
-
-  without_at_most : (all : List U) → last_without held all ≤ length all
-  without_at_most all = last_passing-le (λ n. is_none (held (take n all))) (length all)
 
   -- what is held by a key that began at an index, once it holds something else
   since_there : (at : ℕ) (all : List U) → last_without held all ≡ at → held_since at held all ≡ held all
   since_there at all e = ap (λ n. cond (nat_eq n at) (held all) None) e ∙ ap (λ b. cond b (held all) None) (eq-eqb at at refl)
 
   since_grown_empty : (at : ℕ) (all : List U) (u : U) → at < length all → held all ≡ None → held_since at held (all ++ u ∷ []) ≡ None
-  since_grown_empty at all u early none =
-      by_option (held (all ++ u ∷ []))
-      (λ gone. since_nothing at (all ++ u ∷ []) gone)
-      (λ v some. since_elsewhere at (all ++ u ∷ [])
-      (λ e. let s : last_without held (all ++ u ∷ []) ≡ length all = without_stays all u v some ∙ without_now all none in omega arith))
+  since_grown_empty at all u early none = grind (arith, since_nothing, since_elsewhere, without_stays, without_now)
 
   since_grown : (at : ℕ) (all : List U) (u : U) (v : V) → held (all ++ u ∷ []) ≡ Some v
       → held_since at held (all ++ u ∷ []) ≡ cond (nat_eq (last_without held all) at) (Some v) None
-  since_grown at all u v some =
-      ap (λ n. cond (nat_eq n at) (held (all ++ u ∷ [])) None) (without_stays all u v some)
-      ∙ ap (λ o. cond (nat_eq (last_without held all) at) o None) some
+  since_grown at all u v some = grind (arith, without_stays)
 
   since_now : (at : ℕ) (all : List U) (v : V) → held all ≡ Some v → held_since at held all ≡ cond (nat_eq (last_without held all) at) (Some v) None
   since_now at all v some = ap (λ o. cond (nat_eq (last_without held all) at) o None) some
 
   -- a key that holds the same as before began where it did
   since_same : (at : ℕ) (all : List U) (u : U) → at < length all → held (all ++ u ∷ []) ≡ held all → held_since at held (all ++ u ∷ []) ≡ held_since at held all
-  since_same at all u early same =
-      by_option (held all)
-      (λ none. since_grown_empty at all u early none ∙ sym (since_nothing at all none))
-      (λ v some. since_grown at all u v (same ∙ some) ∙ sym (since_now at all v some))
+  since_same at all u early same = grind (arith, since_grown_empty, since_nothing, since_grown, since_now)
 
 -- ---- gathering
 
@@ -97,10 +68,7 @@ cons_append (Some x) xs ys = refl
 module _ {U X : Type 0} where
   gathered_append : (f : ℕ → U → Option X) (at : ℕ) (before after : List U) → gathered_from f at (before ++ after) ≡ gathered_from f at before ++ gathered_from f (at + length before) after
   gathered_append f at [] after = let e : at ≡ at + 0 = omega arith in ap (λ n. gathered_from f n after) e
-  gathered_append f at (r ∷ before) after =
-      let e : (at + 1) + length before ≡ at + suc (length before) = omega arith in
-      ap (λ rest. cons_option (f at r) rest) (gathered_append f (at + 1) before after ∙ ap (λ n. gathered_from f (at + 1) before ++ gathered_from f n after) e)
-      ∙ cons_append (f at r) (gathered_from f (at + 1) before) (gathered_from f (at + suc (length before)) after)
+  gathered_append f at (r ∷ before) after = let rest = gathered_append f (at + 1) before after in grind arith
 
   -- between two indices both find the same
   gathered_same : (f g : ℕ → U → Option X) (low high : ℕ) → ((at : ℕ) (u : U) → low ≤ at → at < high → f at u ≡ g at u)
@@ -143,22 +111,9 @@ pair_kept effect u (Some v) = refl
 since_each : {U V : Type 0} (held : List U → Option V) (effect : V → Option V) (at : ℕ) (all : List U) (u : U) → at < length all → held (all ++ u ∷ []) ≡ option_and_then effect (held all)
     → held_since at held (all ++ u ∷ []) ≡ option_and_then effect (held_since at held all)
 since_each {U} {V} held effect at all u early each =
-    by_option (held all)
-    (λ none. since_grown_empty held at all u early none ∙ ap (option_and_then effect) (sym (since_nothing held at all none)))
-    (λ v some.
-    let now : held (all ++ u ∷ []) ≡ effect v = each ∙ ap (option_and_then effect) some in
-    by_option (effect v)
-    (λ gone. since_nothing held at (all ++ u ∷ []) (now ∙ gone)
-    ∙ (elim (nat_eq (last_without held all) at) as (λ b. None ≡ option_and_then effect (cond b (Some v) None)) [ true ↦ sym gone | false ↦ refl ]
-    ∙ ap (option_and_then effect) (sym (since_now held at all v some))))
-    (λ w left. since_grown held at all u w (now ∙ left)
-    ∙ (elim (nat_eq (last_without held all) at) as (λ b. cond b (Some w) None ≡ option_and_then effect (cond b (Some v) None)) [ true ↦ sym left | false ↦ refl ]
-    ∙ ap (option_and_then effect) (sym (since_now held at all v some)))))
+    grind (arith, common_steps, since_grown_empty, since_nothing, since_now, since_grown)
 
 module _ {U K V : Type 0} (key_of : U → Option K) (held : K → List U → Option V) (effect : U → V → Option V) (laws : GoesByKeys key_of held effect) where
-  value_at : List U → ℕ → U → Option V
-  value_at all at u = option_and_then (λ key. held_since at (held key) all) (key_of u)
-
   -- an update of no key does the same to each entry
   pub in_order-each : (all : List U) (u : U) → key_of u ≡ None
       → in_order key_of held (all ++ u ∷ []) ≡ filter_map (λ entry. option_map {U = U × V} (λ value. (entry.0, value)) (effect u entry.1)) (in_order key_of held all)
@@ -218,14 +173,7 @@ module _ {U K V : Type 0} (key_of : U → Option K) (held : K → List U → Opt
   value_other : (all : List U) (u : U) (q : K) → key_of u ≡ Some q → (at : ℕ) (x : U) → at < length all
       → ((key : K) → key_of x ≡ Some key → same key q ≡ true → held_since at (held key) (all ++ u ∷ []) ≡ held_since at (held key) all)
       → begun_by key_of held (all ++ u ∷ []) at x ≡ begun_by key_of held all at x
-  value_other all u q is at x early own =
-      let more = all ++ u ∷ [] in
-      ap (option_map {U = U × V} (λ (value : V). (x, value)))
-      (by_option {P = option_and_then (λ key. held_since at (held key) more) (key_of x) ≡ option_and_then (λ key. held_since at (held key) all) (key_of x)} (key_of x)
-      (λ e. ap (option_and_then (λ key. held_since at (held key) more)) e ∙ ap (option_and_then (λ key. held_since at (held key) all)) (sym e))
-      (λ key e. ap (option_and_then (λ key. held_since at (held key) more)) e
-      ∙ (by_bool (same key q) (own key e) (λ no. since_same (held key) at all u early (laws.other all u key q is (apart same decide key q no)))
-      ∙ ap (option_and_then (λ key. held_since at (held key) all)) (sym e))))
+  value_other all u q is at x early own = grind (arith, since_same, apart)
 
   value_of_key : (all : List U) (at : ℕ) (x : U) (key : K) → key_of x ≡ Some key → begun_by key_of held all at x ≡ option_map {U = U × V} (λ value. (x, value)) (held_since at (held key) all)
   value_of_key all at x key e = ap (λ o. option_map {U = U × V} (λ (value : V). (x, value)) (option_and_then (λ key. held_since at (held key) all) o)) e
@@ -235,10 +183,7 @@ module _ {U K V : Type 0} (key_of : U → Option K) (held : K → List U → Opt
         → put is_its make new (cons_option (option_map {U = U × V} (λ value. (x, value)) o) entries) ≡ cons_option (option_map {U = U × V} (λ value. (x, value)) o) (put is_its make new entries)
     unfolding put
     passes make new x None entries none = refl
-    passes make new x (Some v) entries none =
-        by_bool (is_its x)
-        (λ yes. absurd (let no : Some v ≡ None = none yes in (cc)))
-        (λ no. ap (λ b. cond b ((x, make (Some v)) ∷ entries) ((x, v) ∷ put is_its make new entries)) no)
+    passes make new x (Some v) entries none = grind arith
 
     -- what has no entry of the key is passed over
     put_past : (all : List U) (make : Option V → V) (new : U) (high : ℕ) → ((at : ℕ) → at < high → held_since at (held q) all ≡ None)
@@ -266,10 +211,7 @@ module _ {U K V : Type 0} (key_of : U → Option K) (held : K → List U → Opt
         let some : held q more ≡ Some v = made ∙ ap (λ o. Some (make o)) none in
         let f = begun_by key_of held more in
         let g = begun_by key_of held all in
-        let zero_on : 0 + length all ≡ length all = omega arith in
         let since : held_since (length all) (held q) more ≡ Some v = since_there (held q) (length all) more (without_stays (held q) all u v some ∙ without_now (held q) all none) ∙ some in
-        let last : gathered_from f (0 + length all) (u ∷ []) ≡ (u, v) ∷ [] =
-        ap (λ n. gathered_from f n (u ∷ [])) zero_on ∙ (last_piece all u is (length all) ∙ ap (λ o. cons_option (option_map {U = U × V} (λ (value : V). (u, value)) o) []) since) in
         let before : gathered_from f 0 all ≡ gathered_from g 0 all = gathered_same f g 0 (length all)
         (λ at x low early. value_other all u q is at x early
         (λ key e yes. let t = (decide key q).0 yes in
@@ -277,10 +219,7 @@ module _ {U K V : Type 0} (key_of : U → Option K) (held : K → List U → Opt
         since_grown_empty (held key) at all u early gone ∙ sym (since_nothing (held key) at all gone)))
         0 all (omega arith) (omega arith) in
         let past : put is_its make u (gathered_from g 0 all ++ []) ≡ gathered_from g 0 all ++ put is_its make u [] = put_past all make u (length all) (λ at early. since_nothing (held q) at all none) 0 all [] (omega arith) in
-        gathered_append f 0 all (u ∷ [])
-        ∙ (ap (λ rest. gathered_from f 0 all ++ rest) last
-        ∙ (ap (λ front. front ++ (u, v) ∷ []) before
-        ∙ (sym past ∙ ap (put is_its make u) (append-nil (gathered_from g 0 all)))))
+        grind (arith, gathered_append, append-nil)
 
     -- the key held something: its entry changes in its place
     put_old : (make : Option V → V) (all : List U) (u : U) (w : V) → key_of u ≡ Some q → held q (all ++ u ∷ []) ≡ Some (make (held q all)) → held q all ≡ Some w
@@ -301,7 +240,6 @@ module _ {U K V : Type 0} (key_of : U → Option K) (held : K → List U → Opt
         let b = drop (suc s) all in
         let cut : all ≡ a ++ x ∷ b = sym (take-append-drop s all) ∙ ap (λ rest. a ++ rest) (drop-cons all s u early) in
         let long : length a ≡ s = length-take-le s all (omega arith) in
-        let on : 0 + length a ≡ s = omega arith in
         let rest_long : s + suc (length b) ≡ length all = omega (arith, length-drop (suc s) all, early) in
         let stays : last_without (held q) more ≡ s = without_stays (held q) all u v some in
         let same_at : (at : ℕ) (y : U) → at < length all → at ≢ s → f at y ≡ g at y = λ at y e n.
@@ -315,26 +253,16 @@ module _ {U K V : Type 0} (key_of : U → Option K) (held : K → List U → Opt
         let mid_f : f s x ≡ Some (x, v) = value_of_key more s x q there.1 ∙ ap (option_map {U = U × V} (λ (value : V). (x, value))) (since_there (held q) s more stays ∙ some) in
         let mid_g : g s x ≡ Some (x, w) = value_of_key all s x q there.1 ∙ ap (option_map {U = U × V} (λ (value : V). (x, value))) (since_there (held q) s all refl ∙ old) in
         let tail = gathered_from g (s + 1) b in
-        let cut_f : gathered_from f 0 all ≡ gathered_from g 0 a ++ (x, v) ∷ tail =
-        ap (gathered_from f 0) cut ∙ (gathered_append f 0 a (x ∷ b) ∙ (ap (λ n. gathered_from f 0 a ++ gathered_from f n (x ∷ b)) on
-        ∙ (ap (λ o. gathered_from f 0 a ++ cons_option o (gathered_from f (s + 1) b)) mid_f ∙ (ap (λ h. h ++ (x, v) ∷ gathered_from f (s + 1) b) front ∙ ap (λ t. gathered_from g 0 a ++ (x, v) ∷ t) back)))) in
-        let cut_g : gathered_from g 0 all ≡ gathered_from g 0 a ++ (x, w) ∷ tail =
-        ap (gathered_from g 0) cut ∙ (gathered_append g 0 a (x ∷ b) ∙ (ap (λ n. gathered_from g 0 a ++ gathered_from g n (x ∷ b)) on
-        ∙ ap (λ o. gathered_from g 0 a ++ cons_option o tail) mid_g)) in
         let last : gathered_from f (0 + length all) (u ∷ []) ≡ [] =
         last_piece all u is (0 + length all) ∙ ap (λ o. cons_option (option_map {U = U × V} (λ (value : V). (u, value)) o) []) (since_elsewhere (held q) (0 + length all) more (λ m. omega (arith, stays))) in
         let hit : put is_its make u ((x, w) ∷ tail) ≡ (x, v) ∷ tail = ap (λ b. cond b ((x, v) ∷ tail) ((x, w) ∷ put is_its make u tail)) (own x there.1) in
         let past = put_past all make u s (λ at e. since_elsewhere (held q) at all (λ m. omega arith)) 0 a ((x, w) ∷ tail) (omega arith) in
-        gathered_append f 0 all (u ∷ [])
-        ∙ (ap (λ rest. gathered_from f 0 all ++ rest) last
-        ∙ (append-nil (gathered_from f 0 all)
-        ∙ (cut_f ∙ (ap (λ t. gathered_from g 0 a ++ t) (sym hit) ∙ (sym past ∙ ap (put is_its make u) (sym cut_g))))))
+        grind (arith, gathered_append, append-nil)
 
     -- an update of a key changes the key's entry
     pub in_order-own : (make : Option V → V) (all : List U) (u : U) → key_of u ≡ Some q → held q (all ++ u ∷ []) ≡ Some (make (held q all)) → ((x : U) → key_of x ≡ Some q → is_its x ≡ true)
         → in_order key_of held (all ++ u ∷ []) ≡ put is_its make u (in_order key_of held all)
-    in_order-own make all u is made own =
-        by_option (held q all) (λ none. put_new make all u is made none) (λ w old. put_old make all u w is made old own)
+    in_order-own make all u is made own = grind (arith, put_new, put_old)
 
 -- each entry has what its update's key holds
 unfoldable pub AllHold : {U K V : Type 0} → (U → Option K) → (K → List U → Option V) → List U → List (U × V) → Type 0
@@ -348,15 +276,8 @@ module _ {U K V : Type 0} (key_of : U → Option K) (held : K → List U → Opt
   hold_front x None entries own rest = rest
   hold_front x (Some v) entries own rest = (own v refl, rest)
 
-  since_held : (at : ℕ) (key : K) (v : V) → held_since at (held key) all ≡ Some v → held key all ≡ Some v
-  since_held at key v =
-      elim (nat_eq (last_without (held key) all) at) as (λ b. cond b (held key all) None ≡ Some v → held key all ≡ Some v) [ true ↦ λ e. e | false ↦ λ e. absurd (cc) ]
-
   key_held : (at : ℕ) (x : U) (v : V) → option_and_then (λ key. held_since at (held key) all) (key_of x) ≡ Some v → (key : K) × (key_of x ≡ Some key) × (held key all ≡ Some v)
-  key_held at x v e =
-      by_option {P = (key : K) × (key_of x ≡ Some key) × (held key all ≡ Some v)} (key_of x)
-      (λ none. absurd (let no : None ≡ Some v = sym (ap (option_and_then (λ key. held_since at (held key) all)) none) ∙ e in (cc)))
-      (λ key some. (key, some, since_held at key v (sym (ap (option_and_then (λ key. held_since at (held key) all)) some) ∙ e)))
+  key_held at x v e = grind arith
 
   gathered_hold : (at : ℕ) (us : List U) → AllHold key_of held all (gathered_from (begun_by key_of held all) at us)
   unfolding AllHold

@@ -1,5 +1,5 @@
 -- The routes of a tree listed one after another.
-use Rattle.std.proofs.Common.{◌≡◌, inl, inr, ℕ, zero, suc, ◌+◌, ◌<◌, List, [], ◌∷◌, ◌++◌, length, drop, get_or, map, refl, sym, ap, subst, ◌∙◌, arith, length-append}
+use Rattle.std.proofs.Common.{◌≡◌, inl, inr, ℕ, zero, suc, ◌+◌, ◌<◌, List, [], ◌∷◌, ◌++◌, length, drop, get_or, map, refl, ap, subst, ◌∙◌, arith, length-append}
 use Rattle.std.proofs.lemmas.List.{append_assoc, map-append}
 use Rattle.std.proofs.lemmas.List.Elements.{Contains-append_left, Contains-append_right, Contains-append_cases}
 use Rattle.std.specs.List.{range_with_len, Contains}
@@ -24,25 +24,12 @@ pub listed-one : (rs : List Route) (i : ℕ) (r : Route) (depth : ℕ) (old tota
     → new ≡ (old ++ listed depth (record { number = length old; route = route_view r }) ∷ []) ++ listed_from (depth + 1) (length old + 1) r.children
     → new ++ listed_from depth (length new) (forest_of (drop (i + 1) rs)) ≡ total
 listed-one rs i r depth old total new early is so_far added =
-    let one : ListedRoute = listed depth (record { number = length old; route = route_view r }) in
-    let below : List ListedRoute = listed_from (depth + 1) (length old + 1) r.children in
-    let others = forest_of (drop (i + 1) rs) in
-    let long : length new ≡ length old + 1 + count_of r.children =
-    omega (arith, ap length added, length-append (old ++ one ∷ []) below, length-append old (one ∷ []), length-listed (depth + 1) (length old + 1) r.children) in
-    let rest : List ListedRoute = listed_from depth (length old + 1 + count_of r.children) others in
-    ap (λ n. new ++ listed_from depth n others) long
-    ∙ (ap (λ l. l ++ rest) added
-    ∙ (append_assoc (old ++ one ∷ []) below rest
-    ∙ (append_assoc old (one ∷ []) (below ++ rest)
-    ∙ (ap (λ f. old ++ listed_from depth (length old) f) (sym (forest-drop rs i r early is)) ∙ so_far))))
+    grind (arith, length-append, length-listed, append_assoc, forest-drop)
 
 -- ---- the numbers of the list
 
 range-append : (a n m : ℕ) → range_with_len a n ++ range_with_len (a + n) m ≡ range_with_len a (n + m)
-range-append a zero m =
-    let start : a + zero ≡ a = omega arith in
-    let count : m ≡ zero + m = omega arith in
-    ap (λ from. range_with_len from m) start ∙ ap (range_with_len a) count
+range-append a zero m = grind arith
 range-append a (suc n) m =
     let start : a + suc n ≡ a + 1 + n = omega arith in
     let count : suc (n + m) ≡ suc n + m = omega arith in
@@ -52,14 +39,9 @@ range-append a (suc n) m =
 pub numbers-listed : (depth number : ℕ) (f : Forest) → map (λ (one : ListedRoute). one.id.0) (listed_from depth number f) ≡ range_with_len number (count_of f)
 numbers-listed depth number no_routes = refl
 numbers-listed depth number (route first below others) =
-    let number_of : ListedRoute → ℕ = λ one. one.id.0 in
-    let under = listed_from (depth + 1) (number + 1) below in
-    let after = listed_from depth (number + 1 + count_of below) others in
-    let count : suc (count_of below + count_of others) ≡ 1 + (count_of below + count_of others) = omega arith in
-    ap (λ rest. number ∷ rest) (map-append number_of under after)
-    ∙ (ap (λ rest. number ∷ (rest ++ map number_of after)) (numbers-listed (depth + 1) (number + 1) below)
-    ∙ (ap (λ rest. number ∷ (range_with_len (number + 1) (count_of below) ++ rest)) (numbers-listed depth (number + 1 + count_of below) others)
-    ∙ (ap (λ rest. number ∷ rest) (range-append (number + 1) (count_of below) (count_of others)) ∙ ap (range_with_len number) count)))
+    let rest = numbers-listed (depth + 1) (number + 1) below in
+    let other = numbers-listed depth (number + 1 + count_of below) others in
+    grind (arith, map-append, range-append)
 
 -- ---- what is matched is listed
 

@@ -1,5 +1,5 @@
 -- The one answer of routes, and that it is the only one.
-use Rattle.std.proofs.Common.{◌≡◌, ℕ, ◌+◌, cond, List, [], ◌∷◌, ◌++◌, refl, sym, ap, subst, ◌∙◌}
+use Rattle.std.proofs.Common.{◌≡◌, ℕ, ◌+◌, cond, List, [], ◌∷◌, ◌++◌, refl, sym, ap, subst, ◌∙◌, arith}
 use Rattle.std.proofs.lemmas.List.{append-nil}
 use Rattle.am_labels.specs.LabelSets.{Labels}
 use Rattle.am_labels.specs.Matchers.{all_admitted}
@@ -69,5 +69,4 @@ module _ (labels : Labels) where
 
 -- the numbers of the one answer answer a label set
 pub are-answer : (labels : Labels) (tree : Forest) (nodes : List Node) (ids : List RouteId) → nodes ≡ answer_of labels 0 tree → ids ≡ ids_of nodes → IsAnswerOf labels tree ids
-are-answer labels tree nodes ids answer are =
-    (nodes, subst (RoutesAnswer labels 0 tree) (sym answer) (answer-meets labels 0 tree), are)
+are-answer labels tree nodes ids answer are = grind (arith, answer-meets)

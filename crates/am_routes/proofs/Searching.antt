@@ -1,5 +1,5 @@
 -- A tree's searches in pre-order, and what asking them one after another comes to.
-use Rattle.std.proofs.Common.{◌≡◌, ◌≢◌, ℕ, zero, suc, ◌+◌, ◌-◌, ◌<◌, ◌≤◌, Bool, true, false, not, ◌&&◌, cond, List, [], ◌∷◌, ◌++◌, Option, Some, None, length, take, drop, get_or, set, refl, sym, ap, subst, ◌∙◌, arith, length-append}
+use Rattle.std.proofs.Common.{◌≡◌, ◌≢◌, ℕ, zero, suc, ◌+◌, ◌-◌, ◌<◌, ◌≤◌, Bool, true, false, not, ◌&&◌, cond, List, [], ◌∷◌, ◌++◌, Option, Some, None, length, take, drop, get_or, set, refl, sym, ap, subst, ◌∙◌, arith, length-append, rules}
 use Rattle.std.proofs.lemmas.List.{append_assoc, append-nil, drop_more, drop-drop, drop_at, take_more, set_at, set-get_or}
 use Rattle.std.specs.List.{slice_get}
 use Rattle.std.specs.Option.{IfSome}
@@ -7,14 +7,13 @@ use Rattle.std.proofs.lemmas.Option.{slice_get_within}
 use Rattle.am_routes.specs.declared.candidates.Child.{Child}
 use Rattle.am_config.specs.declared.route.Route.{Route}
 use Rattle.am_labels.specs.LabelSets.{Labels}
-use Rattle.am_labels.specs.Matchers.{MatcherView, admitted, all_admitted}
+use Rattle.am_labels.specs.Matchers.{MatcherView, all_admitted}
 use Rattle.am_config.specs.Routes.{RouteView, Forest, no_routes, route, count_of}
 use Rattle.am_config.specs.RouteLists.{route_view, forest_of}
 use Rattle.am_routes.specs.RouteAnswers.{Node, own_answer, joined_with, answer_of}
-use Rattle.am_routes.specs.Looking.{is_equal, first_equality, may_match, looked_from, routes_looked_at}
+use Rattle.am_routes.specs.Looking.{first_equality, may_match, looked_from, routes_looked_at}
 use Rattle.am_routes.specs.inside.ChildIndexes.{ChildView, children_from, filings, drop_routes, offset_at, child_view_of, IsChildOf, IsNextChild, has_no_routes, other_matchers}
 use Rattle.am_routes.specs.inside.Searches.{in_pre_order, levels_of, BeginAt}
-use Rattle.am_routes.proofs.Cases.{by_bool}
 use Rattle.am_routes.proofs.ChildIndexes.{filed-fails, same-along}
 
 module _ {X : Type 0} (of : RouteView → Forest → X) where
@@ -25,9 +24,7 @@ module _ {X : Type 0} (of : RouteView → Forest → X) where
 
   in_pre_order-push : (rs : List Route) (r : Route) → in_pre_order of (forest_of (rs ++ r ∷ [])) ≡ in_pre_order of (forest_of rs) ++ in_pre_order of (forest_of (r ∷ []))
   in_pre_order-push [] r = refl
-  in_pre_order-push (one ∷ rs) r =
-      ap (λ rest. of (route_view one) one.children ∷ (in_pre_order of one.children ++ rest)) (in_pre_order-push rs r)
-      ∙ ap (λ rest. of (route_view one) one.children ∷ rest) (sym (append_assoc (in_pre_order of one.children) (in_pre_order of (forest_of rs)) (in_pre_order of (forest_of (r ∷ [])))))
+  in_pre_order-push (one ∷ rs) r = let rest = in_pre_order-push rs r in grind (arith, append_assoc)
 
   -- the routes so far with one more
   pub in_pre_order-more : (rs : List Route) (i : ℕ) (r : Route) → i < length rs → r ≡ get_or rs i r → in_pre_order of (forest_of (take i rs)) ++ in_pre_order of (forest_of (r ∷ [])) ≡ in_pre_order of (forest_of (take (i + 1) rs))
@@ -43,10 +40,7 @@ count-below (r ∷ rs) (suc i) d h = let rest : count_of (get_or rs i d).childre
 head_at : {X : Type 0} (at : ℕ) (all tail : List X) (one d : X) → drop at all ≡ one ∷ tail → (get_or all at d ≡ one) × (drop (at + 1) all ≡ tail) × (at + 1 + length tail ≡ length all)
 head_at zero all tail one d e = (ap (λ l. get_or l 0 d) e, ap (drop 1) e, omega (arith, ap length e))
 head_at (suc at) [] tail one d e = absurd (cc)
-head_at (suc at) (first ∷ all) tail one d e =
-    let rest = head_at at all tail one d e in
-    let here : drop (suc at + 1) (first ∷ all) ≡ drop (at + 1) all = let on : suc at + 1 ≡ suc (at + 1) = omega arith in ap (λ n. drop n (first ∷ all)) on in
-    (rest.0, here ∙ rest.1, omega (arith, rest.2))
+head_at (suc at) (first ∷ all) tail one d e = let rest = head_at at all tail one d in grind arith
 
 module _ {X : Type 0} (of : RouteView → Forest → X) where
   module _ (at : ℕ) (first : RouteView) (below others : Forest) (all : List X) (begins : BeginAt at (in_pre_order of (route first below others)) all) where
@@ -105,18 +99,7 @@ asked others at one d same = ap (set others at) same ∙ set-get_or others at d
 -- a route matches if the index gave it and its other matchers admit the label set
 pub matchers-split : (labels : Labels) (matchers : List MatcherView) → all_admitted matchers labels ≡ (may_match labels (first_equality matchers) && all_admitted (other_matchers matchers) labels)
 matchers-split labels [] = refl
-matchers-split labels (one ∷ matchers) =
-    by_bool {P = all_admitted (one ∷ matchers) labels ≡ (may_match labels (first_equality (one ∷ matchers)) && all_admitted (other_matchers (one ∷ matchers)) labels)} (is_equal one.operator)
-    (λ t. sym (ap (λ b. may_match labels (cond b (Some one) (first_equality matchers)) && all_admitted (cond b matchers (one ∷ other_matchers matchers)) labels) t))
-    (λ f.
-    ap (λ b. admitted one labels && b) (matchers-split labels matchers)
-    ∙ (swapped (admitted one labels) (may_match labels (first_equality matchers)) (all_admitted (other_matchers matchers) labels)
-    ∙ sym (ap (λ b. may_match labels (cond b (Some one) (first_equality matchers)) && all_admitted (cond b matchers (one ∷ other_matchers matchers)) labels) f)))
-  where
-    swapped : (a b c : Bool) → (a && (b && c)) ≡ (b && (a && c))
-    swapped true b c = refl
-    swapped false true c = refl
-    swapped false false c = refl
+matchers-split labels (one ∷ matchers) = let rest = matchers-split labels matchers in grind arith
 
 pub others-decide : (labels : Labels) (matchers : List MatcherView) → may_match labels (first_equality matchers) ≡ true → all_admitted matchers labels ≡ all_admitted (other_matchers matchers) labels
 others-decide labels matchers may = matchers-split labels matchers ∙ ap (λ b. b && all_admitted (other_matchers matchers) labels) may
@@ -142,53 +125,18 @@ module _ (labels : Labels) (at : ℕ) (first : RouteView) (below others : Forest
 
   -- a route whose matchers fail answers nothing
   pub alone-fails : all_admitted first.matchers labels ≡ false → answer_of labels at (route first below no_routes) ≡ []
-  alone-fails refused = own_alone ∙ none found
-    where
-      none : (found : List Node) → own_answer labels at first found ≡ []
-      none [] = ap (λ b. cond b (record { number = at; route = first } ∷ []) []) refused
-      none (node ∷ nodes) = ap (λ b. cond b (node ∷ nodes) []) refused
-
-  -- one that matches answers what those below it do, or itself
-  pub alone-itself : all_admitted first.matchers labels ≡ true → answer_of labels (at + 1) below ≡ [] → answer_of labels at (route first below no_routes) ≡ record { number = at; route = first } ∷ []
-  alone-itself admits none = own_alone ∙ (ap (own_answer labels at first) none ∙ ap (λ b. cond b (record { number = at; route = first } ∷ []) []) admits)
+  alone-fails refused = grind arith
 
   pub alone-below : all_admitted first.matchers labels ≡ true → 0 < length (answer_of labels (at + 1) below) → answer_of labels at (route first below no_routes) ≡ answer_of labels (at + 1) below
-  alone-below admits some = own_alone ∙ same found some
-    where
-      same : (found : List Node) → 0 < length found → own_answer labels at first found ≡ found
-      same [] h = absurd (omega arith)
-      same (node ∷ nodes) h = ap (λ b. cond b (node ∷ nodes) []) admits
-
-  own_some : all_admitted first.matchers labels ≡ true → (found : List Node) → 0 < length (own_answer labels at first found)
-  own_some admits [] = let e : length (own_answer labels at first []) ≡ 1 = ap (λ b. length {A = Node} (cond b (record { number = at; route = first } ∷ []) [])) admits in omega arith
-  own_some admits (node ∷ nodes) = let e : length (own_answer labels at first (node ∷ nodes)) ≡ suc (length nodes) = ap (λ b. length (cond b (node ∷ nodes) [])) admits in omega arith
+  alone-below admits some = grind (arith, own_alone)
 
   -- after one that matches and doesn't continue no more are asked
   pub alone-stops : all_admitted first.matchers labels ≡ true → first.continues ≡ false → answer_of labels at (route first below others) ≡ answer_of labels at (route first below no_routes)
-  alone-stops admits last = stops (own_answer labels at first found) (own_some admits found) ∙ sym own_alone
-    where
-      stops : (own : List Node) → 0 < length own → joined_with own first.continues rest ≡ own
-      stops [] h = absurd (omega arith)
-      stops (node ∷ nodes) h = ap (λ b. node ∷ nodes ++ cond b rest []) last ∙ append-nil (node ∷ nodes)
+  alone-stops admits last = grind arith
 
   -- after any other the next ones are
   pub alone-goes_on : (all_admitted first.matchers labels && not first.continues) ≡ false → answer_of labels at (route first below others) ≡ answer_of labels at (route first below no_routes) ++ answer_of labels (at + 1 + count_of below) others
-  alone-goes_on more =
-      by_bool {P = answer_of labels at (route first below others) ≡ alone ++ rest} (all_admitted first.matchers labels)
-      (λ admits.
-      let continues : first.continues ≡ true = on first.continues (sym (ap (λ b. b && not first.continues) admits) ∙ more) in
-      goes_on (own_answer labels at first found) continues ∙ ap (λ own. own ++ rest) (sym own_alone))
-      (λ refused.
-      let none : own_answer labels at first found ≡ [] = sym own_alone ∙ alone-fails refused in
-      ap (λ own. joined_with own first.continues rest) none ∙ ap (λ own. own ++ rest) (sym (alone-fails refused)))
-    where
-      on : (b : Bool) → not b ≡ false → b ≡ true
-      on true e = refl
-      on false e = absurd (cc)
-
-      goes_on : (own : List Node) → first.continues ≡ true → joined_with own first.continues rest ≡ own ++ rest
-      goes_on [] continues = refl
-      goes_on (node ∷ nodes) continues = ap (λ b. node ∷ nodes ++ cond b rest []) continues
+  alone-goes_on more = grind (arith, own_alone, alone-fails)
 
 -- ---- passing over routes that can't match
 
@@ -211,10 +159,7 @@ answer-first labels number offset f = ap (λ n. answer_of labels (number + n) (d
 pub at-child : (offset : ℕ) (f : Forest) (at : ℕ) (child : ChildView) → slice_get (children_from offset f) at ≡ Some child
     → (drop_routes at f ≡ route child.first child.below (drop_routes (suc at) f)) × (offset_at at offset f ≡ child.offset) × (offset_at (suc at) offset f ≡ child.offset + 1 + count_of child.below)
 at-child offset no_routes at child is = absurd (cc)
-at-child offset (route first below others) zero child is =
-    let here : record { offset = offset; first = first; below = below } ≡ child = (cc) in
-    subst (λ (child : ChildView). (route first below others ≡ route child.first child.below (drop_routes 0 others)) × (offset ≡ child.offset) × (offset_at 0 (offset + 1 + count_of below) others ≡ child.offset + 1 + count_of child.below)) here
-    (ap (route first below) (sym (drop-none others)), refl, offset_none (offset + 1 + count_of below) others)
+at-child offset (route first below others) zero child is = grind (arith, drop-none, offset_none)
 at-child offset (route first below others) (suc at) child is = at-child (offset + 1 + count_of below) others at child is
 
 -- one that can't match adds nothing
@@ -222,28 +167,14 @@ pub answer-passed : (labels : Labels) (number offset : ℕ) (f : Forest) (at : �
     → answer_from labels number offset f at ≡ answer_from labels number offset f (suc at)
 answer-passed labels number offset no_routes at fails = refl
 answer-passed labels number offset (route first below others) zero fails =
-    let refused : all_admitted first.matchers labels ≡ false = filed-fails labels first.matchers (fails (first_equality first.matchers) refl) in
-    let goes : (all_admitted first.matchers labels && not first.continues) ≡ false = ap (λ b. b && not first.continues) refused in
-    let on : number + offset + 1 + count_of below ≡ number + (offset + 1 + count_of below) = omega arith in
-    alone-goes_on labels (number + offset) first below others goes
-    ∙ (ap (λ own. own ++ answer_of labels (number + offset + 1 + count_of below) others) (alone-fails labels (number + offset) first below others refused)
-    ∙ (ap (λ n. answer_of labels n others) on
-    ∙ sym (answer-first labels number (offset + 1 + count_of below) others)))
+    grind (arith, filed-fails, alone-goes_on, alone-fails, answer-first)
 answer-passed labels number offset (route first below others) (suc at) fails = answer-passed labels number (offset + 1 + count_of below) others at fails
 
 pub looked-passed : (labels : Labels) (f : Forest) (at : ℕ) → ((filing : Option MatcherView) → slice_get (filings f) at ≡ Some filing → may_match labels filing ≡ false)
     → looked_from labels (drop_routes at f) ≡ looked_from labels (drop_routes (suc at) f)
 looked-passed labels no_routes at fails = refl
-looked-passed labels (route first below others) zero fails =
-    let past = looked_from labels others in
-    let here = 1 + (cond (all_admitted first.matchers labels) (looked_from labels below) 0 + cond (all_admitted first.matchers labels && not first.continues) 0 past) in
-    ap (λ b. cond b here past) (fails (first_equality first.matchers) refl) ∙ ap (looked_from labels) (sym (drop-none others))
+looked-passed labels (route first below others) zero fails = grind (arith, drop-none)
 looked-passed labels (route first below others) (suc at) fails = looked-passed labels others at fails
-
--- no more than there are, those below them counted too
-pub filings-le-count : (f : Forest) → length (filings f) ≤ count_of f
-filings-le-count no_routes = omega arith
-filings-le-count (route first below others) = let rest : length (filings others) ≤ count_of others = filings-le-count others in omega arith
 
 pub drop-past : (f : Forest) (at : ℕ) → length (filings f) ≤ at → drop_routes at f ≡ no_routes
 drop-past no_routes at past = refl
@@ -273,9 +204,7 @@ pending_count below (Some child) = length (filings below) - child.at
 
 filing_of_child : (offset : ℕ) (f : Forest) (at : ℕ) (child : ChildView) → slice_get (children_from offset f) at ≡ Some child → slice_get (filings f) at ≡ Some (first_equality child.first.matchers)
 filing_of_child offset no_routes at child is = absurd (cc)
-filing_of_child offset (route first below others) zero child is =
-    let here : record { offset = offset; first = first; below = below } ≡ child = (cc) in
-    ap (λ (child : ChildView). Some (first_equality child.first.matchers)) here
+filing_of_child offset (route first below others) zero child is = grind arith
 filing_of_child offset (route first below others) (suc at) child is = filing_of_child (offset + 1 + count_of below) others at child is
 
 -- the routes from an index on come to what the next one does with those after it
@@ -318,21 +247,14 @@ some-left f child one = let within : child.at < length (filings f) = child-withi
 -- and has fewer below it than there are
 pub child-fewer : (offset : ℕ) (f : Forest) (at : ℕ) (child : ChildView) → slice_get (children_from offset f) at ≡ Some child → count_of child.below < count_of f
 child-fewer offset no_routes at child is = absurd (cc)
-child-fewer offset (route first below others) zero child is =
-    let here : record { offset = offset; first = first; below = below } ≡ child = (cc) in
-    subst (λ (child : ChildView). count_of child.below < count_of (route first below others)) here (omega arith)
+child-fewer offset (route first below others) zero child is = grind arith
 child-fewer offset (route first below others) (suc at) child is =
     let rest : count_of child.below < count_of others = child-fewer (offset + 1 + count_of below) others at child is in omega arith
 
 -- fewer are left after an index
 pub next-fewer : (labels : Labels) (f : Forest) (child : Child) (next : Option Child) → IsChildOf f child → IsNextChild labels (child.at + 1) f next → pending_count f next < pending_count f (Some child)
-next-fewer labels f child None one is =
-    let within : child.at < length (filings f) = child-within f child one in
-    omega arith
-next-fewer labels f child (Some next) one is =
-    let within : child.at < length (filings f) = child-within f child one in
-    let after : child.at + 1 ≤ next.at = is.0.0 in
-    omega arith
+next-fewer labels f child None one is = grind (arith, child-within)
+next-fewer labels f child (Some next) one is = grind (arith, child-within)
 
 -- ---- a step of asking the routes below one
 
@@ -348,9 +270,7 @@ module _ (labels : Labels) (number : ℕ) (f : Forest) (child : Child) (is : IsC
 
   -- the last one that is asked
   pub answer-stops : all_admitted r.matchers labels ≡ true → r.continues ≡ false → pending_answer labels number f (Some child) ≡ answer_of labels (number + child.entry.offset) (forest_of (r ∷ []))
-  answer-stops admits last =
-      ap (answer_of labels (number + child.entry.offset)) here.0
-      ∙ alone-stops labels (number + child.entry.offset) (route_view r) r.children others admits last
+  answer-stops admits last = grind (arith, here, alone-stops)
 
   -- one after which the next is asked
   pub answer-goes_on : (next : Option Child) → (all_admitted r.matchers labels && not r.continues) ≡ false → IsNextChild labels (child.at + 1) f next
@@ -366,25 +286,11 @@ module _ (labels : Labels) (number : ℕ) (f : Forest) (child : Child) (is : IsC
       ∙ ap (λ l. own ++ l) (next-answer labels number f (child.at + 1) next following))))
 
   pub looked-stops : may_match labels (first_equality r.matchers) ≡ true → (all_admitted r.matchers labels && not r.continues) ≡ true → pending_looked labels f (Some child) ≡ 1 + routes_looked_at labels (forest_of (r ∷ []))
-  looked-stops may last =
-      let own = cond (all_admitted r.matchers labels) (looked_from labels r.children) 0 in
-      let past = looked_from labels others in
-      let none : 1 + (own + 0) ≡ 1 + own = omega arith in
-      ap (looked_from labels) here.0
-      ∙ (ap (λ b. cond b (1 + (own + cond (all_admitted r.matchers labels && not r.continues) 0 past)) past) may
-      ∙ (ap (λ b. 1 + (own + cond b 0 past)) last ∙ none))
+  looked-stops may last = grind (arith, here)
 
   pub looked-goes_on : (next : Option Child) → may_match labels (first_equality r.matchers) ≡ true → (all_admitted r.matchers labels && not r.continues) ≡ false → IsNextChild labels (child.at + 1) f next
       → pending_looked labels f (Some child) ≡ 1 + (routes_looked_at labels (forest_of (r ∷ [])) + pending_looked labels f next)
-  looked-goes_on next may more following =
-      let own = cond (all_admitted r.matchers labels) (looked_from labels r.children) 0 in
-      let past = looked_from labels others in
-      let index : suc child.at ≡ child.at + 1 = omega arith in
-      ap (looked_from labels) here.0
-      ∙ (ap (λ b. cond b (1 + (own + cond (all_admitted r.matchers labels && not r.continues) 0 past)) past) may
-      ∙ (ap (λ b. 1 + (own + cond b 0 past)) more
-      ∙ (ap (λ k. 1 + (own + looked_from labels (drop_routes k f))) index
-      ∙ ap (λ n. 1 + (own + n)) (next-looked labels f (child.at + 1) next following))))
+  looked-goes_on next may more following = grind (arith, here, next-looked)
 
   -- one that doesn't match adds nothing, but it was looked at
   pub answer-fails : (next : Option Child) → all_admitted r.matchers labels ≡ false → IsNextChild labels (child.at + 1) f next → pending_answer labels number f (Some child) ≡ pending_answer labels number f next
@@ -393,52 +299,22 @@ module _ (labels : Labels) (number : ℕ) (f : Forest) (child : Child) (is : IsC
       ∙ ap (λ own. own ++ pending_answer labels number f next) (alone-fails labels (number + child.entry.offset) (route_view r) r.children no_routes refused)
 
   pub looked-fails : (next : Option Child) → may_match labels (first_equality r.matchers) ≡ true → all_admitted r.matchers labels ≡ false → IsNextChild labels (child.at + 1) f next → pending_looked labels f (Some child) ≡ 1 + pending_looked labels f next
-  looked-fails next may refused following =
-      let none : 1 + (0 + pending_looked labels f next) ≡ 1 + pending_looked labels f next = omega arith in
-      looked-goes_on next may (ap (λ b. b && not r.continues) refused) following
-      ∙ (ap (λ b. 1 + (cond b (looked_from labels r.children) 0 + pending_looked labels f next)) refused ∙ none)
+  looked-fails next may refused following = grind (arith, looked-goes_on)
 
 -- ---- what a route adds after those below it were asked
 
-no_more_found : (old below : List Node) (new : List Node) → new ≡ old ++ below → length new ≡ length old → below ≡ []
-no_more_found old [] new e same = refl
-no_more_found old (node ∷ nodes) new e same = absurd (let l : length new ≡ length old + length (node ∷ nodes) = ap length e ∙ length-append old (node ∷ nodes) in omega arith)
-
 module _ (labels : Labels) (at : ℕ) (r : Route) (old new : List Node) (found : new ≡ old ++ answer_of labels (at + 1) r.children) (admits : all_admitted r.matchers labels ≡ true) where
-  pub own-pushed : length new ≡ length old → new ++ (record { number = at; route = route_view r } ∷ []) ≡ old ++ answer_of labels at (forest_of (r ∷ []))
-  own-pushed same =
-      let none = no_more_found old (answer_of labels (at + 1) r.children) new found same in
-      let node : Node = record { number = at; route = route_view r } in
-      ap (λ l. l ++ node ∷ []) (found ∙ (ap (λ b. old ++ b) none ∙ append-nil old))
-      ∙ ap (λ own. old ++ own) (sym (alone-itself labels at (route_view r) r.children no_routes admits none))
-
   pub own-kept : length new ≢ length old → new ≡ old ++ answer_of labels at (forest_of (r ∷ []))
-  own-kept more =
-      let some : 0 < length (answer_of labels (at + 1) r.children) = omega (arith, ap length found ∙ length-append old (answer_of labels (at + 1) r.children), more) in
-      found ∙ ap (λ own. old ++ own) (sym (alone-below labels at (route_view r) r.children no_routes admits some))
+  own-kept more = search (rules, length-append, alone-below)
 
 -- one without routes below it answers itself, and none are looked at below it
 pub leaf-itself : (labels : Labels) (at : ℕ) (r : Route) → has_no_routes r.children ≡ true → all_admitted r.matchers labels ≡ true → answer_of labels at (forest_of (r ∷ [])) ≡ record { number = at; route = route_view r } ∷ []
-leaf-itself labels at r leaf admits = alone-itself labels at (route_view r) r.children no_routes admits (none r.children leaf)
-  where
-    none : (below : Forest) → has_no_routes below ≡ true → answer_of labels (at + 1) below ≡ []
-    none no_routes leaf = refl
-    none (route first below others) leaf = absurd (cc)
+leaf-itself labels at r leaf admits = grind arith
 
 pub leaf-looked : (labels : Labels) (r : Route) → has_no_routes r.children ≡ true → routes_looked_at labels (forest_of (r ∷ [])) ≡ 0
-leaf-looked labels r leaf = ap (λ n. cond (all_admitted r.matchers labels) n 0) (none r.children leaf) ∙ nothing (all_admitted r.matchers labels)
-  where
-    nothing : (b : Bool) → cond {A = ℕ} b 0 0 ≡ 0
-    nothing true = refl
-    nothing false = refl
-
-    none : (below : Forest) → has_no_routes below ≡ true → looked_from labels below ≡ 0
-    none no_routes leaf = refl
-    none (route first below others) leaf = absurd (cc)
+leaf-looked labels r leaf = grind arith
 
 -- the indexes, once the one of a route is written
 pub level-written : (before : List Forest) (none below : Forest) (at : ℕ) → at ≡ length before
     → set ((before ++ none ∷ []) ++ levels_of below) at below ≡ before ++ (below ∷ levels_of below)
-level-written before none below at on =
-    ap (λ l. set l at below) (append_assoc before (none ∷ []) (levels_of below))
-    ∙ set_at before none (levels_of below) below at (sym on)
+level-written before none below at on = grind (arith, append_assoc, set_at)

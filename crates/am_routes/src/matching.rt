@@ -353,15 +353,8 @@ fn ask_below<'t>(
         next = if !others_admit(others, at, child.entry.is_settled, labels) {
             candidates.next()
         } else {
-            ask(
-                levels,
-                others,
-                child.route,
-                at,
-                child.entry.is_leaf,
-                labels,
-                found,
-            )?;
+            let (below, leaf) = (child.route, child.entry.is_leaf);
+            ask(levels, others, below, at, leaf, labels, found)?;
             if child.entry.continues {
                 candidates.next()
             } else {

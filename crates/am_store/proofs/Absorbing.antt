@@ -1,5 +1,5 @@
 -- What some reports became, one after another.
-use Rattle.std.proofs.Common.{◌≡◌, ℕ, suc, ◌+◌, ◌<◌, List, [], ◌∷◌, ◌++◌, length, drop, get_or, refl, sym, ap, ◌∙◌, arith}
+use Rattle.std.proofs.Common.{◌≡◌, ℕ, ◌+◌, ◌<◌, List, [], ◌∷◌, ◌++◌, length, drop, get_or, refl, arith}
 use Rattle.am_alert.specs.declared.alert.Alert.{Alert}
 use Rattle.am_alert.specs.Merging.{absorbed}
 use Rattle.std.proofs.Math.Seq.{drop-cons}
@@ -14,11 +14,4 @@ with_alerts_last (a ∷ front) last olds = with_alerts_last front last (with_ale
 pub batch_more : (now : ℕ) (news : List Alert) (at : ℕ) (new became : Alert) (batch olds : List Alert) → at < length news → new ≡ get_or news at new
     → became ≡ absorbed now (lookup new.labels (with_alerts batch olds)) new
     → (batch ++ became ∷ []) ++ batch_by_list now (drop (at + 1) news) (with_alerts (batch ++ became ∷ []) olds) ≡ batch ++ batch_by_list now (drop at news) (with_alerts batch olds)
-batch_more now news at new became batch olds h here is =
-    let n : suc at ≡ at + 1 = omega arith in
-    let rest = with_alerts batch olds in
-    let parts : drop at news ≡ new ∷ drop (at + 1) news = drop-cons news at new h ∙ (ap (λ a. a ∷ drop (suc at) news) (sym here) ∙ ap (λ n. new ∷ drop n news) n) in
-    append_assoc batch (became ∷ []) (batch_by_list now (drop (at + 1) news) (with_alerts (batch ++ became ∷ []) olds))
-    ∙ (ap (λ olds. batch ++ became ∷ batch_by_list now (drop (at + 1) news) olds) (with_alerts_last batch became olds)
-    ∙ (ap (λ b. batch ++ b ∷ batch_by_list now (drop (at + 1) news) (with_alert b rest)) is
-    ∙ ap (λ news. batch ++ batch_by_list now news rest) (sym parts)))
+batch_more now news at new became batch olds h here is = grind (arith, drop-cons, append_assoc, with_alerts_last)

@@ -1,5 +1,5 @@
 -- The first calls of a journal go one by one.
-use Rattle.std.proofs.Common.{◌≡◌, ℕ, ◌+◌, ◌^◌, ◌<◌, ◌≤◌, true, false, ◌||◌, List, [], ◌∷◌, length, drop, Some, refl, sym, ap, ◌∙◌, arith, length-append, length-drop, inl, inr}
+use Rattle.std.proofs.Common.{◌≡◌, ℕ, ◌+◌, ◌^◌, ◌<◌, ◌≤◌, true, ◌||◌, List, [], ◌∷◌, length, drop, Some, refl, sym, ap, ◌∙◌, arith, length-append, length-drop}
 use Rattle.std.specs.List.{slice_get, count_by}
 use Rattle.std.specs.VecDeque.{deque_len, deque_capacity}
 use Rattle.std.specs.declared.collections.VecDeque.{VecDeque}
@@ -8,16 +8,13 @@ use Rattle.am_store.specs.declared.call.Call.{Call}
 use Rattle.am_store.specs.declared.call.Call.TheVariants.{Posted, Collected, Subscribed, Left, Closed}
 use Rattle.std.specs.declared.alloc.Global.{Global}
 use Rattle.am_store.specs.declared.journal.Journal.{Journal}
-use Rattle.am_store.specs.declared.journal.TheConstants.{MAX_BEFORE}
 use Rattle.am_store.specs.LaneSets.{has_lane}
 use Rattle.am_store.specs.Journal.{with_call, first_calls, closes, is_closed, is_post, posts_of, is_left, lefts_of, open_after, is_open, IsLegal}
-use Rattle.am_store.specs.Stored.{Update, updates, stored}
+use Rattle.am_store.specs.Stored.{Update, updates}
 use Rattle.am_store.specs.Broadcast.{batches_of, broadcast}
-use Rattle.am_store.specs.Trims.{IsTrimmed}
-use Rattle.am_store.specs.Journal.{journal_of, AreCounted}
+use Rattle.am_store.specs.Journal.{journal_of}
 use Rattle.am_store.specs.inside.Journals.{IsOnALane, IsCounted, AreDropped}
 use Rattle.am_store.proofs.Journals.{get_drop, drop_twice, first_more, broadcast_last, closed_last, posts_last, lefts_last, open_last}
-use Rattle.am_store.proofs.Kept.{or_false}
 use Rattle.am_store.proofs.LaneBits.{high_lane}
 
 batch_count : (before : List Update) (c : Call) → length (batches_of before c) ≡ length (batches_of [] c)
@@ -50,28 +47,9 @@ lefts_few (Subscribed lane) = omega arith
 lefts_few (Left lane) = omega arith
 lefts_few Closed = omega arith
 
-pub none_dropped : (old : Journal) → AreCounted old → AreDropped old 0 old
-none_dropped old counted = record {
-  calls = refl;
-  capacity = refl;
-  before = refl;
-  places = omega arith;
-  posts = omega arith;
-  lefts = omega arith;
-  lanes = λ lane. refl;
-  eight = counted.lanes;
-  closed = sym (or_false old.closed);
-  fewer = counted.places;
-  few = omega (arith, counted.posts);
-  few_lefts = omega (arith, counted.lefts);
-}
-
 -- where the next call stands
 pub next_at : (old mid : Journal) (i : ℕ) (c : Call) (rest : List Call) → AreDropped old i mid → mid.calls.items ≡ c ∷ rest → slice_get old.calls.items i ≡ Some c
-next_at old mid i c rest dropped first =
-    let e : i + 0 ≡ i = omega arith in
-    sym (get_drop i old.calls.items 0 ∙ ap (slice_get old.calls.items) e)
-    ∙ (ap (λ calls. slice_get calls 0) (sym dropped.calls) ∙ ap (λ calls. slice_get calls 0) first)
+next_at old mid i c rest dropped first = let e : i + 0 ≡ i = omega arith in grind (arith, get_drop)
 
 pub one_dropped : (old mid next : Journal) (i : ℕ) (c : Call) (left : VecDeque Call Global) → AreDropped old i mid → mid.calls.items ≡ c ∷ left.items → deque_capacity left ≡ deque_capacity mid.calls
     → IsCounted (record mid { calls = left }) c next → AreDropped old (i + 1) next
@@ -99,11 +77,7 @@ one_dropped old mid next i c left dropped first capacity counted =
 
 -- a lane that is open is one of the eight
 open_low : (lanes lane : ℕ) → lanes < 2 ^ 8 → has_lane lanes lane ≡ true → lane < 8
-open_low lanes lane small e =
-    elim (cases_lt lane 8) [
-      | inl low ↦ low
-      | inr high ↦ absurd (let no : true ≡ false = sym e ∙ high_lane lanes lane small (omega arith) in (cc))
-    ]
+open_low lanes lane small e = grind (arith, cases_lt, high_lane)
 
 pub next_lane : (old mid : Journal) (i : ℕ) (c : Call) → AreDropped old i mid → IsLegal (journal_of old) → slice_get old.calls.items i ≡ Some c → IsOnALane c
 next_lane old mid i (Posted now alerts) dropped legal e = tt
@@ -112,32 +86,6 @@ next_lane old mid i (Subscribed lane) dropped legal e = (legal i (Subscribed lan
 next_lane old mid i (Left lane) dropped legal e = open_low mid.lanes lane dropped.eight (dropped.lanes lane ∙ legal i (Left lane) e)
 next_lane old mid i Closed dropped legal e = tt
 
-pub trimmed_of : (old mid new : Journal) (count : ℕ) → AreDropped old count mid → new.store ≡ stored (updates (first_calls count (journal_of old)))
-    → new.before ≡ mid.before + count → new.places ≡ mid.places → new.posts ≡ mid.posts → new.lefts ≡ mid.lefts → new.lanes ≡ mid.lanes → new.closed ≡ mid.closed → new.calls ≡ mid.calls
-    → IsTrimmed (journal_of old) count (journal_of new)
-trimmed_of old mid new count dropped store before places posts lefts lanes closed calls = record {
-  before = omega (arith, before, dropped.before);
-  places = places ∙ dropped.places;
-  posts = posts ∙ dropped.posts;
-  lefts = lefts ∙ dropped.lefts;
-  store = store;
-  lanes = λ lane. ap (λ lanes. has_lane lanes lane) lanes ∙ dropped.lanes lane;
-  closed = closed ∙ dropped.closed;
-  calls = ap (λ (calls : VecDeque Call Global). calls.items) calls ∙ dropped.calls;
-}
-
-pub counted_of : (old mid new : Journal) (count : ℕ) → AreDropped old count mid → old.before + count ≤ MAX_BEFORE
-    → new.before ≡ mid.before + count → new.places ≡ mid.places → new.posts ≡ mid.posts → new.lefts ≡ mid.lefts → new.lanes ≡ mid.lanes → AreCounted new
-counted_of old mid new count dropped fits before places posts lefts lanes = record {
-  places = omega (arith, places, posts, dropped.fewer);
-  posts = omega (arith, posts, before, dropped.before, dropped.few);
-  lefts = omega (arith, lefts, before, dropped.before, dropped.few_lefts);
-  before = omega (arith, before, dropped.before, fits);
-  lanes = omega (arith, lanes, dropped.eight);
-}
-
 -- a call is left as long as not all that are to go went
 pub call_left : (old mid : Journal) (i count : ℕ) → AreDropped old i mid → i < count → count ≤ length old.calls.items → 0 < deque_len mid.calls
-call_left old mid i count dropped more within =
-    let long : deque_len mid.calls ≡ length mid.calls.items = mid.calls.ok.0 in
-    omega (arith, long, ap length dropped.calls, length-drop i old.calls.items)
+call_left old mid i count dropped more within = grind (arith, length-drop)

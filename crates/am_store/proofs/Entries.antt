@@ -1,5 +1,5 @@
 -- The map of stored alerts, seen as the list of its alerts.
-use Rattle.std.proofs.Common.{◌≡◌, ℕ, zero, suc, ◌-◌, ◌<◌, ◌≤◌, Bool, true, false, cond, List, [], ◌∷◌, ◌++◌, filter, length, take, Some, refl, sym, ap, subst, ◌∙◌, arith, length-append}
+use Rattle.std.proofs.Common.{◌≡◌, ℕ, zero, suc, ◌-◌, ◌<◌, ◌≤◌, Bool, true, false, List, [], ◌∷◌, ◌++◌, filter, length, take, Some, refl, sym, ap, ◌∙◌, arith, length-append}
 use Rattle.std.specs.Arc.{arc_value}
 use Rattle.std.specs.declared.sync.Arc.{Arc}
 use Rattle.std.specs.declared.alloc.Global.{Global}
@@ -19,7 +19,7 @@ use Rattle.am_store.specs.declared.store.absorb.Change.{Change}
 use Rattle.am_store.specs.AlertList.{lookup, with_alert, absorb_into, batch_by_list}
 use Rattle.am_store.specs.Shared.{alerts_in}
 use Rattle.am_store.specs.AlertMaps.{stored_in, AreKeptByLabels, taken_back, all_taken_back}
-use Rattle.am_store.proofs.Stored.{by_bool, by_option, absorbed_labels}
+use Rattle.am_store.proofs.Stored.{by_option, absorbed_labels}
 
 pub alerts_in_last : (shared : List (Arc Alert Global)) (last : Arc Alert Global) → alerts_in (shared ++ last ∷ []) ≡ alerts_in shared ++ arc_value last ∷ []
 alerts_in_last [] last = refl
@@ -33,32 +33,18 @@ values_stored (entry ∷ entries) = ap (λ rest. arc_value entry.1 ∷ rest) (va
 pub lookup_held : (labels : Labels) (entries : List (Labels × Arc Alert Global)) → AreKeptByLabels entries
     → option_map arc_value (map.lookup (same_labels labels) entries) ≡ lookup labels (stored_in entries)
 lookup_held labels [] kept = refl
-lookup_held labels (entry ∷ entries) kept =
-    let one = arc_value entry.1 in
-    elim (same_labels labels entry.0) as (λ b. option_map arc_value (cond b (Some entry.1) (map.lookup (same_labels labels) entries)) ≡ cond b (Some one) (option_map arc_value (map.lookup (same_labels labels) entries))) [ true ↦ refl | false ↦ refl ]
-    ∙ (ap (λ rest. cond (same_labels labels entry.0) (Some one) rest) (lookup_held labels entries kept.1)
-    ∙ ap (λ l. cond (same_labels labels l) (Some one) (lookup labels (stored_in entries))) kept.0)
+lookup_held labels (entry ∷ entries) kept = let rest = lookup_held labels entries in grind arith
 
 -- an insertion sets the alert in its place, else at the end
 pub stored_inserted : (entries : List (Labels × Arc Alert Global)) (labels : Labels) (new : Arc Alert Global) → AreKeptByLabels entries → (arc_value new).labels ≡ labels
     → stored_in (insert_entry same_labels entries labels new) ≡ with_alert (arc_value new) (stored_in entries)
 stored_inserted [] labels new kept own = refl
-stored_inserted (entry ∷ entries) labels new kept own =
-    let one = arc_value entry.1 in
-    elim (same_labels labels entry.0) as (λ b. stored_in (cond b ((entry.0, new) ∷ entries) (entry ∷ insert_entry same_labels entries labels new)) ≡ cond b (arc_value new ∷ stored_in entries) (one ∷ stored_in (insert_entry same_labels entries labels new))) [ true ↦ refl | false ↦ refl ]
-    ∙ (ap (λ rest. cond (same_labels labels entry.0) (arc_value new ∷ stored_in entries) (one ∷ rest)) (stored_inserted entries labels new kept.1 own)
-    ∙ (ap (λ l. cond (same_labels l entry.0) (arc_value new ∷ stored_in entries) (one ∷ with_alert (arc_value new) (stored_in entries))) (sym own)
-    ∙ ap (λ l. cond (same_labels (arc_value new).labels l) (arc_value new ∷ stored_in entries) (one ∷ with_alert (arc_value new) (stored_in entries))) kept.0))
+stored_inserted (entry ∷ entries) labels new kept own = let rest = stored_inserted entries labels new in grind arith
 
 pub kept_inserted : (entries : List (Labels × Arc Alert Global)) (labels : Labels) (new : Arc Alert Global) → AreKeptByLabels entries → (arc_value new).labels ≡ labels
     → AreKeptByLabels (insert_entry same_labels entries labels new)
 kept_inserted [] labels new kept own = (sym own, tt)
-kept_inserted (entry ∷ entries) labels new kept own =
-    by_bool {P = AreKeptByLabels (insert_entry same_labels (entry ∷ entries) labels new)} (same_labels labels entry.0)
-    (λ t. subst (λ b. AreKeptByLabels (cond b ((entry.0, new) ∷ entries) (entry ∷ insert_entry same_labels entries labels new))) (sym t)
-    (sym ((labels_decide labels entry.0).0 t) ∙ sym own, kept.1))
-    (λ f. subst (λ b. AreKeptByLabels (cond b ((entry.0, new) ∷ entries) (entry ∷ insert_entry same_labels entries labels new))) (sym f)
-    (kept.0, kept_inserted entries labels new kept.1 own))
+kept_inserted (entry ∷ entries) labels new kept own = let rest = kept_inserted entries labels new in grind (arith, labels_decide)
 
 -- a write at the index of a label set is an insertion
 pub written_at : (entries : List (Labels × Arc Alert Global)) (labels : Labels) (new : Arc Alert Global) (at : ℕ) → position (same_labels labels) (keys_of entries) ≡ Some at
@@ -96,27 +82,17 @@ all_back_last (first ∷ changes) change entries = ap (taken_back first) (all_ba
 
 pub stored_filtered : (q : Alert → Bool) (entries : List (Labels × Arc Alert Global)) → stored_in (filter (λ entry. q (arc_value entry.1)) entries) ≡ filter q (stored_in entries)
 stored_filtered q [] = refl
-stored_filtered q (entry ∷ entries) =
-    let rest = filter (λ (entry : Labels × Arc Alert Global). q (arc_value entry.1)) entries in
-    elim (q (arc_value entry.1)) as (λ b. stored_in (cond b (entry ∷ rest) rest) ≡ cond b (arc_value entry.1 ∷ stored_in rest) (stored_in rest)) [ true ↦ refl | false ↦ refl ]
-    ∙ ap (λ alerts. cond (q (arc_value entry.1)) (arc_value entry.1 ∷ alerts) alerts) (stored_filtered q entries)
+stored_filtered q (entry ∷ entries) = let rest = stored_filtered q entries in grind arith
 
 pub kept_filtered : (q : Alert → Bool) (entries : List (Labels × Arc Alert Global)) → AreKeptByLabels entries → AreKeptByLabels (filter (λ entry. q (arc_value entry.1)) entries)
 kept_filtered q [] kept = tt
-kept_filtered q (entry ∷ entries) kept =
-    let rest = kept_filtered q entries kept.1 in
-    elim (q (arc_value entry.1)) as (λ b. AreKeptByLabels (cond b (entry ∷ filter (λ entry. q (arc_value entry.1)) entries) (filter (λ entry. q (arc_value entry.1)) entries))) [ true ↦ (kept.0, rest) | false ↦ rest ]
+kept_filtered q (entry ∷ entries) kept = let rest = kept_filtered q entries in grind arith
 
 -- ---- what a report becomes has its label set
 
 lookup_own : (labels : Labels) (olds : List Alert) (old : Alert) → lookup labels olds ≡ Some old → old.labels ≡ labels
 lookup_own labels [] old e = (cc)
-lookup_own labels (a ∷ olds) old e =
-    by_bool (same_labels labels a.labels)
-    (λ t. let same : Some a ≡ Some old = sym (ap (λ b. cond b (Some a) (lookup labels olds)) t) ∙ e in
-    let is : a ≡ old = (cc) in
-    ap (λ (a : Alert). a.labels) (sym is) ∙ sym ((labels_decide labels a.labels).0 t))
-    (λ f. lookup_own labels olds old (sym (ap (λ b. cond b (Some a) (lookup labels olds)) f) ∙ e))
+lookup_own labels (a ∷ olds) old e = let rest = lookup_own labels olds old in grind (arith, labels_decide)
 
 pub became_own : (now : ℕ) (olds : List Alert) (new : Alert) → (absorbed now (lookup new.labels olds) new).labels ≡ new.labels
 became_own now olds new =

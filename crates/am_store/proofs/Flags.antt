@@ -1,5 +1,5 @@
 -- Subscriptions and the flags of their lanes.
-use Rattle.std.proofs.Common.{◌≡◌, ℕ, zero, suc, ◌+◌, ◌-◌, ◌<◌, ◌≤◌, Bool, true, false, cond, ◌||◌, nat_eq, List, [], ◌∷◌, ◌++◌, length, drop, get_or, set, Option, None, Some, refl, sym, ap, subst, inl, inr, ◌∙◌, arith, get_or-set_same, get_or-set_other, length-set}
+use Rattle.std.proofs.Common.{◌≡◌, ℕ, zero, suc, ◌+◌, ◌-◌, ◌<◌, ◌≤◌, Bool, true, false, cond, ◌||◌, nat_eq, List, [], ◌∷◌, ◌++◌, length, drop, set, Option, None, Some, refl, sym, ap, subst, inl, inr, ◌∙◌, arith, get_or-set_same, get_or-set_other, length-set}
 use Rattle.std.specs.Option.{is_some, IfSome, IsSome}
 use Rattle.std.proofs.lemmas.List.{append-nil}
 use Rattle.std.proofs.lemmas.Bool.Decides.{eqb_tells}
@@ -31,9 +31,7 @@ log_from book start at kept e =
 -- its opening and that are what is due to it
 pub due_of : (book : PlainBook) (start : ℕ) (one : OpenLane) → FollowsJournal book → one.opening ≡ stored (updates (until book.journal one.at))
     → start ≡ book.journal.places + length (broadcast (until book.journal one.at)) → one.opening ++ items_of (drop start book.log) ≡ due book.journal one.at
-due_of book start one kept opening starts =
-    ap (λ opening. opening ++ items_of (drop start book.log)) opening
-    ∙ ap (λ batches. stored (updates (until book.journal one.at)) ++ items_of batches) (log_from book start one.at kept starts)
+due_of book start one kept opening starts = grind (arith, log_from)
 
 -- ---- lanes
 
@@ -45,11 +43,7 @@ open_count_cleared (None ∷ lanes) (suc lane) h t = let k : lane < length lanes
 open_count_cleared (Some one ∷ lanes) (suc lane) h t = let k : lane < length lanes = omega arith in let e = open_count_cleared lanes lane k t in omega arith
 
 pub lane_set : (lanes : List (Option OpenLane)) (lane other : ℕ) (x : Option OpenLane) → lane < length lanes → lane_at (set lanes lane x) other ≡ cond (nat_eq lane other) x (lane_at lanes other)
-lane_set lanes lane other x h =
-    elim (eqb_tells lane other) [
-      | inl e ↦ ap (λ n. get_or (set lanes lane x) n None) (sym e.1) ∙ (get_or-set_same lanes lane x None h ∙ sym (ap (λ t. cond t x (get_or lanes other None)) e.0))
-      | inr e ↦ get_or-set_other lanes lane other x None (λ same. e.1 (sym same)) ∙ sym (ap (λ t. cond t x (get_or lanes other None)) e.0)
-    ]
+lane_set lanes lane other x h = grind (arith, eqb_tells, get_or-set_same, get_or-set_other, append-nil)
 
 opened_flag : (t : Bool) (one : OpenLane) (was : Option OpenLane) → is_some (cond t (Some one) was) ≡ (is_some was || t)
 opened_flag true one None = refl
@@ -124,10 +118,9 @@ flag_of a lane at sound of = sound.lanes lane (lane_low a.journal.journal lane a
 
 pub room_to_leave : (a : Pages) (lane at : ℕ) → AgreesWithJournal a → IsOpenSubscription a.journal.journal lane at → 0 < a.journal.room
 room_to_leave a lane at sound of =
-    let low = lane_low a.journal.journal lane at sound.kept.legal of in
-    let within : lane < length a.lanes = omega (arith, low, sound.eight) in
+    let within : lane < length a.lanes = omega (arith, (lane_low a.journal.journal lane at sound.kept.legal of), sound.eight) in
     let e : open_count (set a.lanes lane None) + 1 ≡ open_count a.lanes = open_count_cleared a.lanes lane within (flag_of a lane at sound of) in
-    omega (arith, sound.room)
+    grind (arith)
 
 opening_left : (gone : ℕ) (journal : JournalView) (lane other : ℕ) (was : Option OpenLane) → IfSome was (IsItsOpening gone journal other) → IfSome (cond (nat_eq lane other) None was) (IsItsOpening gone (with_call journal (Left lane)) other)
 opening_left gone journal lane other was its =

@@ -1,15 +1,15 @@
 -- One more call in a journal, and a journal cut in two.
-use Rattle.std.proofs.Common.{◌≡◌, ℕ, zero, suc, ◌+◌, ◌-◌, ◌<◌, ◌≤◌, Bool, true, false, cond, ◌||◌, List, [], ◌∷◌, ◌++◌, length, take, drop, Some, refl, sym, ap, subst, ◌∙◌, arith, ◌⊎◌, inl, inr}
+use Rattle.std.proofs.Common.{◌≡◌, ℕ, zero, suc, ◌+◌, ◌<◌, ◌≤◌, Bool, true, false, cond, ◌||◌, List, [], ◌∷◌, ◌++◌, length, take, drop, Some, refl, sym, ap, subst, ◌∙◌, arith, ◌⊎◌, inl, inr}
 use Rattle.std.specs.List.{slice_get, list_any, count_by}
 use Rattle.std.proofs.lemmas.List.{append_assoc, append-nil, take_all, take-append-le, take-append-drop}
 use Rattle.std.proofs.lemmas.List.Sums.{sum_by-append}
 use Rattle.std.proofs.lemmas.Grind.{flat_map-append}
 use Rattle.std.proofs.Math.Seq.{drop-nil}
 use Rattle.am_store.specs.declared.call.Call.{Call}
-use Rattle.am_store.specs.Stored.{Update, updates_of, call_updates, first_reports, updates, stored}
+use Rattle.am_store.specs.Stored.{Update, updates_of, call_updates, first_reports, updates}
 use Rattle.am_store.specs.Broadcast.{batches_of, broadcast_from, broadcast, items_of, due}
 use Rattle.am_store.specs.LaneSets.{has_lane}
-use Rattle.am_store.specs.Journal.{JournalView, with_call, call_count, first_calls, until, since, closes, is_closed, is_post, posts_of, is_left, lefts_of, open_after, open_from, is_open, MayFollow, IsLegal}
+use Rattle.am_store.specs.Journal.{JournalView, with_call, call_count, first_calls, closes, is_closed, is_post, posts_of, is_left, lefts_of, open_after, open_from, is_open, MayFollow, IsLegal}
 
 -- ---- lists
 
@@ -36,9 +36,7 @@ get_last (z ∷ xs) x y (suc k) e = elim (get_last xs x y k e) [ inl g ↦ inl g
 pub take_more : {A : Type 0} (xs : List A) (k : ℕ) (x : A) → slice_get xs k ≡ Some x → take (k + 1) xs ≡ take k xs ++ x ∷ []
 take_more [] k x e = (cc)
 take_more (y ∷ xs) zero x e = let same : y ≡ x = (cc) in ap (λ x. x ∷ []) same
-take_more (y ∷ xs) (suc k) x e =
-    let m : suc (k + 1) ≡ suc k + 1 = omega arith in
-    subst (λ m. take m (y ∷ xs) ≡ y ∷ take k xs ++ x ∷ []) m (ap (λ rest. y ∷ rest) (take_more xs k x e))
+take_more (y ∷ xs) (suc k) x e = let rest = take_more xs k x in grind arith
 
 pub drop_front : {A : Type 0} (xs ys : List A) (n : ℕ) → n ≤ length xs → drop n (xs ++ ys) ≡ drop n xs ++ ys
 drop_front xs ys zero h = refl
@@ -88,9 +86,7 @@ updates_append before xs ys = ap (λ ss. before ++ ss) (flat_map-append updates_
 -- the batches of calls one after others
 pub cast_append : (before : List Update) (xs ys : List Call) → broadcast_from before (xs ++ ys) ≡ broadcast_from before xs ++ broadcast_from (before ++ call_updates xs) ys
 cast_append before [] ys = ap (λ ss. broadcast_from ss ys) (sym (append-nil before))
-cast_append before (x ∷ xs) ys =
-    ap (λ rest. batches_of before x ++ rest) (cast_append (before ++ updates_of x) xs ys ∙ ap (λ ss. broadcast_from (before ++ updates_of x) xs ++ broadcast_from ss ys) (append_assoc before (updates_of x) (call_updates xs)))
-    ∙ sym (append_assoc (batches_of before x) (broadcast_from (before ++ updates_of x) xs) (broadcast_from (before ++ (updates_of x ++ call_updates xs)) ys))
+cast_append before (x ∷ xs) ys = let rest = cast_append (before ++ updates_of x) xs ys in grind (arith, append_assoc)
 
 -- ---- one call more
 
@@ -108,9 +104,7 @@ or_false true = refl
 or_false false = refl
 
 pub closed_last : (journal : JournalView) (c : Call) → is_closed (with_call journal c) ≡ (is_closed journal || closes c)
-closed_last journal c =
-    ap (λ b. journal.closed || b) (closes_append journal.calls (c ∷ []) ∙ ap (λ b. list_any closes journal.calls || b) (or_false (closes c)))
-    ∙ or_assoc journal.closed (list_any closes journal.calls) (closes c)
+closed_last journal c = grind (arith, closes_append, or_false, or_assoc)
 
 pub posts_last : (journal : JournalView) (c : Call) → posts_of (with_call journal c) ≡ posts_of journal + count_by is_post (c ∷ [])
 posts_last journal c = omega (arith, posts_append journal.calls (c ∷ []))
@@ -135,15 +129,7 @@ first_stays journal c k h = ap (λ (calls : List Call). record journal { calls =
 -- ---- a legal journal stays legal
 
 pub legal_last : (journal : JournalView) (c : Call) → IsLegal journal → MayFollow journal c → IsLegal (with_call journal c)
-legal_last journal c legal may k d e =
-    elim (get_last journal.calls c d k e) [
-      | inl g ↦
-          let h = get_within journal.calls d k g in
-          subst (λ front. MayFollow front d) (sym (first_stays journal c k (omega arith))) (legal k d g)
-      | inr p ↦
-          let le : k ≤ length journal.calls = omega (arith, p.0) in
-          subst (λ front. MayFollow front d) (sym (first_stays journal c k le ∙ (ap (λ n. first_calls n journal) p.0 ∙ first_all journal))) (subst (MayFollow journal) (sym p.1) may)
-    ]
+legal_last journal c legal may k d e = grind (arith, get_last, get_within, first_stays, first_all)
 
 -- ---- what is due only grows at its end
 
@@ -153,16 +139,7 @@ updates_parts journal k =
     ∙ ap (λ calls. first_reports journal.store ++ call_updates calls) (take-append-drop k journal.calls)
 
 pub due_last : (journal : JournalView) (c : Call) (at : ℕ) → at ≤ call_count journal → due (with_call journal c) at ≡ due journal at ++ items_of (batches_of (updates journal) c)
-due_last journal c at h =
-    let k = at - journal.before in
-    let le : k ≤ length journal.calls = omega arith in
-    let front = updates (until journal at) in
-    let rest = since journal at in
-    ap (λ (j : JournalView). stored (updates j) ++ items_of (broadcast_from (updates j) (drop k (journal.calls ++ c ∷ [])))) (first_stays journal c k le)
-    ∙ (ap (λ calls. stored front ++ items_of (broadcast_from front calls)) (drop_front journal.calls (c ∷ []) k le)
-    ∙ (ap (λ batches. stored front ++ items_of batches) (cast_last front rest c ∙ ap (λ ss. broadcast_from front rest ++ batches_of ss c) (updates_parts journal k))
-    ∙ (ap (λ items. stored front ++ items) (flat_map-append (λ batch. batch) (broadcast_from front rest) (batches_of (updates journal) c))
-    ∙ sym (append_assoc (stored front) (items_of (broadcast_from front rest)) (items_of (batches_of (updates journal) c))))))
+due_last journal c at h = grind (arith, first_stays, drop_front, cast_last, updates_parts, flat_map-append, append_assoc)
 
 -- the batches before and from a call on
 pub broadcast_parts : (journal : JournalView) (k : ℕ) → broadcast journal ≡ broadcast (first_calls k journal) ++ broadcast_from (updates (first_calls k journal)) (drop k journal.calls)

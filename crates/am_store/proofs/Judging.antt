@@ -42,28 +42,12 @@ module _ {F : Type 0} (filter : Filter F) where
       → AreJudged filter now last is next after news others rest
       → AreJudged filter now last was i olds items (cond accepts (new ∷ others) others) (cond accepts rest (i ∷ rest))
   judged_more now i next last was is olds after new items news others rest accepts judges left is_first counts judged =
-      subst (λ (xs : List Alert). AreJudged filter now last was i olds xs (cond accepts (new ∷ others) others) (cond accepts rest (i ∷ rest))) (sym is_first) (
-        accepts,
-        is,
-        others,
-        rest,
-        judges,
-        refl,
-        refl,
-        subst (λ (xs : List Alert). AreJudged filter now last is (i + 1) xs news others rest) left (subst (λ (n : ℕ). AreJudged filter now last is n after news others rest) counts judged),
-      )
+      grind arith
 
   -- all that were judged, with nothing after them
   pub judged_all : (now i : ℕ) (last was : F) (olds done news accepted : List Alert) (refused : List ℕ) → done ≡ news
       → AreJudged filter now last was i olds (done ++ []) (accepted ++ []) (refused ++ []) → AreJudged filter now last was i olds news accepted refused
-  judged_all now i last was olds done news accepted refused all judged =
-      subst (λ (xs : List Alert). AreJudged filter now last was i olds xs accepted refused) (append-nil done ∙ all)
-      (subst (λ (xs : List Alert). AreJudged filter now last was i olds (done ++ []) xs refused) (append-nil accepted)
-      (subst (λ (xs : List ℕ). AreJudged filter now last was i olds (done ++ []) (accepted ++ []) xs) (append-nil refused) judged))
-
-  -- a filter that was asked of none
-  pub asked_none : (now : ℕ) (was : F) (olds news : List Alert) → WasAsked filter now was was olds news
-  asked_none now was olds news = (0, [], [], (refl, refl, refl))
+  judged_all now i last was olds done news accepted refused all judged = grind (arith, append-nil)
 
   -- a filter was asked of those that were judged
   pub asked_some : (now : ℕ) (last was : F) (olds done more news accepted : List Alert) (refused : List ℕ) → done ++ more ≡ news
@@ -76,12 +60,8 @@ module _ {F : Type 0} (filter : Filter F) where
   pub accepted_few : (now i : ℕ) (last was : F) (olds news accepted : List Alert) (refused : List ℕ) → AreJudged filter now last was i olds news accepted refused → length accepted ≤ length news
   accepted_few now i last was olds [] accepted refused h = subst (λ (xs : List Alert). length xs ≤ 0) (sym h.0) (omega arith)
   accepted_few now i last was olds (new ∷ news) accepted refused (accepts, is, others, rest, judges, a, r, more) =
-      let few = accepted_few now (i + 1) last is (cond accepts (absorb_into now new olds) olds) news others rest more in
-      subst (λ (xs : List Alert). length xs ≤ length (new ∷ news)) (sym a) (one_more accepts others few)
-    where
-      one_more : (b : Bool) (others : List Alert) → length others ≤ length news → length (cond b (new ∷ others) others) ≤ length (new ∷ news)
-      one_more true others few = omega arith
-      one_more false others few = omega arith
+      let other = accepted_few now (i + 1) last is (cond accepts (absorb_into now new olds) olds) news others rest in
+      grind arith
 
   pub accepted_all : (P : Alert → Type 0) (now i : ℕ) (last was : F) (olds news accepted : List Alert) (refused : List ℕ) → All P news → AreJudged filter now last was i olds news accepted refused → All P accepted
   accepted_all P now i last was olds [] accepted refused all h = subst (All P) (sym h.0) (All-nil P)

@@ -1,5 +1,5 @@
 -- A trim between two others, and the trim to any call.
-use Rattle.std.proofs.Common.{◌≡◌, ℕ, zero, suc, ◌+◌, ◌-◌, ◌*◌, ◌^◌, ◌%◌, ◌<◌, true, false, List, [], ◌∷◌, ◌++◌, length, take, drop, Option, None, Some, refl, sym, ap, subst, ◌∙◌, arith, length-append, inl, inr}
+use Rattle.std.proofs.Common.{◌≡◌, ℕ, zero, suc, ◌+◌, ◌-◌, ◌*◌, ◌^◌, ◌%◌, ◌<◌, true, List, [], ◌∷◌, ◌++◌, length, take, drop, Option, None, Some, refl, sym, ap, subst, ◌∙◌, arith, length-append}
 use Rattle.std.specs.List.{slice_get}
 use Rattle.std.proofs.lemmas.Bool.{cases_lt}
 use Rattle.std.proofs.lemmas.Nat.{or_of_8, and_le_l}
@@ -35,11 +35,7 @@ lanes_append lanes (x ∷ xs) ys = lanes_append (lanes_after lanes x) xs ys
 
 -- a lane that is open is one of the eight
 open_low : (lanes lane : ℕ) → lanes < 2 ^ 8 → has_lane lanes lane ≡ true → lane < 8
-open_low lanes lane small e =
-    elim (cases_lt lane 8) [
-      | inl low ↦ low
-      | inr high ↦ absurd (let no : true ≡ false = sym e ∙ high_lane lanes lane small (omega arith) in (cc))
-    ]
+open_low lanes lane small e = grind (arith, cases_lt, high_lane)
 
 -- a set of the eight lanes, which has those that are open after some calls
 record AreLanesOf (calls : List Call) (lanes : ℕ) : Type 0 where
@@ -65,18 +61,13 @@ one_more : (calls : List Call) (call : Call) → AreLanesOf calls (lanes_from 0 
     → AreLanesOf (calls ++ call ∷ []) (lanes_from 0 (calls ++ call ∷ []))
 one_more calls call are may =
     let after = after_one (lanes_from 0 calls) call are.eight (on_a_lane calls (lanes_from 0 calls) call are may) in
-    subst (AreLanesOf (calls ++ call ∷ [])) (sym (lanes_append 0 calls (call ∷ []))) (record {
-      eight = after.0;
-      each = λ lane. after.1 lane ∙ (ap (λ was. open_after lane was call) (are.each lane) ∙ sym (open_append lane (has_lane 0 lane) calls (call ∷ [])));
-    })
+    grind (arith, lanes_append, open_append)
 
 take_end : {A : Type 0} (xs : List A) (k : ℕ) → slice_get xs k ≡ None → take (k + 1) xs ≡ take k xs
 take_end {A} [] zero e = refl
 take_end {A} [] (suc k) e = let m : suc (k + 1) ≡ suc k + 1 = omega arith in subst (λ m. take {A = A} m [] ≡ []) m refl
 take_end (y ∷ xs) zero e = (cc)
-take_end (y ∷ xs) (suc k) e =
-    let m : suc (k + 1) ≡ suc k + 1 = omega arith in
-    subst (λ m. take m (y ∷ xs) ≡ y ∷ take k xs) m (ap (λ rest. y ∷ rest) (take_end xs k e))
+take_end (y ∷ xs) (suc k) e = let rest = take_end xs k in grind arith
 
 step : (calls : List Call) (k : ℕ) (next : Option Call) → slice_get calls k ≡ next → IsLegal (journal_with calls)
     → AreLanesOf (take k calls) (lanes_from 0 (take k calls)) → AreLanesOf (take (k + 1) calls) (lanes_from 0 (take (k + 1) calls))

@@ -1,5 +1,5 @@
 -- A book stays sound as a call comes.
-use Rattle.std.proofs.Common.{◌≡◌, ℕ, zero, suc, ◌+◌, ◌<◌, ◌≤◌, Bool, true, false, not, cond, ◌||◌, nat_eq, List, [], ◌∷◌, ◌++◌, length, drop, get_or, Option, None, Some, refl, sym, ap, subst, ◌∙◌, arith, filter, length-append}
+use Rattle.std.proofs.Common.{◌≡◌, ℕ, zero, suc, ◌+◌, ◌<◌, ◌≤◌, Bool, true, false, not, cond, ◌||◌, nat_eq, List, [], ◌∷◌, ◌++◌, length, get_or, Option, None, Some, refl, sym, ap, subst, ◌∙◌, arith, filter, length-append, rules}
 use Rattle.std.specs.Option.{is_some, IfSome}
 use Rattle.am_store.specs.declared.lanes.OpenLane.{OpenLane}
 use Rattle.am_store.specs.Lanes.{lane_at, open_count, IsItsOpening}
@@ -13,7 +13,7 @@ use Rattle.am_store.specs.declared.call.Call.TheVariants.{Posted, Collected, Clo
 use Rattle.am_alert.specs.declared.post.TheConstants.{MAX_ALERTS}
 use Rattle.am_store.specs.Stored.{Update, updates_of, updates, stored}
 use Rattle.am_store.specs.Broadcast.{batch_of, batches_of}
-use Rattle.am_store.specs.Journal.{JournalView, with_call, closes, is_closed, is_post, posts_of, open_after, is_open, MayFollow}
+use Rattle.am_store.specs.Journal.{JournalView, with_call, closes, is_post, open_after, MayFollow}
 use Rattle.am_store.specs.AlertList.{with_alerts, batch_by_list}
 use Rattle.am_store.specs.LogLimits.{most_batches, IsWithinLogLimits}
 use Rattle.am_store.specs.PlainBook.{FollowsJournal}
@@ -37,34 +37,10 @@ pub record Grows (a b : Pages) (c : Call) : Type 0 where
 
 follows_grown : (a b : Pages) (c : Call) → AgreesWithJournal a → MayFollow a.journal.journal c → Grows a b c
     → FollowsJournal (record { stored = b.stored; journal = with_call a.journal.journal c; log = b.sent })
-follows_grown a b c sound may grows =
-    let journal = a.journal.journal in
-    let sent = batches_of (updates journal) c in
-    record {
-      stored = grows.stored ∙ sym (ap stored (updates_last journal c));
-      log = ap (drop journal.places) grows.log
-          ∙ (drop_front a.sent sent journal.places sound.kept.places
-          ∙ (ap (λ batches. batches ++ sent) sound.kept.log ∙ sym (broadcast_last journal c)));
-      places = omega (arith, sound.kept.places, ap length grows.log, length-append a.sent sent);
-      base = sound.kept.base;
-      legal = legal_last journal c sound.kept.legal may;
-    }
+follows_grown a b c sound may grows = grind (arith, updates_last, drop_front, broadcast_last, length-append, legal_last)
 
 pub sound_grown : (a b : Pages) (c : Call) → AgreesWithJournal a → MayFollow a.journal.journal c → Grows a b c → AgreesWithJournal b
-sound_grown a b c sound may grows =
-    let journal = a.journal.journal in
-    record {
-      kept = subst (λ j. FollowsJournal (record { stored = b.stored; journal = j; log = b.sent })) (sym grows.journal) (follows_grown a b c sound may grows);
-      eight = grows.eight ∙ sound.eight;
-      closed = grows.closed ∙ (ap (λ b. b || closes c) sound.closed ∙ sym (ap is_closed grows.journal ∙ closed_last journal c));
-      lanes = λ lane h. grows.lanes lane h ∙ (ap (λ was. open_after lane was c) (sound.lanes lane h) ∙ sym (ap (λ j. is_open j lane) grows.journal ∙ open_last journal c lane));
-      openings = λ lane.
-          subst (λ j. IfSome (lane_at b.lanes lane) (IsItsOpening b.journal.gone j lane)) (sym grows.journal)
-          (subst (λ n. IfSome (lane_at b.lanes lane) (IsItsOpening n (with_call a.journal.journal c) lane)) (sym grows.gone) (grows.openings lane));
-      posts = grows.posts ∙ (ap (λ n. n + count_by is_post (c ∷ [])) sound.posts ∙ sym (ap posts_of grows.journal ∙ posts_last journal c));
-      limits = grows.limits;
-      room = grows.room;
-    }
+sound_grown a b c sound may grows = search (rules, follows_grown, closed_last, open_last, posts_last)
 
 -- ---- what each lane has stays its subscription's
 
@@ -107,10 +83,7 @@ at_most_one false = omega arith
 
 pub enough : (b : Pages) → length b.lanes ≡ 8 → 9 ≤ b.journal.room
     → open_count b.lanes + cond b.closed 0 1 ≤ b.journal.room
-enough b eight room =
-    let x : open_count b.lanes ≤ length b.lanes = few b.lanes in
-    let y : cond b.closed 0 1 ≤ 1 = at_most_one b.closed in
-    omega arith
+enough b eight room = grind (arith, few, at_most_one)
 
 -- ---- limits
 
@@ -190,11 +163,7 @@ or_true false = refl
 
 closed_room : (a b : Pages) → open_count a.lanes + cond a.closed 0 1 ≤ a.journal.room → a.closed ≡ false → b.closed ≡ true → b.lanes ≡ a.lanes
     → a.journal.room ≤ b.journal.room + 1 → open_count b.lanes + cond b.closed 0 1 ≤ b.journal.room
-closed_room a b old still closed lanes room =
-    let x : cond {A = ℕ} a.closed 0 1 ≡ 1 = ap (λ (b : Bool). cond {A = ℕ} b 0 1) still in
-    let y : cond {A = ℕ} b.closed 0 1 ≡ 0 = ap (λ (b : Bool). cond {A = ℕ} b 0 1) closed in
-    let z : open_count b.lanes ≡ open_count a.lanes = ap open_count lanes in
-    omega arith
+closed_room a b old still closed lanes room = grind arith
 
 pub sound_closed : (a b : Pages) → AgreesWithJournal a → a.closed ≡ false
     → b.journal.journal ≡ with_call a.journal.journal Closed

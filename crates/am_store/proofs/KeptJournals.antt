@@ -1,19 +1,17 @@
 -- How a journal is kept as it grows, as memory lets go of calls, and as it is trimmed.
-use Rattle.std.proofs.Common.{◌≡◌, ℕ, suc, ◌+◌, ◌-◌, ◌≤◌, List, [], ◌∷◌, ◌++◌, length, take, drop, refl, sym, ap, subst, ◌∙◌, arith, length-append, length-drop}
+use Rattle.std.proofs.Common.{◌≡◌, ℕ, ◌+◌, ◌-◌, ◌≤◌, List, [], ◌∷◌, ◌++◌, length, sym, ap, subst, ◌∙◌, arith, length-append, length-drop, rules}
 use Rattle.std.specs.declared.alloc.Global.{Global}
 use Rattle.std.specs.declared.collections.VecDeque.{VecDeque}
 use Rattle.am_store.specs.declared.past.Past.{Past}
-use Rattle.std.proofs.lemmas.List.{take-append-le}
 use Rattle.am_alert.specs.declared.alert.Alert.{Alert}
 use Rattle.am_store.specs.declared.call.Call.{Call}
 use Rattle.am_store.specs.declared.journal.Journal.{Journal}
-use Rattle.am_store.specs.Journal.{JournalView, journal_of, with_call, first_calls, is_closed, posts_of, lefts_of, AreCounted, MayFollow, IsLegal, new_journal}
+use Rattle.am_store.specs.Journal.{JournalView, journal_of, with_call, first_calls, AreCounted, MayFollow, IsLegal}
 use Rattle.am_store.specs.Stored.{updates, stored}
-use Rattle.am_store.specs.Broadcast.{broadcast}
 use Rattle.am_store.specs.Trims.{IsTrimmed}
-use Rattle.am_store.proofs.Journals.{drop_front, first_all, legal_last}
-use Rattle.am_store.proofs.Trims.{none_trimmed, trimmed_gives_the_same, trimmed_grows, trimmed_twice, trimmed_legal, trimmed_stored, first_stored}
-use Rattle.am_store.specs.KeptJournals.{calls_in, journal_with, lanes_from, trimmed_to, IsKeptJournal}
+use Rattle.am_store.proofs.Journals.{first_all, legal_last}
+use Rattle.am_store.proofs.Trims.{trimmed_gives_the_same, trimmed_grows, trimmed_twice, trimmed_legal, trimmed_stored, first_stored}
+use Rattle.am_store.specs.KeptJournals.{calls_in, journal_with, trimmed_to, IsKeptJournal}
 use Rattle.am_store.proofs.Keeping.{trimmed_between, trimmed_to_so}
 
 -- ---- the view
@@ -23,56 +21,11 @@ pub calls_more : (pasts : List (Past Call)) (last : Past Call) (call : Call) →
 calls_more [] last call e = ap (λ c. c ∷ []) e
 calls_more (first ∷ pasts) last call e = ap (λ rest. first.value ∷ rest) (calls_more pasts last call e)
 
-pub calls_many : (pasts : List (Past Call)) → length (calls_in pasts) ≡ length pasts
-calls_many [] = refl
-calls_many (first ∷ pasts) = ap suc (calls_many pasts)
-
--- the journal that the first calls left, and the calls since
-left_by : ℕ → List Call → List Call → JournalView
-left_by count front calls = record {
-  before = count;
-  places = length (broadcast (journal_with front));
-  posts = posts_of (journal_with front);
-  lefts = lefts_of (journal_with front);
-  store = stored (updates (journal_with front));
-  lanes = lanes_from 0 front;
-  closed = is_closed (journal_with front);
-  calls = calls;
-}
-
-pub trimmed_more : (count : ℕ) (calls : List Call) (call : Call) → count ≤ length calls
-    → trimmed_to count (calls ++ call ∷ []) ≡ with_call (trimmed_to count calls) call
-unfolding left_by
-trimmed_more count calls call within =
-    ap (λ front. left_by count front (drop count (calls ++ call ∷ []))) (take-append-le count calls (call ∷ []) within)
-    ∙ ap (left_by count (take count calls)) (drop_front calls (call ∷ []) count within)
-
 -- ---- a new journal
-
-pub kept_new : (held : Journal) → journal_of held ≡ new_journal → IsKeptJournal 0 [] held
-kept_new held e = record {
-  legal = λ at call here. (cc);
-  few = omega arith;
-  within = omega (arith, ap (λ (j : JournalView). j.before) e);
-  trimmed = subst (λ (j : JournalView). IsTrimmed (journal_with []) j.before j) (sym e) (none_trimmed new_journal tt);
-  counted = record {
-    places = omega (arith, ap (λ (j : JournalView). j.places) e);
-    posts = omega (arith, ap (λ (j : JournalView). j.posts) e);
-    lefts = omega (arith, ap (λ (j : JournalView). j.lefts) e);
-    before = omega (arith, ap (λ (j : JournalView). j.before) e);
-    lanes = omega (arith, ap (λ (j : JournalView). j.lanes) e);
-  };
-}
 
 -- what was counted stays as calls come
 pub counted_with : (held : Journal) (calls : VecDeque Call Global) → AreCounted held → AreCounted (record held { calls = calls })
-counted_with held calls counted = record {
-  places = counted.places;
-  posts = counted.posts;
-  lefts = counted.lefts;
-  before = counted.before;
-  lanes = counted.lanes;
-}
+counted_with held calls counted = grind arith
 
 module _ (before : ℕ) (calls : List Call) (held : Journal) (kept : IsKeptJournal before calls held) where
   -- how many calls memory has
@@ -127,17 +80,6 @@ module _ (before : ℕ) (calls : List Call) (held : Journal) (kept : IsKeptJourn
 
   -- ---- more room
 
-  pub kept_roomier : (deque : VecDeque Call Global) → deque.items ≡ held.calls.items → IsKeptJournal before calls (record held { calls = deque })
-  kept_roomier deque items =
-      let same : journal_of (record held { calls = deque }) ≡ journal_of held = ap (λ (calls : List Call). record (journal_of held) { calls = calls }) items in
-      record {
-        legal = kept.legal;
-        few = kept.few;
-        within = kept.within;
-        trimmed = subst (IsTrimmed (journal_with calls) held.before) (sym same) kept.trimmed;
-        counted = counted_with held deque kept.counted;
-      }
-
   -- ---- memory lets go of some calls
 
   pub kept_dropped : (after count : ℕ) (new : Journal) → count ≤ length held.calls.items → IsTrimmed (journal_of held) count (journal_of new) → AreCounted new
@@ -155,15 +97,5 @@ module _ (before : ℕ) (calls : List Call) (held : Journal) (kept : IsKeptJourn
 
   -- ---- trims discard some calls more
 
-  pub kept_since : (after : ℕ) → after ≤ held.before → IsKeptJournal after calls held
-  kept_since after few = record {
-    legal = kept.legal;
-    few = few;
-    within = kept.within;
-    trimmed = kept.trimmed;
-    counted = kept.counted;
-  }
-
   pub trims_more : (count : ℕ) → IsTrimmed (trimmed_to before calls) count (trimmed_to (before + count) calls)
-  trims_more count =
-      trimmed_between (journal_with calls) (trimmed_to before calls) (trimmed_to (before + count) calls) before count trims_left (trimmed_to_so calls (before + count) kept.legal)
+  trims_more count = search (rules, trimmed_between, trims_left, trimmed_to_so)

@@ -5,7 +5,6 @@ use Rattle.std.proofs.lemmas.Bool.Decides.{eqb_tells}
 use Rattle.std.proofs.lemmas.Bool.{cases_lt}
 use Rattle.std.proofs.lemmas.Nat.Bits.{bit_at_set_same, bit_at_set_other, bit_at_clear_same, bit_at_clear_other, bit_at_and}
 use lib.Pow.{pow_mono}
-use native.Mathlib.Nat.{div-eq_of_lt}
 use Rattle.am_store.specs.declared.call.Call.TheVariants.{Subscribed, Left}
 use Rattle.am_store.specs.LaneSets.{has_lane}
 use Rattle.am_store.specs.Journal.{open_after}
@@ -32,9 +31,7 @@ lane_set lanes lane low other =
 
 -- the bits past the eighth are clear
 past : (n i : ℕ) → n < 256 → 8 ≤ i → bit_at n i ≡ 0
-past n i small high =
-    let grows : 2 ^ 8 ≤ 2 ^ i = pow_mono high in
-    ap (λ x. x % 2) (div-eq_of_lt (omega (arith, grows, small)))
+past n i small high = let grows : 2 ^ 8 ≤ 2 ^ i = pow_mono high in grind arith
 
 -- a lane past the eighth isn't open
 pub high_lane : (lanes other : ℕ) → lanes < 256 → 8 ≤ other → has_lane lanes other ≡ false

@@ -1,5 +1,5 @@
 -- Open subscriptions of a journal: there is one at most on a lane, and it stays as calls come.
-use Rattle.std.proofs.Common.{◌≡◌, ℕ, zero, suc, ◌-◌, ◌<◌, ◌≤◌, Bool, true, false, ◌||◌, nat_eq, List, [], ◌∷◌, ◌++◌, length, take, drop, Some, refl, sym, ap, subst, ◌∙◌, arith, ◌⊎◌, inl, inr, eq-eqb}
+use Rattle.std.proofs.Common.{◌≡◌, ℕ, zero, suc, ◌-◌, ◌<◌, ◌≤◌, Bool, true, false, ◌||◌, nat_eq, List, [], ◌∷◌, length, take, drop, Some, refl, sym, ap, subst, ◌∙◌, arith, ◌⊎◌, inl, inr, eq-eqb}
 use Rattle.std.specs.List.{slice_get}
 use Rattle.std.proofs.lemmas.List.{take_all}
 use Rattle.std.proofs.lemmas.List.Elements.{All-push, All-nil}
@@ -53,21 +53,16 @@ lane_low journal lane at legal of = (legal (at - journal.before) (Subscribed lan
 
 none_later : (journal : JournalView) (lane at later : ℕ) → IsLegal journal → IsOpenSubscription journal lane at → IsOpenSubscription journal lane later → at < later → ⊥
 none_later journal lane at later legal of other l =
-    let k = later - journal.before in
-    let before : at - journal.before < k = omega (arith, of.begun) in
-    let idle : is_open (first_calls k journal) lane ≡ false = (legal k (Subscribed lane) other.entry).1.idle in
-    let open' : is_open (first_calls k journal) lane ≡ true = open_since lane (has_lane journal.lanes lane) journal.calls (at - journal.before) k of.entry of.kept before in
-    let no : true ≡ false = sym open' ∙ idle in
-    (cc)
+    let before : at - journal.before < (later - journal.before) = omega (arith, of.begun) in
+    let idle : is_open (first_calls (later - journal.before) journal) lane ≡ false = (legal (later - journal.before) (Subscribed lane) other.entry).1.idle in
+    let open' : is_open (first_calls (later - journal.before) journal) lane ≡ true = open_since lane (has_lane journal.lanes lane) journal.calls (at - journal.before) (later - journal.before) of.entry of.kept before in
+    grind (arith)
 
 compared : (a b : ℕ) → (a < b) ⊎ ((b < a) ⊎ (a ≡ b))
 compared zero zero = inr (inr refl)
 compared zero (suc b) = inl (omega arith)
 compared (suc a) zero = inr (inl (omega arith))
-compared (suc a) (suc b) = elim (compared a b) [
-  | inl l ↦ inl (omega arith)
-  | inr r ↦ elim r [ inl l ↦ inr (inl (omega arith)) | inr e ↦ inr (inr (ap suc e)) ]
-]
+compared (suc a) (suc b) = let rest = compared a b in grind arith
 
 -- a lane has one open subscription at most
 pub one_open : (journal : JournalView) (lane at other : ℕ) → IsLegal journal → IsOpenSubscription journal lane at → IsOpenSubscription journal lane other → at ≡ other
@@ -83,9 +78,7 @@ pub open_within : (journal : JournalView) (lane at : ℕ) → IsOpenSubscription
 open_within journal lane at of = get_within journal.calls (Subscribed lane) (at - journal.before) of.entry
 
 pub until_stays : (journal : JournalView) (c : Call) (lane at : ℕ) → IsOpenSubscription journal lane at → until (with_call journal c) at ≡ until journal at
-until_stays journal c lane at of =
-    let within = open_within journal lane at of in
-    first_stays journal c (at - journal.before) (omega arith)
+until_stays journal c lane at of = grind (arith, open_within, first_stays)
 
 pub open_stays : (journal : JournalView) (c : Call) (lane at : ℕ) → IsOpenSubscription journal lane at → open_after lane true c ≡ true → IsOpenSubscription (with_call journal c) lane at
 open_stays journal c lane at of goes =
@@ -102,16 +95,7 @@ pub end_of : (journal : JournalView) → call_count journal - journal.before ≡
 end_of journal = omega arith
 
 pub until_end : (journal : JournalView) (c : Call) → until (with_call journal c) (call_count journal) ≡ journal
-until_end journal c =
-    ap (λ n. first_calls n (with_call journal c)) (end_of journal)
-    ∙ (first_stays journal c (length journal.calls) (omega arith) ∙ first_all journal)
+until_end journal c = grind (arith, end_of, first_stays, first_all)
 
 pub open_begins : (journal : JournalView) (lane : ℕ) → IsOpenSubscription (with_call journal (Subscribed lane)) lane (call_count journal)
-open_begins journal lane =
-    let calls = journal.calls ++ Subscribed lane ∷ [] in
-    record {
-      begun = omega arith;
-      entry = ap (slice_get calls) (end_of journal) ∙ get_end journal.calls (Subscribed lane);
-      kept = subst (IsKept lane) (sym (ap (λ n. drop n calls) (end_of journal) ∙ drop-append_seam journal.calls (Subscribed lane ∷ [])))
-          (All-push (λ one. open_after lane true one ≡ true) [] (Subscribed lane) (All-nil (λ one. open_after lane true one ≡ true)) refl);
-    }
+open_begins journal lane = grind (arith, end_of, get_end, drop-append_seam, All-push, All-nil)

@@ -1,11 +1,11 @@
 -- What is sent out answers what was posted.
-use Rattle.std.proofs.Common.{◌≡◌, ℕ, List, [], ◌∷◌, ◌++◌, map, length, Option, None, Some, IfSome, refl, ap, ◌∙◌}
+use Rattle.std.proofs.Common.{◌≡◌, ℕ, List, [], ◌∷◌, ◌++◌, map, length, Option, None, Some, IfSome, refl, ap, ◌∙◌, arith}
 use Rattle.am_alert.specs.declared.alert.Alert.{Alert}
 use Rattle.am_labels.specs.LabelSets.{Labels}
 use Rattle.am_store.specs.declared.call.Call.{Call}
 use Rattle.am_store.specs.declared.call.Call.TheVariants.{Posted, Collected, Subscribed, Left, Closed}
 use Rattle.am_store.specs.Stored.{Update, Report, updates_of, first_reports, Holding, holding_of, after_report}
-use Rattle.am_store.specs.Broadcast.{alert_held, batch_of, broadcast_from}
+use Rattle.am_store.specs.Broadcast.{batch_of, broadcast_from}
 use Rattle.am_store.specs.Laws.{BatchesAnswerPosts, labels_of_batch, posted_labels}
 use Rattle.am_store.proofs.Stored.{held_own, absorbed_labels, Sits, sits}
 
@@ -17,13 +17,10 @@ after_own (Some holding) at now new count there = absorbed_labels now holding.al
 batch_labels : (before : List Update) (now : ℕ) (news : List Alert) → labels_of_batch (batch_of before now news) ≡ labels_of_batch news
 batch_labels before now [] = refl
 batch_labels before now (new ∷ news) =
-    let all = before ++ Report now new ∷ [] in
-    let one = after_report (length before) now new (holding_of new.labels before) in
-    let holds : holding_of new.labels all ≡ Some one = held_own before now new in
-    let own : one.alert.labels ≡ new.labels = after_own (holding_of new.labels before) (length before) now new (length before) (sits new.labels before) in
-    ap (λ o. map (λ (alert : Alert). alert.labels) (alert_held o ++ batch_of all now news)) holds
-    ∙ (ap (λ labels. labels ∷ labels_of_batch (batch_of all now news)) own
-    ∙ ap (λ rest. new.labels ∷ rest) (batch_labels all now news))
+    let holds : holding_of new.labels (before ++ Report now new ∷ []) ≡ Some (after_report (length before) now new (holding_of new.labels before)) = held_own before now new in
+    let own : (after_report (length before) now new (holding_of new.labels before)).alert.labels ≡ new.labels = after_own (holding_of new.labels before) (length before) now new (length before) (sits new.labels before) in
+    let rest = batch_labels (before ++ Report now new ∷ []) now news in
+    grind (arith)
 
 pub from_calls : (before : List Update) (calls : List Call) → map labels_of_batch (broadcast_from before calls) ≡ posted_labels calls
 from_calls before [] = refl

@@ -3,8 +3,7 @@ use Rattle.std.proofs.Common.{◌≡◌, ℕ, zero, suc, ◌+◌, ◌-◌, ◌<�
 use Rattle.std.specs.Option.{is_some, option_map, IfSome}
 use Rattle.std.proofs.lemmas.List.{length-map}
 use Rattle.am_store.specs.declared.lanes.OpenLane.{OpenLane}
-use Rattle.am_store.specs.Journal.{JournalView, call_count, first_calls, is_closed, is_open, posts_of, IsOpenSubscription}
-use Rattle.am_store.specs.PlainBook.{FollowsJournal}
+use Rattle.am_store.specs.Journal.{JournalView, call_count, first_calls, IsOpenSubscription}
 use Rattle.am_store.specs.Stored.{updates, stored}
 use Rattle.am_store.specs.Trims.{AreBeforeOpen, IsTrimmed}
 use Rattle.am_store.specs.LogLimits.{IsWithinLogLimits}
@@ -62,19 +61,12 @@ before_none a sound none = record {
 -- what was stored when the earliest open lane was subscribed
 pub store_then : (a : Pages) (one : OpenLane) → AgreesWithJournal a → IsEarliest a.lanes one
     → (count : ℕ) → AreBeforeOpen a.journal.journal count → a.journal.gone < a.journal.journal.before + count → one.opening ≡ stored (updates (first_calls count a.journal.journal))
-store_then a one sound first count before late =
-    let its = opening_of a first.there.0 one sound first.there.1 in
-    let same = one_trim a.journal.journal (one.at - a.journal.journal.before) count (before_earliest a one sound first) before in
-    its.opening (omega (arith, late, same, its.given.begun)) ∙ ap (λ n. stored (updates (first_calls n a.journal.journal))) same
+store_then a one sound first count before late = grind (arith, opening_of, one_trim, before_earliest)
 
 -- what is stored now, where no lane is open
 pub store_now : (a : Pages) → AgreesWithJournal a → ((lane : ℕ) → lane_at a.lanes lane ≡ None)
     → (count : ℕ) → AreBeforeOpen a.journal.journal count → a.stored ≡ stored (updates (first_calls count a.journal.journal))
-store_now a sound none count before =
-    sound.kept.stored
-    ∙ (sym (ap (λ j. stored (updates j)) (first_all a.journal.journal))
-    ∙ ap (λ n. stored (updates (first_calls n a.journal.journal)))
-    (one_trim a.journal.journal (length a.journal.journal.calls) count (before_none a sound none) before))
+store_now a sound none count before = grind (arith, first_all, one_trim, before_none)
 
 pub if_ok : {A E : Type 0} (P Q : A → Type 0) (r : Result A E) → ((x : A) → P x → Q x) → IfOk r P → IfOk r Q
 if_ok P Q (Ok x) f p = f x p
@@ -173,18 +165,4 @@ sound_compacted a b sound journal gone room stored sent closed posts all =
     let count = as_many_open a.lanes b.lanes all in
     let lanes = subscribed_same a.lanes b.lanes all in
     let flag_same : cond {A = ℕ} b.closed 0 1 ≡ cond {A = ℕ} a.closed 0 1 = ap (λ (b : Bool). cond {A = ℕ} b 0 1) closed in
-    let alike : book_of b ≡ book_of a =
-    ap (λ j. record { stored = b.stored; journal = j; log = b.sent }) journal
-    ∙ (ap (λ s. record { stored = s; journal = a.journal.journal; log = b.sent }) stored ∙ ap (λ l. record { stored = a.stored; journal = a.journal.journal; log = l }) sent) in
-    record {
-      kept = subst FollowsJournal (sym alike) sound.kept;
-      eight = eight ∙ sound.eight;
-      closed = closed ∙ (sound.closed ∙ sym (ap is_closed journal));
-      lanes = λ lane h. same_flag (lane_at a.lanes lane) (lane_at b.lanes lane) (lanes lane) ∙ (sound.lanes lane h ∙ sym (ap (λ j. is_open j lane) journal));
-      openings = λ lane.
-          subst (λ j. IfSome (lane_at b.lanes lane) (IsItsOpening b.journal.gone j lane)) (sym journal)
-          (still_its a.journal.gone b.journal.gone a.journal.journal lane (lane_at a.lanes lane) (lane_at b.lanes lane) (lanes lane) gone (sound.openings lane));
-      posts = posts ∙ (sound.posts ∙ sym (ap posts_of journal));
-      limits = subst IsWithinLogLimits (sym sent) sound.limits;
-      room = omega (arith, sound.room, count, flag_same, room);
-    }
+    grind (arith, same_flag, still_its)

@@ -1,6 +1,6 @@
 -- A trimmed journal gives the same as the whole one.
-use Rattle.std.proofs.Common.{◌≡◌, ℕ, ◌+◌, ◌-◌, ◌≤◌, true, false, not, ◌&&◌, ◌||◌, cond, filter, List, [], ◌∷◌, ◌++◌, length, take, drop, None, Some, refl, sym, ap, subst, ◌∙◌, arith, length-append, length-drop, inl, inr}
-use Rattle.std.specs.List.{slice_get, list_any}
+use Rattle.std.proofs.Common.{◌≡◌, ℕ, ◌+◌, ◌-◌, ◌≤◌, true, false, not, ◌&&◌, cond, filter, List, [], ◌∷◌, ◌++◌, length, take, drop, None, Some, refl, sym, ap, subst, ◌∙◌, arith, length-append, length-drop}
+use Rattle.std.specs.List.{slice_get}
 use Rattle.std.proofs.lemmas.List.{append_assoc, append-nil, take-append-drop}
 use Rattle.std.proofs.Math.Seq.{drop-append_seam}
 use Rattle.am_alert.specs.declared.alert.Alert.{Alert}
@@ -9,11 +9,10 @@ use Rattle.am_labels.specs.LabelSets.{same_labels}
 use Rattle.am_labels.specs.LabelLaws.{labels_equiv}
 use Rattle.am_store.specs.declared.call.Call.{Call}
 use Rattle.am_store.specs.declared.call.Call.TheVariants.{Posted, Collected, Subscribed, Left, Closed}
-use Rattle.am_store.specs.LaneSets.{has_lane}
-use Rattle.am_store.specs.Journal.{JournalView, first_calls, until, since, closes, is_closed, posts_of, lefts_of, open_from, is_open, IsLowestIdle, MayFollow, IsKept, IsOpenSubscription, IsLegal}
+use Rattle.am_store.specs.Journal.{JournalView, first_calls, until, since, is_closed, posts_of, lefts_of, is_open, IsLowestIdle, MayFollow, IsOpenSubscription, IsLegal}
 use Rattle.am_store.specs.PlainBook.{PlainBook, FollowsJournal}
-use Rattle.am_store.specs.Stored.{Update, Report, Collect, updates_of, call_updates, first_reports, updates, stored}
-use Rattle.am_store.specs.Broadcast.{batches_of, broadcast_from, broadcast, items_of, due}
+use Rattle.am_store.specs.Stored.{Update, Report, Collect, updates_of, first_reports, updates, stored}
+use Rattle.am_store.specs.Broadcast.{batches_of, broadcast_from, broadcast, due}
 use Rattle.am_store.specs.AlertList.{lookup, absorb_into, absent, AreDistinct, batch_by_list}
 use Rattle.am_store.specs.Trims.{AreBeforeOpen, IsTrimmed}
 use Rattle.am_store.specs.Laws.{StartsWithBase, TrimmedGivesTheSame, TrimmedGrows, TrimmedTwice, OneTrim}
@@ -29,9 +28,7 @@ same_one a b (Collect now) e = stored_collect a now ∙ (ap (filter (λ alert. n
 
 pub same_stored : (a b ss : List Update) → stored a ≡ stored b → stored (a ++ ss) ≡ stored (b ++ ss)
 same_stored a b [] e = ap stored (append-nil a) ∙ (e ∙ sym (ap stored (append-nil b)))
-same_stored a b (s ∷ ss) e =
-    ap stored (sym (append_assoc a (s ∷ []) ss))
-    ∙ (same_stored (a ++ s ∷ []) (b ++ s ∷ []) ss (same_one a b s e) ∙ ap stored (append_assoc b (s ∷ []) ss))
+same_stored a b (s ∷ ss) e = let rest = same_stored (a ++ s ∷ []) (b ++ s ∷ []) ss in grind (arith, append_assoc, same_one)
 
 same_batch : (a b : List Update) (c : Call) → stored a ≡ stored b → batches_of a c ≡ batches_of b c
 same_batch a b (Posted now []) e = refl
@@ -69,11 +66,8 @@ absent_from (a ∷ front) alert rest d =
 told_again : (before : List Update) (front alerts : List Alert) → stored before ≡ front → AreDistinct (front ++ alerts) → stored (before ++ first_reports alerts) ≡ front ++ alerts
 told_again before front [] e d = ap stored (append-nil before) ∙ (e ∙ sym (append-nil front))
 told_again before front (alert ∷ alerts) e d =
-    let one : stored (before ++ Report 0 alert ∷ []) ≡ front ++ alert ∷ [] =
-    stored_report before 0 alert ∙ (ap (absorb_into 0 alert) e ∙ absorb_into_absent 0 alert front (absent_from front alert alerts d)) in
-    ap stored (sym (append_assoc before (Report 0 alert ∷ []) (first_reports alerts)))
-    ∙ (told_again (before ++ Report 0 alert ∷ []) (front ++ alert ∷ []) alerts one (subst AreDistinct (sym (append_assoc front (alert ∷ []) alerts)) d)
-    ∙ append_assoc front (alert ∷ []) alerts)
+    let rest = told_again (before ++ Report 0 alert ∷ []) (front ++ alert ∷ []) alerts in
+    grind (arith, stored_report, absorb_into_absent, absent_from, append_assoc)
 
 pub starts_with_base : StartsWithBase
 starts_with_base alerts d = told_again [] [] alerts refl d
@@ -99,28 +93,19 @@ module _ (whole trimmed : JournalView) (count : ℕ) (of : IsTrimmed whole count
 
   stored_same : stored (updates (after trimmed more)) ≡ stored (updates (grown whole count more))
   unfolding after grown
-  stored_same =
-      same_stored (first_reports trimmed.store) (updates (first_calls count whole)) (call_updates more) base_same
-      ∙ ap stored (sym (updates_append (first_reports whole.store) (take count whole.calls) more))
+  stored_same = grind (arith, same_stored, base_same, updates_append, labels_equiv, append_assoc, append-nil)
 
   sent_same : broadcast (grown whole count more) ≡ broadcast (first_calls count whole) ++ broadcast (after trimmed more)
   unfolding after grown
-  sent_same =
-      cast_append (first_reports whole.store) (take count whole.calls) more
-      ∙ ap (λ rest. broadcast (first_calls count whole) ++ rest) (sym (same_sent (first_reports trimmed.store) (updates (first_calls count whole)) more base_same))
+  sent_same = grind (arith, cast_append, same_sent, base_same)
 
   closed_same : is_closed (after trimmed more) ≡ is_closed (grown whole count more)
   unfolding after grown
-  closed_same =
-      ap (λ b. b || list_any closes more) of.closed
-      ∙ (sym (or_assoc whole.closed (list_any closes (take count whole.calls)) (list_any closes more))
-      ∙ ap (λ b. whole.closed || b) (sym (closes_append (take count whole.calls) more)))
+  closed_same = grind (arith, or_assoc, closes_append)
 
   open_same : (lane : ℕ) → is_open (after trimmed more) lane ≡ is_open (grown whole count more) lane
   unfolding after grown
-  open_same lane =
-      ap (λ was. open_from lane was more) (of.lanes lane)
-      ∙ sym (open_append lane (has_lane whole.lanes lane) (take count whole.calls) more)
+  open_same lane = grind (arith, open_append)
 
   posts_same : posts_of (after trimmed more) ≡ posts_of (grown whole count more)
   unfolding after grown
@@ -133,16 +118,12 @@ module _ (whole trimmed : JournalView) (count : ℕ) (of : IsTrimmed whole count
 -- all calls
 all_grown : (whole trimmed : JournalView) (count : ℕ) → IsTrimmed whole count trimmed → grown whole count trimmed.calls ≡ whole
 unfolding grown
-all_grown whole trimmed count of =
-    ap (λ (calls : List Call). record whole { calls = calls })
-    (ap (λ rest. take count whole.calls ++ rest) of.calls ∙ take-append-drop count whole.calls)
+all_grown whole trimmed count of = grind (arith, take-append-drop)
 
 -- the first calls
 first_grown : (whole trimmed : JournalView) (count k : ℕ) → IsTrimmed whole count trimmed → grown whole count (take k trimmed.calls) ≡ first_calls (count + k) whole
 unfolding grown
-first_grown whole trimmed count k of =
-    ap (λ (calls : List Call). record whole { calls = calls })
-    (ap (λ rest. take count whole.calls ++ take k rest) of.calls ∙ take_parts count k whole.calls)
+first_grown whole trimmed count k of = grind (arith, take_parts)
 
 module _ (whole trimmed : JournalView) (count : ℕ) (of : IsTrimmed whole count trimmed) where
   pub trimmed_stored : stored (updates trimmed) ≡ stored (updates whole)
@@ -202,25 +183,15 @@ module _ (whole trimmed : JournalView) (count : ℕ) (of : IsTrimmed whole count
   until_stored at h = first_stored (at - trimmed.before) ∙ ap (λ n. stored (updates (first_calls n whole))) (moved at h)
 
   pub since_same : (at : ℕ) → trimmed.before ≤ at → since trimmed at ≡ since whole at
-  since_same at h =
-      ap (drop (at - trimmed.before)) of.calls
-      ∙ (drop_twice count (at - trimmed.before) whole.calls ∙ ap (λ n. drop n whole.calls) (moved at h))
+  since_same at h = grind (arith, drop_twice, moved)
 
   pub due_same : (at : ℕ) → trimmed.before ≤ at → due trimmed at ≡ due whole at
-  due_same at h =
-      ap (λ opening. opening ++ items_of (broadcast_from (updates (until trimmed at)) (since trimmed at))) (until_stored at h)
-      ∙ ap (λ batches. stored (updates (until whole at)) ++ items_of batches)
-      (same_sent (updates (until trimmed at)) (updates (until whole at)) (since trimmed at) (until_stored at h)
-      ∙ ap (broadcast_from (updates (until whole at))) (since_same at h))
+  due_same at h = grind (arith, until_stored, same_sent, since_same)
 
 -- ---- the same calls may follow
 
 lowest_same : (a b : JournalView) (lane : ℕ) → ((lane : ℕ) → is_open a lane ≡ is_open b lane) → IsLowestIdle a lane → IsLowestIdle b lane
-lowest_same a b lane same low = record {
-  within = low.within;
-  idle = sym (same lane) ∙ low.idle;
-  lowest = λ other l. sym (same other) ∙ low.lowest other l;
-}
+lowest_same a b lane same low = grind arith
 
 pub may_same : (a b : JournalView) → is_closed a ≡ is_closed b → ((lane : ℕ) → is_open a lane ≡ is_open b lane) → (c : Call) → MayFollow a c → MayFollow b c
 may_same a b closed lanes (Posted now alerts) may = sym closed ∙ may
@@ -276,11 +247,7 @@ trimmed_twice whole once twice first more fits fits_more a b = record {
 -- ---- how much a trim drops
 
 no_more : (journal : JournalView) (count other : ℕ) → AreBeforeOpen journal count → AreBeforeOpen journal other → other ≤ count
-no_more journal count other a b =
-    elim a.most [
-      | inl all ↦ omega (arith, all, b.within)
-      | inr next ↦ omega (arith, b.kept next.0 (journal.before + count) next.1)
-    ]
+no_more journal count other a b = grind arith
 
 pub one_trim : OneTrim
 one_trim journal count other a b = omega (arith, no_more journal count other a b, no_more journal other count b a)
@@ -295,22 +262,15 @@ trimmed_legal whole trimmed count of legal at call e =
     (legal (count + at) call here)
 
 pub open_trimmed : (whole trimmed : JournalView) (count lane at : ℕ) → IsTrimmed whole count trimmed → trimmed.before ≤ at → IsOpenSubscription whole lane at → IsOpenSubscription trimmed lane at
-open_trimmed whole trimmed count lane at of h opened = record {
-  begun = h;
-  entry = ap (λ calls. slice_get calls (at - trimmed.before)) of.calls
-      ∙ (get_drop count whole.calls (at - trimmed.before) ∙ (ap (slice_get whole.calls) (moved whole trimmed count of at h) ∙ opened.entry));
-  kept = subst (IsKept lane) (sym (since_same whole trimmed count of at h)) opened.kept;
-}
+open_trimmed whole trimmed count lane at of h opened = grind (arith, get_drop, moved, since_same)
 
 -- how many batches there were by a call is the same in both
 pub sent_until : (whole trimmed : JournalView) (count at : ℕ) → IsTrimmed whole count trimmed → trimmed.before ≤ at
     → trimmed.places + length (broadcast (until trimmed at)) ≡ whole.places + length (broadcast (until whole at))
 sent_until whole trimmed count at of h =
-    let k = at - trimmed.before in
-    let both : length (broadcast (first_calls (count + k) whole)) ≡ length (broadcast (first_calls count whole)) + length (broadcast (first_calls k trimmed)) =
-    ap length (first_sent whole trimmed count of k) ∙ length-append (broadcast (first_calls count whole)) (broadcast (first_calls k trimmed)) in
-    let here : length (broadcast (first_calls (count + k) whole)) ≡ length (broadcast (until whole at)) = ap (λ n. length (broadcast (first_calls n whole))) (moved whole trimmed count of at h) in
-    omega (arith, of.places, both, here)
+    let both : length (broadcast (first_calls (count + (at - trimmed.before)) whole)) ≡ length (broadcast (first_calls count whole)) + length (broadcast (first_calls (at - trimmed.before) trimmed)) =
+    ap length (first_sent whole trimmed count of (at - trimmed.before)) ∙ length-append (broadcast (first_calls count whole)) (broadcast (first_calls (at - trimmed.before) trimmed)) in
+    grind (arith)
 
 module _ (old new : PlainBook) (count : ℕ) (of : IsTrimmed old.journal count new.journal) (log : new.log ≡ old.log) where
   pub follows_trimmed : new.stored ≡ old.stored → FollowsJournal old → FollowsJournal new

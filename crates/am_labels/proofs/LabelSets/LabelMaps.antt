@@ -1,15 +1,13 @@
 -- The map that pairs in byte order of names make.
-use Rattle.std.proofs.Common.{◌≡◌, ℕ, Option, unwrap_or, List, [], ◌∷◌, ◌++◌, length, reverse, refl, sym, ap, subst, cond, Some, None, ◌∙◌, T, ◌&&◌, true, false, Less, Equal, Greater}
+use Rattle.std.proofs.Common.{◌≡◌, ℕ, Option, unwrap_or, List, [], ◌∷◌, ◌++◌, length, reverse, refl, sym, ap, subst, None, ◌∙◌, T, ◌&&◌, true, false, Less, Equal, Greater, arith}
 use Rattle.std.specs.FinMap.{entries, empty, from_entries, from_sorted, entries-from_sorted, entries-insert, len, len-entries, empty_of_len, get-entries, get-from_entries, from_entries_push, slice_cmp-IsAntisymmetric, nat_cmp-IsAntisymmetric, entries_sorted, same_entries_map, contains_key}
 use Rattle.std.specs.FinMap.Entries.{put, is_sorted, below_all, find}
 use Rattle.std.specs.Cmp.Lexicographic.{nat_list_cmp_total}
 use Rattle.std.specs.BTreeMap.{insert_entry}
 use Rattle.std.specs.Option.{is_some}
-use Rattle.std.specs.FinMap.Entries.{by_order}
 use Rattle.std.proofs.lemmas.List.{reverse-append}
-use Rattle.std.specs.Ordering.{is_eq, is_lt, is_ge}
+use Rattle.std.specs.Ordering.{is_lt, is_ge}
 use Rattle.std.specs.declared.cmp.Ordering.{Ordering}
-use Rattle.std.specs.Cmp.{both_ways}
 use Rattle.std.proofs.lemmas.Bool.{and_parts, and_from}
 use Rattle.am_labels.specs.Texts.{text_cmp}
 use Rattle.am_labels.proofs.LabelSets.Searches.{both, less}
@@ -35,8 +33,7 @@ entries_empty = entries_of [] empty tt (from_none [] refl)
 -- a B-tree's insertion puts a pair in as a finite map does
 insert_put : (name value : List ℕ) (pairs : List (List ℕ × List ℕ)) → insert_entry text_cmp pairs name value ≡ put text_cmp name value pairs
 insert_put name value [] = refl
-insert_put name value (pair ∷ pairs) =
-    ap (λ rest. by_order (text_cmp name pair.0) ((name, value) ∷ pair ∷ pairs) ((pair.0, value) ∷ pairs) (pair ∷ rest)) (insert_put name value pairs)
+insert_put name value (pair ∷ pairs) = let rest = insert_put name value pairs in grind arith
 
 -- one more pair holds over those before it
 pub last_push : (pairs : List (List ℕ × List ℕ)) (name value : List ℕ)
@@ -55,14 +52,12 @@ map_of_entries pairs m e = same_entries_map _ m (entries-from_sorted text_cmp pa
 -- a name before all others isn't among them
 pub absent_below : (name : List ℕ) (pairs : List (List ℕ × List ℕ)) → T (below_all text_cmp name pairs) → find text_cmp name pairs ≡ None
 absent_below name [] h = refl
-absent_below name (pair ∷ pairs) h =
-    ap (λ o. cond (is_eq o) (Some pair.1) (find text_cmp name pairs)) (less _ (both _ _ h).0) ∙ absent_below name pairs (both _ _ h).1
+absent_below name (pair ∷ pairs) h = let rest = absent_below name pairs in grind arith
 
 -- and comes first if it is put in
 put_first : (name value : List ℕ) (pairs : List (List ℕ × List ℕ)) → T (below_all text_cmp name pairs) → put text_cmp name value pairs ≡ (name, value) ∷ pairs
 put_first name value [] h = refl
-put_first name value (pair ∷ pairs) h =
-    ap (λ o. by_order o ((name, value) ∷ pair ∷ pairs) ((pair.0, value) ∷ pairs) (pair ∷ put text_cmp name value pairs)) (less _ (both _ _ h).0)
+put_first name value (pair ∷ pairs) h = grind arith
 
 -- pairs in byte order, each name once, are the entries of their map
 pub entries_rising : (pairs : List (List ℕ × List ℕ)) → T (is_sorted text_cmp pairs) → entries (last_holds pairs) ≡ pairs
@@ -88,25 +83,12 @@ below_more x y (pair ∷ pairs) h below =
 -- a name below the first of some pairs is in order before them if they are in order
 pub one_more_rises : (name : List ℕ) (pair : List ℕ × List ℕ) (pairs : List (List ℕ × List ℕ)) → text_cmp name pair.0 ≡ Less
     → (below_all text_cmp name (pair ∷ pairs) && is_sorted text_cmp (pair ∷ pairs)) ≡ (below_all text_cmp pair.0 pairs && is_sorted text_cmp pairs)
-one_more_rises name pair pairs h =
-    both_ways _ _
-    (λ all. (and_parts _ _ all).1)
-    (λ rest. and_from _ _ (and_from _ _ (ap is_lt h) (below_more name pair.0 pairs h (and_parts _ _ rest).0)) rest)
-
--- and one that isn't doesn't
-pub falls : (name : List ℕ) (pair : List ℕ × List ℕ) (pairs : List (List ℕ × List ℕ)) → is_lt (text_cmp name pair.0) ≡ false
-    → (below_all text_cmp name (pair ∷ pairs) && is_sorted text_cmp (pair ∷ pairs)) ≡ false
-falls name pair pairs h = ap (λ b. (b && below_all text_cmp name pairs) && is_sorted text_cmp (pair ∷ pairs)) h
+one_more_rises name pair pairs h = grind (arith, and_parts, and_from, below_more)
 
 pub lower : (o : Ordering) → is_ge o ≡ false → o ≡ Less
 lower Less h = refl
 lower Equal h = absurd (subst T h tt)
 lower Greater h = absurd (subst T h tt)
-
-pub not_lower : (o : Ordering) → is_ge o ≡ true → is_lt o ≡ false
-not_lower Less h = absurd (subst T (sym h) tt)
-not_lower Equal h = refl
-not_lower Greater h = refl
 
 pub contains_found : (pairs : List (List ℕ × List ℕ)) (m : Labels) (name : List ℕ) (o : Option (List ℕ)) → T (is_sorted text_cmp pairs) → from_sorted {R = text_cmp} pairs ≡ m → o ≡ find text_cmp name pairs → is_some o ≡ contains_key m name
 contains_found pairs m name o h e f = ap is_some (sym (get-entries m name ∙ (ap (find text_cmp name) (entries_of pairs m h e) ∙ sym f)))

@@ -1,13 +1,11 @@
 -- A binary search by name among pairs in byte order of names.
-use Rattle.std.proofs.Common.{◌≡◌, ◌≢◌, ℕ, zero, suc, ◌<◌, ◌≤◌, ◌&&◌, Bool, true, false, cond, Some, None, List, [], ◌∷◌, length, get_or, refl, sym, ap, ◌∙◌, arith, T, Less, Equal, Greater, add-one, ⊎_elim, inl, inr}
+use Rattle.std.proofs.Common.{◌≡◌, ◌≢◌, ℕ, zero, suc, ◌<◌, ◌≤◌, ◌&&◌, Bool, true, false, cond, Some, None, List, [], ◌∷◌, length, get_or, refl, sym, ap, ◌∙◌, arith, T, Less, Equal, Greater, inl, inr}
 use Rattle.std.specs.FinMap.{slice_cmp-IsAntisymmetric, nat_cmp-IsAntisymmetric}
 use Rattle.std.specs.FinMap.Entries.{is_sorted, below_all, find}
 use Rattle.std.specs.Cmp.{tied_itself}
 use Rattle.std.specs.Cmp.Lexicographic.{nat_list_cmp_total}
 use Rattle.std.specs.declared.cmp.Ordering.{Ordering}
-use Rattle.std.specs.List.Sorted.{IsNonDecreasingBy}
-use Rattle.std.specs.Ordering.{is_lt, is_eq, ordering_reverse, ordering_index}
-use Rattle.std.proofs.lemmas.List.Sorted.{searchable_from_sorted}
+use Rattle.std.specs.Ordering.{is_lt, is_eq, ordering_reverse}
 use Rattle.std.specs.List.{AllWithin}
 use Rattle.std.proofs.lemmas.Bool.{cases_lt}
 use Rattle.std.proofs.lemmas.List.{get_or_default}
@@ -55,35 +53,12 @@ find_nowhere (pair ∷ pairs) name h =
     ap (λ b. cond b (Some pair.1) (find text_cmp name pairs)) (untied (text_cmp name pair.0) apart)
     ∙ find_nowhere pairs name (λ at d short. h (suc at) d (omega arith))
 
-ascends : (pairs : List (List ℕ × List ℕ)) (at : ℕ) (d : List ℕ × List ℕ) → T (is_sorted text_cmp pairs) → suc at < length pairs → text_cmp (get_or pairs at d).0 (get_or pairs (suc at) d).0 ≡ Less
-ascends [] at d h short = absurd (omega arith)
-ascends (pair ∷ pairs) zero d h short = below_at pair.0 pairs 0 d (both _ _ h).0 (omega arith)
-ascends (pair ∷ pairs) (suc at) d h short = ascends pairs at d (both _ _ h).1 (omega arith)
-
-not_less : (o : Ordering) → o ≡ Greater → is_lt o ≡ false
-not_less o e = ap is_lt e
-
--- what a binary search asks of pairs in order
-pub searchable : (pairs : List (List ℕ × List ℕ)) (name : List ℕ) → T (is_sorted text_cmp pairs) → IsNonDecreasingBy (λ (pair : List ℕ × List ℕ). ordering_index (text_cmp pair.0 name)) pairs
-searchable pairs name h =
-    searchable_from_sorted nat_list_cmp_total (λ (pair : List ℕ × List ℕ). pair.0) pairs name
-    (λ at d low short.
-    let name_at = λ (k : ℕ). (get_or pairs k d).0 in
-    let next : suc at < length pairs = omega arith in
-    ap (λ k. is_lt (text_cmp (name_at k) (name_at at))) (add-one at)
-    ∙ not_less (text_cmp (name_at (suc at)) (name_at at)) (flipped (name_at at) (name_at (suc at)) (ascends pairs at d h next)))
-
 -- if no name ties before an index, nor from it on, the name is not there
 pub find_between : (pairs : List (List ℕ × List ℕ)) (name : List ℕ) (index : ℕ)
     → AllWithin (λ (pair : List ℕ × List ℕ). text_cmp pair.0 name ≡ Less) pairs 0 index
     → AllWithin (λ (pair : List ℕ × List ℕ). text_cmp pair.0 name ≡ Greater) pairs index (length pairs)
     → find text_cmp name pairs ≡ None
-find_between pairs name index front back =
-    find_nowhere pairs name (λ at d short e.
-    ⊎_elim
-    (λ (before : at < index). let no : Less ≡ Equal = sym (front at d (omega arith) before) ∙ e in (cc))
-    (λ (past : index ≤ at). let no : Greater ≡ Equal = sym (back at d past short) ∙ e in (cc))
-    (cases_lt at index))
+find_between pairs name index front back = grind (arith, find_nowhere, cases_lt)
 
 -- an earlier name is lower
 rises : (pairs : List (List ℕ × List ℕ)) (i j : ℕ) (d : List ℕ × List ℕ) → T (is_sorted text_cmp pairs) → i < j → j < length pairs

@@ -1,5 +1,5 @@
 -- Which texts a pattern chooses among.
-use Rattle.std.proofs.Common.{◌≡◌, ◌⊎◌, ⊎_elim, inl, inr, ℕ, ◌+◌, ◌<◌, ◌||◌, Bool, true, false, true≢false, List, [], ◌∷◌, ◌++◌, map, take, length, drop, get_or, is_some, IfOk, IfSome, Result, Ok, Err, Option, None, Some, refl, sym, ap, IsUtf8, ◌∙◌, subst, arith, append_assoc, append-nil, length-append, drop-drop, drop_of_length-le}
+use Rattle.std.proofs.Common.{◌≡◌, ◌⊎◌, ⊎_elim, inl, inr, ℕ, ◌+◌, ◌<◌, ◌||◌, Bool, true, false, true≢false, List, [], ◌∷◌, ◌++◌, map, take, length, drop, get_or, is_some, IfOk, IfSome, Result, Ok, Err, Option, None, Some, refl, sym, ap, IsUtf8, ◌∙◌, arith, append_assoc, append-nil, length-append, drop-drop, drop_of_length-le}
 use Rattle.std.proofs.lemmas.Bool.Decides.{Decides-eqb}
 use Rattle.std.proofs.lemmas.Grind.{flat_map-append}
 use Rattle.std.proofs.lemmas.List.{map_more}
@@ -22,18 +22,11 @@ chooses_nothing whole from to = (
   λ stands. ⊎_elim (λ s. omega (arith, s.1)) (λ no. absurd no) stands,
 )
 
-pub chooses_itself : (text : List ℕ) → ChoosesAmong (text ∷ []) (literal text)
-chooses_itself text whole from to = (λ at. inl at, λ stands. ⊎_elim (λ s. s) (λ no. absurd no) stands)
-
 -- one of two lists of texts stands where one of the first stands, or one of the second
 stands_in_either : (whole : List ℕ) (from to : ℕ) (xs ys : List (List ℕ))
     → AreAlike (OneStands whole (xs ++ ys) from to) (OneStands whole xs from to ⊎ OneStands whole ys from to)
 stands_in_either whole from to [] ys = (λ h. inr h, λ h. ⊎_elim (λ no. absurd no) (λ s. s) h)
-stands_in_either whole from to (x ∷ xs) ys =
-    let others = stands_in_either whole from to xs ys in (
-      λ h. ⊎_elim (λ first. inl (inl first)) (λ s. ⊎_elim (λ a. inl (inr a)) (λ b. inr b) (others.0 s)) h,
-      λ h. ⊎_elim (λ a. ⊎_elim (λ first. inl first) (λ s. inr (others.1 (inl s))) a) (λ b. inr (others.1 (inr b))) h,
-    )
+stands_in_either whole from to (x ∷ xs) ys = let rest = stands_in_either whole from to xs ys in grind arith
 
 -- no byte is one of no class
 pub reads_no_byte : (whole : List ℕ) (from to : ℕ) → Matches whole (byte_in []) from to → ⊥
@@ -45,32 +38,17 @@ chooses_none whole from to = (λ h. reads_no_byte whole from to h, λ h. absurd 
 
 matches_one_more : (whole : List ℕ) (from to : ℕ) (xs : List Re) (y : Re)
     → AreAlike (Matches whole (alt_all (xs ++ y ∷ [])) from to) (Matches whole (alt_all xs) from to ⊎ Matches whole y from to)
-matches_one_more whole from to [] y = (
-  λ h. ⊎_elim (λ a. inr a) (λ no. absurd (reads_no_byte whole from to no)) h,
-  λ h. ⊎_elim (λ no. absurd (reads_no_byte whole from to no)) (λ a. inl a) h,
-)
-matches_one_more whole from to (x ∷ xs) y =
-    let others = matches_one_more whole from to xs y in (
-      λ h. ⊎_elim (λ first. inl (inl first)) (λ s. ⊎_elim (λ a. inl (inr a)) (λ b. inr b) (others.0 s)) h,
-      λ h. ⊎_elim (λ a. ⊎_elim (λ first. inl first) (λ s. inr (others.1 (inl s))) a) (λ b. inr (others.1 (inr b))) h,
-    )
+matches_one_more whole from to [] y = grind arith
+matches_one_more whole from to (x ∷ xs) y = let rest = matches_one_more whole from to xs y in grind arith
 
 -- a choice with one more branch has the texts of that branch too
 pub chooses_branch : (texts more : List (List ℕ)) (xs : List Re) (y : Re) → ChoosesAmong texts (alt_all xs) → ChoosesAmong more y
     → ChoosesAmong (texts ++ more) (alt_all (xs ++ y ∷ []))
-chooses_branch texts more xs y had next whole from to =
-    let patterns = matches_one_more whole from to xs y in
-    let lists = stands_in_either whole from to texts more in (
-      λ h. lists.1 (⊎_elim (λ a. inl ((had whole from to).0 a)) (λ b. inr ((next whole from to).0 b)) (patterns.0 h)),
-      λ h. patterns.1 (⊎_elim (λ a. inl ((had whole from to).1 a)) (λ b. inr ((next whole from to).1 b)) (lists.0 h)),
-    )
+chooses_branch texts more xs y had next whole from to = grind (arith, matches_one_more, stands_in_either)
 
 matches_in_turn : (whole : List ℕ) (from to : ℕ) (xs : List Re) (y : Re)
     → AreAlike (Matches whole (cat_all (xs ++ y ∷ [])) from to) ((at : ℕ) × Matches whole (cat_all xs) from at × Matches whole y at to)
-matches_in_turn whole from to [] y = (
-  λ h. (from, refl, subst (λ (end : ℕ). Matches whole y from end) (sym h.2) h.1),
-  λ h. (to, subst (λ (begin : ℕ). Matches whole y begin to) h.1 h.2, refl),
-)
+matches_in_turn whole from to [] y = grind arith
 matches_in_turn whole from to (x ∷ xs) y = (
   λ h. let others = (matches_in_turn whole h.0 to xs y).0 h.2 in (others.0, (h.0, h.1, others.1), others.2),
   λ h. (h.1.0, h.1.1, (matches_in_turn whole h.1.0 to xs y).1 (h.0, h.1.2, h.2)),
@@ -110,10 +88,9 @@ pub stands_with_each : (whole : List ℕ) (from to : ℕ) (first : List ℕ) (se
 stands_with_each whole from to first [] = (λ h. absurd h.2, λ h. absurd h)
 stands_with_each whole from to first (second ∷ seconds) =
     let one = stands_joined whole from to first second in
-    let others = stands_with_each whole from to first seconds in (
-      λ h. ⊎_elim (λ a. inl (one.0 (h.0, h.1, a))) (λ b. inr (others.0 (h.0, h.1, b))) h.2,
-      λ h. ⊎_elim (λ a. let s = one.1 a in (s.0, s.1, inl s.2)) (λ b. let s = others.1 b in (s.0, s.1, inr s.2)) h,
-    )
+    let others = stands_with_each whole from to first seconds in
+    let rest = stands_with_each whole from to first seconds in
+    grind arith
 
 -- one of some texts and then a text stand where one of those with it behind stands
 pub stands_before_each : (whole : List ℕ) (from to : ℕ) (firsts : List (List ℕ)) (second : List ℕ)
@@ -121,37 +98,26 @@ pub stands_before_each : (whole : List ℕ) (from to : ℕ) (firsts : List (List
 stands_before_each whole from to [] second = (λ h. absurd h.1, λ h. absurd h)
 stands_before_each whole from to (first ∷ firsts) second =
     let one = stands_joined whole from to first second in
-    let others = stands_before_each whole from to firsts second in (
-      λ h. ⊎_elim (λ a. inl (one.0 (h.0, a, h.2))) (λ b. inr (others.0 (h.0, b, h.2))) h.1,
-      λ h. ⊎_elim (λ a. let s = one.1 a in (s.0, inl s.1, s.2)) (λ b. let s = others.1 b in (s.0, inr s.1, s.2)) h,
-    )
+    let others = stands_before_each whole from to firsts second in
+    let rest = stands_before_each whole from to firsts second in
+    grind arith
 
 stands_crossed : (whole : List ℕ) (from to : ℕ) (firsts seconds : List (List ℕ))
     → AreAlike ((at : ℕ) × OneStands whole firsts from at × OneStands whole seconds at to) (OneStands whole (crossed firsts seconds) from to)
 stands_crossed whole from to [] seconds = (λ h. absurd h.1, λ h. absurd h)
 stands_crossed whole from to (first ∷ firsts) seconds =
-    let one = stands_with_each whole from to first seconds in
-    let others = stands_crossed whole from to firsts seconds in
-    let lists = stands_in_either whole from to (map (λ second. first ++ second) seconds) (crossed firsts seconds) in (
-      λ h. lists.1 (⊎_elim (λ a. inl (one.0 (h.0, a, h.2))) (λ b. inr (others.0 (h.0, b, h.2))) h.1),
-      λ h. ⊎_elim (λ a. let s = one.1 a in (s.0, inl s.1, s.2)) (λ b. let s = others.1 b in (s.0, inr s.1, s.2)) (lists.0 h),
-    )
+    let rest = stands_crossed whole from to firsts seconds in
+    grind (arith, stands_with_each, stands_in_either)
 
 -- patterns with one more behind them have the joined texts
 pub chooses_next : (texts next : List (List ℕ)) (xs : List Re) (y : Re) → ChoosesAmong texts (cat_all xs) → ChoosesAmong next y
     → ChoosesAmong (crossed texts next) (cat_all (xs ++ y ∷ []))
-chooses_next texts next xs y had behind whole from to =
-    let patterns = matches_in_turn whole from to xs y in
-    let lists = stands_crossed whole from to texts next in (
-      λ h. let m = patterns.0 h in lists.0 (m.0, (had whole from m.0).0 m.1, (behind whole m.0 to).0 m.2),
-      λ h. let s = lists.1 h in patterns.1 (s.0, (had whole from s.0).1 s.1, (behind whole s.0 to).1 s.2),
-    )
+chooses_next texts next xs y had behind whole from to = grind (arith, matches_in_turn, stands_crossed)
 
 -- under other names for the texts and the pattern
 pub chooses_so : {texts same : List (List ℕ)} {pattern like : Re} → texts ≡ same → pattern ≡ like → ChoosesAmong same like
     → ChoosesAmong texts pattern
-chooses_so {texts = texts} {same = same} {pattern = pattern} {like = like} e f h =
-    subst (λ (t : List (List ℕ)). ChoosesAmong t pattern) (sym e) (subst (λ (p : Re). ChoosesAmong same p) (sym f) h)
+chooses_so {texts = texts} {same = same} {pattern = pattern} {like = like} e f h = grind arith
 
 pub one_more : {X Y : Type 0} (f : X → Y) (xs : List X) (at : ℕ) (x : X) → at < length xs → x ≡ get_or xs at x
     → map f (take (at + 1) xs) ≡ map f (take at xs) ++ f x ∷ []
@@ -159,9 +125,7 @@ one_more f xs at x within is = map_more f xs at x within ∙ ap (λ y. map f (ta
 
 pub crossed_more : (firsts : List (List ℕ)) (first : List ℕ) (seconds : List (List ℕ))
     → crossed (firsts ++ first ∷ []) seconds ≡ crossed firsts seconds ++ map (λ second. first ++ second) seconds
-crossed_more firsts first seconds =
-    flat_map-append (λ one. map (λ second. one ++ second) seconds) firsts (first ∷ [])
-    ∙ ap (λ (l : List (List ℕ)). crossed firsts seconds ++ l) (append-nil _)
+crossed_more firsts first seconds = grind (arith, flat_map-append, append-nil)
 
 -- a text that stands from the first byte to the last is the whole
 whole_is : (whole text : List ℕ) → Matches whole (literal text) 0 (length whole) → text ≡ whole
@@ -196,11 +160,7 @@ same_truth false false f g = refl
 -- an anchored pattern is found in the texts that what it anchors chooses among
 pub finds_whole : (texts : List (List ℕ)) (re : Re) → ChoosesAmong texts re → (text : List ℕ) → IsUtf8 text
     → is_some (find_str (cat (look Start) (cat re (look End))) text 0) ≡ is_one_of text texts
-finds_whole texts re chooses text utf8 =
-    let lists = one_is_whole text texts in
-    same_truth (is_some (find_str (cat (look Start) (cat re (look End))) text 0)) (is_one_of text texts)
-    (λ h. lists.0 ((chooses text 0 (length text)).0 (whole_of_is_match re text h)))
-    (λ h. is_match_of_whole re text utf8 ((chooses text 0 (length text)).1 (lists.1 h)))
+finds_whole texts re chooses text utf8 = grind (arith, one_is_whole, same_truth, whole_of_is_match, is_match_of_whole)
 
 pub finds_one : (texts : List (List ℕ)) (inner : List Re) (pattern : Re) → pattern ≡ cat_all (look Start ∷ inner ++ look End ∷ [])
     → ChoosesAmong texts (cat_all inner) → FindsOneOf texts pattern

@@ -1,5 +1,5 @@
 -- What a compiled pattern finds is what the grammar's reading of its source finds.
-use Rattle.std.proofs.Common.{◌≡◌, ◌≢◌, ◌⊎◌, ⊎_elim, ℕ, ◌<◌, true, false, List, Option, None, Some, refl, IsSomeAnd, IfSome, is_some, get_or, inl, inr, sym, ◌∙◌}
+use Rattle.std.proofs.Common.{◌≡◌, ◌≢◌, ◌⊎◌, ⊎_elim, ℕ, ◌<◌, true, false, List, Option, None, Some, refl, IsSomeAnd, IfSome, is_some, get_or, inl, inr, arith}
 use Rattle.std.specs.Prelude.{chars}
 use Rattle.std.specs.Option.{option_map_or}
 use Rattle.regex.specs.Failures.{IsPattern, IsRightKind}
@@ -39,23 +39,18 @@ weaker (Some x) P Q f h = f x h
 finds_so : (source text : List ℕ) (hir : Hir) (names : Names) → Reads default_config source hir names → ((k : ℕ) → get_or text k 0 < 256)
     → is_some (find_str (meaning hir) text 0) ≡ finds source text
 unfolding Reads
-finds_so source text hir names reads bytes =
-    by_reading text (read default_config (chars source)) (meaning hir) bytes
-    (weaker (read default_config (chars source)) _ _ (λ p h. h.1) reads)
+finds_so source text hir names reads bytes = grind (arith, by_reading, weaker)
 
 -- what a compiled pattern finds is what its source's reading finds
 pub finds_as : (r : Regex) (value text : List ℕ) → IsRegexOf value r → ((k : ℕ) → get_or text k 0 < 256)
     → is_some (find_str (regex_pattern r) text 0) ≡ finds (anchored value) text
 unfolding Reads
-finds_as r value text of bytes =
-    by_reading text (read default_config (chars (anchored value))) (regex_pattern r) bytes
-    (weaker (read default_config (chars (anchored value))) _ _ (λ p h. h.1) (rw (of.0, of.1) at of.2))
+finds_as r value text of bytes = grind (arith, by_reading, weaker)
 
 -- the texts that are found by what is read of a source are found by the source's pattern
 pub choice_of_reading : (source : List ℕ) (hir : Hir) (names : Names) (texts : List (List ℕ)) → Reads default_config source hir names
     → FindsOneOf texts (meaning hir) → IsChoiceIn source texts
-choice_of_reading source hir names texts reads found =
-    ((hir, names, reads), λ text utf8 bytes. sym (finds_so source text hir names reads bytes) ∙ found text utf8 bytes)
+choice_of_reading source hir names texts reads found = grind (arith, finds_so)
 
 -- a pattern that is kept has a reading
 pub is_pattern : (pattern : Pattern) (value : List ℕ) → IsPatternOf value pattern → IsPattern default_config (anchored value)

@@ -1,5 +1,5 @@
 -- Plain texts with `|` between them are read as a choice among them.
-use Rattle.std.proofs.Common.{ℕ, zero, suc, inl, inr, ⊎_elim, ◌+◌, ◌-◌, ◌*◌, ◌<◌, ◌≡◌, ◌||◌, max, Bool, true, false, true≢false, not, ◌&&◌, nat_lt, arith, ◌==◌, ne_eqb, ap, ◌∙◌, List, [], ◌∷◌, ◌++◌, map, length, Option, None, Some, is_some, IsSome, subst, ◌≤◌, IsUtf8, encode_utf8, refl, sym, append_assoc, append-nil, length-append, All}
+use Rattle.std.proofs.Common.{ℕ, zero, suc, inl, inr, ⊎_elim, ◌+◌, ◌-◌, ◌*◌, ◌<◌, ◌≡◌, max, Bool, true, false, true≢false, not, ◌&&◌, nat_lt, arith, ◌==◌, ne_eqb, ap, ◌∙◌, List, [], ◌∷◌, ◌++◌, map, length, Option, None, Some, is_some, IsSome, subst, ◌≤◌, IsUtf8, encode_utf8, refl, sym, append_assoc, append-nil, length-append, All, rules}
 use Rattle.std.proofs.lemmas.Bool.{both_ways, cases_lt, and_parts}
 use Rattle.std.specs.Option.{option_map_or}
 use Rattle.regex_hir.specs.Meaning.{cat_all, alt_all}
@@ -16,7 +16,7 @@ use Rattle.regex_syntax.proofs.ReadingLemmas.{skip-false}
 use Rattle.regex_syntax.specs.Brackets.{Nested, flat, join}
 use Rattle.regex_syntax.specs.Escapes.{is_verbose}
 use Rattle.regex_syntax.specs.Grammar.{Names, Place, atom, char_meaning, opening, set_flags, opens, capture, rest_of_group, item, with_repetitions, items, branches, join_parts, read, names_below, group_count}
-use Rattle.regex_syntax.specs.Reading.{Text, is_at, is_empty, first, skip, ◌>>=◌}
+use Rattle.regex_syntax.specs.Reading.{Text, is_at, first, skip, ◌>>=◌}
 use Rattle.regex_syntax.specs.Sets.{verbatim}
 use Rattle.regex_syntax.specs.Verdict.{default_config}
 use Rattle.std.proofs.lemmas.List.{map-append}
@@ -57,19 +57,7 @@ verbatim_itself c = refl
 
 atom_itself : (c : ℕ) (rest : Text) → is_special c ≡ false → atom default_config (c ∷ rest) ≡ Some (itself c, rest)
 unfolding atom first char_meaning
-atom_itself c rest plain =
-    rw (
-      differs c 63 plain refl,
-      differs c 42 plain refl,
-      differs c 43 plain refl,
-      differs c 123 plain refl,
-      differs c 91 plain refl,
-      differs c 92 plain refl,
-      differs c 46 plain refl,
-      differs c 94 plain refl,
-      differs c 36 plain refl,
-      verbatim_itself,
-    )
+atom_itself c rest plain = grind (arith, differs, verbatim_itself)
 
 not_true : (b : Bool) → not b ≡ true → b ≡ false
 not_true true h = absurd (true≢false (sym h))
@@ -85,9 +73,7 @@ begins_no_group c rest plain = (differs c 40 plain refl, rw (differs c 124 plain
 no_operator : (cs rest : Text) → is_plain cs ≡ true → is_at "?*+{" rest ≡ false → is_at "?*+{" (cs ++ rest) ≡ false
 unfolding first
 no_operator [] rest plain h = h
-no_operator (c ∷ cs) rest plain h =
-    let own = not_special c (and_parts _ _ plain).0 in
-    rw (differs c 63 own refl, differs c 42 own refl, differs c 43 own refl, differs c 123 own refl)
+no_operator (c ∷ cs) rest plain h = grind arith
 
 -- an atom that no operator of repetition follows is an item
 item_of_atom : (names : Names) (inner : Place → Read (Nested Re)) (t rest : Text) (part : Nested Re) → is_at "(" t ≡ false
@@ -113,17 +99,10 @@ branch_passes names n m earlier t rest part e begins read_atom h =
 -- a plain text is read as its characters
 items_plain : (names : Names) (cs rest : Text) (n m : ℕ) (earlier : List (Nested Re)) → n ≡ length cs + m → is_plain cs ≡ true → is_at "?*+{" rest ≡ false
     → join_after cat_all earlier (items n (at names (cs ++ rest))) ≡ join_after cat_all (earlier ++ map itself cs) (items m (at names rest))
-items_plain names [] rest n m earlier e plain h =
-    let same : n ≡ m = omega (arith, e) in
-    ap (λ k. join_after cat_all earlier (items k (at names rest))) same
-    ∙ ap (λ l. join_after cat_all l (items m (at names rest))) (sym (append-nil earlier))
+items_plain names [] rest n m earlier e plain h = grind (arith, join_after, append-nil)
 items_plain names (c ∷ cs) rest n m earlier e plain h =
-    let parts = and_parts _ _ plain in
-    let own = not_special c parts.0 in
-    branch_passes names n (n - 1) earlier (c ∷ (cs ++ rest)) (cs ++ rest) (itself c) (omega (arith, e)) (begins_no_group c (cs ++ rest) own)
-    (atom_itself c (cs ++ rest) own) (no_operator cs rest parts.1 h)
-    ∙ (items_plain names cs rest (n - 1) m (earlier ++ itself c ∷ []) (omega (arith, e)) parts.1 h
-    ∙ ap (λ l. join_after cat_all l (items m (at names rest))) (append_assoc earlier (itself c ∷ []) (map itself cs)))
+    let other = items_plain names cs rest (n - 1) m (earlier ++ itself c ∷ []) in
+    grind (arith, and_parts, not_special, branch_passes, itself, begins_no_group, atom_itself, no_operator, join_after, append_assoc)
 
 abbrev branch_of : Text → Nested Re
 branch_of cs = join cat_all (map itself cs)
@@ -138,11 +117,7 @@ not_ended : (c : ℕ) (t : Text) → is_at "|)" (c ∷ t) ≡ false → ends_bra
 not_ended c t h = rw h (grind arith)
 
 ends_at : (t : Text) → is_at "|)" t ≡ true → ends_branch t ≡ true
-ends_at t h = rw h (right_true (is_empty t))
-  where
-    right_true : (b : Bool) → (b || true) ≡ true
-    right_true true = refl
-    right_true false = refl
+ends_at t h = grind arith
 
 -- texts with bars between them are read as branches
 branches_read : (names : Names) (cs : Text) (others : List Text) (rest : Text) (n : ℕ) (earlier : List (Nested Re)) → length (with_bars cs others) + 1 < n
@@ -316,11 +291,7 @@ ascii_bars cs (other ∷ others) plain =
     (IsAscii-cons 0x7C (with_bars other others) (omega arith) (ascii_bars other others (λ k d short. plain (suc k) d (omega arith))))
 
 ascii_between : (body : Text) → IsAscii body → IsAscii (between body)
-ascii_between body of_body =
-    let tail : IsAscii closing = IsAscii-cons 0x29 (0x24 ∷ []) (omega arith) (IsAscii-cons 0x24 [] (omega arith) (λ i. omega arith)) in
-    let inside = body ++ closing in
-    IsAscii-cons 0x5E (0x28 ∷ 0x3F ∷ 0x3A ∷ inside) (omega arith) (IsAscii-cons 0x28 (0x3F ∷ 0x3A ∷ inside) (omega arith)
-    (IsAscii-cons 0x3F (0x3A ∷ inside) (omega arith) (IsAscii-cons 0x3A inside (omega arith) (ascii_append body closing of_body tail))))
+ascii_between body of_body = grind (arith, IsAscii-cons, ascii_append)
 
 -- ---- what is found
 
@@ -331,21 +302,18 @@ chooses_text (c ∷ cs) plain whole from to =
     let parts = and_parts _ _ plain in
     let letter : literal (encode_utf8 c) ≡ literal (c ∷ []) = ap literal (encode_ascii c (low c (and_parts _ _ parts.0).0)) in
     let others = λ (i : ℕ). chooses_text cs parts.1 whole i to in
-    let joined = stands_joined whole from to (c ∷ []) cs in (
-      λ h. inl (joined.0 (h.0, subst (λ (re : Re). Matches whole re from h.0) letter h.1, ⊎_elim (λ a. a) (λ no. absurd no) ((others h.0).0 h.2))),
-      λ h. let two = joined.1 (⊎_elim (λ a. a) (λ no. absurd no) h) in
-          (two.0, subst (λ (re : Re). Matches whole re from two.0) (sym letter) two.1, (others two.0).1 (inl two.2)),
-    )
+    let joined = stands_joined whole from to (c ∷ []) cs in
+    let rest = chooses_text cs in
+    grind arith
 
 -- the branches match where one of the texts stands
 chooses_texts : (texts : List Text) → All (λ one. is_plain one ≡ true) texts → ChoosesAmong texts (join alt_all (map branch_of texts)).value
 chooses_texts [] plain whole from to = chooses_none whole from to
 chooses_texts (text ∷ texts) plain whole from to =
     let one = chooses_text text (plain 0 [] (omega arith)) whole from to in
-    let others = chooses_texts texts (λ k d short. plain (suc k) d (omega arith)) whole from to in (
-      λ h. ⊎_elim (λ a. ⊎_elim (λ b. inl b) (λ no. absurd no) (one.0 a)) (λ b. inr (others.0 b)) h,
-      λ h. ⊎_elim (λ a. inl (one.1 (inl a))) (λ b. inr (others.1 b)) h,
-    )
+    let others = chooses_texts texts (λ k d short. plain (suc k) d (omega arith)) whole from to in
+    let rest = chooses_texts texts in
+    grind arith
 
 whole_pattern : Re → Re
 whole_pattern re = alt (cat (look Start) (cat re (cat (look End) empty))) (byte_in [])
@@ -422,10 +390,7 @@ plain_texts_are_chosen text others plain =
 
 ascii_round : (front back cs : Text) (others : List Text) → is_plain front ≡ true → is_plain back ≡ true → All (λ one. is_plain one ≡ true) (cs ∷ others)
     → IsAscii (with_group front back cs others)
-ascii_round front back cs others before behind plain =
-    ascii_append front (0x28 ∷ (with_bars cs others ++ 0x29 ∷ back)) (ascii_plain front before)
-    (IsAscii-cons 0x28 (with_bars cs others ++ 0x29 ∷ back) (omega arith)
-    (ascii_append (with_bars cs others) (0x29 ∷ back) (ascii_bars cs others plain) (IsAscii-cons 0x29 back (omega arith) (ascii_plain back behind))))
+ascii_round front back cs others before behind plain = search (rules, ascii_append, ascii_plain, IsAscii-cons, ascii_bars)
 
 ascii_texts : (front back : Text) (texts : List Text) → is_plain front ≡ true → is_plain back ≡ true → All (λ one. is_plain one ≡ true) texts
     → All IsAscii (between_texts front back texts)

@@ -1,12 +1,12 @@
 -- The parts that lengths of fronts and ends cut from a text.
-use Rattle.std.proofs.Common.{◌≡◌, ℕ, ◌-◌, true, List, ◌++◌, length, take, drop, sym, ap, ◌∙◌}
+use Rattle.std.proofs.Common.{◌≡◌, ℕ, ◌-◌, true, List, ◌++◌, length, take, drop, sym, ap, ◌∙◌, arith}
 use Rattle.std.specs.List.{prefix_len, suffix_len}
 use Rattle.std.specs.Char.{is_ascii_whitespace}
 use Rattle.std.proofs.lemmas.List.{take-append-drop}
-use Rattle.am_labels.specs.Printing.{is_name_start, is_name_byte, is_classic_name}
+use Rattle.am_labels.specs.Printing.{is_name_start, is_name_byte}
 use Rattle.am_labels.specs.MatcherTexts.{begins, IsSpaceThen, IsNameThen, IsTrimmedTo}
 use Rattle.am_labels.proofs.MatcherTexts.Names.{classic_front}
-use Rattle.am_labels.proofs.MatcherTexts.Spaces.{front_passes, front_ends, begins_front, cut_end}
+use Rattle.am_labels.proofs.MatcherTexts.Spaces.{front_passes, front_ends, cut_end}
 
 pub space_then : (text rest : List ℕ) → rest ≡ drop (prefix_len is_ascii_whitespace text) text → IsSpaceThen text rest
 space_then text rest e =
@@ -18,22 +18,10 @@ space_then text rest e =
     )
 
 pub name_then : (text name rest : List ℕ) → begins is_name_start text ≡ true → name ≡ take (prefix_len is_name_byte text) text → rest ≡ drop (prefix_len is_name_byte text) text → IsNameThen text name rest
-name_then text name rest named e f =
-    let n = prefix_len is_name_byte text in (
-      sym (take-append-drop n text) ∙ (ap (λ (end : List ℕ). take n text ++ end) (sym f) ∙ ap (λ (front : List ℕ). front ++ rest) (sym e)),
-      ap is_classic_name e ∙ classic_front text named,
-      ap (begins is_name_byte) f ∙ front_ends is_name_byte text,
-    )
+name_then text name rest named e f = grind (arith, take-append-drop, classic_front, front_ends)
 
 pub trimmed_to : (text rest raw : List ℕ) → rest ≡ drop (prefix_len is_ascii_whitespace text) text → raw ≡ take (length rest - suffix_len is_ascii_whitespace rest) rest → IsTrimmedTo text raw
 trimmed_to text rest raw e f =
     let start = space_then text rest e in
-    let cut = cut_end is_ascii_whitespace rest raw f in (
-      start.0,
-      cut.0,
-      start.1,
-      cut.1,
-      start.2 ∙ ap (λ (end : List ℕ). start.0 ++ end) cut.2,
-      begins_front is_ascii_whitespace raw cut.0 (ap (begins is_ascii_whitespace) (sym cut.2) ∙ start.3),
-      cut.3,
-    )
+    let cut = cut_end is_ascii_whitespace rest raw f in
+    grind arith

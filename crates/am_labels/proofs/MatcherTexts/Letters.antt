@@ -2,13 +2,12 @@
 use Rattle.std.proofs.Common.{◌≡◌, ◌≢◌, ℕ, suc, ◌<◌, Bool, true, false, cond, List, [], ◌∷◌, ◌++◌, length, get_or, map, encode_utf8, refl, sym, ap, ◌∙◌, arith, append-nil, append_assoc, ◌==◌, ◌&&◌}
 use Rattle.std.specs.List.{list_any, flat_map}
 use Rattle.std.proofs.lemmas.Bool.{ne_eqb, false≢true}
-use Rattle.std.proofs.lemmas.Bool.Decides.{nat_tests, Decides-eqb}
+use Rattle.std.proofs.lemmas.Bool.Decides.{nat_tests}
 use Rattle.std.proofs.lemmas.List.{map-append}
 use Rattle.std.proofs.lemmas.List.Folds.{list_any-append}
 use Rattle.std.proofs.lemmas.Str.{inside_one, encode_ascii, length-encode, len_utf8_bounds}
 use Rattle.am_labels.specs.MatcherLaws.{LettersSpellTheText}
-use Rattle.am_labels.proofs.MatcherTexts.Spaces.{both}
-use Rattle.am_labels.specs.MatcherTexts.{spelled, Letter, plain, escape, letters, meant, is_escapable, is_bare_quote, after_backslash, IsMeantUntil, IsMeantWhole}
+use Rattle.am_labels.specs.MatcherTexts.{spelled, Letter, plain, escape, letters, meant, is_escapable, is_bare_quote, after_backslash, IsMeantUntil}
 
 -- a byte that is no backslash means itself
 pub letters-plain : (byte : ℕ) (rest : List ℕ) → byte ≢ 92 → letters (byte ∷ rest) ≡ plain byte ∷ letters rest
@@ -61,9 +60,7 @@ specials c cannot = (grind (arith, nat_tests), grind (arith, nat_tests), grind (
 
 -- a character after a backslash
 after_step : (b : Bool) (c : ℕ) (rest : List ℕ) → is_escapable c ≡ b → letters (92 ∷ (encode_utf8 c ++ rest)) ≡ cond b (escape c ∷ []) (plain 92 ∷ map plain (encode_utf8 c)) ++ letters rest
-after_step true c rest can =
-    let one : encode_utf8 c ≡ c ∷ [] = encode_ascii c (grind (arith, nat_tests)) in
-    ap (λ (bytes : List ℕ). letters (92 ∷ (bytes ++ rest))) one ∙ letters-escape c rest can
+after_step true c rest can = grind (arith, encode_ascii, nat_tests, letters-escape)
 after_step false c rest cannot =
     let other = specials c cannot in
     let some : 0 < length (encode_utf8 c) = omega (arith, length-encode c, len_utf8_bounds c) in
@@ -116,29 +113,14 @@ read_char text rest left value written false c e no_backslash no_quote step more
 -- a bare quote
 pub read_quote : (text rest left value : List ℕ) (b : Bool) → b ≡ false → rest ≡ 34 ∷ left → IsReadTo text (cond b (92 ∷ rest) rest) value → IsMeantUntil text left value
 read_quote text rest left value true e step so_far = absurd (false≢true (sym e))
-read_quote text rest left value false e step so_far = (
-  so_far.front,
-  so_far.split ∙ ap (λ (end : List Letter). so_far.front ++ end) (ap letters step ∙ letters-plain 34 left (λ e. absurd (omega (arith, e)))),
-  so_far.no_bare,
-  so_far.is_meant,
-)
-
--- nothing is left
-pub read_end : (text rest value : List ℕ) → letters rest ≡ [] → IsReadTo text rest value → IsMeantWhole text value
-read_end text rest value none so_far =
-    let whole : letters text ≡ so_far.front = so_far.split ∙ (ap (λ (end : List Letter). so_far.front ++ end) none ∙ append-nil so_far.front) in
-    (ap (list_any is_bare_quote) whole ∙ so_far.no_bare, so_far.is_meant ∙ ap (map meant) (sym whole))
+read_quote text rest left value false e step so_far = grind arith
 
 pub meant-after : (c : ℕ) → c ≢ 110 → c ≢ 34 → c ≢ 92 → map meant (after_backslash c) ≡ 92 ∷ encode_utf8 c
-meant-after c no_n no_quote no_backslash =
-    ap (λ b. map meant (cond b (escape c ∷ []) (plain 92 ∷ map plain (encode_utf8 c)))) (escapable_special c no_n no_quote no_backslash)
-    ∙ ap (λ (bytes : List ℕ). 92 ∷ bytes) (meant-plains (encode_utf8 c))
+meant-after c no_n no_quote no_backslash = grind (arith, escapable_special, meant-plains)
 
 spell_step : (b : Bool) (byte next : ℕ) (rest : List ℕ) → (byte == 92 && is_escapable next) ≡ b → flat_map spelled (letters rest) ≡ rest → flat_map spelled (letters (next ∷ rest)) ≡ next ∷ rest
     → flat_map spelled (cond b (escape next ∷ letters rest) (plain byte ∷ letters (next ∷ rest))) ≡ byte ∷ next ∷ rest
-spell_step true byte next rest e past here =
-    ap (λ (end : List ℕ). 92 ∷ next ∷ end) past
-    ∙ ap (λ (first : ℕ). first ∷ next ∷ rest) (sym ((Decides-eqb byte 92).0 (both (byte == 92) (is_escapable next) e).0))
+spell_step true byte next rest e past here = grind arith
 spell_step false byte next rest e past here = ap (λ (end : List ℕ). byte ∷ end) here
 
 pub letters_spell : LettersSpellTheText

@@ -7,7 +7,7 @@ use Rattle.std.proofs.lemmas.Bool.Decides.{nat_tests, Decides-eqb}
 use Rattle.std.proofs.lemmas.List.{reverse-append}
 use Rattle.am_labels.specs.declared.operator.Operator.{Operator}
 use Rattle.am_labels.specs.declared.operator.Operator.TheVariants as operator
-use Rattle.am_labels.specs.Printing.{escaped, escaped_all, quoted, is_name_start, is_name_byte, is_classic_name}
+use Rattle.am_labels.specs.Printing.{escaped_all, quoted, is_name_start, is_name_byte, is_classic_name}
 use Rattle.am_labels.specs.MatcherTexts.{Letter, plain, escape, letters, meant, is_bare_quote, begins, operator_text, IsNamed, IsSplit, IsQuoted}
 use Rattle.am_labels.specs.MatcherLaws.{ReadsQuoted}
 use Rattle.am_labels.proofs.MatcherTexts.Letters.{letters-plain, letters-escape}
@@ -27,13 +27,6 @@ written_step false true n byte rest eq eb en = letters-escape 92 rest refl
 written_step false false true byte rest eq eb en = letters-escape 110 rest refl
 written_step false false false byte rest eq eb en = letters-plain byte rest (differs_from byte 92 eb)
 
-meant_step : (q b n : Bool) (byte : ℕ) → (byte == 34) ≡ q → (byte == 92) ≡ b → (byte == 10) ≡ n
-    → meant (cond q (escape 34) (cond b (escape 92) (cond n (escape 110) (plain byte)))) ≡ byte
-meant_step true b n byte eq eb en = sym ((Decides-eqb byte 34).0 eq)
-meant_step false true n byte eq eb en = sym ((Decides-eqb byte 92).0 eb)
-meant_step false false true byte eq eb en = sym ((Decides-eqb byte 10).0 en)
-meant_step false false false byte eq eb en = refl
-
 bare_step : (q b n : Bool) (byte : ℕ) → (byte == 34) ≡ q
     → is_bare_quote (cond q (escape 34) (cond b (escape 92) (cond n (escape 110) (plain byte)))) ≡ false
 bare_step true b n byte eq = refl
@@ -43,16 +36,11 @@ bare_step false false false byte eq = eq
 
 written : (value rest : List ℕ) → letters (escaped_all value ++ rest) ≡ map letter_for value ++ letters rest
 written [] rest = refl
-written (byte ∷ value) rest =
-    ap letters (append_assoc (escaped byte) (escaped_all value) rest)
-    ∙ (written_step (byte == 34) (byte == 92) (byte == 10) byte (escaped_all value ++ rest) refl refl refl
-    ∙ ap (λ (end : List Letter). letter_for byte ∷ end) (written value rest))
+written (byte ∷ value) rest = let other = written value rest in grind (arith, append_assoc, written_step)
 
 meant_back : (value : List ℕ) → map meant (map letter_for value) ≡ value
 meant_back [] = refl
-meant_back (byte ∷ value) =
-    ap (λ (first : ℕ). first ∷ map meant (map letter_for value)) (meant_step (byte == 34) (byte == 92) (byte == 10) byte refl refl refl)
-    ∙ ap (λ (end : List ℕ). byte ∷ end) (meant_back value)
+meant_back (byte ∷ value) = let rest = meant_back value in grind arith
 
 none_bare : (value : List ℕ) → list_any is_bare_quote (map letter_for value) ≡ false
 none_bare [] = refl
@@ -87,11 +75,9 @@ quoted_end value = ap (begins is_ascii_whitespace) (reverse-append (34 ∷ escap
 
 split_back : (name value : List ℕ) (op : Operator) → is_classic_name name ≡ true → IsSplit (name ++ (operator_text op ++ quoted value)) name op (quoted value)
 split_back name value op h =
-    let rest = operator_text op ++ quoted value in
-    let text = name ++ rest in
-    let named : IsNamed text name rest =
-    (text, rest, ([], refl, refl, no_space_name name rest h), (refl, h, no_name_byte op (quoted value)), ([], refl, refl, no_space op (quoted value))) in
-    (rest, quoted value, named, (refl, λ e. refl), ([], [], refl, refl, sym (append-nil (quoted value)), refl, quoted_end value))
+    let named : IsNamed (name ++ (operator_text op ++ quoted value)) name (operator_text op ++ quoted value) =
+    ((name ++ (operator_text op ++ quoted value)), (operator_text op ++ quoted value), ([], refl, refl, no_space_name name (operator_text op ++ quoted value) h), (refl, h, no_name_byte op (quoted value)), ([], refl, refl, no_space op (quoted value))) in
+    grind (arith, append-nil, quoted_end)
 
 pub reads_quoted : ReadsQuoted
 reads_quoted name value op h = (quoted value, split_back name value op h, inl (quoted_back value))

@@ -1,5 +1,5 @@
 -- Stretches of bytes that pass a test, at either end of a list.
-use Rattle.std.proofs.Common.{◌≡◌, ℕ, ◌+◌, ◌-◌, ◌&&◌, Bool, true, false, cond, List, [], ◌∷◌, ◌++◌, length, take, drop, reverse, refl, sym, ap, ◌∙◌}
+use Rattle.std.proofs.Common.{◌≡◌, ℕ, ◌+◌, ◌-◌, ◌&&◌, Bool, true, false, cond, List, [], ◌∷◌, ◌++◌, length, take, drop, reverse, refl, sym, ap, ◌∙◌, arith}
 use Rattle.std.proofs.lemmas.Bool.{false≢true}
 use Rattle.std.specs.List.{list_all, prefix_len, suffix_len}
 use Rattle.std.proofs.Math.Numerals.{one-add}
@@ -38,23 +38,12 @@ module _ (p : ℕ → Bool) where
       ap (list_all p) (reverse-append (x ∷ []) xs)
       ∙ (list_all-append p (reverse xs) (x ∷ []) ∙ rw (all_reversed xs parts.1, parts.0) refl)
 
-  pub begins_front : (xs ys : List ℕ) → begins p (xs ++ ys) ≡ false → begins p xs ≡ false
-  begins_front [] ys h = refl
-  begins_front (x ∷ xs) ys h = h
-
   -- a list without the longest end that passes
   pub cut_end : (xs raw : List ℕ) → raw ≡ take (length xs - suffix_len p xs) xs → (end : List ℕ) × (list_all p end ≡ true) × (xs ≡ raw ++ end) × (begins p (reverse raw) ≡ false)
   cut_end xs raw e =
-      let n = prefix_len p (reverse xs) in
-      let front = reverse (drop n (reverse xs)) in
-      let end = reverse (take n (reverse xs)) in
-      let whole : xs ≡ front ++ end =
+      let whole : xs ≡ (reverse (drop (prefix_len p (reverse xs)) (reverse xs))) ++ (reverse (take (prefix_len p (reverse xs)) (reverse xs))) =
       sym (reverse-reverse xs)
-      ∙ (ap reverse (sym (take-append-drop n (reverse xs))) ∙ reverse-append (take n (reverse xs)) (drop n (reverse xs))) in
-      let short : length front ≡ length xs - n = length-reverse (drop n (reverse xs)) ∙ (length-drop n (reverse xs) ∙ ap (λ k. k - n) (length-reverse xs)) in
-      let same : front ≡ raw = sym (take-append_seam front end) ∙ (ap (λ k. take k (front ++ end)) short ∙ (ap (take (length xs - n)) (sym whole) ∙ sym e)) in (
-        end,
-        all_reversed (take n (reverse xs)) (front_passes (reverse xs)),
-        whole ∙ ap (λ (part : List ℕ). part ++ end) same,
-        ap (λ (part : List ℕ). begins p (reverse part)) (sym same) ∙ rw reverse-reverse (front_ends (reverse xs)),
-      )
+      ∙ (ap reverse (sym (take-append-drop (prefix_len p (reverse xs)) (reverse xs))) ∙ reverse-append (take (prefix_len p (reverse xs)) (reverse xs)) (drop (prefix_len p (reverse xs)) (reverse xs))) in
+      let short : length (reverse (drop (prefix_len p (reverse xs)) (reverse xs))) ≡ length xs - (prefix_len p (reverse xs)) = length-reverse (drop (prefix_len p (reverse xs)) (reverse xs)) ∙ (length-drop (prefix_len p (reverse xs)) (reverse xs) ∙ ap (λ k. k - (prefix_len p (reverse xs))) (length-reverse xs)) in
+      let same : (reverse (drop (prefix_len p (reverse xs)) (reverse xs))) ≡ raw = sym (take-append_seam (reverse (drop (prefix_len p (reverse xs)) (reverse xs))) (reverse (take (prefix_len p (reverse xs)) (reverse xs)))) ∙ (ap (λ k. take k ((reverse (drop (prefix_len p (reverse xs)) (reverse xs))) ++ (reverse (take (prefix_len p (reverse xs)) (reverse xs))))) short ∙ (ap (take (length xs - (prefix_len p (reverse xs)))) (sym whole) ∙ sym e)) in
+      grind (arith, all_reversed, front_passes, reverse-reverse, front_ends)

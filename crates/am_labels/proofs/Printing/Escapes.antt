@@ -1,7 +1,6 @@
 -- A character escaped is its bytes escaped, since the bytes of a character past ASCII are past it too.
-use Rattle.std.proofs.Common.{◌≡◌, ◌≢◌, ℕ, zero, suc, ◌+◌, ◌<◌, ◌≤◌, List, [], ◌∷◌, ◌++◌, cond, length, get_or, encode_utf8, refl, sym, subst, ap, ◌∙◌, arith, append-nil, append_assoc, Bool, true, false, Option, Some, None, ◌==◌, not}
+use Rattle.std.proofs.Common.{◌≡◌, ◌≢◌, ℕ, suc, ◌<◌, List, [], ◌∷◌, ◌++◌, length, get_or, encode_utf8, refl, sym, ap, ◌∙◌, arith, append-nil, append_assoc, Bool, true, false, Option, Some, None, not, rules}
 use Rattle.std.specs.Prelude.{IsTrue, is_some}
-use Rattle.std.proofs.lemmas.Bool.{ne_eqb}
 use Rattle.std.proofs.lemmas.Bool.Decides.{nat_tests}
 use Rattle.std.proofs.lemmas.Grind.{flat_map-append}
 use Rattle.std.proofs.lemmas.Str.{inside_one}
@@ -14,10 +13,7 @@ pub record IsOrdinary (byte : ℕ) : Type 0 where
   pub no_line_feed : byte ≢ 10
 
 escaped_ordinary : (byte : ℕ) → IsOrdinary byte → escaped byte ≡ byte ∷ []
-escaped_ordinary byte is =
-    ap (λ b. cond b (92 ∷ 34 ∷ []) (cond (Rattle.std.proofs.Common.eqb byte 92) (92 ∷ 92 ∷ []) (cond (Rattle.std.proofs.Common.eqb byte 10) (92 ∷ 110 ∷ []) (byte ∷ [])))) (ne_eqb byte 34 is.no_quote)
-    ∙ (ap (λ b. cond b (92 ∷ 92 ∷ []) (cond (Rattle.std.proofs.Common.eqb byte 10) (92 ∷ 110 ∷ []) (byte ∷ []))) (ne_eqb byte 92 is.no_backslash)
-    ∙ ap (λ b. cond b (92 ∷ 110 ∷ []) (byte ∷ [])) (ne_eqb byte 10 is.no_line_feed))
+escaped_ordinary byte is = grind arith
 
 escaped_all_ordinary : (bytes : List ℕ) → ((k : ℕ) → k < length bytes → IsOrdinary (get_or bytes k 0)) → escaped_all bytes ≡ bytes
 escaped_all_ordinary [] is = refl
@@ -31,25 +27,14 @@ differs c k special ascii other short is =
     other (inside_one c [] (encode_utf8 c) k (sym (append-nil (encode_utf8 c))) short (omega arith) ∙ is)
 
 pub escaped_char : (c : ℕ) → IsOrdinary c → encode_utf8 c ≡ escaped_all (encode_utf8 c)
-escaped_char c is =
-    sym (escaped_all_ordinary (encode_utf8 c) (λ k short. record {
-      no_quote = differs c k 34 (omega arith) is.no_quote short;
-      no_backslash = differs c k 92 (omega arith) is.no_backslash short;
-      no_line_feed = differs c k 10 (omega arith) is.no_line_feed short;
-    }))
+escaped_char c is = search (rules, escaped_all_ordinary, differs)
 
 -- a loop's step: what was written, then this character, and what is left
 pub escaped_more : (written rest left all : List ℕ) (c : ℕ) → rest ≡ encode_utf8 c ++ left → written ++ escaped_all rest ≡ all → (written ++ escaped_all (encode_utf8 c)) ++ escaped_all left ≡ all
-escaped_more written rest left all c step so_far =
-    append_assoc written (escaped_all (encode_utf8 c)) (escaped_all left)
-    ∙ (ap (λ (bytes : List ℕ). written ++ bytes) (sym (flat_map-append escaped (encode_utf8 c) left) ∙ ap escaped_all (sym step)) ∙ so_far)
+escaped_more written rest left all c step so_far = grind (arith, append_assoc, flat_map-append)
 
 -- a text with no quote, backslash or line feed is printed as it is
 pub plain_text : (text : List ℕ) (found : Option ℕ) (none : Bool) → IsFirstByte (is_byte3 34 92 10) text found → is_some found ≡ not none → IsTrue none → escaped_all text ≡ text
-plain_text text None none first told taken = escaped_all_ordinary text (λ k short. record {
-  no_quote = λ e. first k (omega arith) short (grind (arith, nat_tests, e));
-  no_backslash = λ e. first k (omega arith) short (grind (arith, nat_tests, e));
-  no_line_feed = λ e. first k (omega arith) short (grind (arith, nat_tests, e));
-})
+plain_text text None none first told taken = grind (arith, escaped_all_ordinary, nat_tests)
 plain_text text (Some k) true first told taken = let z : ◌≡◌ {A = ℕ} 0 1 = cc in absurd (omega (arith, z))
 plain_text text (Some k) false first told taken = let z : ◌≡◌ {A = ℕ} 0 1 = cc in absurd (omega (arith, z))

@@ -1,9 +1,9 @@
 -- Groups as a list that alerts are put into, one after another. Only code of this crate cites it.
-use Rattle.std.specs.Prelude.{ℕ, Bool, not, ◌&&◌, if◌then◌else◌, nat_eq, List, [], ◌∷◌, filter, Option}
+use Rattle.std.specs.Prelude.{ℕ, Bool, ◌&&◌, if◌then◌else◌, nat_eq, List, [], ◌∷◌, Option}
 use Rattle.std.specs.Option.{option_map}
 use Rattle.std.specs.List.{filter_map}
 use Rattle.am_alert.specs.declared.alert.Alert.{Alert}
-use Rattle.am_alert.specs.Merging.{is_resolved_at, unresolved}
+use Rattle.am_alert.specs.Merging.{unresolved}
 use Rattle.am_labels.specs.LabelSets.{Labels, same_labels}
 use Rattle.am_routes.specs.RouteAnswers.{Node}
 use Rattle.am_config.specs.GroupLabels.{group_labels}

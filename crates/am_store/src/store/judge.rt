@@ -51,7 +51,8 @@ pub fn judge_each<F: FnMut(&Alert, bool) -> bool>(
     judged
 }
 
-// The same, which stores those that were accepted, and notes how to take them back.
+// The same, which stores those that were accepted, and notes how to take them back. Each report before one was
+// accepted or refused, which gives its index.
 fn judge_over<F: FnMut(&Alert, bool) -> bool>(
     alerts: &mut AlertMap,
     changes: &mut Vec<Change>,
@@ -71,12 +72,10 @@ fn judge_over<F: FnMut(&Alert, bool) -> bool>(
     ensures callable { F.IsAlwaysCallable accepts.new }
     ensures back { all_taken_back changes.new.items alerts.new.entries ≡ alerts.old.entries }
 {
-    let alloc = *alerts.allocator();
     let Alerts { alerts: reports } = news;
-    let mut accepted = Vec::with_capacity(alloc, reports.len())?;
-    let mut refused = Vec::with_capacity(alloc, reports.len())?;
+    let mut accepted = Vec::with_capacity(*alerts.allocator(), reports.len())?;
+    let mut refused = Vec::with_capacity(*alerts.allocator(), reports.len())?;
     for new in reports {
-        // Each report before this one was accepted or refused.
         let index = (accepted.len() + refused.len()) as u32;
         let first = is_first(alerts, &new.labels);
         let (became, change) = absorb_one(alerts, &new, now)?;

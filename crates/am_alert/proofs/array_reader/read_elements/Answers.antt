@@ -1,4 +1,5 @@
 use Rattle.std.proofs.Common.{◌≡◌, ◌∙◌, ◌+◌, ◌<◌, ◌≤◌, ◌++◌, ◌∷◌, [], List, Option, Some, None, ap, length, length-append, refl, subst, sym, arith, rules}
+use Rattle.std.proofs.lemmas.Grind.{common_steps}
 use Rattle.json.specs.Json.{after_end_array, items, value}
 use Rattle.json.specs.Token.{Token}
 use Rattle.serde_json.specs.Data.{Items, item, no_items}
@@ -48,10 +49,7 @@ elements-preserved c =
     )
 
 pub new-requires : goal.new-requires
-new-requires c =
-    let l = c.elements in
-    let read = all_elements l.invariant.0 l.elements.items (c.take.new.self.left + 1) l.room.left l.invariant.2 in
-    (l.invariant.3, (l.invariant.0 no_items, read.0))
+new-requires c = grind (arith, common_steps, all_elements)
 
 pub returns-clause-read : goal.returns-clause-read
 returns-clause-read c =

@@ -1,23 +1,16 @@
-use Rattle.std.proofs.Common.{◌≡◌, ◌+◌, ◌<◌, ◌≤◌, Some, None, length, arith, refl, rules}
+use Rattle.std.proofs.Common.{◌≡◌, ◌+◌, ◌<◌, ◌≤◌, Some, None, length, arith, rules}
+use Rattle.std.proofs.lemmas.Grind.{common_steps}
 use Rattle.json.specs.Json.{members, read_key, value}
 use Rattle.json.specs.Print.{quoted}
 use Rattle.json.proofs.Grammar.{read_key-shorter}
-use Rattle.serde_json.specs.Data.{no_members, put}
+use Rattle.serde_json.specs.Data.{put}
 use Rattle.am_alert.specs.inside.Streams.{TakesMember}
 use Rattle.am_alert.proofs.Rooms.{none_fit, one_more_fits, wider}
 use Rattle.am_alert.proofs.Tokens.{all_members, no_member_yet, one_more_member}
 use Rattle.am_alert.proofs.draft_reader.read_members.Goals as goal
 
 pub members-init : goal.members-init
-members-init c =
-    let p = value c.args.depth in
-    let less = c.take.new.self.left in (
-      no_members,
-      no_member_yet p (members p (length c.args.reader.now) c.args.reader.now) c.args.reader.now refl,
-      c.new-draft.ensures,
-      none_fit (less + 1) less (omega arith),
-      omega arith,
-    )
+members-init c = grind (arith, common_steps, no_member_yet, none_fit)
 
 pub returns-in_default-key-clause-read : goal.returns-in_default-key-clause-read
 returns-in_default-key-clause-read c =

@@ -1,26 +1,17 @@
-use Rattle.std.proofs.Common.{◌≡◌, ◌++◌, ◌∷◌, ◌∙◌, ◌+◌, ◌<◌, ◌≤◌, ap, ℕ, List, [], Some, None, length, refl, subst, sym, arith, rules}
+use Rattle.std.proofs.Common.{◌≡◌, ◌++◌, ◌∷◌, ◌∙◌, ◌+◌, ◌<◌, ◌≤◌, ap, [], Some, None, length, sym, arith, rules}
+use Rattle.std.proofs.lemmas.Grind.{common_steps}
 use Rattle.json.specs.Json.{members, read_key, value}
 use Rattle.json.specs.Print.{quoted}
 use Rattle.json.proofs.Grammar.{read_key-shorter}
-use Rattle.serde_json.specs.Data.{Members, string}
-use Rattle.am_alert.specs.inside.Rooms.{MembersHaveRoom}
+use Rattle.serde_json.specs.Data.{string}
 use Rattle.am_alert.specs.inside.Streams.{BeginsWithText}
 use Rattle.am_alert.proofs.Rooms.{none_fit, one_more_fits, wider}
-use Rattle.am_alert.proofs.Streams.{AreBefore, all_before, later_name, one_before, pairs_of_texts, put_last, text_members}
+use Rattle.am_alert.proofs.Streams.{all_before, later_name, one_before, pairs_of_texts, put_last, text_members}
 use Rattle.am_alert.proofs.Tokens.{Members-so-far, all_members, no_member_yet, one_more_member}
 use Rattle.am_alert.proofs.draft_reader.read_pairs.Goals as goal
 
 pub pairs-init : goal.pairs-init
-pairs-init c =
-    let p = value c.args.depth in
-    let all = members p (length c.args.reader.now) c.args.reader.now in
-    let none : c.clear.new.self ≡ [] = search rules in
-    let less = c.take.new.self.left in (
-      subst (λ (pairs : List (List ℕ × List ℕ)). Members-so-far p all c.args.reader.now (text_members pairs)) (sym none) (no_member_yet p all c.args.reader.now refl),
-      none,
-      subst (λ (pairs : List (List ℕ × List ℕ)). MembersHaveRoom (text_members pairs) (less + 1) less) (sym none) (none_fit (less + 1) less (omega arith)),
-      omega arith,
-    )
+pairs-init c = grind (arith, common_steps, Members-so-far, text_members, no_member_yet, none_fit)
 
 pub returns-in_default-key-clause-read : goal.returns-in_default-key-clause-read
 returns-in_default-key-clause-read c taken =
@@ -51,9 +42,5 @@ pairs-preserved c =
     let more = one_more_member p all l.reader s r (text_members l.pairs) name is.0 (string given) l.invariant.0 named is.1 is.2 (omega arith) in
     let fits = one_more_fits name (string given) (text_members l.pairs) (c.take.new.self.left + 1) l.room.left after_name after l.invariant.2 name_fits text.1 in
     let members_are = put_last name given l.pairs below ∙ ap text_members (sym pushed) in
-    let less = read_key-shorter l.reader (Some name) s named in (
-      subst (λ ms. Members-so-far p all r ms) members_are more,
-      λ n after. subst (AreBefore n) (sym pushed) (one_before n l.pairs (name, given) (later_name name n l.pairs after below) after),
-      subst (λ (ms : Members). MembersHaveRoom ms (c.take.new.self.left + 1) after) members_are fits,
-      omega arith,
-    )
+    let less = read_key-shorter l.reader (Some name) s named in
+    grind (arith, common_steps, Members-so-far, one_before, later_name)

@@ -1,5 +1,5 @@
-use Rattle.std.proofs.Common.{◌≡◌, length, map, sym, ap, ◌∙◌, arith, rules, vec_len}
-use Rattle.std.specs.Duration.{as_nanos}
+use Rattle.std.proofs.Common.{◌≡◌, length, sym, ap, ◌∙◌, arith, rules, vec_len}
+use Rattle.std.proofs.lemmas.Grind.{common_steps}
 use Rattle.std.proofs.lemmas.List.{length-map}
 use Rattle.serde_json.specs.Find.{as_array}
 use Rattle.serde_json.specs.View.{view}
@@ -12,21 +12,18 @@ returns-then-len-gt-MAX_ALERTS c =
     let values = c.in-Array.elements in
     let long : vec_len values ≡ length values.items = search rules in
     let array = sym (ap (λ value. as_array (view value)) c.in-Array.is ∙ ap as_array (view-Array values)) in
-    post_many c.args.bytes.now (view c.in-Ok.value) (map view values.items) (omega arith) c.in-Ok.ensures.ok.0 c.in-Ok.ensures.ok.1 array
-    (omega (arith, long, length-map values.items view))
+    grind (arith, common_steps, post_many, length-map)
 
 pub returns-in-Ok-read_elements : goal.returns-in-Ok-read_elements
 returns-in-Ok-read_elements c =
     let values = c.in-Array.elements in
     let long : vec_len values ≡ length values.items = search rules in
     let array = sym (ap (λ value. as_array (view value)) c.in-Array.is ∙ ap as_array (view-Array values)) in
-    post_ok c.args.now (as_nanos c.args.resolve_timeout) c.args.bytes.now (view c.in-Ok.value) (map view values.items) c.in-Ok-read_elements.post (omega arith) c.in-Ok.ensures.ok.0 c.in-Ok.ensures.ok.1 array
-    (omega (arith, long, length-map values.items view)) c.in-Ok-read_elements.ensures
+    grind (arith, common_steps, post_ok, length-map)
 
 pub returns-in-Err-read_elements : goal.returns-in-Err-read_elements
 returns-in-Err-read_elements c =
     let values = c.in-Array.elements in
     let long : vec_len values ≡ length values.items = search rules in
     let array = sym (ap (λ value. as_array (view value)) c.in-Array.is ∙ ap as_array (view-Array values)) in
-    post_err c.args.now (as_nanos c.args.resolve_timeout) c.args.bytes.now (view c.in-Ok.value) (map view values.items) c.in-Err-read_elements.e (some_bytes c.args.bytes.now (view c.in-Ok.value) c.in-Ok.ensures.ok.1) (omega arith) c.in-Ok.ensures.ok.0 c.in-Ok.ensures.ok.1 array
-    (omega (arith, long, length-map values.items view)) c.in-Err-read_elements.ensures
+    grind (arith, common_steps, post_err, some_bytes, length-map)

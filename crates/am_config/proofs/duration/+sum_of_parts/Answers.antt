@@ -1,9 +1,9 @@
-use Rattle.std.proofs.Common.{◌≡◌, ◌≤◌, ◌<◌, ◌*◌, ◌+◌, ◌^◌, ℕ, List, true, sym, ap, ◌∙◌, subst, arith, length}
+use Rattle.std.proofs.Common.{◌≡◌, ◌≤◌, ◌<◌, ◌*◌, ◌+◌, ◌^◌, ℕ, List, true, sym, ap, ◌∙◌, subst, arith, length, rules}
 use Rattle.std.specs.List.{list_all}
 use Rattle.std.specs.Char.{is_ascii_digit}
 use Rattle.std.specs.Str.Parse.{digits_value}
 use Rattle.std.proofs.lemmas.Bool.Decides.{nat_tests}
-use Rattle.am_config.specs.Durations.{milliseconds_of, rank_of, ArePartsOf}
+use Rattle.am_config.specs.Durations.{rank_of, ArePartsOf}
 use Rattle.am_config.specs.inside.DurationParts.{digits_of, rest_of, unit_of}
 use Rattle.am_config.proofs.Durations.{no_unit, no_digits, out_of_order, large_number, large_others, large_worth, sum_read}
 use Rattle.am_config.proofs.duration.+sum_of_parts.Goals as goal
@@ -48,15 +48,7 @@ returns-in_err-others t c =
     (subst (λ (rest : List ℕ). ArePartsOf (rank_of c.in_ok-unit.unit + 1) rest more) (sym c.split_part.ensures.rest) later))))
 
 pub returns-in_err-checked_mul : goal.returns-in_err-checked_mul
-returns-in_err-checked_mul t c =
-    let some : 0 < length c.args.text.now = grind (arith, nat_tests) in
-    let unit = ap unit_of (sym c.split_part.ensures.symbol) ∙ sym c.in_ok-unit.ensures in
-    rw c.from_residual-in_err-checked_mul.ensures (λ parts are. large_worth (2 ^ 64) c.args.from c.args.text.now some parts are c.in_ok-unit.unit unit
-    (let same : c.in_ok-count.count * c.milliseconds.result ≡ digits_value 10 (digits_of c.args.text.now) * milliseconds_of c.in_ok-unit.unit =
-    ap (λ n. n * c.milliseconds.result) (c.in_ok-count.ensures ∙ ap (digits_value 10) c.split_part.ensures.digits)
-    ∙ ap (λ n. digits_value 10 (digits_of c.args.text.now) * n) c.milliseconds.ensures in
-    let large = c.in_err-checked_mul.ensures in
-    omega arith))
+returns-in_err-checked_mul t c = search (rules, nat_tests, large_worth)
 
 pub returns : goal.returns
 returns t c =

@@ -1,5 +1,5 @@
-use Rattle.std.proofs.Common.{◌≡◌, List, ℕ, true, sym, subst, ap, take, ◌∙◌, arith}
-use Rattle.std.specs.List.{list_all}
+use Rattle.std.proofs.Common.{arith}
+use Rattle.std.proofs.lemmas.Grind.{common_steps}
 use Rattle.std.specs.Char.{is_ascii_digit}
 use Rattle.std.proofs.lemmas.List.Sums.{prefix_len-le-length}
 use Rattle.am_config.specs.inside.DurationParts.{is_no_digit}
@@ -13,7 +13,4 @@ pub split_at-requires-2 : goal.split_at-requires-2
 split_at-requires-2 c = omega (arith, c.symbol_len.ensures, prefix_len-le-length is_no_digit c.split_at.result.1.now)
 
 pub returns-clause-number : goal.returns-clause-number
-returns-clause-number c =
-    subst (λ (ds : List ℕ). list_all is_ascii_digit ds ≡ true)
-    (sym (c.split_at.ensures.front ∙ ap (λ n. take n c.args.text.now) c.digits_len.ensures))
-    (run_passes is_ascii_digit c.args.text.now)
+returns-clause-number c = grind (arith, common_steps, run_passes)

@@ -1,4 +1,5 @@
-use Rattle.std.proofs.Common.{◌∙◌, Err, Ok, ap, sym, subst}
+use Rattle.std.proofs.Common.{◌∙◌, Err, ap, sym, subst, arith}
+use Rattle.std.proofs.lemmas.Grind.{common_steps}
 use Rattle.std.proofs.lemmas.Result.{err_from_is_err_and}
 use Rattle.serde_json.specs.View.{view}
 use Rattle.am_config.specs.Readings.{AllowsResult}
@@ -7,16 +8,10 @@ use Rattle.am_config.proofs.RuleReadings.{form_refused, source_refused, target_r
 use Rattle.am_config.proofs.rule_reader.read_rule.Goals as goal
 
 pub returns-in_err-check_form : goal.returns-in_err-check_form
-returns-in_err-check_form c =
-    let p = err_from_is_err_and c.from_residual.result c.from_residual.ensures.1 in
-    subst (λ r. AllowsResult (rule_of c.args.at.now (view c.args.value.now)) r) (sym (p.1 ∙ ap Err p.2))
-    (form_refused c.args.at.now (view c.args.value.now) c.in_err-check_form.field-0.0 c.in_err-check_form.ensures)
+returns-in_err-check_form c = grind (arith, common_steps, err_from_is_err_and, form_refused)
 
 pub returns-in_err-source : goal.returns-in_err-source
-returns-in_err-source c =
-    let p = err_from_is_err_and c.from_residual-in_err-source.result c.from_residual-in_err-source.ensures.1 in
-    subst (λ r. AllowsResult (rule_of c.args.at.now (view c.args.value.now)) r) (sym (p.1 ∙ ap Err p.2))
-    (source_refused c.args.at.now (view c.args.value.now) _ c.in_ok-check_form.ensures c.in_err-source.field-0.0 c.in_err-source.ensures)
+returns-in_err-source c = grind (arith, common_steps, err_from_is_err_and, source_refused)
 
 pub returns-in_err-target : goal.returns-in_err-target
 returns-in_err-target c =
@@ -33,6 +28,4 @@ returns-in_err-equal c =
     c.in_ok-target.target c.in_ok-target.ensures c.in_err-equal.field-0.0 c.in_err-equal.ensures)
 
 pub returns : goal.returns
-returns c =
-    rule_read c.args.at.now (view c.args.value.now) _ c.in_ok-check_form.ensures c.in_ok-source.source c.in_ok-source.ensures
-    c.in_ok-target.target c.in_ok-target.ensures c.equal.inside.texts.items (c.in_ok-equal.ensures ∙ ap Ok (sym c.equal.view_is))
+returns c = grind (arith, common_steps, rule_read)

@@ -1,24 +1,8 @@
-use Rattle.std.proofs.Common.{rules, ◌≡◌, ◌<◌, ◌++◌, ◌∷◌, [], map, drop, length, set, get_or, vec_len, sym, ap, ◌∙◌, arith, append-nil, length-append, length-set, get_or-set_same}
-use Rattle.std.proofs.lemmas.List.{set-get_or, set-set, take_all, drop_all}
+use Rattle.std.proofs.Common.{◌≡◌, ◌<◌, ◌++◌, ◌∷◌, [], length, set, get_or, sym, ap, ◌∙◌, arith, length-append, length-set, get_or-set_same}
+use Rattle.std.proofs.lemmas.List.{set-get_or, set-set}
 use Rattle.am_inhibit.specs.inside.Indexes.{index_with, index_before, indexes_before}
 use Rattle.am_inhibit.proofs.Indexes.{back_one, map_more}
 use Rattle.am_inhibit.proofs.inhibitor.add_to_all.Goals as goal
-
-pub push_reserved-requires : goal.push_reserved-requires
-push_reserved-requires c =
-    let long : vec_len c.loop-index.changes ≡ length c.loop-index.changes.items = search rules in
-    omega (arith, long, c.loop-index.invariant.count, c.loop-index.invariant.room, c.loop-index-test.true)
-
-pub undo_all-requires : goal.undo_all-requires
-undo_all-requires c =
-    omega (arith, c.loop-index.invariant.count, c.loop-index-test.true, length-set c.loop-index.indexes c.loop-index.index c.add.new.self)
-
-pub returns-in-Err-clause-err : goal.returns-in-Err-clause-err
-returns-in-Err-clause-err c =
-    let indexes = c.loop-index.indexes in
-    let at = c.loop-index.index in
-    let same : set indexes at c.add.new.self ≡ indexes = ap (set indexes at) c.in-Err.ensures.err ∙ set-get_or indexes at c.index-indexes-index.result in
-    c.undo_all.ensures ∙ (ap (indexes_before c.loop-index.changes.items) same ∙ c.loop-index.invariant.before)
 
 pub loop-index-preserved : goal.loop-index-preserved
 loop-index-preserved c =
@@ -51,20 +35,3 @@ loop-index-preserved c =
       count = ap length pushed ∙ omega (arith, length-append changes (change ∷ []), count);
       room = c.push_reserved.ensures.capacity ∙ c.loop-index.invariant.room;
     }
-
-pub returns-clause-added : goal.returns-clause-added
-returns-clause-added c =
-    let olds = c.args.indexes.now in
-    let at = c.loop-index.index in
-    let f = index_with c.args.at c.args.labels.now in
-    c.loop-index.invariant.added
-    ∙ (ap (λ l. map f l ++ drop at olds) (take_all at olds c.loop-index-test.false)
-    ∙ (ap (λ l. map f olds ++ l) (drop_all at olds c.loop-index-test.false) ∙ append-nil (map f olds)))
-
-pub returns-clause-undo : goal.returns-clause-undo
-returns-clause-undo c = c.loop-index.invariant.before
-
-pub returns-clause-long : goal.returns-clause-long
-returns-clause-long c =
-    let end = c.loop-index-test.false in
-    omega (arith, c.loop-index.invariant.count, end, c.loop-index.auto.index-end)

@@ -1,44 +1,27 @@
 use Rattle.std.proofs.Common.{◌≡◌, ℕ, ◌+◌, ◌<◌, min, ◌++◌, List, None, Some, length, drop, set, get_or, sym, ap, subst, ◌∙◌, arith}
+use Rattle.std.proofs.lemmas.Grind.{common_steps}
 use Rattle.std.specs.Prelude.{IfSome}
 use Rattle.std.specs.List.{find, slice_get}
 use Rattle.std.specs.Option.{option_map, option_and_then}
-use Rattle.std.proofs.lemmas.List.{drop_more, drop_all, set-get_or}
+use Rattle.std.proofs.lemmas.List.{drop_more, set-get_or}
 use Rattle.am_alert.specs.declared.alert.Alert.{Alert}
 use Rattle.am_labels.specs.LabelSets.{Labels}
-use Rattle.am_inhibit.specs.LastAlerts.{label_sets}
 use Rattle.am_inhibit.specs.Muting.{Candidate, candidate_inhibits, count_to, rule_candidates}
-use Rattle.am_inhibit.specs.inside.Indexes.{IndexView, IsSourceIndexOf, rules_indexed}
+use Rattle.am_inhibit.specs.inside.Indexes.{IndexView, rules_indexed}
 use Rattle.am_inhibit.specs.inside.Searches.{candidates_from}
 use Rattle.am_inhibit.proofs.Counting.{count_to-found, count_to-past}
 use Rattle.am_inhibit.proofs.RuleSearch.{IsFound, candidate_of, rule-none, rule-some, rule-count, find-first, find-later, got_within, label_set_at}
 use Rattle.am_inhibit.proofs.inhibitor.search_all.Goals as goal
 
-pub find-requires : goal.find-requires
-find-requires c =
-    let index = c.index-indexes-rule.result in
-    let is = ap (λ (l : List IndexView). get_or l c.loop-rule.rule index) (sym c.loop-rule.invariant.same) in
-    subst (IsSourceIndexOf (label_sets c.args.alerts.now)) is (c.requires c.loop-rule.rule index c.loop-rule-test.true)
-
 same_set : (olds indexes : List IndexView) (at : ℕ) (index new : IndexView) → indexes ≡ olds → new ≡ get_or indexes at index → set indexes at new ≡ olds
 same_set olds indexes at index new same is = ap (set indexes at) is ∙ (set-get_or indexes at index ∙ same)
 
-pub returns-in_err-found-clause-same : goal.returns-in_err-found-clause-same
-returns-in_err-found-clause-same c = same_set c.args.indexes.now c.loop-rule.indexes c.loop-rule.rule c.index-indexes-rule.result c.find.new.self c.loop-rule.invariant.same c.in_err-found.ensures.same
-
-pub returns-in-Some-clause-same : goal.returns-in-Some-clause-same
-returns-in-Some-clause-same c = same_set c.args.indexes.now c.loop-rule.indexes c.loop-rule.rule c.index-indexes-rule.result c.find.new.self c.loop-rule.invariant.same c.in_ok-found.ensures.same
-
 split_at : (olds indexes : List IndexView) (labels : Labels) (alerts : List Alert) (at : ℕ) (index : IndexView) → indexes ≡ olds → at < length olds
     → candidates_from at labels alerts (rules_indexed (drop at olds)) ≡ rule_candidates labels alerts (at, (get_or indexes at index).rule) ++ candidates_from (at + 1) labels alerts (rules_indexed (drop (at + 1) olds))
-split_at olds indexes labels alerts at index same early =
-    ap (λ l. candidates_from at labels alerts (rules_indexed l)) (drop_more olds at index early)
-    ∙ ap (λ (l : List IndexView). rule_candidates labels alerts (at, (get_or l at index).rule) ++ candidates_from (at + 1) labels alerts (rules_indexed (drop (at + 1) olds))) (sym same)
+split_at olds indexes labels alerts at index same early = grind (arith, common_steps, drop_more)
 
 is_found : (c : goal.In-Some) → IsFound c.args.labels.now c.args.now c.args.alerts.now (get_or c.loop-rule.indexes c.loop-rule.rule c.index-indexes-rule.result).rule (Some c.in-Some.at) c.in_ok-found.found.looked
-is_found c = record {
-  found = ap (option_and_then (slice_get c.args.alerts.now)) (sym c.in-Some.is) ∙ c.in_ok-found.ensures.at;
-  count = c.in_ok-found.ensures.looked;
-}
+is_found c = grind (arith, common_steps)
 
 first_is : (c : goal.In-Some) → (alert : Alert) × (slice_get c.args.alerts.now c.in-Some.at ≡ Some alert)
 first_is c =
@@ -80,8 +63,7 @@ returns-in-Some-clause-looked c =
     ap (count_to test) (split_at c.args.indexes.now c.loop-rule.indexes labels alerts at c.index-indexes-rule.result c.loop-rule.invariant.same c.loop-rule-test.true)
     ∙ (count_to-found test (rule_candidates labels alerts (at, rule)) later (candidate_of at rule first.0) here
     ∙ rule-count labels c.args.now at alerts rule (Some c.in-Some.at) c.in_ok-found.found.looked (is_found c)) in
-    c.saturating_add-looked.ensures
-    ∙ sym (c.loop-rule.invariant.looked ∙ ap (λ n. min (c.loop-rule.looked + n) 18446744073709551615) count)
+    grind (arith, common_steps)
 
 pub loop-rule-preserved : goal.loop-rule-preserved
 loop-rule-preserved c =
@@ -103,35 +85,4 @@ loop-rule-preserved c =
     ap (count_to test) split
     ∙ (count_to-past test (rule_candidates labels alerts (at, rule)) later none
     ∙ ap (λ n. n + count_to test later) (rule-count labels c.args.now at alerts rule None looked is)) in
-    let so_far : c.saturating_add-looked.result ≡ min (c.loop-rule.looked + looked) 18446744073709551615 = c.saturating_add-looked.ensures in
-    let sum : min (c.loop-rule.looked + (looked + count_to test later)) 18446744073709551615 ≡ min (c.loop-rule.looked + looked + count_to test later) 18446744073709551615 = omega arith in
-    record {
-      same = same_set olds c.loop-rule.indexes at c.index-indexes-rule.result c.find.new.self c.loop-rule.invariant.same c.in_ok-found.ensures.same;
-      found = c.loop-rule.invariant.found ∙ (ap (find test) split ∙ find-later test (rule_candidates labels alerts (at, rule)) later none);
-      looked = c.loop-rule.invariant.looked
-          ∙ (ap (λ n. min (c.loop-rule.looked + n) 18446744073709551615) count
-          ∙ (sum
-          ∙ (sym (at_most (c.loop-rule.looked + looked) (count_to test later) 18446744073709551615)
-          ∙ ap (λ n. min (n + count_to test later) 18446744073709551615) (sym so_far))));
-      fits = omega (arith, so_far);
-    }
-
-pub returns-clause-muting : goal.returns-clause-muting
-returns-clause-muting c =
-    let labels = c.args.labels.now in
-    let alerts = c.args.alerts.now in
-    let at = c.loop-rule.rule in
-    let none = ap (λ l. find (candidate_inhibits labels c.args.now) (candidates_from at labels alerts (rules_indexed l))) (drop_all at c.args.indexes.now c.loop-rule-test.false) in
-    ap (option_map {U = ℕ × Labels} (λ (candidate : Candidate). (candidate.number, candidate.alert.labels))) (c.loop-rule.invariant.found ∙ none)
-
-pub returns-clause-looked : goal.returns-clause-looked
-returns-clause-looked c =
-    let labels = c.args.labels.now in
-    let alerts = c.args.alerts.now in
-    let at = c.loop-rule.rule in
-    let none : count_to (candidate_inhibits labels c.args.now) (candidates_from at labels alerts (rules_indexed (drop at c.args.indexes.now))) ≡ 0 = ap (λ l. count_to (candidate_inhibits labels c.args.now) (candidates_from at labels alerts (rules_indexed l))) (drop_all at c.args.indexes.now c.loop-rule-test.false) in
-    let fits : c.loop-rule.looked ≡ min (c.loop-rule.looked + 0) 18446744073709551615 = omega (arith, c.loop-rule.invariant.fits) in
-    fits ∙ sym (c.loop-rule.invariant.looked ∙ ap (λ n. min (c.loop-rule.looked + n) 18446744073709551615) none)
-
-pub returns-clause-same : goal.returns-clause-same
-returns-clause-same c = c.loop-rule.invariant.same
+    grind (arith, common_steps, same_set, find-later, at_most)

@@ -1,5 +1,4 @@
-use Rattle.std.proofs.Common.{◌++◌, map, drop, set, append-nil, sym, ap, ◌∙◌}
-use Rattle.std.proofs.lemmas.List.{take_all, drop_all}
+use Rattle.std.proofs.Common.{set, sym, ap, ◌∙◌}
 use Rattle.am_inhibit.specs.inside.Places.{index_swept}
 use Rattle.am_inhibit.proofs.Indexes.{map_more}
 use Rattle.am_inhibit.proofs.inhibitor.sweep_all.Goals as goal
@@ -12,12 +11,3 @@ loop-index-preserved c =
     let old = c.index-indexes-index.result in
     ap (set indexes at) (c.sweep.ensures ∙ ap f (sym c.index-indexes-index.is))
     ∙ map_more f c.args.indexes.now indexes at old c.loop-index-test.true c.loop-index.invariant c.index-indexes-index.is
-
-pub returns : goal.returns
-returns c =
-    let olds = c.args.indexes.now in
-    let at = c.loop-index.index in
-    let f = index_swept c.args.places.now in
-    c.loop-index.invariant
-    ∙ (ap (λ l. map f l ++ drop at olds) (take_all at olds c.loop-index-test.false)
-    ∙ (ap (λ l. map f olds ++ l) (drop_all at olds c.loop-index-test.false) ∙ append-nil (map f olds)))

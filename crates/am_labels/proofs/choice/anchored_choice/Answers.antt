@@ -1,11 +1,11 @@
-use Rattle.std.proofs.Common.{◌≡◌, ◌∙◌, ◌∷◌, ◌++◌, [], ap, ap₂, sym, map}
+use Rattle.std.proofs.Common.{◌≡◌, ◌∙◌, ◌∷◌, ◌++◌, [], ap, ap₂, sym, map, arith}
+use Rattle.std.proofs.lemmas.Grind.{common_steps}
 use Rattle.std.proofs.lemmas.List.{map-append}
-use Rattle.regex.specs.Patterns.{Re, cat_all, look, Start, End}
+use Rattle.regex.specs.Patterns.{Re, look, Start, End}
 use Rattle.regex_hir.specs.Meaning.{meaning}
 use Rattle.regex_hir.specs.declared.hir.Hir.{Hir}
 use Rattle.regex_hir.specs.declared.hir.Hir.TheVariants.{Look}
 use Rattle.regex_hir.proofs.MeaningLemmas.{meaning-Look, meaning-Concat}
-use Rattle.am_labels.specs.inside.Choices.{kept_texts}
 use Rattle.am_labels.proofs.MatcherMeaning.Choices.{finds_one, if_found}
 use Rattle.am_labels.proofs.choice.anchored_choice.Goals as goal
 
@@ -20,7 +20,4 @@ returns c =
     let meanings : map meaning c.in-Concat.parts.items ≡ look Start ∷ map meaning inner ++ look End ∷ [] =
     ap (map meaning) parts
     ∙ ap₂ ◌∷◌ (meaning-Look Start) (map-append meaning inner (Look End ∷ []) ∙ ap (λ (re : Re). map meaning inner ++ re ∷ []) (meaning-Look End)) in
-    if_found _ _ c.choice_of_parts.result
-    (λ texts h. finds_one (kept_texts texts.items) (map meaning inner) (meaning c.args.pattern.now)
-    (ap meaning c.in-Concat.is ∙ meaning-Concat c.in-Concat.parts ∙ ap cat_all meanings) h)
-    c.choice_of_parts.ensures
+    grind (arith, common_steps, if_found, finds_one, meaning-Concat)

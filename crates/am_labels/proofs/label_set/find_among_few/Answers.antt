@@ -1,4 +1,4 @@
-use Rattle.std.proofs.Common.{◌∙◌, ℕ, List, [], Some, true≢false, refl, sym, ap, arith}
+use Rattle.std.proofs.Common.{◌∙◌, true≢false, refl, sym, arith, rules}
 use Rattle.std.proofs.lemmas.Bool.Decides.{Decides-eqb}
 use Rattle.std.proofs.lemmas.Slice.Eq.{slice_eq-Decides}
 use Rattle.std.specs.Prelude.{slice_index_or}
@@ -7,10 +7,7 @@ use Rattle.am_labels.proofs.LabelSets.Searches.{find_there, find_nowhere, tied}
 use Rattle.am_labels.proofs.label_set.find_among_few.Goals as goal
 
 pub returns-then-has_name : goal.returns-then-has_name
-returns-then-has_name c =
-    let named = (slice_eq-Decides Decides-eqb _ c.args.name.now _ refl).0 (sym c.has_name.ensures ∙ c.if-has_name.true) in
-    ap (λ (pair : List ℕ × List ℕ). Some pair.1) c.at.ensures
-    ∙ sym (find_there c.args.pairs c.args.name.now c.loop-at.at ([], []) c.requires (omega arith) named)
+returns-then-has_name c = search (rules, slice_eq-Decides, Decides-eqb, find_there)
 
 pub returns : goal.returns
 returns c =

@@ -1,4 +1,5 @@
-use Rattle.std.proofs.Common.{◌≡◌, ◌∙◌, ◌∷◌, ◌++◌, [], List, ℕ, sym, ap, rules, append_assoc}
+use Rattle.std.proofs.Common.{◌≡◌, ◌∙◌, ◌∷◌, ◌++◌, [], List, ℕ, sym, rules, append_assoc, arith}
+use Rattle.std.proofs.lemmas.Grind.{common_steps}
 use Rattle.std.specs.FinMap.{entries}
 use Rattle.std.specs.BTreeMap.{insert_entry}
 use Rattle.am_labels.specs.Texts.{text_cmp}
@@ -13,11 +14,7 @@ loop-name-init c = (tt, tt, ([], search rules, c.new-sorted.ensures.empty ∙ sy
 one_more : (all done rest : List (List ℕ × List ℕ)) (name value : List ℕ) (left sorted new : List (List ℕ × List ℕ))
     → all ≡ done ++ left → left ≡ (name, value) ∷ rest → sorted ≡ entries (last_holds done) → new ≡ insert_entry text_cmp sorted name value
     → (d : List (List ℕ × List ℕ)) × (all ≡ d ++ rest) × (new ≡ entries (last_holds d))
-one_more all done rest name value left sorted new split first so_far put = (
-  done ++ (name, value) ∷ [],
-  split ∙ ap (λ (pairs : List (List ℕ × List ℕ)). done ++ pairs) first ∙ sym (append_assoc done ((name, value) ∷ []) rest),
-  put ∙ ap (λ pairs. insert_entry text_cmp pairs name value) so_far ∙ last_push done name value,
-)
+one_more all done rest name value left sorted new split first so_far put = grind (arith, common_steps, append_assoc, last_push)
 
 pub loop-name-preserved-in_ok-insert : goal.loop-name-preserved-in_ok-insert
 loop-name-preserved-in_ok-insert c =

@@ -6,9 +6,6 @@ use Rattle.am_labels.specs.Printing.{pair_text, pairs_text}
 use Rattle.am_labels.proofs.Printing.Joins.{pairs_text-first}
 use Rattle.am_labels.proofs.label_set.write_pairs.Goals as goal
 
-pub loop-name-init : goal.loop-name-init
-loop-name-init g c = (tt, tt, λ plain. ([], search rules, search rules))
-
 pub loop-name-preserved : goal.loop-name-preserved
 loop-name-preserved g c =
     let pair : List ℕ × List ℕ = (c.in-Some-2.name.now, c.in-Some-2.value.now) in

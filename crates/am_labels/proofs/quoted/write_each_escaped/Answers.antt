@@ -1,15 +1,12 @@
-use Rattle.std.proofs.Common.{◌≡◌, ◌++◌, [], List, ℕ, ap, sym, refl, rules, ◌∙◌, encode_utf8, append-nil, length}
-use Rattle.std.proofs.Output.{has_written_append, has_written_of_eq}
+use Rattle.std.proofs.Common.{◌≡◌, ◌++◌, refl, rules, encode_utf8}
+use Rattle.std.proofs.Output.{has_written_append}
 use Rattle.std.specs.Str.Iter.{chars_rest}
-use Rattle.std.proofs.lemmas.List.{nil_from_length}
 use Rattle.am_labels.specs.Printing.{escaped_all}
 use Rattle.am_labels.proofs.Printing.Escapes.{escaped_more}
 use Rattle.am_labels.proofs.quoted.write_each_escaped.Goals as goal
 
 pub loop-c-init : goal.loop-c-init
-loop-c-init g c =
-    let whole : chars_rest c.into_iter-c-iterator.result ≡ c.args.text.now = search rules in
-    λ plain. ([], search rules, ap escaped_all whole)
+loop-c-init g c = let whole : chars_rest c.into_iter-c-iterator.result ≡ c.args.text.now = search rules in search (rules)
 
 pub loop-c-preserved : goal.loop-c-preserved
 loop-c-preserved g c =
@@ -20,12 +17,3 @@ loop-c-preserved g c =
       has_written_append _ _ _ _ _ _ so_far.1 (c.in_ok-write_char_escaped.ensures so_far.1.plain refl),
       escaped_more so_far.0 (chars_rest c.loop-c.c-iterator) (chars_rest c.next.new.self) _ c.in-Some.c step so_far.2,
     )
-
-pub returns : goal.returns
-returns g c =
-    λ plain done.
-    let so_far = c.loop-c.invariant plain in
-    let none : length (chars_rest c.loop-c.c-iterator) ≡ 0 = search rules in
-    has_written_of_eq _ _ _ _ _
-    (sym (append-nil so_far.0) ∙ (ap (λ (rest : List ℕ). so_far.0 ++ escaped_all rest) (sym (nil_from_length (chars_rest c.loop-c.c-iterator) none)) ∙ so_far.2))
-    so_far.1

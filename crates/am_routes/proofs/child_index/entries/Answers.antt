@@ -1,4 +1,4 @@
-use Rattle.std.proofs.Common.{◌≡◌, ◌++◌, ◌∷◌, [], ◌<◌, length, take, get_or, sym, ap, ◌∙◌, arith}
+use Rattle.std.proofs.Common.{◌≡◌, ◌<◌, length, get_or, sym, ap, ◌∙◌, arith, rules}
 use Rattle.std.proofs.lemmas.List.{take_all, take_more}
 use Rattle.am_config.specs.RouteLists.{forest_of}
 use Rattle.am_routes.specs.inside.ChildIndexes.{entries_from, offsets_from}
@@ -22,10 +22,7 @@ loop-at-preserved c =
     let comes : own ≡ get_or (offsets_from 1 (forest_of rs)) i own = get_or-default offsets i 0 own within ∙ ap (λ l. get_or l i own) c.requires in
     let is : c.of.result ≡ get_or all i c.of.result =
     c.of.ensures ∙ sym (entry-at 1 rs i r own c.of.result early c.index-routes-at.is comes) in
-    c.in_ok-push.ensures.items
-    ∙ (ap (λ l. l ++ c.of.result ∷ []) c.loop-at.invariant
-    ∙ (ap (λ e. take i all ++ e ∷ []) is
-    ∙ sym (take_more all i c.of.result long)))
+    search (rules, take_more)
 
 pub returns : goal.returns
 returns c =

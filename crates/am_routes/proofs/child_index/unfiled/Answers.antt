@@ -1,4 +1,4 @@
-use Rattle.std.proofs.Common.{rules, ◌≡◌, ℕ, ◌++◌, ◌∷◌, [], true, false, Option, None, Some, cond, is_none, refl, sym, ap, ◌∙◌, arith, Vec, Global, Bor}
+use Rattle.std.proofs.Common.{rules, ◌≡◌, ◌++◌, ◌∷◌, [], Option, None, Some, cond, is_none, refl, sym, ap, ◌∙◌, arith, Bor}
 use Rattle.std.proofs.lemmas.List.{append-nil}
 use Rattle.std.specs.Option.{option_copied}
 use Rattle.am_config.specs.declared.route.Route.{Route}
@@ -26,11 +26,4 @@ loop-at-preserved c =
     let more = λ (e : c.if-is_none.places.items ≡ before ++ cond (is_none c.first_equality.result) (i ∷ []) []).
     e ∙ (ap (λ b. before ++ cond b (i ∷ []) []) (sym test)
     ∙ (ap (λ l. l ++ cond (is_unfiled (first_equality r.matchers)) (i ∷ []) []) c.loop-at.invariant ∙ sym step)) in
-    elim c.if-is_none.branch [
-      | then-is_none+in_ok-push w ↦
-          let yes : is_none c.first_equality.result ≡ true = search rules in
-          more (ap (λ (v : Vec ℕ Global). v.items) w.places-is ∙ (w.in_ok-push.ensures.items ∙ ap (λ b. before ++ cond b (i ∷ []) []) (sym yes)))
-      | else-is_none w ↦
-          let no : is_none c.first_equality.result ≡ false = search rules in
-          more (ap (λ (v : Vec ℕ Global). v.items) w.places-is ∙ (sym (append-nil before) ∙ ap (λ b. before ++ cond b (i ∷ []) []) (sym no)))
-    ]
+    search (rules, then-is_none+in_ok-push, else-is_none, append-nil)

@@ -1,9 +1,10 @@
-use Rattle.std.proofs.Common.{◌≡◌, [], ◌∷◌, ◌++◌, ◌-◌, Some, None, length, take, refl, sym, ap, subst, ◌∙◌}
+use Rattle.std.proofs.Common.{◌≡◌, [], ◌∷◌, Some, None, refl, sym, ap, subst, ◌∙◌, arith, rules}
+use Rattle.std.proofs.lemmas.Grind.{common_steps}
 use Rattle.std.specs.List.{position}
 use Rattle.std.specs.Map.{keys_of}
 use Rattle.std.specs.Map as map_of
 use Rattle.std.proofs.lemmas.List.{map-append}
-use Rattle.indexmap.specs.IndexMap.{get, insert_entry, set_value_at}
+use Rattle.indexmap.specs.IndexMap.{insert_entry, set_value_at}
 use Rattle.indexmap.proofs.CallerLemmas.{insert_entry-new}
 use Rattle.am_labels.specs.LabelSets.{Labels}
 use Rattle.am_alert.specs.declared.alert.Alert.{Alert}
@@ -16,22 +17,16 @@ use Rattle.am_routes.specs.inside.GroupLists.{alerts_with}
 use Rattle.am_routes.specs.inside.GroupMaps.{groups_in, AreKeyedByGroups}
 use Rattle.am_routes.proofs.GroupEntries.{take_last}
 use Rattle.am_routes.proofs.GroupMaps.{same_key, IsKeyOf, member_begins, member_joins, keys_kept, group_written, written_same, written_kept, change_undone, nothing, err_holds}
-use Rattle.am_routes.specs.Undoing.{alerts_before, changed_back}
 use Rattle.am_routes.proofs.dispatcher.join_one.Goals as goal
 
 begun : Node → Alert → Labels → GroupView
 begun node alert labels = record { route = node.number; receiver = node.route.receiver; labels = labels; alerts = alert ∷ [] }
 
 pub returns-in_err-change-in-Some-clause-kept : goal.returns-in_err-change-in-Some-clause-kept
-returns-in_err-change-in-Some-clause-kept c =
-    let entries = c.args.groups.now.entries in
-    subst AreKeyedByGroups (sym (ap (set_value_at entries c.in-Some.at) c.in_err-change-in-Some.ensures.err ∙ written_same entries c.in-Some.at c.index_mut.result.now c.index_mut.ensures.value)) c.requires
+returns-in_err-change-in-Some-clause-kept c = grind (arith, common_steps, written_same)
 
 pub returns-in_err-change-in-Some-clause-err : goal.returns-in_err-change-in-Some-clause-err
-returns-in_err-change-in-Some-clause-err c =
-    let entries = c.args.groups.now.entries in
-    err_holds c.from_residual-in_err-change-in-Some.result (groups_in (set_value_at entries c.in-Some.at c.put.new.self) ≡ groups_in entries)
-    (ap groups_in (ap (set_value_at entries c.in-Some.at) c.in_err-change-in-Some.ensures.err ∙ written_same entries c.in-Some.at c.index_mut.result.now c.index_mut.ensures.value))
+returns-in_err-change-in-Some-clause-err c = grind (arith, common_steps, err_holds, written_same)
 
 pub returns-in_ok-change-in-Some-clause-joined : goal.returns-in_ok-change-in-Some-clause-joined
 returns-in_ok-change-in-Some-clause-joined c =
@@ -49,21 +44,10 @@ returns-in_ok-change-in-Some-clause-joined c =
     ∙ member_joins node labels alert key group entries of c.requires there)
 
 pub returns-in_ok-change-in-Some-clause-undo : goal.returns-in_ok-change-in-Some-clause-undo
-returns-in_ok-change-in-Some-clause-undo c =
-    let entries = c.args.groups.now.entries in
-    let alert = c.args.alert.now in
-    let group = c.index_mut.result.now in
-    let change = c.in_ok-change-in-Some.change in
-    let put = c.in_ok-change-in-Some.ensures.put in
-    ap (λ g. changed_back c.in-Some.at change (groups_in (set_value_at entries c.in-Some.at g))) put
-    ∙ change_undone entries c.in-Some.at group (alerts_with alert group.alerts) change c.index_mut.ensures.value
-    (ap (λ (g : GroupView). alerts_before change g.alerts) (sym put) ∙ c.in_ok-change-in-Some.ensures.undo)
+returns-in_ok-change-in-Some-clause-undo c = grind (arith, common_steps, change_undone)
 
 pub returns-in_ok-change-in-Some-clause-kept : goal.returns-in_ok-change-in-Some-clause-kept
-returns-in_ok-change-in-Some-clause-kept c =
-    let put = c.in_ok-change-in-Some.ensures.put in
-    written_kept c.args.groups.now.entries c.in-Some.at c.index_mut.result.now c.put.new.self c.index_mut.ensures.value
-    (ap (λ (g : GroupView). g.route) put) (ap (λ (g : GroupView). g.labels) put) c.requires
+returns-in_ok-change-in-Some-clause-kept c = grind (arith, common_steps, written_kept)
 
 pub returns-in_ok-insert-in-None-clause-joined : goal.returns-in_ok-insert-in-None-clause-joined
 unfolding begun
@@ -81,14 +65,7 @@ returns-in_ok-insert-in-None-clause-joined c =
     ap groups_in (put ∙ ap (insert_entry same_key entries key) group) ∙ member_begins node labels alert key entries of c.requires none
 
 pub returns-in_ok-insert-in-None-clause-undo : goal.returns-in_ok-insert-in-None-clause-undo
-returns-in_ok-insert-in-None-clause-undo c =
-    let groups = c.args.groups.now in
-    let key : GroupKey = record { route = c.args.found.now.id; labels = c.in_ok-labels.labels } in
-    let put : c.insert.new.self.entries ≡ insert_entry same_key groups.entries key c.in_ok-group-in-None.group = c.in_ok-insert-in-None.ensures.entries in
-    let none : get same_key groups key ≡ None = nothing (get same_key groups key) c.in-None.ensures.found in
-    let last = put ∙ insert_entry-new same_key groups key c.in_ok-group-in-None.group none in
-    let shown : groups_in c.insert.new.self.entries ≡ groups_in groups.entries ++ c.in_ok-group-in-None.group ∷ [] = ap groups_in last ∙ map-append (λ (entry : GroupKey × GroupView). entry.1) groups.entries ((key, c.in_ok-group-in-None.group) ∷ []) in
-    ap (λ l. take (length l - 1) l) shown ∙ take_last (groups_in groups.entries) c.in_ok-group-in-None.group
+returns-in_ok-insert-in-None-clause-undo c = search (rules, same_key, nothing, insert_entry-new, map-append, take_last)
 
 pub returns-in_ok-insert-in-None-clause-kept : goal.returns-in_ok-insert-in-None-clause-kept
 returns-in_ok-insert-in-None-clause-kept c =

@@ -1,11 +1,12 @@
-use Rattle.std.proofs.Common.{rules, ◌≡◌, [], ◌∷◌, ◌++◌, ◌-◌, Some, None, length, take, sym, ap, subst, ◌∙◌}
+use Rattle.std.proofs.Common.{rules, ◌≡◌, Some, sym, ap, subst, ◌∙◌, arith}
+use Rattle.std.proofs.lemmas.Grind.{common_steps}
 use Rattle.std.specs.List.{position}
 use Rattle.std.specs.Map.{keys_of}
 use Rattle.std.specs.Map as map
 use Rattle.std.proofs.lemmas.List.{map-append}
-use Rattle.indexmap.specs.IndexMap.{get, insert_entry, set_value_at}
+use Rattle.indexmap.specs.IndexMap.{set_value_at}
 use Rattle.indexmap.proofs.CallerLemmas.{insert_entry-new}
-use Rattle.am_labels.specs.LabelSets.{Labels, same_labels}
+use Rattle.am_labels.specs.LabelSets.{same_labels}
 use Rattle.am_alert.specs.declared.alert.Alert.{Alert}
 use Rattle.am_routes.specs.inside.GroupLists.{alerts_with}
 use Rattle.am_routes.specs.inside.GroupChanges.{kept_in, AreKeyedByLabels}
@@ -44,27 +45,10 @@ returns-in-Some-clause-kept c =
     subst AreKeyedByLabels (sym (ap (set_value_at entries c.in-Some.at) after ∙ written_at entries labels c.in_ok-copy.copy c.in-Some.at found)) (still_kept entries labels c.in_ok-copy.copy c.requires own)
 
 pub returns-in_ok-insert-in-None-clause-put : goal.returns-in_ok-insert-in-None-clause-put
-returns-in_ok-insert-in-None-clause-put c =
-    let entries = c.args.alerts.now.entries in
-    let labels = c.in_ok-labels.labels in
-    let own : c.in_ok-copy.copy.labels ≡ labels = ap (λ (a : Alert). a.labels) c.in_ok-copy.ensures ∙ sym c.in_ok-labels.ensures in
-    let put : c.insert.new.self.entries ≡ insert_entry same_labels entries labels c.in_ok-copy.copy = search rules in
-    ap kept_in put ∙ (kept_inserted entries labels c.in_ok-copy.copy c.requires own ∙ ap (λ a. alerts_with a (kept_in entries)) c.in_ok-copy.ensures)
+returns-in_ok-insert-in-None-clause-put c = grind (arith, common_steps, kept_inserted)
 
 pub returns-in_ok-insert-in-None-clause-undo : goal.returns-in_ok-insert-in-None-clause-undo
-returns-in_ok-insert-in-None-clause-undo c =
-    let alerts = c.args.alerts.now in
-    let labels = c.in_ok-labels.labels in
-    let put : c.insert.new.self.entries ≡ insert_entry same_labels alerts.entries labels c.in_ok-copy.copy = search rules in
-    let none : get same_labels alerts labels ≡ None = search rules in
-    let last = put ∙ insert_entry-new same_labels alerts labels c.in_ok-copy.copy none in
-    let shown : kept_in c.insert.new.self.entries ≡ kept_in alerts.entries ++ c.in_ok-copy.copy ∷ [] = ap kept_in last ∙ map-append (λ (entry : Labels × Alert). entry.1) alerts.entries ((labels, c.in_ok-copy.copy) ∷ []) in
-    ap (λ l. take (length l - 1) l) shown ∙ take_last (kept_in alerts.entries) c.in_ok-copy.copy
+returns-in_ok-insert-in-None-clause-undo c = grind (arith, common_steps, insert_entry-new, map-append, take_last)
 
 pub returns-in_ok-insert-in-None-clause-kept : goal.returns-in_ok-insert-in-None-clause-kept
-returns-in_ok-insert-in-None-clause-kept c =
-    let entries = c.args.alerts.now.entries in
-    let labels = c.in_ok-labels.labels in
-    let own : c.in_ok-copy.copy.labels ≡ labels = ap (λ (a : Alert). a.labels) c.in_ok-copy.ensures ∙ sym c.in_ok-labels.ensures in
-    let put : c.insert.new.self.entries ≡ insert_entry same_labels entries labels c.in_ok-copy.copy = search rules in
-    subst AreKeyedByLabels (sym put) (still_kept entries labels c.in_ok-copy.copy c.requires own)
+returns-in_ok-insert-in-None-clause-kept c = grind (arith, common_steps, still_kept)

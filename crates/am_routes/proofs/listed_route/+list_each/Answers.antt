@@ -1,7 +1,6 @@
-use Rattle.std.proofs.Common.{rules, ◌≡◌, ◌++◌, ◌+◌, ◌<◌, length, [], ◌∷◌, sym, ap, subst, ◌∙◌, arith, length-append}
-use Rattle.am_config.specs.declared.route.Route.{Route}
-use Rattle.am_config.specs.Routes.{count_of}
-use Rattle.am_config.specs.RouteLists.{forest_of, route_view}
+use Rattle.std.proofs.Common.{rules, ◌≡◌, ◌++◌, ◌+◌, length, [], ◌∷◌, ap, ◌∙◌, arith, length-append}
+use Rattle.std.proofs.lemmas.Grind.{common_steps}
+use Rattle.am_config.specs.RouteLists.{route_view}
 use Rattle.am_routes.specs.Listings.{listed, listed_from}
 use Rattle.am_routes.specs.declared.listed_route.ListedRoute.{ListedRoute}
 use Rattle.am_routes.proofs.Searching.{count-below}
@@ -9,14 +8,7 @@ use Rattle.am_routes.proofs.Listings.{listed-one}
 use Rattle.am_routes.proofs.listed_route.+list_each.Goals as goal
 
 pub list_each-requires : goal.list_each-requires
-list_each-requires t c =
-    let r = c.route-item.result in
-    let rs = c.args.routes.now in
-    let fewer : count_of r.children < count_of (forest_of rs) = subst (λ (one : Route). count_of one.children < count_of (forest_of rs)) (sym c.route-item.is) (count-below rs c.loop-route.route-index r (omega arith)) in
-    let e : count_of (forest_of c.as_slice.result.now) ≡ count_of r.children = ap count_of c.as_slice.ensures in
-    let d : count_of (forest_of rs) ≡ t = c.decreases in
-    let falls : count_of (forest_of c.as_slice.result.now) < t = omega arith in
-    (falls, search rules)
+list_each-requires t c = grind (arith, common_steps, count-below)
 
 pub loop-route-preserved : goal.loop-route-preserved
 loop-route-preserved t c =

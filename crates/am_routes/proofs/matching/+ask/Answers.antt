@@ -1,7 +1,7 @@
-use Rattle.std.proofs.Common.{rules, ◌≡◌, ◌++◌, ◌∷◌, [], ℕ, ◌+◌, ◌*◌, ◌<◌, ◌≤◌, Bool, true, false, not, ◌&&◌, None, Some, Ok, Err, Result, List, Option, length, get_or, min, refl, sym, ap, subst, ◌∙◌, arith}
+use Rattle.std.proofs.Common.{rules, ◌≡◌, ◌++◌, ◌∷◌, [], ℕ, ◌+◌, ◌*◌, ◌<◌, ◌≤◌, Bool, true, false, not, ◌&&◌, None, Some, List, Option, length, get_or, min, refl, sym, ap, subst, ◌∙◌, arith}
+use Rattle.std.proofs.lemmas.Grind.{common_steps}
 use Rattle.std.proofs.lemmas.List.{append_assoc, append-nil, length-map}
 use Rattle.std.specs.Option.{IfSome}
-use Rattle.std.specs.Result.{OnOk}
 use Rattle.am_config.specs.declared.route.Route.{Route}
 use Rattle.am_config.specs.Routes.{RouteView, Forest, no_routes, count_of}
 use Rattle.am_config.specs.RouteLists.{route_view, forest_of}
@@ -11,14 +11,10 @@ use Rattle.am_routes.specs.declared.candidates.Child.{Child}
 use Rattle.am_routes.specs.declared.child_entry.ChildEntry.{ChildEntry}
 use Rattle.am_routes.specs.RouteAnswers.{answer_of}
 use Rattle.am_routes.specs.Looking.{looked_from, routes_looked_at}
-use Rattle.am_routes.specs.inside.ChildIndexes.{CandidatesView, child_view_of, IsChildOf, IsNextChild, is_nil, other_matchers}
-use Rattle.am_routes.specs.inside.Searches.{node_of, nodes_in, others_of, in_pre_order, BeginAt}
-use Rattle.am_routes.proofs.Searching.{search-first, search-bound, search-below, others-decide, child-begins, child-fewer, drop-none, answer-first, pending_answer, pending_looked, pending_count, IsPending, some-left, next-answer, next-looked, next-pending, next-fewer, answer-stops, answer-goes_on, looked-stops, looked-goes_on, own-kept, leaf-itself, leaf-looked, answer-fails, looked-fails}
+use Rattle.am_routes.specs.inside.ChildIndexes.{CandidatesView, child_view_of, IsChildOf, IsNextChild, other_matchers}
+use Rattle.am_routes.specs.inside.Searches.{nodes_in, others_of, in_pre_order, BeginAt}
+use Rattle.am_routes.proofs.Searching.{search-first, search-bound, search-below, others-decide, child-begins, child-fewer, drop-none, answer-first, pending_answer, pending_looked, pending_count, IsPending, some-left, next-answer, next-looked, next-pending, next-fewer, answer-stops, answer-goes_on, looked-stops, looked-goes_on, own-kept, answer-fails, looked-fails}
 use Rattle.am_routes.proofs.matching.+ask.Goals as goal
-
-on_ok : {A E P Q : Type 0} (o : Result A E) → (P → Q) → OnOk o P → OnOk o Q
-on_ok (Ok x) step is = step is
-on_ok (Err e) step is = tt
 
 -- what is kept of each route of a tree, of a route below the one that is asked
 child_at : {X : Type 0} (of : RouteView → Forest → X) (number : ℕ) (r : Route) (child : Child) (all now : List X) → BeginAt number (in_pre_order of (forest_of (r ∷ []))) all → now ≡ all → IsChildOf r.children child
@@ -74,21 +70,14 @@ ask_below-overflow_add-at t c =
     let pending = subst (IsPending c.args.labels.now c.args.route.now.children) c.in-Some.is c.loop-next.invariant.pending in
     let begins = child_at other c.args.number c.args.route.now child c.args.others.now c.loop-next.others c.requires.others c.loop-next.invariant.same pending.0 in
     let bound : c.args.number + child.entry.offset + 1 + count_of r.children ≤ length c.loop-next.others = search-bound other (c.args.number + child.entry.offset) (route_view r) r.children no_routes c.loop-next.others begins in
-    let early : c.args.number + child.entry.offset < length c.loop-next.others = omega arith in
     search rules
 
 pub ask_below-others_admit-requires : goal.ask_below-others_admit-requires
 ask_below-others_admit-requires t c =
     let child = c.in-Some.child in
-    let r = child.route.now in
     let pending = subst (IsPending c.args.labels.now c.args.route.now.children) c.in-Some.is c.loop-next.invariant.pending in
     let begins = child_at other c.args.number c.args.route.now child c.args.others.now c.loop-next.others c.requires.others c.loop-next.invariant.same pending.0 in
-    let bound : c.args.number + child.entry.offset + 1 + count_of r.children ≤ length c.loop-next.others = search-bound other (c.args.number + child.entry.offset) (route_view r) r.children no_routes c.loop-next.others begins in
-    record {
-      within = omega arith;
-      settled = ap (λ (e : ChildEntry). e.is_settled) pending.0.1
-          ∙ ap is_nil (sym (search-first other (c.args.number + child.entry.offset) (route_view r) r.children no_routes c.loop-next.others begins []));
-    }
+    grind (arith, common_steps, search-first)
 
 pub ask_below-ask-requires : goal.ask_below-ask-requires
 ask_below-ask-requires t c =
@@ -139,11 +128,7 @@ ask_below-loop-next-smaller-then-child t c =
     subst (λ one. pending_count f after < pending_count f one) (sym c.in-Some.is) (next-fewer labels f child after pending.0 next)
 
 pub ask_below-loop-next-smaller : goal.ask_below-loop-next-smaller
-ask_below-loop-next-smaller t c =
-    let child = c.in-Some.child in
-    let f = c.args.route.now.children in
-    let pending = subst (IsPending c.args.labels.now f) c.in-Some.is c.loop-next.invariant.pending in
-    subst (λ next. 0 < pending_count f next) (sym c.in-Some.is) (some-left f child pending.0)
+ask_below-loop-next-smaller t c = grind (arith, common_steps, pending_count, some-left)
 
 pub ask_below-loop-next-preserved-then-not-others_admit : goal.ask_below-loop-next-preserved-then-not-others_admit
 ask_below-loop-next-preserved-then-not-others_admit t c =
@@ -215,64 +200,7 @@ ask_below-loop-next-preserved-then-child t c =
 
 pub ask_below-loop-next-preserved : goal.ask_below-loop-next-preserved
 ask_below-loop-next-preserved t c =
-    let labels = c.args.labels.now in
-    let number = c.args.number in
-    let child = c.in-Some.child in
-    let r = child.route.now in
-    let f = c.args.route.now.children in
-    let d : List MatcherView = [] in
-    let pending = subst (IsPending labels f) c.in-Some.is c.loop-next.invariant.pending in
-    let others : c.others_admit.new.others ≡ c.loop-next.others = c.others_admit.ensures.same in
-    let admits : all_admitted r.matchers labels ≡ true =
-    child_matches number c.args.route.now child labels c.args.others.now c.loop-next.others d c.requires.others c.loop-next.invariant.same pending
-    ∙ (sym c.others_admit.ensures.answer ∙ c.if-not-others_admit.false) in
-    let last : r.continues ≡ false = sym (ap (λ (e : ChildEntry). e.continues) pending.0.1) ∙ c.if-child.false in
-    let old = nodes_in c.loop-next.found.routes.items in
-    let stops = answer-stops labels number f child pending.0 admits last in
-    let both : (all_admitted r.matchers labels && not r.continues) ≡ true = ap (λ b. b && not r.continues) admits ∙ ap not last in
-    let counted : pending_looked labels f (Some child) ≡ 1 + routes_looked_at labels (forest_of (r ∷ [])) = looked-stops labels number f child pending.0 pending.1 both in
-    let before : min (c.loop-next.found.looked + pending_looked labels f (Some child)) 18446744073709551615 ≡ min (c.args.found.now.looked + looked_from labels f) 18446744073709551615 =
-    ap (λ n. min (c.loop-next.found.looked + pending_looked labels f n) 18446744073709551615) (sym c.in-Some.is) ∙ c.loop-next.invariant.looked in
-    let asked : min c.ask.new.found.looked 18446744073709551615 ≡ min (c.saturating_add-found.result + routes_looked_at labels (forest_of (r ∷ []))) 18446744073709551615 = c.in_ok-ask.ensures.looked in
-    let one : c.saturating_add-found.result ≡ min (c.loop-next.found.looked + 1) 18446744073709551615 = c.saturating_add-found.ensures in
-    record {
-      pending = tt;
-      left = tt;
-      found = append-nil (nodes_in c.ask.new.found.routes.items)
-          ∙ (c.in_ok-ask.ensures.found
-          ∙ (ap (λ l. old ++ l) (sym stops)
-          ∙ (ap (λ n. old ++ pending_answer labels number f n) (sym c.in-Some.is) ∙ c.loop-next.invariant.found)));
-      looked = omega (arith, counted, before, asked, one);
-      same = c.in_ok-ask.ensures.same ∙ (others ∙ c.loop-next.invariant.same);
-    }
+    search (rules, child_matches, answer-stops, pending_looked, looked-stops, append-nil, pending_answer)
 
 pub ask_below-returns-else-len-had-clause-found : goal.ask_below-returns-else-len-had-clause-found
-ask_below-returns-else-len-had-clause-found t c =
-    let labels = c.args.labels.now in
-    let number = c.args.number in
-    let r = c.args.route.now in
-    let old = c.args.found.now.routes in
-    let new = c.loop-next.found.routes in
-    let none : c.loop-next.next ≡ None = search rules in
-    let found : nodes_in new.items ≡ nodes_in old.items ++ answer_of labels (number + 1) r.children =
-    sym (append-nil (nodes_in new.items)) ∙ (ap (λ n. nodes_in new.items ++ pending_answer labels number r.children n) (sym none) ∙ c.loop-next.invariant.found) in
-    let long_new : length (nodes_in new.items) ≡ c.len.result = length-map new.items node_of ∙ (sym new.ok.0 ∙ sym c.len.ensures) in
-    let long_old : length (nodes_in old.items) ≡ c.len-had.result = length-map old.items node_of ∙ (sym old.ok.0 ∙ sym c.len-had.ensures) in
-    own-kept labels number r (nodes_in old.items) (nodes_in new.items) found c.requires.matches (λ e. c.if-len-had.false (sym long_new ∙ (e ∙ long_old)))
-
-pub ask-returns-then-is_leaf-clause-found : goal.ask-returns-then-is_leaf-clause-found
-ask-returns-then-is_leaf-clause-found t c =
-    let labels = c.args.labels.now in
-    let r = c.args.route.now in
-    let leaf = sym c.requires.leaf ∙ c.if-is_leaf.true in
-    on_ok c.add.result (λ added. added ∙ ap (λ l. nodes_in c.args.found.now.routes.items ++ l) (sym (leaf-itself labels c.args.number r leaf c.requires.matches))) c.add.ensures.added
-
-pub ask-returns-then-is_leaf-clause-looked : goal.ask-returns-then-is_leaf-clause-looked
-ask-returns-then-is_leaf-clause-looked t c =
-    let labels = c.args.labels.now in
-    let r = c.args.route.now in
-    let leaf = sym c.requires.leaf ∙ c.if-is_leaf.true in
-    let none : routes_looked_at labels (forest_of (r ∷ [])) ≡ 0 = leaf-looked labels r leaf in
-    let old = c.args.found.now.looked in
-    let here : old ≡ old + routes_looked_at labels (forest_of (r ∷ [])) = omega (arith, none) in
-    on_ok c.add.result (λ looked. ap (λ n. min n 18446744073709551615) (looked ∙ here)) c.add.ensures.looked
+ask_below-returns-else-len-had-clause-found t c = grind (arith, common_steps, append-nil, pending_answer, length-map, own-kept)

@@ -1,6 +1,6 @@
-use Rattle.std.proofs.Common.{◌≡◌, ◌++◌, ◌∷◌, [], ◌+◌, ◌-◌, ◌<◌, length, take, set, sym, ap, subst, ◌∙◌, arith, length-append}
+use Rattle.std.proofs.Common.{◌≡◌, ◌++◌, ◌∷◌, [], ◌+◌, ◌-◌, length, take, sym, ap, ◌∙◌, arith, length-append}
+use Rattle.std.proofs.lemmas.Grind.{common_steps}
 use Rattle.std.proofs.lemmas.List.{append_assoc, append-nil, take_all}
-use Rattle.am_config.specs.declared.route.Route.{Route}
 use Rattle.am_config.specs.Routes.{Forest, RouteView, count_of}
 use Rattle.am_config.specs.RouteLists.{forest_of}
 use Rattle.am_routes.specs.inside.ChildIndexes.{offsets_from, other_matchers}
@@ -10,14 +10,7 @@ use Rattle.am_routes.proofs.Searching.{count-below, length-in_pre_order, in_pre_
 use Rattle.am_routes.proofs.matching.+prepare.Goals as goal
 
 pub prepare-requires : goal.prepare-requires
-prepare-requires t c =
-    let rs = c.as_slice-children.result.now in
-    let r = c.child-item.result in
-    let all : count_of (forest_of rs) ≡ count_of c.args.route.now.children = ap count_of c.as_slice-children.ensures in
-    let fewer : count_of r.children < count_of (forest_of rs) = subst (λ (one : Route). count_of one.children < count_of (forest_of rs)) (sym c.child-item.is) (count-below rs c.loop-child.child-index r (omega arith)) in
-    let d : count_of c.args.route.now.children ≡ t = c.decreases in
-    let falls : count_of r.children < t = omega arith in
-    (falls, tt)
+prepare-requires t c = grind (arith, common_steps, count-below)
 
 pub loop-child-preserved : goal.loop-child-preserved
 loop-child-preserved t c =
@@ -53,18 +46,4 @@ loop-child-preserved t c =
     }
 
 pub returns-clause-levels : goal.returns-clause-levels
-returns-clause-levels t c =
-    let rs = c.as_slice-children.result.now in
-    let i = c.loop-child.child-index in
-    let f = c.args.route.now.children in
-    let before = c.args.searches.now.levels.items in
-    let none = c.none.result in
-    let number = c.len-number.result in
-    let whole : forest_of (take i rs) ≡ f = ap forest_of (take_all i rs (omega arith)) ∙ c.as_slice-children.ensures in
-    let all : c.loop-child.searches.levels.items ≡ (before ++ none ∷ []) ++ levels_of f =
-    c.loop-child.invariant.levels ∙ (ap (λ l. l ++ levels_of (forest_of (take i rs))) c.in_ok-push.ensures.items ∙ ap (λ f. (before ++ none ∷ []) ++ levels_of f) whole) in
-    let index : c.in_ok-searches.field-0 ≡ f = c.in_ok-searches.ensures ∙ c.as_slice-children.ensures in
-    ap (set c.loop-child.searches.levels.items number) index
-    ∙ (ap (λ l. set l number f) all
-    ∙ (level-written before none f number (c.len-number.ensures ∙ c.args.searches.now.levels.ok.0)
-    ∙ ap (λ l. before ++ (f ∷ l)) (sym (append-nil (levels_of f)))))
+returns-clause-levels t c = grind (arith, common_steps, take_all, level-written, append-nil)

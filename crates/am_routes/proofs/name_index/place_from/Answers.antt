@@ -1,4 +1,5 @@
-use Rattle.std.proofs.Common.{rules, ◌≡◌, ℕ, ◌<◌, true, false, Option, None, Some, List, Bor, is_some, length, get_or, ltb, nat_le, arith, sym, ap, ◌∙◌}
+use Rattle.std.proofs.Common.{rules, ◌≡◌, ℕ, true, false, Option, None, Some, List, Bor, is_some, length, get_or, ltb, nat_le, arith, sym, ◌∙◌}
+use Rattle.std.proofs.lemmas.Grind.{common_steps}
 use Rattle.std.specs.List.{slice_get}
 use Rattle.std.specs.Option.{option_copied, IfSome}
 use Rattle.std.proofs.lemmas.Option.{slice_get_past, slice_get-get_or}
@@ -14,9 +15,7 @@ above a b h = grind arith
 
 read : (xs : List ℕ) (at : ℕ) (o : Option (Bor ℕ)) → is_some o ≡ ltb at (length xs) → IfSome o (λ x. x.now ≡ get_or xs at x.now) → option_copied o ≡ slice_get xs at
 read xs at None some value = sym (slice_get_past xs at (grind arith))
-read xs at (Some x) some value =
-    let early : at < length xs = grind arith in
-    ap (λ n. Some n) value ∙ sym (slice_get-get_or xs at x.now early)
+read xs at (Some x) some value = grind (arith, common_steps, slice_get-get_or)
 
 pub returns : goal.returns
 returns c = λ rising.

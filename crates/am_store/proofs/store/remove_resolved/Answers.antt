@@ -17,8 +17,7 @@ pub returns-clause-kept : goal.returns-clause-kept
 returns-clause-kept c = subst AreKeptByLabels (sym (left c)) (kept_filtered (λ alert. not (is_resolved_at c.args.now alert)) c.args.alerts.now.entries c.requires)
 
 pub returns-clause-store : goal.returns-clause-store
-returns-clause-store c =
-    ap stored_in (left c) ∙ stored_filtered (λ alert. not (is_resolved_at c.args.now alert)) c.args.alerts.now.entries
+returns-clause-store c = search (rules, left, stored_filtered)
 
 pub returns-clause-removed : goal.returns-clause-removed
 returns-clause-removed c =

@@ -1,9 +1,9 @@
-use Rattle.std.proofs.Common.{◌≡◌, ◌≤◌, ◌∙◌, drop, length, List, Option, ap, sym, rules}
+use Rattle.std.proofs.Common.{◌≡◌, ◌≤◌, ◌∙◌, drop, length, List, Option, ap, sym, rules, arith}
+use Rattle.std.proofs.lemmas.Grind.{common_steps}
 use Rattle.std.specs.Duration.{as_nanos}
 use Rattle.std.proofs.lemmas.List.{drop_all}
 use Rattle.std.proofs.lemmas.List.Elements.{All-weaker}
 use Rattle.am_alert.specs.Posts.{entries_of, postables_of}
-use Rattle.am_alert.specs.ValidAlerts.{IsWellFormed}
 use Rattle.am_alert.specs.declared.postable.Postable.{Postable}
 use Rattle.am_alert.proofs.Arrays.{all_read, as_many}
 use Rattle.am_alert.proofs.ValidAlerts.{are_told}
@@ -24,8 +24,4 @@ invariant_of-result c =
     let same = ap (λ (given : List (Option Postable)). entries_of c.args.now timeout 0 given) all in
     let told = are_told c.args.now timeout 0 ds (valid, faults) (sym same ∙ reads) in
     let many = as_many ds in
-    record {
-      few = search (rules, many, told);
-      well_formed = All-weaker (λ alert. IsWellFormed alert × (alert.updated ≡ c.args.now)) IsWellFormed (λ alert h. h.0) valid told.valid;
-      rising = told.rising;
-    }
+    grind (arith, common_steps, All-weaker)

@@ -1,4 +1,5 @@
 use Rattle.std.proofs.Common.{◌≡◌, pos, ◌-ℤ◌, arith, ap, ◌∙◌}
+use Rattle.std.proofs.lemmas.Grind.{common_steps}
 use Rattle.jiff_core.proofs.SignedLemmas.{signed_arith}
 use Rattle.jiff_core.specs.DateTime.{civil_nanos}
 use Rattle.am_alert.specs.Calendar.{parts_of}
@@ -15,11 +16,4 @@ overflow_cast-result c =
     rw (year_back shown.date.year year same.0 bound) (tt, omega arith)
 
 pub returns : goal.returns
-returns c =
-    let shown = c.to_plain-shown.result in
-    let e : civil_nanos shown ≡ pos c.args.self.now -ℤ pos 62_135_596_800_000_000_000 = ap civil_nanos c.to_plain-shown.ensures ∙ (c.to_datetime.ensures ∙ omega (arith, signed_arith, c.timestamp.ensures)) in
-    let same = parts_same c.args.self.now shown e in
-    let year = (parts_of c.args.self.now).year in
-    let back = year_back shown.date.year year same.0 (year_bound shown.date year same.0) in
-    let time = time_parts shown.time _ same.3 in
-    rw (back, same.1, same.2, time.hour, time.minute, time.second, time.nanosecond)
+returns c = grind (arith, common_steps, signed_arith, parts_same, year_back, year_bound, time_parts)

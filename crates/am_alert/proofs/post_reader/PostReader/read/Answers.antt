@@ -1,4 +1,5 @@
-use Rattle.std.proofs.Common.{List, Option, Ok, Err, subst, arith, rules}
+use Rattle.std.proofs.Common.{List, Option, Err, subst, arith, rules}
+use Rattle.std.proofs.lemmas.Grind.{common_steps}
 use Rattle.std.specs.Prelude.{IsUtf8}
 use Rattle.std.specs.Duration.{as_nanos}
 use Rattle.am_alert.specs.Posts.{entries_of, IsArray, ReadsEach}
@@ -8,12 +9,7 @@ use Rattle.am_alert.proofs.Bodies.{elements_are_read}
 use Rattle.am_alert.proofs.post_reader.PostReader.read.Goals as goal
 
 pub returns-in-Ok : goal.returns-in-Ok
-returns-in-Ok c =
-    let timeout = as_nanos c.args.resolve_timeout in
-    let read : IsUtf8 c.args.bytes.now × IsArrayOf c.args.bytes.now c.in-Some.elements = search rules in
-    let array : IsArray c.args.bytes.now read.1.0 = (omega arith, read.0, read.1.1) in
-    elements_are_read c.args.now timeout c.args.bytes.now read.1.0 (Ok c.in-Ok.post) array read.1.2
-    (subst (λ (elements : List (Option Postable)). ReadsEach (Ok c.in-Ok.post) (entries_of c.args.now timeout 0 elements)) read.1.3 c.in-Ok.ensures)
+returns-in-Ok c = grind (arith, common_steps, elements_are_read)
 
 pub returns-in-Some : goal.returns-in-Some
 returns-in-Some c =

@@ -1,9 +1,7 @@
-use Rattle.std.proofs.Common.{rules, ap, ◌∙◌}
-use Rattle.am_inhibit.specs.inside.Places.{moved_sources}
+use Rattle.std.proofs.Common.{arith}
+use Rattle.std.proofs.lemmas.Grind.{common_steps}
 use Rattle.am_inhibit.proofs.Places.{moved-retained}
 use Rattle.am_inhibit.proofs.source.Sources.sweep.Goals as goal
 
 pub returns : goal.returns
-returns c =
-    moved-retained _ _ c.args.places.now (λ x b g y call. search rules) _ _ c.retain_mut.ensures.filtered
-    ∙ ap (moved_sources c.args.places.now) c.self.view_is
+returns c = grind (arith, common_steps, moved-retained)

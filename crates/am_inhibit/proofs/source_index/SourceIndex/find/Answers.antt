@@ -1,22 +1,18 @@
-use Rattle.std.proofs.Common.{◌≡◌, ◌<◌, ◌≤◌, [], Some, None, filter, length, refl, sym, ap, subst, ◌∙◌, arith}
+use Rattle.std.proofs.Common.{◌≡◌, ◌<◌, ◌≤◌, [], filter, length, refl, sym, ap, subst, ◌∙◌, arith}
+use Rattle.std.proofs.lemmas.Grind.{common_steps}
 use Rattle.std.specs.List.{find, slice_get, All}
-use Rattle.std.specs.Map.{lookup}
-use Rattle.std.specs.Option.{unwrap_or, option_map, option_and_then}
+use Rattle.std.specs.Option.{option_map, option_and_then}
 use Rattle.std.proofs.lemmas.List.{length-map}
 use Rattle.am_alert.specs.declared.alert.Alert.{Alert}
-use Rattle.am_labels.specs.Matchers.{all_admitted}
 use Rattle.am_inhibit.specs.declared.source.Source.{Source}
 use Rattle.am_inhibit.specs.LastAlerts.{label_sets}
 use Rattle.am_inhibit.specs.Muting.{count_to, inhibits, is_candidate}
-use Rattle.am_inhibit.specs.inside.Sources.{same_values}
-use Rattle.am_inhibit.specs.inside.Indexes.{IndexView, values_of, sources_listed, sources_from, source_inhibits}
+use Rattle.am_inhibit.specs.inside.Indexes.{values_of, sources_from, source_inhibits}
 use Rattle.am_inhibit.proofs.Searching.{listed_are, Target, none_candidates, found-first, looked-count, all_within}
 use Rattle.am_inhibit.proofs.source_index.SourceIndex.find.Goals as goal
 
 no_target : (c : goal.Then-not-admits) → filter (is_candidate c.args.self.now.rule c.args.labels.now) c.args.alerts.now ≡ []
-no_target c =
-    none_candidates c.args.self.now.rule c.args.labels.now c.args.alerts.now
-    (ap (λ (i : IndexView). all_admitted i.rule.target c.args.labels.now) (sym c.self.view_is) ∙ sym c.if-not-admits.ensures.answer)
+no_target c = grind (arith, common_steps, none_candidates)
 
 pub returns-then-not-admits-clause-at : goal.returns-then-not-admits-clause-at
 returns-then-not-admits-clause-at c = sym (ap (find (inhibits c.args.self.now.rule c.args.labels.now c.args.now)) (no_target c))
@@ -26,12 +22,7 @@ returns-then-not-admits-clause-looked c = sym (ap (count_to (inhibits c.args.sel
 
 -- the sources that were found
 sources_are : (c : goal.In-Some) → c.in-Some.sources.now ≡ sources_from c.args.self.now.rule (values_of c.args.self.now.rule.equal c.args.labels.now) 0 (label_sets c.args.alerts.now)
-sources_are c =
-    let entries = c.self.inside.sources.entries in
-    let known = ap (λ (i : IndexView). sources_listed c.in_ok-values.values i.entries) c.self.view_is
-    ∙ listed_are c.args.self.now c.args.labels.now (label_sets c.args.alerts.now) c.as_slice.result.now c.in_ok-values.values c.requires (c.as_slice.ensures ∙ ap (λ (i : IndexView). i.rule.equal) c.self.view_is) c.in_ok-values.ensures in
-    let got : Some c.in-Some.sources.now ≡ lookup (same_values c.in_ok-values.values) entries = c.in-Some.ensures.value in
-    ap (λ o. unwrap_or o []) got ∙ known
+sources_are c = grind (arith, common_steps, listed_are)
 
 pub first_muting-requires : goal.first_muting-requires
 first_muting-requires c =
@@ -42,18 +33,10 @@ first_muting-requires c =
     subst (All (λ (source : Source). source.at < length c.args.alerts.now)) (sym (sources_are c)) (all_within rule (values_of rule.equal labels) sets (length c.args.alerts.now) long)
 
 sources_found : (c : goal.After-drop-values-inside) → c.in-Some.sources.now ≡ sources_from c.args.self.now.rule (values_of c.args.self.now.rule.equal c.args.labels.now) 0 (label_sets c.args.alerts.now)
-sources_found c =
-    let entries = c.self.inside.sources.entries in
-    let known = ap (λ (i : IndexView). sources_listed c.in_ok-values.values i.entries) c.self.view_is
-    ∙ listed_are c.args.self.now c.args.labels.now (label_sets c.args.alerts.now) c.as_slice.result.now c.in_ok-values.values c.requires (c.as_slice.ensures ∙ ap (λ (i : IndexView). i.rule.equal) c.self.view_is) c.in_ok-values.ensures in
-    let got : Some c.in-Some.sources.now ≡ lookup (same_values c.in_ok-values.values) entries = c.in-Some.ensures.value in
-    ap (λ o. unwrap_or o []) got ∙ known
+sources_found c = grind (arith, common_steps, listed_are)
 
 target_found : (c : goal.After-drop-values-inside) → Target c.args.self.now.rule c.args.labels.now c.admits-is_source.result
-target_found c = record {
-  target = ap (λ (i : IndexView). all_admitted i.rule.target c.args.labels.now) (sym c.self.view_is) ∙ sym c.if-not-admits.ensures.answer;
-  source = c.admits-is_source.ensures.answer ∙ ap (λ (i : IndexView). all_admitted i.rule.source c.args.labels.now) c.self.view_is;
-}
+target_found c = grind (arith, common_steps)
 
 pub returns-in-Some-clause-at : goal.returns-in-Some-clause-at
 returns-in-Some-clause-at c =
@@ -71,18 +54,10 @@ returns-in-Some-clause-looked c =
     ∙ looked-count c.args.self.now.rule c.args.labels.now c.admits-is_source.result c.args.now alerts (target_found c) 0 alerts refl)
 
 sources_missing : (c : goal.After-drop-values-inside-2) → [] ≡ sources_from c.args.self.now.rule (values_of c.args.self.now.rule.equal c.args.labels.now) 0 (label_sets c.args.alerts.now)
-sources_missing c =
-    let entries = c.self.inside.sources.entries in
-    let known = ap (λ (i : IndexView). sources_listed c.in_ok-values.values i.entries) c.self.view_is
-    ∙ listed_are c.args.self.now c.args.labels.now (label_sets c.args.alerts.now) c.as_slice.result.now c.in_ok-values.values c.requires (c.as_slice.ensures ∙ ap (λ (i : IndexView). i.rule.equal) c.self.view_is) c.in_ok-values.ensures in
-    let got : None ≡ lookup (same_values c.in_ok-values.values) entries = c.in-None.ensures.value in
-    ap (λ o. unwrap_or o []) got ∙ known
+sources_missing c = grind (arith, common_steps, listed_are)
 
 target_missing : (c : goal.After-drop-values-inside-2) → Target c.args.self.now.rule c.args.labels.now c.admits-is_source.result
-target_missing c = record {
-  target = ap (λ (i : IndexView). all_admitted i.rule.target c.args.labels.now) (sym c.self.view_is) ∙ sym c.if-not-admits.ensures.answer;
-  source = c.admits-is_source.ensures.answer ∙ ap (λ (i : IndexView). all_admitted i.rule.source c.args.labels.now) c.self.view_is;
-}
+target_missing c = grind (arith, common_steps)
 
 pub returns-clause-at : goal.returns-clause-at
 returns-clause-at c =

@@ -1,33 +1,15 @@
-use Rattle.std.proofs.Common.{◌≡◌, ◌∙◌, ◌∷◌, ◌++◌, [], ℕ, List, ap, subst, sym, rules}
+use Rattle.std.proofs.Common.{◌≡◌, ◌∷◌, ◌++◌, [], ℕ, List, subst, sym, rules, arith}
+use Rattle.std.proofs.lemmas.Grind.{common_steps}
 use Rattle.std.specs.String.{string_bytes}
-use Rattle.am_labels.specs.declared.pairs.Span.{Span}
-use Rattle.am_labels.specs.inside.Spans.{AreSpansOf, pairs_in}
+use Rattle.am_labels.specs.inside.Spans.{AreSpansOf}
 use Rattle.am_labels.proofs.Spans.{grown_pairs, grown_spans, if_any_err, is_last, last_span, one_more_pair, one_more_span}
 use Rattle.am_labels.proofs.pairs.PairBuffer.push.Goals as goal
 
 pub invariant_of-self-in_err-push_str-2 : goal.invariant_of-self-in_err-push_str-2
-invariant_of-self-in_err-push_str-2 c =
-    let was = string_bytes c.self.inside.text in
-    let name = c.args.name.now in
-    let spans = c.self.inside.spans.items in
-    let text : string_bytes c.push_str-2.new.self ≡ was ++ name = search rules in
-    let kept : c.reserve.new.self.items ≡ spans = search rules in
-    let grown = grown_spans was name spans c.utf8.name c.self.invariant in
-    subst (λ (bytes : List ℕ). AreSpansOf bytes c.reserve.new.self.items) (sym text) (subst (AreSpansOf (was ++ name)) (sym kept) grown)
+invariant_of-self-in_err-push_str-2 c = search (rules, grown_spans)
 
 pub returns-in_err-push_str-2-clause-kept : goal.returns-in_err-push_str-2-clause-kept
-returns-in_err-push_str-2-clause-kept c =
-    let was = string_bytes c.self.inside.text in
-    let name = c.args.name.now in
-    let spans = c.self.inside.spans.items in
-    let text : string_bytes c.push_str-2.new.self ≡ was ++ name = search rules in
-    let kept : c.reserve.new.self.items ≡ spans = search rules in
-    let same : pairs_in (string_bytes c.push_str-2.new.self) c.reserve.new.self.items ≡ c.args.self.now =
-    ap (λ (bytes : List ℕ). pairs_in bytes c.reserve.new.self.items) text
-    ∙ ap (pairs_in (was ++ name)) kept
-    ∙ grown_pairs was name spans c.self.invariant
-    ∙ c.self.view_is in
-    if_any_err c.from_residual-in_err-push_str-2.result same
+returns-in_err-push_str-2-clause-kept c = grind (arith, common_steps, grown_pairs, if_any_err)
 
 pub invariant_of-self-2 : goal.invariant_of-self-2
 invariant_of-self-2 c =
@@ -42,14 +24,4 @@ invariant_of-self-2 c =
     subst (λ (bytes : List ℕ). AreSpansOf bytes c.push.new.self.items) (sym text) (subst (AreSpansOf ((was ++ name) ++ value)) (sym pushed) all)
 
 pub returns-clause-pushed : goal.returns-clause-pushed
-returns-clause-pushed c =
-    let was = string_bytes c.self.inside.text in
-    let name = c.args.name.now in
-    let value = c.args.value.now in
-    let spans = c.self.inside.spans.items in
-    let text : string_bytes c.push_str-2.new.self ≡ (was ++ name) ++ value = search rules in
-    let pushed : c.push.new.self.items ≡ spans ++ last_span was name value ∷ [] = search rules in
-    ap (λ (bytes : List ℕ). pairs_in bytes c.push.new.self.items) text
-    ∙ ap (λ (all : List Span). pairs_in ((was ++ name) ++ value) all) pushed
-    ∙ one_more_pair was name value spans c.utf8.name c.utf8.value c.self.invariant
-    ∙ ap (λ (pairs : List (List ℕ × List ℕ)). pairs ++ (name, value) ∷ []) c.self.view_is
+returns-clause-pushed c = search (rules, last_span, one_more_pair)

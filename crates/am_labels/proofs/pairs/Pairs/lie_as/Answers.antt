@@ -1,8 +1,6 @@
-use Rattle.std.proofs.Common.{◌≡◌, ◌∙◌, ◌∷◌, [], Bool, true, List, ℕ, ap, arith, refl, sym, rules}
-use Rattle.std.specs.Cmp.{unsigned_Decides}
-use Rattle.std.specs.Cmp.Lexicographic.{pointwise_decides}
+use Rattle.std.proofs.Common.{◌≡◌, ◌∙◌, ◌∷◌, [], Bool, true, List, ap, arith, refl, rules}
+use Rattle.std.proofs.lemmas.Grind.{common_steps}
 use Rattle.std.proofs.lemmas.Bool.{and_parts}
-use Rattle.am_labels.specs.inside.Spans.{pairs_in}
 use lib.Pointwise.{pointwise}
 use Rattle.am_labels.proofs.pairs.Pairs.lie_as.Goals as goal
 
@@ -16,12 +14,4 @@ one_by_one E only (x ∷ xs) (y ∷ ys) h =
     ap (λ z. z ∷ xs) (only x y parts.0) ∙ ap (λ zs. y ∷ zs) (one_by_one E only xs ys parts.1)
 
 pub returns-then-eq : goal.returns-then-eq
-returns-then-eq c taken =
-    let spans : c.self.inside.spans.now ≡ c.others.inside.spans.now =
-    one_by_one _ (λ a b h. grind arith) c.self.inside.spans.now c.others.inside.spans.now (sym c.eq-then-eq.ensures ∙ search rules) in
-    let text : c.self.inside.text.now ≡ c.others.inside.text.now =
-    (pointwise_decides unsigned_Decides _ _).0 (search rules) in
-    sym c.self.view_is
-    ∙ ap (λ (bytes : List ℕ). pairs_in bytes c.self.inside.spans.now) text
-    ∙ ap (pairs_in c.others.inside.text.now) spans
-    ∙ c.others.view_is
+returns-then-eq c taken = grind (arith, common_steps, one_by_one)

@@ -1,9 +1,10 @@
-use Rattle.std.proofs.Common.{◌≡◌, ◌++◌, ◌∷◌, [], ◌+◌, ◌<◌, ◌||◌, length, get_or, take, length-drop, sym, ap, subst, ◌∙◌, arith}
-use Rattle.std.proofs.lemmas.List.{append_assoc, append-nil, take_all, take_more, get_or-drop, take-append-drop}
+use Rattle.std.proofs.Common.{◌≡◌, ◌++◌, ◌+◌, length, get_or, take, length-drop, sym, ap, subst, ◌∙◌, arith}
+use Rattle.std.proofs.lemmas.Grind.{common_steps}
+use Rattle.std.proofs.lemmas.List.{append-nil, take_all, get_or-drop, take-append-drop}
 use Rattle.std.specs.List.{slice_get}
 use Rattle.am_labels.specs.LabelSets.{value_of}
 use Rattle.am_routes.specs.Looking.{may_match}
-use Rattle.am_routes.specs.inside.ChildIndexes.{filings, is_filed, is_kept, is_met, is_unfiled, CandidatesView, AreLeftOf, IsFirstFrom, IsIndexOf, earlier}
+use Rattle.am_routes.specs.inside.ChildIndexes.{filings, is_filed, is_kept, is_met, is_unfiled, CandidatesView, AreLeftOf, IsFirstFrom, IsIndexOf}
 use Rattle.am_routes.proofs.ChildIndexes.{all_by-get, first-alike, first-either, first-left, met-more, met-may_match}
 use Rattle.am_routes.proofs.candidates.Candidates.first_place.Goals as goal
 
@@ -31,21 +32,15 @@ loop-index-preserved c =
     let i = c.loop-index.index-index in
     let index = c.index-item.result in
     let name = index.name.now in
-    let early : i < length items = omega arith in
     let kept : AreLeftOf v.labels v.from v.routes c.self.inside.entries.now c.self.inside.unfiled.now c.self.inside.filed.now names =
     subst (λ (v : CandidatesView). AreLeftOf v.labels v.from v.routes c.self.inside.entries.now c.self.inside.unfiled.now c.self.inside.filed.now names) c.self.view_is c.self.invariant in
     let is : IsIndexOf all index = subst (IsIndexOf all) (sym (c.index-item.is ∙ (ap (λ l. get_or l i index) c.others-index-items.ensures ∙ get_or-drop 1 names i index))) (all_by-get (IsIndexOf all) names (1 + i) index kept.3.0 (omega (arith, ap length c.others-index-items.ensures, length-drop 1 names))) in
     let before = take 1 names ++ take i items in
-    let more : take 1 names ++ take (i + 1) items ≡ before ++ index ∷ [] =
-    ap (λ l. take 1 names ++ l) (take_more items i index early ∙ ap (λ one. take i items ++ one ∷ []) (sym c.index-item.is))
-    ∙ sym (append_assoc (take 1 names) (take i items) (index ∷ [])) in
     let own = is_filed name (value_of v.labels name) in
     let next : IsFirstFrom own v.from all c.next.result =
     subst (λ (v : CandidatesView). IsFirstFrom (is_filed name (value_of v.labels name)) v.from all c.next.result) c.self.view_is (c.next.ensures all is) in
     let both = first-either (is_met v.labels before) own v.from all c.loop-index.first c.next.result c.loop-index.invariant next in
-    subst (IsFirstFrom (is_met v.labels (take 1 names ++ take (i + 1) items)) v.from all) (sym c.earlier-first-in-loop-index.ensures)
-    (first-alike (λ filing. is_met v.labels before filing || own filing) (is_met v.labels (take 1 names ++ take (i + 1) items)) v.from all (earlier c.loop-index.first c.next.result)
-    (λ k filing got. met-more v.labels before index filing ∙ ap (λ l. is_met v.labels l filing) (sym more)) both)
+    grind (arith, common_steps, first-alike, met-more)
 
 pub returns : goal.returns
 returns c =

@@ -1,18 +1,16 @@
-use Rattle.std.proofs.Common.{rules, ◌≡◌, ◌<◌, ℕ, false, List, Some, length, get_or, sym, ap, subst, ◌∙◌, arith, slice_get}
+use Rattle.std.proofs.Common.{rules, ◌≡◌, ◌<◌, ℕ, false, List, Some, length, get_or, sym, ap, subst, ◌∙◌, arith}
+use Rattle.std.proofs.lemmas.Grind.{common_steps}
 use Rattle.std.proofs.lemmas.Option.{slice_get_within}
 use Rattle.am_config.specs.declared.route.Route.{Route}
 use Rattle.am_config.specs.RouteLists.{forest_of}
 use Rattle.am_routes.specs.declared.child_entry.ChildEntry.{ChildEntry}
 use Rattle.am_routes.specs.Looking.{may_match}
-use Rattle.am_routes.specs.inside.ChildIndexes.{children_from, child_entry_of, entries_from, filings, CandidatesView, IsFirstFrom}
+use Rattle.am_routes.specs.inside.ChildIndexes.{entries_from, filings, CandidatesView, IsFirstFrom}
 use Rattle.am_routes.proofs.ChildIndexes.{child-at, get_or-default, length-filings, length-entries, left-after, seen}
 use Rattle.am_routes.proofs.candidates.Candidates.next.Goals as goal
 
 within : (v : CandidatesView) (rs : List Route) (at : ℕ) → forest_of rs ≡ v.routes → IsFirstFrom (may_match v.labels) v.from (filings v.routes) (Some at) → at < length rs
-within v rs at is first =
-    let early : at < length (filings v.routes) = slice_get_within (filings v.routes) at first.1.0 first.1.1 in
-    let long : length (filings v.routes) ≡ length rs = ap (λ f. length (filings f)) (sym is) ∙ length-filings rs in
-    omega arith
+within v rs at is first = grind (arith, common_steps, slice_get_within, length-filings)
 
 pub overflow_add-self : goal.overflow_add-self
 overflow_add-self c =
@@ -23,7 +21,6 @@ pub offset_bounds-self-inside-at : goal.offset_bounds-self-inside-at
 offset_bounds-self-inside-at c =
     let rs = c.self.inside.routes.now in
     let early : c.in_ok-at.at < length rs = within c.args.self.now rs c.in_ok-at.at (ap (λ (v : CandidatesView). v.routes) c.self.view_is) c.in_ok-at.ensures in
-    let within : c.in_ok-at.at < length c.self.inside.entries.now = omega (arith, ap length c.self.invariant.0, length-entries 1 rs) in
     search rules
 
 pub bounds-self-inside-at : goal.bounds-self-inside-at
@@ -60,10 +57,5 @@ returns-clause-next c =
     let none : ChildEntry = record { offset = 0; is_settled = false; is_leaf = false; continues = false } in
     let own = get_or entries at none in
     let comes : own ≡ get_or (entries_from 1 (forest_of rs)) at own = get_or-default entries at none own long ∙ ap (λ l. get_or l at own) c.self.invariant.0 in
-    let one = child-at 1 rs at r own early c.index-self-at.is comes in (
-      c.in_ok-at.ensures,
-      (
-        ap (λ f. slice_get (children_from 1 f) at) (sym routes) ∙ (one.0 ∙ ap (λ (r : Route). Some (seen own.offset r)) c.index-self-at.is),
-        one.1 ∙ ap (λ (r : Route). child_entry_of (seen own.offset r)) c.index-self-at.is,
-      ),
-    )
+    let one = child-at 1 rs at r own early c.index-self-at.is comes in
+    grind (arith, common_steps, seen)

@@ -1,8 +1,8 @@
-use Rattle.std.proofs.Common.{◌≡◌, [], ◌∷◌, ◌++◌, not, filter, sym, ap, ◌∙◌}
-use Rattle.std.specs.List.{count_by}
+use Rattle.std.proofs.Common.{◌≡◌, [], ◌∷◌, ◌++◌, not, filter, sym, ap, ◌∙◌, arith}
+use Rattle.std.proofs.lemmas.Grind.{common_steps}
 use Rattle.am_routes.specs.Groups.{GroupView, is_empty}
 use Rattle.am_routes.specs.inside.GroupMaps.{groups_in}
-use Rattle.am_routes.specs.Groups.{DispatcherView, Sweep, groups_of, removed_groups}
+use Rattle.am_routes.specs.Groups.{DispatcherView, Sweep, groups_of}
 use Rattle.am_routes.specs.inside.GroupLists.{swept}
 use Rattle.am_routes.proofs.GroupMaps.{swept-filter, empties-count}
 use Rattle.am_routes.proofs.Groups.{groups-sweep}
@@ -25,9 +25,4 @@ returns-clause-swept c =
     )
 
 pub returns-clause-groups : goal.returns-clause-groups
-returns-clause-groups c =
-    let now = c.args.now in
-    let groups : groups_in c.self.inside.groups.entries ≡ c.args.self.now.groups = ap (λ (d : DispatcherView). d.groups) c.self.view_is in
-    c.remove_empty-groups.ensures.removed
-    ∙ (ap (count_by (λ (group : GroupView). is_empty group.alerts)) c.remove_resolved-alerts.ensures.left
-    ∙ (empties-count now (groups_in c.self.inside.groups.entries) ∙ ap (removed_groups now) groups))
+returns-clause-groups c = grind (arith, common_steps, empties-count)

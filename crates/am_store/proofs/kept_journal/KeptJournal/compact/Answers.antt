@@ -1,15 +1,10 @@
-use Rattle.std.proofs.Common.{◌≡◌, length, sym, ap, ◌∙◌, arith}
-use Rattle.am_store.specs.Journal.{journal_of, first_calls}
-use Rattle.am_store.specs.Stored.{updates, stored}
-use Rattle.am_store.specs.KeptJournals.{KeptView}
+use Rattle.std.proofs.Common.{◌≡◌, length, arith}
+use Rattle.std.proofs.lemmas.Grind.{common_steps}
 use Rattle.am_store.proofs.KeptJournals.{stored_same, held_legal, kept_dropped}
 use Rattle.am_store.proofs.kept_journal.KeptJournal.compact.Goals as goal
 
 pub drop_first-requires-clause-store : goal.drop_first-requires-clause-store
-drop_first-requires-clause-store c =
-    let all : length c.self.inside.held.calls.items ≡ c.len-count.result = omega (arith, c.len-count.ensures, c.self.inside.held.calls.ok.0) in
-    stored_same _ _ c.self.inside.held c.self.invariant c.args.store (c.requires ∙ ap (λ (v : KeptView). stored (updates v.journal)) (sym c.self.view_is))
-    ∙ ap (λ n. stored (updates (first_calls n (journal_of c.self.inside.held)))) all
+drop_first-requires-clause-store c = grind (arith, common_steps, stored_same)
 
 pub drop_first-requires-clause-legal : goal.drop_first-requires-clause-legal
 drop_first-requires-clause-legal c = held_legal _ _ c.self.inside.held c.self.invariant

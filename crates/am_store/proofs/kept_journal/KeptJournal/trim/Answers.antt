@@ -1,17 +1,11 @@
-use Rattle.std.proofs.Common.{ℕ, ◌+◌, ◌-◌, ◌≤◌, length, sym, ap, subst, ◌∙◌, arith, length-drop}
-use Rattle.am_store.specs.Journal.{first_calls}
-use Rattle.am_store.specs.Stored.{updates, stored}
-use Rattle.am_store.specs.Trims.{IsTrimmed}
+use Rattle.std.proofs.Common.{ℕ, ◌+◌, ◌-◌, ◌≤◌, length, sym, subst, arith, length-drop}
+use Rattle.std.proofs.lemmas.Grind.{common_steps}
 use Rattle.am_store.specs.KeptJournals.{KeptView, calls_in, trimmed_to}
 use Rattle.am_store.proofs.KeptJournals.{first_same, held_count, held_legal, kept_dropped, trims_more}
 use Rattle.am_store.proofs.kept_journal.KeptJournal.trim.Goals as goal
 
 pub drop_first-requires-clause-store : goal.drop_first-requires-clause-store
-drop_first-requires-clause-store c =
-    let view = c.self.view_is in let gone = ap (λ (v : KeptView). v.gone) view in let before = ap (λ (v : KeptView). v.journal.before) view in
-    let given = c.requires.store (omega (arith, c.if-self.true, gone, before)) in
-    first_same _ _ c.self.inside.held c.self.invariant c.args.store c.args.count (c.self.inside.before + c.args.count - c.self.inside.held.before) (omega (arith, c.if-self.true))
-    (given ∙ ap (λ (v : KeptView). stored (updates (first_calls c.args.count v.journal))) (sym view))
+drop_first-requires-clause-store c = grind (arith, common_steps, first_same)
 
 pub drop_first-requires-clause-legal : goal.drop_first-requires-clause-legal
 drop_first-requires-clause-legal c = held_legal _ _ c.self.inside.held c.self.invariant
@@ -28,11 +22,7 @@ invariant_of-self c =
     (omega (arith, c.if-self.true, c.drop_first.ensures.trimmed.before))
 
 pub returns-then-self-clause-trimmed : goal.returns-then-self-clause-trimmed
-returns-then-self-clause-trimmed c =
-    subst (λ (v : KeptView). IsTrimmed v.journal c.args.count (trimmed_to (c.self.inside.before + c.args.count) (calls_in c.self.inside.calls.items))) c.self.view_is
-    (trims_more _ _ c.self.inside.held c.self.invariant c.args.count)
+returns-then-self-clause-trimmed c = grind (arith, common_steps, trims_more)
 
 pub returns-else-self-clause-trimmed : goal.returns-else-self-clause-trimmed
-returns-else-self-clause-trimmed c =
-    subst (λ (v : KeptView). IsTrimmed v.journal c.args.count (trimmed_to (c.self.inside.before + c.args.count) (calls_in c.self.inside.calls.items))) c.self.view_is
-    (trims_more _ _ c.self.inside.held c.self.invariant c.args.count)
+returns-else-self-clause-trimmed c = grind (arith, common_steps, trims_more)

@@ -1,9 +1,7 @@
-use Rattle.std.proofs.Common.{ℕ, ◌||◌, nat_eq, ap, ◌∙◌}
-use Rattle.am_store.specs.LaneSets.{has_lane}
+use Rattle.std.proofs.Common.{arith}
+use Rattle.std.proofs.lemmas.Grind.{common_steps}
 use Rattle.am_store.proofs.LaneBits.{lane_set}
 use Rattle.am_store.proofs.lane_set.LaneSet.with.Goals as goal
 
 pub returns-clause-lanes : goal.returns-clause-lanes
-returns-clause-lanes c = λ other.
-    lane_set c.self.inside.bits c.args.lane c.requires other
-    ∙ ap (λ (n : ℕ). has_lane n other || nat_eq c.args.lane other) c.self.view_is
+returns-clause-lanes c = grind (arith, common_steps, lane_set)

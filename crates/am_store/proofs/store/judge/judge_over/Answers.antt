@@ -1,4 +1,5 @@
 use Rattle.std.proofs.Common.{◌≡◌, ◌+◌, ℕ, [], length, ◌∷◌, ◌++◌, List, true, false, refl, sym, ap, subst, ◌∙◌, append-nil, append_assoc, length-append, arith, rules}
+use Rattle.std.proofs.lemmas.Grind.{common_steps}
 use Rattle.std.specs.Arc.{arc_value}
 use Rattle.std.specs.Vec.Iter.{into_iter_items, into_iter_len}
 use Rattle.std.proofs.lemmas.List.{nil_from_length}
@@ -9,7 +10,7 @@ use Rattle.am_store.specs.AlertList.{lookup, with_alert, absorb_into}
 use Rattle.am_store.specs.AlertMaps.{stored_in, all_taken_back, AreKeptByLabels}
 use Rattle.am_store.specs.Judging.{AreJudged}
 use Rattle.am_store.proofs.Entries.{all_back_last}
-use Rattle.am_store.proofs.Judging.{asked_none, asked_some, judged_all, judged_more, judges_of, on_err}
+use Rattle.am_store.proofs.Judging.{asked_some, judged_all, judged_more, judges_of, on_err}
 use Rattle.am_store.proofs.store.judge.judge_over.Goals as goal
 
 pub loop-new-preserved-then-keeps : goal.loop-new-preserved-then-keeps
@@ -136,19 +137,7 @@ loop-new-preserved g c =
     }
 
 pub returns-clause-judged : goal.returns-clause-judged
-returns-clause-judged g c =
-    let so_far = c.loop-new.invariant in
-    let filter = g.F.FnMut in
-    let none : into_iter_len c.loop-new.new-iterator ≡ 0 = search rules in
-    let all : so_far.judged.0 ≡ c.args.news = sym (append-nil so_far.judged.0) ∙ (ap (λ rest. so_far.judged.0 ++ rest) (sym (nil_from_length _ (omega (arith, none, so_far.left)))) ∙ so_far.judged.1) in
-    judged_all filter c.args.now 0 c.loop-new.accepts c.args.accepts.now _ _ c.args.news _ _ all
-    (so_far.judged.2 c.loop-new.accepts [] [] [] (refl, refl, refl))
-
-pub returns-in_err-accepted-clause-asked : goal.returns-in_err-accepted-clause-asked
-returns-in_err-accepted-clause-asked g c = on_err c.from_residual.result (asked_none g.F.FnMut c.args.now c.args.accepts.now (stored_in c.args.alerts.now.entries) c.args.news)
-
-pub returns-in_err-refused-clause-asked : goal.returns-in_err-refused-clause-asked
-returns-in_err-refused-clause-asked g c = on_err c.from_residual-in_err-refused.result (asked_none g.F.FnMut c.args.now c.args.accepts.now (stored_in c.args.alerts.now.entries) c.args.news)
+returns-clause-judged g c = grind (arith, common_steps, append-nil, nil_from_length, judged_all)
 
 pub returns-in_err-became-clause-asked : goal.returns-in_err-became-clause-asked
 returns-in_err-became-clause-asked g c =
