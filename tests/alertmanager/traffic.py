@@ -280,7 +280,7 @@ def of_flags(room, command, program):
         "refused posts": ([command, "--provider.full=refuse"], {"PATH": str(path)}, None),
         "no program": ([command], {}, none),
         "a program that isn't there": ([command, "--provider.program=/nowhere/am_replay"], {}, "no such file"),
-        "no places": ([command, "--provider.places=0"], {"PATH": str(path)}, "a number from 1 to 256, not 0"),
+        "no places": ([command, "--provider.places=0"], {"PATH": str(path)}, "a number from 1 to 65536, not 0"),
         "no such choice": ([command, "--provider.full=wait"], {"PATH": str(path)}, "must be one of cut,refuse"),
     }
     with Webhook() as hook:

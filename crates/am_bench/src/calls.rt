@@ -4,15 +4,15 @@
 //! that is spent under the provider's lock. Bodies are read before, outside of it.
 
 ghost use Rattle.std.specs.Prelude.{◌≡◌};
+ghost use Rattle.am_provider.specs.PartsOf.{AreOf};
 ghost use Rattle.am_provider.specs.declared.answers.Policy.TheVariants.{Refuse};
 
 use crate::failure::Failure;
 use crate::printed::Printed;
-use crate::provider::{moment, write_four};
+use crate::provider::{PLACES, moment, write_four};
 use crate::stopwatch::since;
 use crate::words::number;
 use am_alert::{Moment, Post, PostReader};
-use am_cast::MAX_PLACES;
 use am_provider::{Caller, NoGate, Parts, Policy, Provider, Recorded};
 use std::alloc::{AllocError, Global};
 use std::marker::Brand;
@@ -268,11 +268,7 @@ fn run<N: Recorded, R: Wait + Clock>(
     parts: Parts,
     load: Load,
 ) -> Result<(Times, u64), Failure>
-    requires table { parts.log.board.shared.table_id ≡ N.table }
-    requires ledger { (parts.ledger.name ≡ N.name) × (parts.ledger.parts ≡ N.parts) }
-    requires history { parts.history.board.shared.table_id ≡ N.timeline }
-    requires entries { (parts.history.ledger.name ≡ N.entries)
-        × (parts.history.ledger.parts ≡ N.holders) }
+    requires parts { AreOf N.table N.name N.parts N.timeline N.entries N.holders parts }
     requires limits { (parts.log.places ≡ N.places) × (Refuse ≡ N.policy) }
 {
     let timeout = Duration::from_secs(300);
@@ -292,7 +288,7 @@ pub(crate) fn time<R: Wait + Clock>(
     load: Load,
     printed: &mut Printed,
 ) -> Result<(), Failure> {
-    let parts = Parts::make(alloc, MAX_PLACES as u32, 1)?;
+    let parts = Parts::make(alloc, PLACES, 1)?;
     let (times, stored) = run::<Brand, R>(rt, alloc, parts, load)?;
     write!(printed.counts, "{stored}\n")?;
     let out = &mut printed.nanoseconds;

@@ -73,6 +73,8 @@ struct Shown {
 }
 
 impl Shown {
+    const NOTHING: Shown = Shown { items: 0, sum: 0 };
+
     // What two readers received together.
     fn and(self, other: Shown) -> Shown {
         Shown {
@@ -170,7 +172,7 @@ fn read_to_end<N: Feed, R: Clock>(
     cursor: &mut Cursor<'_, u64, u64, u64, N>,
     yields: u32,
 ) -> Shown {
-    let mut shown = Shown { items: 0, sum: 0 };
+    let mut shown = Shown::NOTHING;
     let mut idle_turns: u32 = 0;
     for _turn in 0..u64::MAX {
         match cursor.next_slice() {
@@ -199,7 +201,7 @@ fn read_all<N: Feed, R: Clock>(
     yields: u32,
 ) -> Shown {
     let Some(mut cursor) = lent.take() else {
-        return Shown { items: 0, sum: 0 };
+        return Shown::NOTHING;
     };
     let shown = read_to_end(rt, &mut cursor, yields);
     match lent.replace(cursor) {
@@ -208,45 +210,81 @@ fn read_all<N: Feed, R: Clock>(
     }
 }
 
-// A lane for a reader that is wanted.
+// A lane for a reader, if there is one.
 fn admit<'a, N: Feed>(
     cast: &'a Cast<u64, u64, u64, N>,
     writer: &mut Writer<u64, u64, u64, N>,
-    wanted: bool,
 ) -> Option<Cursor<'a, u64, u64, u64, N>> {
     let note = 0;
-    if !wanted {
-        return None;
-    }
     match writer.admit(cast, Snapshot::of(&note)) {
         Ok(cursor) => Some(cursor),
         Err(_) => None,
     }
 }
 
-fn retire<N: Feed>(
-    cast: &Cast<u64, u64, u64, N>,
-    writer: &mut Writer<u64, u64, u64, N>,
-    cursor: Option<Cursor<'_, u64, u64, u64, N>>,
-) {
-    if let Some(cursor) = cursor {
-        writer.retire(cast, cursor);
-    }
+// A reader, and what it received.
+struct Seat<'a, N: Feed> {
+    cursor: Option<Cursor<'a, u64, u64, u64, N>>,
+    shown: Shown,
 }
 
-// What two readers receive, each in its thread.
-fn read_both<N: Feed + Send + Sync, R: Threads + Wait + Clock + Sync>(
+// A reader in each seat, each in a thread of its own.
+fn read_each<N: Feed + Send + Sync, R: Threads + Wait + Clock + Sync>(
     rt: &R,
-    one: &mut Option<Cursor<'_, u64, u64, u64, N>>,
-    other: &mut Option<Cursor<'_, u64, u64, u64, N>>,
+    seats: &mut [Seat<'_, N>],
     yields: u32,
-) -> Shown {
-    let (one, other) = thread::join(
+) {
+    thread::for_each_mut(
         rt,
-        move || read_all(rt, one, yields),
-        move || read_all(rt, other, yields),
+        seats,
+        LANES,
+        &|_seat, seat| seat.shown = read_all(rt, &mut seat.cursor, yields),
     );
-    one.and(other)
+}
+
+// Takes all readers back, and answers what they received.
+fn retire_all<N: Feed>(
+    cast: &Cast<u64, u64, u64, N>,
+    writer: &mut Writer<u64, u64, u64, N>,
+    seats: Vec<Seat<'_, N>>,
+) -> Shown {
+    let mut seats = seats;
+    let mut shown = Shown::NOTHING;
+    while let Some(seat) = seats.pop() {
+        let Seat { cursor, shown: one } = seat;
+        shown = shown.and(one);
+        if let Some(cursor) = cursor {
+            writer.retire(cast, cursor);
+        }
+    }
+    seats.destroy_empty();
+    shown
+}
+
+// Publishes while the readers read: what all of these received, if there was memory.
+fn publish_and_read<N: Feed + Send + Sync, R: Threads + Wait + Clock + Sync>(
+    rt: &R,
+    alloc: Global,
+    cast: &Cast<u64, u64, u64, N>,
+    writer: &mut Writer<u64, u64, u64, N>,
+    pass: &mut Pass<u64, u64, u64, N>,
+    load: Load,
+) -> Result<Shown, AllocError> {
+    let mut seats = Vec::with_capacity(alloc, load.readers)?;
+    for _reader in 0..load.readers {
+        seats.push_reserved(Seat {
+            cursor: admit(cast, writer),
+            shown: Shown::NOTHING,
+        });
+    }
+    let (publisher, lent) = (&mut *writer, seats.as_mut_slice());
+    let (well, ()) = thread::join(
+        rt,
+        move || publish_all(rt, alloc, cast, publisher, pass, load),
+        move || read_each(rt, lent, load.yields),
+    );
+    let shown = retire_all(cast, writer, seats);
+    if well { Ok(shown) } else { Err(AllocError) }
 }
 
 // The whole run: what all readers received, if there was memory.
@@ -263,66 +301,17 @@ fn run<N: Feed + Send + Sync, R: Threads + Wait + Clock + Sync>(
         mut writer,
         mut passes,
     } = begin::<u64, u64, u64, N>(parts, 1)?;
-    let log = &cast;
-    let Some(mut pass) = passes.pop() else {
-        end(cast, writer);
-        return Err(AllocError);
+    let shown = match passes.first_mut() {
+        Some(pass) => publish_and_read(rt, alloc, &cast, &mut writer, pass, load),
+        None => Err(AllocError),
     };
-    let mut a = admit(log, &mut writer, load.readers > 0);
-    let mut b = admit(log, &mut writer, load.readers > 1);
-    let mut c = admit(log, &mut writer, load.readers > 2);
-    let mut d = admit(log, &mut writer, load.readers > 3);
-    let mut e = admit(log, &mut writer, load.readers > 4);
-    let mut f = admit(log, &mut writer, load.readers > 5);
-    let mut g = admit(log, &mut writer, load.readers > 6);
-    let mut h = admit(log, &mut writer, load.readers > 7);
-    let (well, shown) = {
-        let (writer, pass) = (&mut writer, &mut pass);
-        let (a, b, c, d) = (&mut a, &mut b, &mut c, &mut d);
-        let (e, f, g, h) = (&mut e, &mut f, &mut g, &mut h);
-        let yields = load.yields;
-        thread::join(
-            rt,
-            move || publish_all(rt, alloc, log, writer, pass, load),
-            move || {
-                let (first, second) = thread::join(
-                    rt,
-                    move || {
-                        let (one, other) = thread::join(
-                            rt,
-                            move || read_both(rt, a, b, yields),
-                            move || read_both(rt, c, d, yields),
-                        );
-                        one.and(other)
-                    },
-                    move || {
-                        let (one, other) = thread::join(
-                            rt,
-                            move || read_both(rt, e, f, yields),
-                            move || read_both(rt, g, h, yields),
-                        );
-                        one.and(other)
-                    },
-                );
-                first.and(second)
-            },
-        )
-    };
-    retire(log, &mut writer, a);
-    retire(log, &mut writer, b);
-    retire(log, &mut writer, c);
-    retire(log, &mut writer, d);
-    retire(log, &mut writer, e);
-    retire(log, &mut writer, f);
-    retire(log, &mut writer, g);
-    retire(log, &mut writer, h);
     if !writer.is_idle() {
         // No proof follows the lanes through the threads. If a lane weren't given back, the program
         // would stop here for ever.
         for _ in rt.forever() {}
     }
     end(cast, writer);
-    if well { Ok(shown) } else { Err(AllocError) }
+    shown
 }
 
 /// Runs a load, and prints how many items the readers received in all, and their sum, and how long that

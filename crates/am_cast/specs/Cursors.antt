@@ -25,7 +25,7 @@ module _ {T P A : Type 0} where
   shown_items c = all_items (drop c.lane.start (take c.lane.passed c.lane.front))
       ++ take c.shown (items_at c.lane.front c.lane.passed)
 
-  -- it has answered that its lane was cut, and has shown what it had in hand
+  -- it has found its lane cut, and has shown what it had in hand: it shows nothing else
   abbrev pub HasCut : CursorView T P A → Type 0
   HasCut c = (c.lane.cut ≡ true) × (c.lane.held ≡ false)
 

@@ -46,6 +46,12 @@ module _ {B K A : Type 0} where
   Calm q = (length q.accounts ≡ LANES) × ((l : ℕ) → l < LANES
       → IsCalm (length q.tail.log) q.tail.places (account_of q l))
 
+  -- each live lane was looked at, and each whose key is away
+  abbrev pub AreLoaded : WriterView B K A → WriterView B K A → Type 0
+  AreLoaded q q' = (l : ℕ) → l < LANES
+      → ((account_of q l).stand ≡ live → (account_of q l).loads < (account_of q' l).loads)
+      × ((account_of q l).away ≡ true → (account_of q l).loads < (account_of q' l).loads)
+
   -- the live lanes below k have room for one place more
   abbrev pub HasRoom : WriterView B K A → ℕ → Type 0
   HasRoom q k = (l : ℕ) → l < k → (account_of q l).stand ≡ live

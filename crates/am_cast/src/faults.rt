@@ -1,4 +1,7 @@
 //! Why a call of the writer was refused.
+
+ghost use Rattle.std.specs.Prelude.{◌≡◌};
+
 use am_segment::SegmentBuilder;
 use std::fmt;
 use thiserror::Error;
@@ -20,6 +23,14 @@ pub enum PublishFault {
 pub struct Refused<T> {
     pub fault: PublishFault,
     pub batch: SegmentBuilder<T>,
+}
+
+impl<T> Refused<T> {
+    pub(crate) fn new(fault: PublishFault, batch: SegmentBuilder<T>) -> Refused<T>
+        ensures { (result.fault ≡ fault) × (result.batch ≡ batch) }
+    {
+        Refused { fault, batch }
+    }
 }
 
 /// Why no lane was given out.

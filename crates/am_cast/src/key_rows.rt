@@ -11,6 +11,7 @@ mod bucket;
 mod row;
 mod spares;
 
+use crate::limits::MOST_SPARES;
 use am_segment::{JoinedKeys, SegKey, SegmentBuilder};
 pub(crate) use bucket::Bucket;
 pub(crate) use row::Row;
@@ -22,7 +23,7 @@ use std::marker::Model;
 /// newer ones until its last key is home.
 pub(crate) struct KeyRows<T> {
     buckets: Vec<Bucket<T>>,
-    // What is left of segments that have ended, at most one for each place.
+    // What is left of segments that have ended.
     spares: Spares<T>,
 }
 
@@ -47,7 +48,7 @@ impl<T> KeyRows<T> {
         ensures count { IfOk result (λ rows. length rows ≡ places) }
         ensures none { IfOk result (λ rows. (p : ℕ) → row_at rows p ≡ None) }
     {
-        let spares = Spares::new(alloc, places)?;
+        let spares = Spares::new(alloc, places.min(MOST_SPARES))?;
         let Ok(mut buckets) = Vec::with_capacity(alloc, places) else {
             spares.end();
             return Err(AllocError);

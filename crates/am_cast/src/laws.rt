@@ -174,6 +174,6 @@ pub fn a_needed_place_is_not_freed_by_the_writer<B, K, A, R: Keyed<B, K>>()
 /// The numbers of the log's limits.
 pub fn the_limits()
     ensures subscribers { LANES ≡ 8 }
-    ensures places { (MAX_PLACES ≡ 256) × (LONGEST_LOG ≡ 2 ^ 51) }
+    ensures places { (MAX_PLACES ≡ 65_536) × (LONGEST_LOG ≡ 2 ^ 51) }
     ensures words { WORDS ≡ 152 }
 {}

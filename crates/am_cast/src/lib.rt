@@ -39,7 +39,7 @@
 //! through the key where it lies, and gives the slot back as it passes the place. The writer loads the
 //! lanes' words (`harvest`, and every publish), takes the keys of passed places out, and gathers them
 //! in the rows; the eighth ends the segment. Its block is kept for a later batch of its size
-//! (`Writer::spare`): of as many segments as the log has places, and the others are freed. `rule.rt`
+//! (`Writer::spare`): of as many segments as the log has places, at most 256, and the others are freed. `rule.rt`
 //! has what always holds of words, slots and what each side knows, and `board.rt` the single steps,
 //! each of them an event of `am_steps`.
 //!

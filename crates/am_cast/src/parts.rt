@@ -97,6 +97,30 @@ fn deal_passes<T, P, A, N: Feed>(
     Ok(passes)
 }
 
+// The writer of a log that has no batch, and whose lanes are all idle.
+fn first_writer<T, P, A, N: Feed>(
+    seat: LogSeat<T, P, A>,
+    rows: KeyRows<T>,
+    places: u64,
+) -> Writer<T, P, A, N>
+    requires { PartsOk N.table seat.table_id seat.me rows places }
+    ensures empty { result.tail ≡ record { places = places; log = []; closed = false } }
+    ensures idle { (l : ℕ) → l < LANES → (account_of result l).stand ≡ idle }
+{
+    let state = WriterState {
+        seat,
+        rows,
+        next: RingPlace::new(0, places),
+        closed: false,
+        lanes: [LaneAccount {
+            stand: Stand::Idle,
+            word: 0,
+        }; LANES],
+        of: PhantomData,
+    };
+    Writer { state }
+}
+
 /// A log over these parts, with one pass for each poster.
 pub fn begin<T: Drop, P, A, N: Feed>(
     parts: Parts<T, P, A>,
@@ -125,18 +149,7 @@ pub fn begin<T: Drop, P, A, N: Feed>(
         board,
         of: PhantomData,
     };
-    let state = WriterState {
-        seat,
-        rows,
-        next: RingPlace::new(0, places),
-        closed: false,
-        lanes: [LaneAccount {
-            stand: Stand::Idle,
-            word: 0,
-        }; LANES],
-        of: PhantomData,
-    };
-    let writer = Writer { state };
+    let writer = first_writer(seat, rows, places);
     match passes {
         Ok(passes) => Ok(Begun {
             cast,

@@ -7,6 +7,8 @@ mod calls;
 #[cfg(test)]
 mod log;
 #[cfg(test)]
+mod longest;
+#[cfg(test)]
 mod owned;
 #[cfg(test)]
 mod threads;

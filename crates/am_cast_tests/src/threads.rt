@@ -4,6 +4,8 @@
 ghost use Rattle.std.specs.Prelude.{◌≡◌, ◌<◌, ◌≤◌, length, IfOk};
 ghost use Rattle.am_cast.specs.declared.limits.TheConstants.{MAX_PLACES};
 
+mod races;
+
 use crate::log::{Log, begin_log, end_log};
 use am_cast::{Cast, Cursor, Feed, Parts, Pass, Refused, Step, Writer};
 use am_segment::SegmentBuilder;
@@ -145,6 +147,35 @@ struct Load {
     cuts: bool,
 }
 
+// Posts, cutting slow lanes or waiting for them.
+fn post<N: Feed>(
+    alloc: Global,
+    cast: &Cast<u64, u64, u64, N>,
+    writer: &mut Writer<u64, u64, u64, N>,
+    pass: &mut Pass<u64, u64, u64, N>,
+    load: Load,
+) -> Result<u64, AllocError> {
+    if load.cuts {
+        post_over(alloc, cast, writer, pass, 0, load.batches)
+    } else {
+        post_all(alloc, cast, writer, pass, load.batches, load.turns)
+    }
+}
+
+// A quick reader, and next to it a slow one.
+fn read_both<N: Feed + Send + Sync, R: Threads + Sync>(
+    rt: &R,
+    quick: &mut Cursor<'_, u64, u64, u64, N>,
+    slow: &mut Cursor<'_, u64, u64, u64, N>,
+    load: Load,
+) -> (Shown, Shown) {
+    thread::join(
+        rt,
+        || read_all(rt, quick, 0, load.turns, false),
+        || read_all(rt, slow, 0, load.turns, true),
+    )
+}
+
 fn drive<N: Feed + Send + Sync, R: Threads + Sync>(
     rt: &R,
     alloc: Global,
@@ -161,26 +192,11 @@ fn drive<N: Feed + Send + Sync, R: Threads + Sync>(
         writer.retire(cast, a);
         return Err(AllocError);
     };
-    let (count, (quick, slow)) = {
-        let (writer, a, b) = (&mut *writer, &mut a, &mut b);
-        thread::join(
-            rt,
-            move || {
-                if load.cuts {
-                    post_over(alloc, cast, writer, pass, 0, load.batches)
-                } else {
-                    post_all(alloc, cast, writer, pass, load.batches, load.turns)
-                }
-            },
-            move || {
-                thread::join(
-                    rt,
-                    move || read_all(rt, a, 0, load.turns, false),
-                    move || read_all(rt, b, 0, load.turns, true),
-                )
-            },
-        )
-    };
+    let (count, (quick, slow)) = thread::join(
+        rt,
+        || post(alloc, cast, writer, pass, load),
+        || read_both(rt, &mut a, &mut b, load),
+    );
     writer.retire(cast, b);
     writer.retire(cast, a);
     Ok(Run {
@@ -325,72 +341,5 @@ fn come_and_go_of<R: Wait>(rt: &R, alloc: Global, rounds: u64) -> Result<bool, A
 #[test]
 fn lanes_come_and_go(rt: HostRuntime) -> Result<(), Fail> {
     assert!(rt; come_and_go_of(&rt, rt.alloc(), 10_000)?);
-    Ok(())
-}
-
-// One poster against one reader at one place: the reader is shown a front of what is posted, and may
-// be cut.
-fn race_once<N: Feed + Send + Sync, R: Threads + Sync>(
-    rt: &R,
-    alloc: Global,
-    cast: &Cast<u64, u64, u64, N>,
-    writer: &mut Writer<u64, u64, u64, N>,
-    pass: &mut Pass<u64, u64, u64, N>,
-    round: u64,
-) -> Result<bool, AllocError> {
-    let note = 0;
-    let Ok(mut cursor) = writer.admit(cast, Snapshot::of(&note)) else {
-        return Err(AllocError);
-    };
-    let first = round.wrapping_mul(9);
-    let (cuts, shown) = {
-        let (writer, pass, cursor) = (&mut *writer, &mut *pass, &mut cursor);
-        thread::join(
-            rt,
-            move || post_over(alloc, cast, writer, pass, first, 3),
-            move || read_all(rt, cursor, first, 12, false),
-        )
-    };
-    writer.retire(cast, cursor);
-    let cuts = cuts?;
-    let told = shown.cut as u64;
-    Ok(shown.wrong == 0 && !shown.closed && shown.items <= 9 && told <= cuts && cuts <= 1)
-}
-
-fn race<N: Feed + Send + Sync, R: Threads + Wait + Sync>(
-    rt: &R,
-    alloc: Global,
-    parts: Parts<u64, u64, u64>,
-    rounds: u64,
-) -> Result<bool, AllocError>
-    requires { parts.board.shared.table_id ≡ N.table }
-{
-    let Log {
-        cast,
-        mut writer,
-        mut pass,
-    } = begin_log::<u64, N>(parts)?;
-    let mut right = Ok(true);
-    for round in 0..rounds {
-        if right == Ok(true) {
-            right = race_once(rt, alloc, &cast, &mut writer, &mut pass, round);
-        }
-    }
-    end_log(rt, cast, writer);
-    right
-}
-
-fn race_of<R: Threads + Wait + Sync>(
-    rt: &R,
-    alloc: Global,
-    rounds: u64,
-) -> Result<bool, AllocError> {
-    let parts = Parts::make(alloc, 1)?;
-    race::<Brand, R>(rt, alloc, parts, rounds)
-}
-
-#[test]
-fn ten_thousand_races_at_one_place(rt: HostRuntime) -> Result<(), Fail> {
-    assert!(rt; race_of(&rt, rt.alloc(), 10_000)?);
     Ok(())
 }

@@ -1,6 +1,9 @@
 //! What an inhibitor answers, turn by turn. Each call is made again where memory was refused, so the
 //! tests also pass with any one allocation refused.
 
+mod rules;
+mod sweeps;
+
 use am_alert::{Alert, Moment};
 use am_config::{Config, ConfigFault};
 use am_inhibit::Inhibitor;
@@ -321,38 +324,6 @@ fn a_thousand_other_sources(rt: HostRuntime) -> Result<(), Fail> {
     Ok(())
 }
 
-// Without `equal` each source mutes each target, and those before it are looked at.
-#[test]
-fn rule_without_equal(rt: HostRuntime) -> Result<(), Fail> {
-    let rule = "{\"source_matchers\":[\"sev=down\"],\"target_matchers\":[\"sev=warn\"]}";
-    let away: Pairs = &[("alertname", "W"), ("dc", "2"), ("sev", "warn")];
-    let turns = [
-        Turn::Ask(away, AT_10_03, None, 0),
-        Turn::Take(&[("alertname", "R"), ("sev", "down")], AT_10_00, AT_10_02),
-        Turn::Take(S, AT_10_00, AT_10_20),
-        Turn::Ask(away, AT_10_03, Some((0, S)), 2),
-        Turn::Ask(S, AT_10_03, None, 0),
-    ];
-    assert_eq!(rt; wrong(rt.alloc(), rule, &turns)?, None);
-    Ok(())
-}
-
-// The lowest rule answers, and what was looked at for the rules before it counts too.
-#[test]
-fn two_rules(rt: HostRuntime) -> Result<(), Fail> {
-    let rules =
-        "{\"source_matchers\":[\"sev=crit\"],\"target_matchers\":[\"sev=warn\"],\"equal\":[\"dc\"]},{\"source_matchers\":[\"sev=down\"],\"target_matchers\":[\"sev=warn\"],\"equal\":[\"dc\"]}";
-    let turns = [
-        Turn::Take(S, AT_10_00, AT_10_20),
-        Turn::Ask(W, AT_10_01, Some((1, S)), 1),
-        Turn::Take(T, AT_10_02, AT_10_05),
-        Turn::Ask(W, AT_10_03, Some((0, T)), 1),
-        Turn::Ask(W, AT_10_05, Some((1, S)), 2),
-    ];
-    assert_eq!(rt; wrong(rt.alloc(), rules, &turns)?, None);
-    Ok(())
-}
-
 // A source that is resolved mutes nothing. Once it fires again it has its old place.
 #[test]
 fn source_fires_again(rt: HostRuntime) -> Result<(), Fail> {
@@ -385,161 +356,6 @@ fn values_one_by_one(rt: HostRuntime) -> Result<(), Fail> {
         Turn::Ask(empty, AT_10_01, Some((0, source)), 1),
         Turn::Ask(split, AT_10_01, None, 0),
         Turn::Ask(turned, AT_10_01, None, 0),
-    ];
-    assert_eq!(rt; wrong(rt.alloc(), rule, &turns)?, None);
-    Ok(())
-}
-
-// A configuration without rules mutes nothing.
-#[test]
-fn no_rules(rt: HostRuntime) -> Result<(), Fail> {
-    let turns = [
-        Turn::Take(S, AT_10_00, AT_10_20),
-        Turn::Ask(W, AT_10_01, None, 0),
-    ];
-    assert_eq!(rt; wrong(rt.alloc(), "", &turns)?, None);
-    Ok(())
-}
-
-// Rules of which each has a source of its own.
-fn rules_once(alloc: Global, count: u32) -> Result<String, AllocError> {
-    let mut rules = String::new(alloc);
-    let mut comma = "";
-    for number in 0..count {
-        write!(
-            rules,
-            "{comma}{{\"source_matchers\":[\"rule={number}\"],\"target_matchers\":[\"sev=warn\"]}}"
-        )?;
-        comma = ",";
-    }
-    Ok(rules)
-}
-
-// Of many rules the last one answers, and the others are asked first.
-#[test]
-fn five_hundred_rules(rt: HostRuntime) -> Result<(), Fail> {
-    let alloc = rt.alloc();
-    let rules = match rules_once(alloc, 500) {
-        Err(AllocError) => rules_once(alloc, 500)?,
-        Ok(rules) => rules,
-    };
-    let source: Pairs = &[("rule", "499"), ("sev", "down")];
-    let turns = [
-        Turn::Take(source, AT_10_00, AT_10_20),
-        Turn::Ask(W, AT_10_01, Some((499, source)), 1),
-    ];
-    assert_eq!(rt; wrong(alloc, rules.as_str(), &turns)?, None);
-    Ok(())
-}
-
-// A sweep drops a source from the moment of its end on. Taken again, it comes after the others.
-#[test]
-fn sweep_between(rt: HostRuntime) -> Result<(), Fail> {
-    let turns = [
-        Turn::Sweep(AT_10_00, 0),
-        Turn::Take(S, AT_10_00, AT_10_20),
-        Turn::Take(Z, AT_10_01, AT_10_30),
-        Turn::SweepBefore(AT_10_20, 0),
-        Turn::Ask(W, AT_10_20, Some((0, Z)), 2),
-        Turn::Sweep(AT_10_20, 1),
-        Turn::Ask(W, AT_10_20, Some((0, Z)), 1),
-        Turn::Take(S, AT_10_20, AT_10_30),
-        Turn::Ask(W, AT_10_20, Some((0, Z)), 1),
-        Turn::Take(Z, AT_10_01, AT_10_20),
-        Turn::Ask(W, AT_10_20, Some((0, S)), 2),
-        Turn::Sweep(AT_10_20, 1),
-        Turn::Ask(W, AT_10_20, Some((0, S)), 1),
-    ];
-    assert_eq!(rt; wrong(rt.alloc(), ONE_RULE, &turns)?, None);
-    Ok(())
-}
-
-// All are dropped, also one that is no source of the rule, and then taken once more.
-#[test]
-fn all_dropped_and_taken_again(rt: HostRuntime) -> Result<(), Fail> {
-    let turns = [
-        Turn::Take(T, AT_10_00, AT_10_05),
-        Turn::Take(W, AT_10_00, AT_10_05),
-        Turn::TakeOthers,
-        Turn::Take(S, AT_10_02, AT_10_20),
-        Turn::Sweep(AT_10_20, 1_003),
-        Turn::Ask(W, AT_10_03, None, 0),
-        Turn::Sweep(AT_10_20, 0),
-        Turn::Take(S, AT_10_02, AT_10_30),
-        Turn::Take(T, AT_10_02, AT_10_30),
-        Turn::TakeOthers,
-        Turn::Ask(W, AT_10_03, Some((0, S)), 1),
-        Turn::Ask(
-            &[("alertname", "W"), ("dc", "1001"), ("sev", "warn")],
-            AT_10_03,
-            Some((0, &[("alertname", "S"), ("dc", "1001"), ("sev", "down")])),
-            1,
-        ),
-    ];
-    assert_eq!(rt; wrong(rt.alloc(), ONE_RULE, &turns)?, None);
-    Ok(())
-}
-
-// The sources of two rules are dropped from both, and the index of a kept one leads to its new place.
-#[test]
-fn sweep_of_two_rules(rt: HostRuntime) -> Result<(), Fail> {
-    let rules =
-        "{\"source_matchers\":[\"sev=crit\"],\"target_matchers\":[\"sev=warn\"],\"equal\":[\"dc\"]},{\"source_matchers\":[\"sev=~\\\"crit|down\\\"\"],\"target_matchers\":[\"sev=warn\"]}";
-    let turns = [
-        Turn::Take(Z, AT_10_00, AT_10_01),
-        Turn::Take(T, AT_10_00, AT_10_05),
-        Turn::Take(S, AT_10_00, AT_10_20),
-        Turn::Sweep(AT_10_01, 1),
-        Turn::Ask(W, AT_10_02, Some((0, T)), 1),
-        Turn::Ask(W, AT_10_05, Some((1, S)), 3),
-        Turn::Sweep(AT_10_05, 1),
-        Turn::Ask(W, AT_10_05, Some((1, S)), 1),
-    ];
-    assert_eq!(rt; wrong(rt.alloc(), rules, &turns)?, None);
-    Ok(())
-}
-
-// Of fifty thousand resolved sources before the one that fires, none is examined after a sweep.
-#[test]
-fn fifty_thousand_resolved(rt: HostRuntime) -> Result<(), Fail> {
-    let turns = [
-        Turn::TakeMany(50_000, AT_10_00, AT_10_05),
-        Turn::Take(S, AT_10_02, AT_10_30),
-        Turn::Ask(W, AT_10_05, Some((0, S)), 50_001),
-        Turn::Sweep(AT_10_05, 50_000),
-        Turn::Ask(W, AT_10_05, Some((0, S)), 1),
-        Turn::TakeMany(50_000, AT_10_05, AT_10_20),
-        Turn::Ask(W, AT_10_05, Some((0, S)), 1),
-        Turn::Sweep(AT_10_20, 50_000),
-        Turn::Sweep(AT_10_30, 1),
-        Turn::Ask(W, AT_10_20, None, 0),
-    ];
-    assert_eq!(rt; wrong(rt.alloc(), ONE_RULE, &turns)?, None);
-    Ok(())
-}
-
-// Label sets that match both sides of a rule don't mute each other, and each answer counts them all. A
-// sweep makes the run of them at the beginning of the sources shorter, and a later one makes it longer.
-#[test]
-fn sixteen_thousand_on_both_sides(rt: HostRuntime) -> Result<(), Fail> {
-    let rule = "{\"source_matchers\":[\"dc=1\"],\"target_matchers\":[\"sev=down\"]}";
-    let turns = [
-        Turn::TakeMany(16_000, AT_10_00, AT_10_20),
-        Turn::AskMany(16_000, AT_10_01, None, 16_000),
-        Turn::Take(T, AT_10_02, AT_10_05),
-        Turn::AskMany(3, AT_10_03, Some((0, T)), 16_001),
-        Turn::AskMany(3, AT_10_05, None, 16_001),
-        Turn::TakeMany(1_000, AT_10_00, AT_10_03),
-        Turn::Sweep(AT_10_03, 1_000),
-        Turn::AskMany(3, AT_10_03, Some((0, T)), 15_001),
-        Turn::Sweep(AT_10_05, 1),
-        Turn::AskMany(3, AT_10_05, None, 15_000),
-        Turn::Sweep(AT_10_20, 15_000),
-        Turn::Take(T, AT_10_02, AT_10_05),
-        Turn::TakeMany(16_000, AT_10_00, AT_10_20),
-        Turn::AskMany(3, AT_10_03, Some((0, T)), 1),
-        Turn::Sweep(AT_10_05, 1),
-        Turn::AskMany(16_000, AT_10_05, None, 16_000),
     ];
     assert_eq!(rt; wrong(rt.alloc(), rule, &turns)?, None);
     Ok(())

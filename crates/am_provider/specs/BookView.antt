@@ -7,7 +7,7 @@ use Rattle.am_cast.specs.Rule.{idle}
 use Rattle.am_cast.specs.Seats.{account_of}
 use Rattle.am_store.specs.declared.call.Call.{Call}
 use Rattle.am_store.specs.declared.call.Call.TheVariants.{Posted, Collected, Subscribed, Left, Closed}
-use Rattle.am_store.specs.Journal.{JournalView, call_count, until, is_closed, lefts_of, is_open}
+use Rattle.am_store.specs.Journal.{JournalView, new_journal, call_count, until, is_closed, lefts_of, is_open}
 use Rattle.am_store.specs.Journal.{IsOpenSubscription}
 use Rattle.am_store.specs.Stored.{updates, stored}
 use Rattle.am_store.specs.Broadcast.{broadcast, due}
@@ -28,6 +28,15 @@ pub record BookView : Type 0 where
   pub endings : List Ended
   pub early : ℕ
   pub policy : Policy
+
+-- a Book over a log of this many places, of which nothing was asked yet
+pub record IsNewBook (policy : Policy) (places : ℕ) (book : BookView) : Type 0 where
+  pub stored : book.stored ≡ []
+  pub journal : book.journal ≡ new_journal
+  pub gone : book.gone ≡ 0
+  pub tail : book.log.tail ≡ record { places = places; log = []; closed = false }
+  pub endings : (book.endings ≡ []) × (book.early ≡ 0)
+  pub policy_is : book.policy ≡ policy
 
 -- the batches that were sent out, with what sent them
 abbrev pub batches : BookView → List Batch

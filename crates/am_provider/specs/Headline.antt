@@ -118,7 +118,7 @@ pub record HasLagged (places lane at passed : ℕ) (before : List EntryView) : T
   pub late : passed + places ≤ length (sent_by first) + 1
 
 -- what a subscription has taken: it begins what the history owes it, and is all of that if it answered
--- `Closed`, which it does of a closed log alone. One that answered `Cut` was cut, and one that was cut had
+-- `Closed`, which it does of a closed log alone. One that found itself cut was cut, and one that was cut had
 -- lagged. It is owed what was stored when it came, and each batch since
 pub record TakesItsDue (subscription : SubscriptionView) (before : List EntryView) : Type 0 where
   pub lane : IsOpenSubscription (whole before) subscription.cursor.lane.number subscription.at

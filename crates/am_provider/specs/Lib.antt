@@ -1,4 +1,5 @@
 pub mod FaultTexts
+pub mod PartsOf
 pub mod Batches
 pub mod Sending
 pub mod Subscriptions

@@ -15,7 +15,7 @@ use Rattle.am_cast.specs.declared.views.Own.{Own}
 use Rattle.am_cast.specs.Rule.{live}
 use Rattle.am_cast.specs.Changes.{AreInLog, own_at}
 use Rattle.am_cast.specs.Seats.{account_of}
-use Rattle.am_cast.specs.Posters.{PassView}
+use Rattle.am_cast.specs.Posters.{KnowsOwn, PassView}
 use Rattle.am_cast.specs.Writers.{StaysAs, SameAdmission, IsCutAs}
 use Rattle.am_provider.specs.declared.answers.Policy.TheVariants.{Refuse}
 use Rattle.am_provider.specs.declared.answers.Posted as answers
@@ -32,7 +32,7 @@ abbrev pub AddsOwn : PassView Alert Call → ℕ → List Alert → Option ℕ �
 AddsOwn was now posted None is = is ≡ was
 AddsOwn was now posted (Some place) is =
     ((x : Batch) × (x.post ≡ Posted now posted) × (is.own ≡ was.own ++ own_at place x ∷ []))
-    × AreInLog is.own is.noted × IsPrefix was.noted is.noted
+    × KnowsOwn was is
 
 -- a pass met a subscription that has seen the batches `seen`. Each of the pass's own posts that was seen is
 -- at its place there. The pass has the same own posts as before, and knows all that was seen
@@ -83,6 +83,12 @@ Loads old new = (lane : ℕ) → lane < 8 → (account_of old lane).stand ≡ li
 -- the policy and the number of places are those that the Book began with
 abbrev pub HasSameLimits : BookView → BookView → Type 0
 HasSameLimits old new = (new.policy ≡ old.policy) × (new.log.tail.places ≡ old.log.tail.places)
+
+-- the endings, what memory has of the calls, and the limits are as before
+pub record KeepsRest (old new : BookView) : Type 0 where
+  pub endings : (new.endings ≡ old.endings) × (new.early ≡ old.early)
+  pub gone : new.gone ≡ old.gone
+  pub limits : HasSameLimits old new
 
 -- the stored alerts, the journal, the batches and the endings are as before, and no lane was given out,
 -- left or cut

@@ -1,16 +1,15 @@
 -- What sending a batch out does to the log and to the poster's pass, or why it isn't sent.
 use Rattle.std.specs.Prelude.{◌≡◌, ℕ, ◌<◌, ◌≤◌, Bool, true, false, List, [], ◌∷◌, ◌++◌, length}
 use Rattle.std.specs.Prelude.{slice_index_or}
-use mathlib.Core.List.{IsPrefix}
 use Rattle.am_alert.specs.declared.alert.Alert.{Alert}
 use Rattle.am_store.specs.declared.call.Call.{Call}
 use Rattle.am_cast.specs.declared.faults.PublishFault.{PublishFault}
 use Rattle.am_cast.specs.declared.faults.PublishFault.TheVariants as publish
 use Rattle.am_cast.specs.declared.limits.TheConstants.{LONGEST_LOG}
 use Rattle.am_cast.specs.Keys.{batch_items}
-use Rattle.am_cast.specs.Changes.{AreInLog, longer_tail, own_at}
+use Rattle.am_cast.specs.Changes.{longer_tail, own_at}
 use Rattle.am_cast.specs.Seats.{account_of}
-use Rattle.am_cast.specs.Posters.{PassView}
+use Rattle.am_cast.specs.Posters.{KnowsOwn, PassView}
 use Rattle.am_cast.specs.Writers.{HasRoom, StaysAs, SameAdmission, IsCutAs}
 use Rattle.am_cast.specs.Refusals.{IsOpen, IsRefusal}
 use Rattle.am_provider.specs.declared.answers.Policy.{Policy}
@@ -26,7 +25,7 @@ pub record IsSent (policy : Policy) (old new : LogView) (was is : PassView Alert
   pub still_open : IsOpen old
   pub batch : (x : Batch) × (x.post ≡ call) × (batch_items x ≡ items)
       × (new.tail ≡ longer_tail x old.tail) × (is.own ≡ was.own ++ own_at place x ∷ [])
-  pub known : AreInLog is.own is.noted × IsPrefix was.noted is.noted
+  pub known : KnowsOwn was is
   pub lanes : (lane : ℕ) → lane < 8 → SameAdmission (account_of old lane) (account_of new lane)
   pub cuts : (lane : ℕ) → lane < 8 → IsCutAs (length old.tail.log) old.tail.places
       (account_of old lane) (account_of new lane) (slice_index_or cut lane false)

@@ -1,5 +1,7 @@
 //! What the calls of a provider answer. Why one is refused is in `faults.rt`.
 
+ghost use Rattle.std.specs.Prelude.{◌≡◌, None};
+
 use crate::item::Item;
 use am_alert::{Alert, Faults};
 use am_store::{LaneSet, SharedAlert, StoredAlerts};
@@ -24,6 +26,25 @@ pub struct Posted {
     pub cut: LaneSet,
     /// The invalid alerts.
     pub faults: Faults,
+}
+
+impl Posted {
+    // The answer of a post without a valid alert.
+    pub(crate) fn nothing(faults: Faults) -> Posted
+        ensures { result ≡ record {
+          valid = 0;
+          place = None;
+          cut = 0;
+          faults = faults;
+        } }
+    {
+        Posted {
+            valid: 0,
+            place: None,
+            cut: LaneSet::EMPTY,
+            faults,
+        }
+    }
 }
 
 /// The answer of an accepted post whose alerts a filter judged.

@@ -24,8 +24,8 @@ ghost use Rattle.am_store.specs.AlertList.{lookup};
 ghost use Rattle.am_store.specs.AlertMaps.{stored_in};
 ghost use Rattle.am_store.specs.Trims.{IsTrimmed};
 ghost use Rattle.am_store.specs.Stored.{stored};
-ghost use Rattle.am_provider.specs.BookView.{IsFaithful, batches};
-ghost use Rattle.am_provider.specs.Posts.{HasSameLimits};
+ghost use Rattle.am_provider.specs.BookView.{IsFaithful, IsNewBook, batches};
+ghost use Rattle.am_provider.specs.Posts.{KeepsRest};
 
 mod collect;
 mod post;
@@ -108,18 +108,24 @@ impl<N: Origin> Model for Book<N> {
     }) b.tally.total (length b.endings.endings + b.endings.room) × (b.posters ≡ N.parts) × (1 ≤ b.posters) × AreEndingsOf b.endings b.journal };
 }
 
+// What memory has of a Book.
+pub(crate) struct Held<N: Origin> {
+    pub(crate) journal: Journal,
+    pub(crate) store: AlertMap,
+    pub(crate) ended: Vec<Ended>,
+    // How many other endings there were.
+    pub(crate) early: u64,
+    pub(crate) posters: u32,
+    pub(crate) log: Writer<N>,
+    pub(crate) tally: ledger::Book<N>,
+}
+
 impl<N: Origin> Book<N> {
     /// A new provider over these parts, and its passes.
     pub fn begin(alloc: Global, parts: Parts, policy: Policy) -> Result<Begun<N>, AllocError>
         requires table { parts.log.board.shared.table_id ≡ N.table }
         requires ledger { (parts.ledger.name ≡ N.name) × (parts.ledger.parts ≡ N.parts) }
-        ensures stored { IfOk result (λ begun. begun.book.stored ≡ []) }
-        ensures journal { IfOk result (λ begun. begun.book.journal ≡ new_journal) }
-        ensures log { IfOk result (λ begun. begun.book.log.tail
-            ≡ record { places = parts.log.places; log = []; closed = false }) }
-        ensures endings { IfOk result (λ begun.
-            (begun.book.endings ≡ []) × (begun.book.early ≡ 0) × (begun.book.policy ≡ policy)) }
-        ensures gone { IfOk result (λ begun. begun.book.gone ≡ 0) }
+        ensures book { IfOk result (λ begun. IsNewBook policy parts.log.places begun.book) }
         ensures passes { IfOk result (λ begun. (length begun.passes.items ≡ parts.posters)
             × All (λ pass. pass ≡ record { noted = []; own = [] }) begun.passes.items) }
     {
@@ -143,15 +149,9 @@ impl<N: Origin> Book<N> {
         requires table { log.board.shared.table_id ≡ N.table }
         requires ledger { (ledger.name ≡ N.name) × (ledger.parts ≡ N.parts) }
         requires posters { (posters ≡ N.parts) × (1 ≤ posters) }
-        ensures stored { IfOk result (λ begun. begun.book.stored ≡ []) }
-        ensures journal { IfOk result (λ begun. begun.book.journal ≡ new_journal) }
-        ensures log { IfOk result (λ begun. begun.book.log.tail
-            ≡ record { places = log.places; log = []; closed = false }) }
+        ensures book { IfOk result (λ begun. IsNewBook policy log.places begun.book) }
         ensures lanes { IfOk result (λ begun. (lane : ℕ) → lane < 8
             → (account_of begun.book.log lane).stand ≡ idle) }
-        ensures endings { IfOk result (λ begun.
-            (begun.book.endings ≡ []) × (begun.book.early ≡ 0) × (begun.book.policy ≡ policy)) }
-        ensures gone { IfOk result (λ begun. begun.book.gone ≡ 0) }
         ensures passes { IfOk result (λ begun. (length begun.passes.items ≡ posters)
             × All (λ pass. pass ≡ record { noted = []; own = [] }) begun.passes.items) }
     {
@@ -188,12 +188,8 @@ impl<N: Origin> Book<N> {
         requires empty { (log.tail.log ≡ []) × (log.tail.closed ≡ false) }
         requires idle { (lane : ℕ) → lane < 8 → (account_of log lane).stand ≡ idle }
         requires tally { tally.total ≡ 0 }
-        ensures stored { IfOk result (λ book. book.stored ≡ []) }
-        ensures journal { IfOk result (λ book. book.journal ≡ new_journal) }
+        ensures book { IfOk result (IsNewBook policy log.tail.places) }
         ensures log { IfOk result (λ book. book.log ≡ log) }
-        ensures endings { IfOk result (λ book.
-            (book.endings ≡ []) × (book.early ≡ 0) × (book.policy ≡ policy)) }
-        ensures gone { IfOk result (λ book. book.gone ≡ 0) }
         ensures err { IfErr result (λ back. back ≡ log) }
     {
         let journal = match room_for_calls(alloc) {
@@ -217,30 +213,27 @@ impl<N: Origin> Book<N> {
     pub(crate) fn discard(self, cast: Cast<N>)
         requires { (lane : ℕ) → lane < 8 → (account_of self.log lane).stand ≡ idle }
     {
-        let (_, _, _, _, _, writer, _) = self.into_parts();
-        am_cast::end(cast, writer);
+        let Held {
+            journal: _,
+            store: _,
+            ended: _,
+            early: _,
+            posters: _,
+            log,
+            tally: _,
+        } = self.into_parts();
+        am_cast::end(cast, log);
     }
 
-    // What memory has of the journal, the stored alerts, what it has of the endings, how many others there
-    // were, how many passes there are, the writer and the ledger.
-    pub(crate) fn into_parts(
-        self,
-    ) -> (
-        Journal,
-        AlertMap,
-        Vec<Ended>,
-        u64,
-        u32,
-        Writer<N>,
-        ledger::Book<N>,
-    )
+    // What memory has of it.
+    pub(crate) fn into_parts(self) -> Held<N>
         ensures gone { (self.journal.before ≤ self.gone) × (self.gone ≤ call_count self.journal) }
-        ensures journal { IsTrimmed self.journal (self.gone - self.journal.before) (journal_of result.0) }
-        ensures stored { stored_in result.1.entries ≡ self.stored }
-        ensures endings { result.2.items ≡ filter (λ ended. nat_le self.gone ended.at) self.endings }
-        ensures early { result.3 + length result.2.items ≡ self.early + length self.endings }
-        ensures posters { (result.4 ≡ N.parts) × (1 ≤ result.4) }
-        ensures log { (result.5 ≡ self.log) × (result.6.total ≡ length (batches self)) }
+        ensures journal { IsTrimmed self.journal (self.gone - self.journal.before) (journal_of result.journal) }
+        ensures stored { stored_in result.store.entries ≡ self.stored }
+        ensures ended { result.ended.items ≡ filter (λ ended. nat_le self.gone ended.at) self.endings }
+        ensures early { result.early + length result.ended.items ≡ self.early + length self.endings }
+        ensures posters { (result.posters ≡ N.parts) × (1 ≤ result.posters) }
+        ensures log { (result.log ≡ self.log) × (result.tally.total ≡ length (batches self)) }
         ensures faithful { IsFaithful self }
     {
         let Book {
@@ -254,16 +247,16 @@ impl<N: Origin> Book<N> {
             posters,
             tally,
         } = self;
-        let (endings, early) = endings.into_held();
-        (
-            journal.into_held(),
-            stored,
-            endings,
+        let (ended, early) = endings.into_held();
+        Held {
+            journal: journal.into_held(),
+            store: stored,
+            ended,
             early,
             posters,
             log,
             tally,
-        )
+        }
     }
 
     /// Ends the log: no post and no subscription is accepted from now on.
@@ -272,9 +265,7 @@ impl<N: Origin> Book<N> {
         ensures stored { self.new.stored ≡ self.old.stored }
         ensures log { OnOk result
             (self.new.log ≡ record self.old.log { tail = shut_tail self.old.log.tail }) }
-        ensures endings { (self.new.endings ≡ self.old.endings) × (self.new.early ≡ self.old.early) }
-        ensures gone { self.new.gone ≡ self.old.gone }
-        ensures limits { HasSameLimits self.old self.new }
+        ensures rest { KeepsRest self.old self.new }
 
         ensures closed { IsErr result ↔ IsTrue (is_closed self.old.journal) }
         ensures err { OnErr result (self.new ≡ self.old) }

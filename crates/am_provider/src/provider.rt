@@ -17,6 +17,7 @@ ghost use Rattle.am_provider.specs.Headline.{AnswersPost, AnswersSubscribe, Answ
 ghost use Rattle.am_provider.specs.Headline.{AnswersClose, AnswersTrim, AnswersStored, AnswersGet, AnswersTake};
 ghost use Rattle.am_provider.specs.Headline.{AnswersCompact, AnswersPage, AnswersVouch};
 ghost use Rattle.am_provider.specs.Posts.{AddsOwn, HasMet};
+ghost use Rattle.am_provider.specs.PartsOf.{AreOf};
 ghost use Rattle.am_provider.specs.Rising.{IsRising};
 ghost use Rattle.am_provider.specs.Ending.{IsSettledFrom};
 
@@ -65,11 +66,7 @@ impl<N: Recorded> Provider<N> {
         policy: Policy,
         resolve_timeout: Duration,
     ) -> Result<(Provider<N>, Vec<Caller<N>>), AllocError>
-        requires table { parts.log.board.shared.table_id ≡ N.table }
-        requires ledger { (parts.ledger.name ≡ N.name) × (parts.ledger.parts ≡ N.parts) }
-        requires history { parts.history.board.shared.table_id ≡ N.timeline }
-        requires entries { (parts.history.ledger.name ≡ N.entries)
-            × (parts.history.ledger.parts ≡ N.holders) }
+        requires parts { AreOf N.table N.name N.parts N.timeline N.entries N.holders parts }
         requires limits { (parts.log.places ≡ N.places) × (policy ≡ N.policy) }
         ensures timeout { IfOk result (λ made. made.0.resolve_timeout ≡ resolve_timeout) }
         ensures callers { IfOk result (λ made. (length made.1.items ≡ parts.posters)
@@ -82,12 +79,9 @@ impl<N: Recorded> Provider<N> {
             posters,
         } = parts;
         let Begun { cast, book, passes } = Book::begin_over(alloc, log, ledger, posters, policy)?;
-        let room = match Vec::with_capacity(alloc, posters as usize) {
-            Ok(room) => room,
-            Err(error) => {
-                book.discard(cast);
-                return Err(error);
-            }
+        let Ok(room) = Vec::with_capacity(alloc, posters as usize) else {
+            book.discard(cast);
+            return Err(AllocError);
         };
         let Opened {
             table,

@@ -1,19 +1,19 @@
 //! Sending a batch out: the segment of its alerts, and its place in the log.
 
-ghost use Rattle.std.specs.Prelude.{◌≡◌, ◌<◌, false, length, IfOk, IfErr, OnErr};
+ghost use Rattle.std.specs.Prelude.{◌≡◌, ◌≢◌, ◌<◌, false, length, IfOk, IfErr, OnOk, OnErr};
 ghost use Rattle.std.specs.Arc.{arc_value};
 ghost use Rattle.am_store.specs.Shared.{alerts_in};
 ghost use Rattle.am_cast.specs.declared.limits.TheConstants.{LONGEST_LOG};
-ghost use Rattle.am_cast.specs.Writers.{HasRoom};
+ghost use Rattle.am_cast.specs.Writers.{Harvested, HasRoom};
 ghost use Rattle.am_provider.specs.declared.answers.Policy.TheVariants.{Refuse};
 ghost use Rattle.am_provider.specs.Rising.{AreBelow};
-ghost use Rattle.am_provider.specs.Sending.{IsSent, IsUnsent, NamesALane, fault_as_put};
+ghost use Rattle.am_provider.specs.Sending.{IsLogCause, IsSent, IsUnsent, NamesALane, fault_as_put};
 
 use crate::answers::Policy;
 use crate::faults::PutFault;
 use crate::feed::{Cast, Origin, Writer};
 use crate::item::Item;
-use am_cast::{PublishFault, Published, Refused};
+use am_cast::{LONGEST_LOG, PublishFault, Published, Refused};
 use am_segment::SegmentBuilder;
 use am_store::lanes::OpenLane;
 use am_store::{Call, SharedAlert};
@@ -43,6 +43,32 @@ fn segment_of<N: Origin>(
         }
     }
     Ok(segment)
+}
+
+/// Looks at the lanes, and says why the log takes no batch, if it takes none.
+pub(crate) fn look_for_room<N: Origin>(
+    writer: &mut Writer<N>,
+    cast: &Cast<N>,
+    policy: Policy,
+) -> Result<(), PutFault>
+    requires { writer.old.tail.closed ≡ false }
+    ensures harvested { Harvested writer.old writer.new 8 }
+    ensures few { OnOk result (length writer.new.tail.log < LONGEST_LOG) }
+    ensures room { OnOk result (policy ≡ Refuse → HasRoom writer.new 8) }
+    ensures refused { IfErr result (λ fault. (fault ≢ PutFault.Closed) × (fault ≢ PutFault.NoMemory)
+        × IsLogCause policy writer.old writer.new fault) }
+{
+    let full = writer.harvest(cast);
+    if writer.len() >= LONGEST_LOG {
+        return Err(PutFault::LogEnd);
+    }
+    match (policy, full) {
+        (Policy::Refuse, Some((lane, passed))) => Err(PutFault::Full {
+            lane: lane as u32,
+            passed,
+        }),
+        _ => Ok(()),
+    }
 }
 
 /// Sends a batch of alerts out, or says why the log doesn't take it.

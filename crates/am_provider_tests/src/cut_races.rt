@@ -2,6 +2,7 @@
 //! reader is shown the first of what was posted, and then at most one cut.
 
 ghost use Rattle.std.specs.Prelude.{◌≡◌};
+ghost use Rattle.am_provider.specs.PartsOf.{AreOf};
 
 use crate::bodies::{body_of, moment};
 use crate::days::{Settings, Stopped, begin_day};
@@ -185,11 +186,7 @@ fn race_over<N: Recorded + Send + Sync, R: Threads + Wait + Sync>(
     settings: Settings,
     race: &Race<'_>,
 ) -> Result<(Round, Settled), Stopped>
-    requires table { parts.log.board.shared.table_id ≡ N.table }
-    requires ledger { (parts.ledger.name ≡ N.name) × (parts.ledger.parts ≡ N.parts) }
-    requires history { parts.history.board.shared.table_id ≡ N.timeline }
-    requires entries { (parts.history.ledger.name ≡ N.entries)
-        × (parts.history.ledger.parts ≡ N.holders) }
+    requires parts { AreOf N.table N.name N.parts N.timeline N.entries N.holders parts }
     requires limits { (parts.log.places ≡ N.places) × (settings.policy ≡ N.policy) }
 {
     let (provider, mut callers) = begin_day::<N>(alloc, parts, settings)?;

@@ -3,6 +3,7 @@
 //! `begin_day`.
 
 ghost use Rattle.std.specs.Prelude.{◌≡◌, ◌≤◌};
+ghost use Rattle.am_provider.specs.PartsOf.{AreOf};
 
 use crate::stage::Stage;
 use am_alert::PostFault;
@@ -106,11 +107,7 @@ pub fn begin_day<N: Recorded>(
     parts: Parts,
     settings: Settings,
 ) -> Result<(Provider<N>, Vec<Caller<N>>), AllocError>
-    requires table { parts.log.board.shared.table_id ≡ N.table }
-    requires ledger { (parts.ledger.name ≡ N.name) × (parts.ledger.parts ≡ N.parts) }
-    requires history { parts.history.board.shared.table_id ≡ N.timeline }
-    requires entries { (parts.history.ledger.name ≡ N.entries)
-        × (parts.history.ledger.parts ≡ N.holders) }
+    requires parts { AreOf N.table N.name N.parts N.timeline N.entries N.holders parts }
     requires limits { (parts.log.places ≡ N.places) × (settings.policy ≡ N.policy) }
 {
     Provider::<N>::begin(alloc, parts, settings.policy, settings.resolve_timeout)
@@ -134,11 +131,7 @@ fn spend_over<N: Recorded, D: Day, R: Wait>(
     settings: Settings,
     day: &D,
 ) -> Result<(D::Outcome, Settled), Stopped>
-    requires table { parts.log.board.shared.table_id ≡ N.table }
-    requires ledger { (parts.ledger.name ≡ N.name) × (parts.ledger.parts ≡ N.parts) }
-    requires history { parts.history.board.shared.table_id ≡ N.timeline }
-    requires entries { (parts.history.ledger.name ≡ N.entries)
-        × (parts.history.ledger.parts ≡ N.holders) }
+    requires parts { AreOf N.table N.name N.parts N.timeline N.entries N.holders parts }
     requires limits { (parts.log.places ≡ N.places) × (settings.policy ≡ N.policy) }
 {
     let (provider, mut callers) = begin_day::<N>(alloc, parts, settings)?;

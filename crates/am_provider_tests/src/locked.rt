@@ -1,6 +1,7 @@
 //! A reader goes on while a post holds the lock.
 
 ghost use Rattle.std.specs.Prelude.{◌≡◌};
+ghost use Rattle.am_provider.specs.PartsOf.{AreOf};
 
 use crate::bodies::{body_of, moment};
 use crate::days::{Settings, Stopped, begin_day};
@@ -90,11 +91,7 @@ fn beside_lock_over<N: Recorded + Send + Sync, R: Threads + Wait + Sync>(
     parts: Parts,
     settings: Settings,
 ) -> Result<((bool, bool), Settled), Stopped>
-    requires table { parts.log.board.shared.table_id ≡ N.table }
-    requires ledger { (parts.ledger.name ≡ N.name) × (parts.ledger.parts ≡ N.parts) }
-    requires history { parts.history.board.shared.table_id ≡ N.timeline }
-    requires entries { (parts.history.ledger.name ≡ N.entries)
-        × (parts.history.ledger.parts ≡ N.holders) }
+    requires parts { AreOf N.table N.name N.parts N.timeline N.entries N.holders parts }
     requires limits { (parts.log.places ≡ N.places) × (settings.policy ≡ N.policy) }
 {
     let (provider, mut callers) = begin_day::<N>(alloc, parts, settings)?;

@@ -1,6 +1,7 @@
 //! Eight readers that sleep while nothing is there for them: each post wakes all of them, and so does the close.
 
 ghost use Rattle.std.specs.Prelude.{◌≡◌};
+ghost use Rattle.am_provider.specs.PartsOf.{AreOf};
 
 use crate::bodies::{body_of, moment};
 use crate::days::{Day, Settings, Stopped, begin_day, spend};
@@ -125,11 +126,7 @@ fn one_and_eight_over<N: Recorded + Send + Sync, R: Threads + Wait + Sync>(
     parts: Parts,
     settings: Settings,
 ) -> Result<(u32, u32, Settled), Stopped>
-    requires table { parts.log.board.shared.table_id ≡ N.table }
-    requires ledger { (parts.ledger.name ≡ N.name) × (parts.ledger.parts ≡ N.parts) }
-    requires history { parts.history.board.shared.table_id ≡ N.timeline }
-    requires entries { (parts.history.ledger.name ≡ N.entries)
-        × (parts.history.ledger.parts ≡ N.holders) }
+    requires parts { AreOf N.table N.name N.parts N.timeline N.entries N.holders parts }
     requires limits { (parts.log.places ≡ N.places) × (settings.policy ≡ N.policy) }
 {
     let (provider, mut callers) = begin_day::<N>(alloc, parts, settings)?;
@@ -200,11 +197,7 @@ fn close_beside_over<N: Recorded + Send + Sync, R: Threads + Wait + Sync>(
     settings: Settings,
     turns: u32,
 ) -> Result<Settled, Stopped>
-    requires table { parts.log.board.shared.table_id ≡ N.table }
-    requires ledger { (parts.ledger.name ≡ N.name) × (parts.ledger.parts ≡ N.parts) }
-    requires history { parts.history.board.shared.table_id ≡ N.timeline }
-    requires entries { (parts.history.ledger.name ≡ N.entries)
-        × (parts.history.ledger.parts ≡ N.holders) }
+    requires parts { AreOf N.table N.name N.parts N.timeline N.entries N.holders parts }
     requires limits { (parts.log.places ≡ N.places) × (settings.policy ≡ N.policy) }
 {
     let (provider, mut callers) = begin_day::<N>(alloc, parts, settings)?;

@@ -12,7 +12,7 @@ use Rattle.clap.specs.declared.parser.matches.ArgMatches.{ArgMatches}
 use Rattle.clap.proofs.OnLiterals.{clap_on_literals}
 use Rattle.clap.proofs.WalkLemmas.{first_value-rows}
 use Rattle.am_replay.specs.Options.{AreModes, ArePolicies, AreOptions, IsCommandLineOf, Choices, form_of, options_of}
-use Rattle.am_replay.specs.Arguments.{AreFound, AreArgumentsOf, IsFaultOf}
+use Rattle.am_replay.specs.Arguments.{AreAccepted, AreArgumentsOf, AreFound, FitTheMode, IsFaultOf, IsMisfit, by_clap, by_mode}
 use Rattle.am_replay.specs.ArgumentsFaults.{IsTold}
 use Rattle.am_replay.specs.declared.arguments.Arguments.{Arguments}
 use Rattle.am_replay.specs.declared.arguments.ArgumentsFault.{ArgumentsFault}
@@ -46,7 +46,7 @@ module _ (modes policies : Choices) (are_modes : AreModes modes) (are_policies :
   }
 
   pub given_read : (given : List Text) (matches : ArgMatches) (arguments : Arguments) → rows_of (found_of matches) ≡ matches_of (app_of command) given
-      → fault_of (app_of command) given ≡ [] → AreFound (found_of matches) arguments → AreArgumentsOf given arguments
+      → fault_of (app_of command) given ≡ [] → AreFound (found_of matches) arguments → AreAccepted given arguments
   given_read given matches arguments rows accepted found =
       let value : (name : Text) → first_of name (matches_of (app_of command) given) ≡ first_value (found_of matches) name =
       λ name. ap (first_of name) (sym rows) ∙ sym (first_value-rows (found_of matches) name) in
@@ -64,8 +64,14 @@ module _ (modes policies : Choices) (are_modes : AreModes modes) (are_policies :
       → IsTold error fault → IsFaultOf given fault
   given_refused given error NoMemory kind told = tt
   given_refused given error (Refused text) (inl memory) told = absurd (told memory)
-  given_refused given error (Refused text) (inr among) told = record {
-    options = app_of command;
-    are_options = are_options;
-    refused = λ none. subst (λ (kinds : Kinds). IsAmong (kind_of error) kinds) none among;
-  }
+  given_refused given error (Refused text) (inr among) told =
+      by_clap (app_of command) are_options (λ none. subst (λ (kinds : Kinds). IsAmong (kind_of error) kinds) none among)
+
+-- arguments that clap accepted, and that fit their mode
+pub fit_given : (given : List Text) (arguments same : Arguments) → AreAccepted given arguments → (same ≡ arguments) × FitTheMode arguments → AreArgumentsOf given same
+fit_given given arguments same accepted fit = subst (AreArgumentsOf given) (sym fit.0) (accepted, fit.1)
+
+-- and such that don't
+pub misfit_given : (given : List Text) (arguments : Arguments) (fault : ArgumentsFault) → AreAccepted given arguments → IsMisfit arguments fault → IsFaultOf given fault
+misfit_given given arguments (Refused text) accepted misfit = by_mode arguments accepted misfit
+misfit_given given arguments NoMemory accepted misfit = tt

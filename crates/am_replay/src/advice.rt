@@ -2,13 +2,19 @@
 //!
 //! The output has the fault and its path, and that is what contracts speak of. This is for the error stream.
 
-use am_config::ConfigFault;
+use am_config::{ConfigFault, Path};
 use am_script::config_advice;
 use serde_json::Value;
 use std::alloc::{AllocError, Global};
 
 // What is said of each fault of a matcher.
 const MATCHER: &str = "a matcher is NAME OP VALUE, as severity=\"page\"";
+
+const PATTERN: &str = "after =~ and !~ it has to be a regular expression";
+
+const BAD_NAME: &str = "begins with no label's name: ";
+
+const BAD_QUOTE: &str = "has a quote that is missing or out of place, or a comma outside quotes: ";
 
 /// A line about the fault of a first line; if that looks like something else, a line about that.
 pub(crate) fn fault_advice(
@@ -22,36 +28,18 @@ pub(crate) fn fault_advice(
     match fault {
         ConfigFault::NoMemory | ConfigFault::NotJson => config_advice(alloc, line),
         ConfigFault::WrongKind(path) if path.as_str().is_empty() => config_advice(alloc, line),
-        ConfigFault::WrongKind(path) => {
-            let wanted = wanted_at(path.as_str());
-            format!(in alloc; "replay: line 1: \"{path}\" has to be {wanted}\n")
-        }
-        ConfigFault::Missing(path) => {
-            let wanted = missing_at(path.as_str());
-            format!(in alloc; "replay: line 1: \"{path}\" is missing{wanted}\n")
-        }
-        ConfigFault::Deprecated(path) => {
-            let newer = newer_than(path.as_str());
-            format!(in alloc;
-                "replay: line 1: \"{path}\" is of the older form: \"{newer}\" says the same, a list as [\"severity=page\"]\n"
-            )
-        }
-        ConfigFault::NoOperator(path) => {
-            format!(in alloc; "replay: line 1: \"{path}\" has no operator: {MATCHER}\n")
-        }
-        ConfigFault::BadName(path) => {
-            format!(in alloc; "replay: line 1: \"{path}\" begins with no label's name: {MATCHER}\n")
-        }
-        ConfigFault::BadQuote(path) => {
-            format!(in alloc;
-                "replay: line 1: \"{path}\" has a quote that is missing or out of place, or a comma outside quotes: {MATCHER}\n"
-            )
-        }
-        ConfigFault::BadPattern(path) => {
-            format!(in alloc;
-                "replay: line 1: \"{path}\" has no pattern: after =~ and !~ it has to be a regular expression\n"
-            )
-        }
+        ConfigFault::WrongKind(path) => at_path(
+            alloc,
+            path,
+            "has to be ",
+            wanted_at(path.as_str()),
+        ),
+        ConfigFault::Missing(path) => at_path(alloc, path, "is missing", missing_at(path.as_str())),
+        ConfigFault::Deprecated(path) => older_form(alloc, path),
+        ConfigFault::NoOperator(path) => at_path(alloc, path, "has no operator: ", MATCHER),
+        ConfigFault::BadName(path) => at_path(alloc, path, BAD_NAME, MATCHER),
+        ConfigFault::BadQuote(path) => at_path(alloc, path, BAD_QUOTE, MATCHER),
+        ConfigFault::BadPattern(path) => at_path(alloc, path, "has no pattern: ", PATTERN),
         ConfigFault::RootMatchers => whole_line(
             alloc,
             "\"route.matchers\" has to be empty: the root matches every alert, and the routes below it have matchers",
@@ -65,6 +53,18 @@ pub(crate) fn fault_advice(
             "\"global.resolve_timeout\" is no duration, or too long: it has to be one such as \"5m\"",
         ),
     }
+}
+
+// What is said of the member at a path.
+fn at_path(alloc: Global, path: &Path, said: &str, more: &str) -> Result<String, AllocError> {
+    format!(in alloc; "replay: line 1: \"{path}\" {said}{more}\n")
+}
+
+fn older_form(alloc: Global, path: &Path) -> Result<String, AllocError> {
+    let newer = newer_than(path.as_str());
+    format!(in alloc;
+        "replay: line 1: \"{path}\" is of the older form: \"{newer}\" says the same, a list as [\"severity=page\"]\n"
+    )
 }
 
 fn whole_line(alloc: Global, told: &str) -> Result<String, AllocError> {

@@ -28,13 +28,16 @@ pub enum Mode {
     Follow,
 }
 
+// How many batches the log of a script holds, at most. In the modes live and follow these are `MAX_PLACES`.
+const SCRIPT_PLACES: u32 = 256;
+
 /// What the command line asks for.
 #[derive(Clone, Copy)]
 pub struct Arguments {
     pub mode: Mode,
     /// In which form the answers are printed.
     pub form: Form,
-    /// How many batches the log holds.
+    /// How many batches the log holds. In a script these are at most 256.
     pub places: u32,
     /// What a post does where the log is full.
     pub full: Policy,
@@ -64,7 +67,7 @@ static MODES: [&str; 4] = ["ordered", "free", "live", "follow"];
 static POLICIES: [&str; 2] = ["refuse", "cut"];
 
 impl Arguments {
-    ghost use Rattle.am_replay.specs.Arguments.{AreFound, AreArgumentsOf, IsFaultOf};
+    ghost use Rattle.am_replay.specs.Arguments.{AreFound, AreArgumentsOf, FitTheMode, IsFaultOf, IsMisfit};
 
     /// Reads the arguments that a command line gives, without the program's name.
     pub fn read(alloc: Global, given: &[String]) -> Result<Arguments, ArgumentsFault>
@@ -73,7 +76,7 @@ impl Arguments {
     {
         let command = command(alloc, MODES.as_slice(), POLICIES.as_slice())?;
         match command.try_get_matches_from(given) {
-            Ok(matches) => Ok(Arguments::found(&matches)),
+            Ok(matches) => Arguments::found(&matches).within_mode(alloc),
             Err(error) => Err(told(alloc, &error)),
         }
     }
@@ -94,15 +97,36 @@ impl Arguments {
                 Some("true") => Form::Json,
                 _ => Form::Text,
             },
-            places: matches
-                .get_one::<u32>("places")
-                .unwrap_or(MAX_PLACES as u32),
+            places: matches.get_one::<u32>("places").unwrap_or(SCRIPT_PLACES),
             full: match matches.get_str("full") {
                 Some("cut") => Policy::Cut,
                 _ => Policy::Refuse,
             },
         }
     }
+
+    // The same, unless they ask for more places than logs have in their mode.
+    fn within_mode(self, alloc: Global) -> Result<Arguments, ArgumentsFault>
+        ensures fit { IfOk result (λ same. (same ≡ self) × FitTheMode self) }
+        ensures misfit { IfErr result (IsMisfit self) }
+    {
+        let is_script = matches!(self.mode, Mode::Ordered | Mode::Free);
+        if !is_script || self.places <= SCRIPT_PLACES {
+            return Ok(self);
+        }
+        match too_many_places(alloc, self.places) {
+            Ok(text) => Err(ArgumentsFault::Refused(text)),
+            Err(AllocError) => Err(ArgumentsFault::NoMemory),
+        }
+    }
+}
+
+// What is reported of a script that is given too many places, in clap's words.
+fn too_many_places(alloc: Global, places: u32) -> Result<String, AllocError> {
+    format!(in alloc;
+        "error: invalid value '{places}' for '--places <N>': {places} is not in \
+        1..={SCRIPT_PLACES}\n\nFor more information, try '--help'.\n"
+    )
 }
 
 const USAGE: &str = "./replay [OPTIONS] < SCRIPT";
@@ -113,7 +137,8 @@ const ABOUT: &str =
 const MODE_HELP: &str =
     "Run the lines in script order, all threads at the same time, or each line as it comes";
 
-const PLACES_HELP: &str = "How many batches the log holds, from 1 to 256";
+const PLACES_HELP: &str =
+    "How many batches the log holds, from 1 to 256, or to 65536 if lines are run as they come";
 
 const JSON_HELP: &str = "Print each answer as a JSON object on a line";
 

@@ -9,6 +9,7 @@ ghost use Rattle.am_replay.specs.Live.{IsEnd, IsFailure, IsFirstAs, IsLive, IsWr
 ghost use Rattle.am_runner.specs.Sessions.{LeavesAll, setting_of};
 ghost use Rattle.am_serve.specs.Serving.{IsServed, IsServedInPart};
 ghost use Rattle.am_serve.specs.Standing.{RunView, new_run};
+ghost use Rattle.am_provider.specs.PartsOf.{AreOf};
 
 use crate::advice::fault_advice;
 use crate::arguments::{Arguments, Mode};
@@ -138,11 +139,7 @@ fn live_on<N: Recorded, R: Wait, I: BufRead, O: Write>(
     out: &mut O,
     parts: Parts,
 ) -> Status
-    requires table { parts.log.board.shared.table_id ≡ N.table }
-    requires ledger { (parts.ledger.name ≡ N.name) × (parts.ledger.parts ≡ N.parts) }
-    requires history { parts.history.board.shared.table_id ≡ N.timeline }
-    requires entries { (parts.history.ledger.name ≡ N.entries)
-        × (parts.history.ledger.parts ≡ N.holders) }
+    requires parts { AreOf N.table N.name N.parts N.timeline N.entries N.holders parts }
     requires limits { (parts.log.places ≡ N.places)
         × (arguments.places ≡ N.places) × (arguments.full ≡ N.policy) }
     requires posters { (parts.posters ≡ 1) × (N.parts ≡ 1) }

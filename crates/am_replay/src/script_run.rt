@@ -3,6 +3,7 @@
 ghost use Rattle.std.specs.Prelude.{◌≡◌, Bool, List, IfOk, Ok, map};
 ghost use Rattle.am_config.specs.declared.config.Config.{Config};
 ghost use Rattle.am_history.specs.Fronts.{FrontView};
+ghost use Rattle.am_provider.specs.PartsOf.{AreOf};
 ghost use Rattle.am_provider.specs.Histories.{EntryView};
 ghost use Rattle.am_runner.specs.Sessions.{Setting, setting_of};
 ghost use Rattle.am_runner.specs.Turning.{order_of};
@@ -75,11 +76,7 @@ fn run_on<N: Recorded + Send + Sync, R: Threads + Wait + Sync, T: Turns + Sync>(
     turns: &T,
     parts: Parts,
 ) -> Result<Ran, NotRun>
-    requires table { parts.log.board.shared.table_id ≡ N.table }
-    requires ledger { (parts.ledger.name ≡ N.name) × (parts.ledger.parts ≡ N.parts) }
-    requires history { parts.history.board.shared.table_id ≡ N.timeline }
-    requires entries { (parts.history.ledger.name ≡ N.entries)
-        × (parts.history.ledger.parts ≡ N.holders) }
+    requires parts { AreOf N.table N.name N.parts N.timeline N.entries N.holders parts }
     requires limits { (parts.log.places ≡ N.places)
         × (settings.now.arguments.places ≡ N.places) × (settings.now.arguments.full ≡ N.policy) }
     requires posters { parts.posters ≡ 8 }

@@ -70,23 +70,19 @@ last_stays old new (answer.Subscribed l o) none next = absurd next
 last_stays old new (answer.SubscribeRefused w) none next = absurd next
 last_stays old new (answer.Left t c u) none next = absurd next
 last_stays old new (answer.Collected n) none next = absurd next
-last_stays old new answer.CollectRefused none next = absurd next
 last_stays old new (answer.Taken n) none next = absurd next
 last_stays old new answer.CloseAccepted none next = absurd next
 last_stays old new answer.CloseRefused none next = absurd next
 last_stays old new (answer.Trimmed n) none next = absurd next
-last_stays old new answer.TrimRefused none next = absurd next
 last_stays old new (answer.Compacted n) none next = absurd next
-last_stays old new answer.TakeRefused none next = absurd next
-last_stays old new (answer.Group r c l a) none next = absurd next
+last_stays old new (answer.Group h) none next = absurd next
 last_stays old new (answer.Member a) none next = absurd next
 last_stays old new (answer.Swept s) none next = absurd next
 last_stays old new (answer.Forgotten n) none next = absurd next
 last_stays old new (answer.Muted r b) none next = absurd next
 last_stays old new answer.NotMuted none next = absurd next
-last_stays old new answer.MutesRefused none next = absurd next
 last_stays old new (answer.StoredCount n) none next = absurd next
-last_stays old new (answer.Page a f s c) none next = absurd next
+last_stays old new (answer.Page h) none next = absurd next
 last_stays old new (answer.StoredAlert a) none next = absurd next
 last_stays old new answer.NotStored none next = absurd next
 last_stays old new (answer.Route r) none next = absurd next
@@ -108,7 +104,7 @@ one_read start at old new before answers goes_on it (takes alert shows beside ke
 one_read start at old new before answers goes_on it (misses alert shows beside kept) = record {
   taken_is = shows.taken ∙ (ap (λ (l : List Alert). l ++ alert ∷ []) it.taken_is ∙ (append_assoc start (items_in before) (alert ∷ [])
       ∙ ap (λ (l : List Alert). start ++ l) (sym (filter_map-append item_in before (answer.Item alert ∷ []))
-      ∙ (sym (append-nil (items_in (before ++ answer.Item alert ∷ []))) ∙ sym (filter_map-append item_in (before ++ answer.Item alert ∷ []) (answer.TakeRefused ∷ []))))));
+      ∙ (sym (append-nil (items_in (before ++ answer.Item alert ∷ []))) ∙ sym (filter_map-append item_in (before ++ answer.Item alert ∷ []) (answer.OutOfMemory verb.Take ∷ []))))));
   at_is = shows.at ∙ it.at_is;
 }
 one_read start at old new before answers goes_on it (ends last none next same kept) =

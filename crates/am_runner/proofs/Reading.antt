@@ -4,6 +4,7 @@ use Rattle.std.proofs.lemmas.Bool.{false≢true}
 use Rattle.std.proofs.lemmas.List.{same_from_push}
 use Rattle.am_provider.specs.Showings.{Shows}
 use Rattle.am_provider.specs.declared.answers.Step.TheVariants as step
+use Rattle.am_script.specs.declared.command.Verb.TheVariants as verb
 use Rattle.am_runner.specs.Reading.{EndsPending, NextIs, OpenView, ReadsOne, takes, misses, ends, ReadsSome, nothing, one_more}
 use Rattle.am_runner.specs.declared.answer.Answer.{Answer}
 use Rattle.am_runner.specs.declared.answer.Answer.TheVariants as answer
@@ -32,7 +33,7 @@ one_more_pending : (old new : OpenView) (before answers : List Answer) (goes_on 
 one_more_pending old new before answers goes_on more (takes alert shows beside kept) pending =
     let no : answer.Item alert ≡ answer.Pending = last_pending before _ (answer.Item alert) refl pending in cc
 one_more_pending old new before answers goes_on more (misses alert shows beside kept) pending =
-    let no : answer.TakeRefused ≡ answer.Pending = last_pending (before ++ answer.Item alert ∷ []) _ answer.TakeRefused refl pending in cc
+    let no : answer.OutOfMemory verb.Take ≡ answer.Pending = last_pending (before ++ answer.Item alert ∷ []) _ (answer.OutOfMemory verb.Take) refl pending in cc
 one_more_pending old new before answers goes_on more (ends last none next same kept) pending = absurd (false≢true more)
 
 pub never_pending : (old new : OpenView) (count : ℕ) (answers : List Answer) → ReadsSome old count answers new → EndsPending answers → ⊥

@@ -13,6 +13,7 @@ use Rattle.am_inhibit.specs.Inhibitors.{InhibitorView}
 use Rattle.am_inhibit.specs.LastAlerts.{last_alerts}
 use Rattle.am_inhibit.specs.InhibitionLaws.{KeptAlertsGoOn}
 use Rattle.am_routes.specs.Groups.{DispatcherView, Take, Sweep, Follows}
+use Rattle.am_script.specs.declared.command.Verb.TheVariants as verb
 use Rattle.am_runner.specs.Answers.{is_item}
 use Rattle.am_runner.specs.Consuming.{HasTaken, DispatcherTook, InhibitorTook, InhibitorTakes, TakesAlert, IsSwept, DispatcherSwept, InhibitorSwept, alert_kept, alert_taken}
 use Rattle.am_runner.specs.Reading.{OpenView, NextIs, IsTaken, ReadsOne, takes, misses, ends, TookAll, TakenBeside, AsksBeside, asks, none_beside}
@@ -73,23 +74,19 @@ follows_of now old new answer.SawClosed done = absurd done
 follows_of now old new answer.SawCut done = absurd done
 follows_of now old new (answer.Left t c u) done = absurd done
 follows_of now old new (answer.Collected n) done = absurd done
-follows_of now old new answer.CollectRefused done = absurd done
 follows_of now old new (answer.Taken n) done = absurd done
 follows_of now old new answer.CloseAccepted done = absurd done
 follows_of now old new answer.CloseRefused done = absurd done
 follows_of now old new (answer.Trimmed n) done = absurd done
-follows_of now old new answer.TrimRefused done = absurd done
 follows_of now old new (answer.Compacted n) done = absurd done
-follows_of now old new answer.TakeRefused done = absurd done
-follows_of now old new (answer.Group r c l a) done = absurd done
+follows_of now old new (answer.Group h) done = absurd done
 follows_of now old new (answer.Member a) done = absurd done
 follows_of now old new (answer.Swept s) done = done.0
 follows_of now old new (answer.Forgotten n) done = absurd done
 follows_of now old new (answer.Muted r b) done = absurd done
 follows_of now old new answer.NotMuted done = absurd done
-follows_of now old new answer.MutesRefused done = absurd done
 follows_of now old new (answer.StoredCount n) done = absurd done
-follows_of now old new (answer.Page a f s c) done = absurd done
+follows_of now old new (answer.Page h) done = absurd done
 follows_of now old new (answer.StoredAlert a) done = absurd done
 follows_of now old new answer.NotStored done = absurd done
 follows_of now old new (answer.Route r) done = absurd done
@@ -110,23 +107,19 @@ unresolved_of now old new answer.SawClosed done = absurd done
 unresolved_of now old new answer.SawCut done = absurd done
 unresolved_of now old new (answer.Left t c u) done = absurd done
 unresolved_of now old new (answer.Collected n) done = absurd done
-unresolved_of now old new answer.CollectRefused done = absurd done
 unresolved_of now old new (answer.Taken n) done = absurd done
 unresolved_of now old new answer.CloseAccepted done = absurd done
 unresolved_of now old new answer.CloseRefused done = absurd done
 unresolved_of now old new (answer.Trimmed n) done = absurd done
-unresolved_of now old new answer.TrimRefused done = absurd done
 unresolved_of now old new (answer.Compacted n) done = absurd done
-unresolved_of now old new answer.TakeRefused done = absurd done
-unresolved_of now old new (answer.Group r c l a) done = absurd done
+unresolved_of now old new (answer.Group h) done = absurd done
 unresolved_of now old new (answer.Member a) done = absurd done
 unresolved_of now old new (answer.Swept s) done = absurd done
 unresolved_of now old new (answer.Forgotten n) done = done.0
 unresolved_of now old new (answer.Muted r b) done = absurd done
 unresolved_of now old new answer.NotMuted done = absurd done
-unresolved_of now old new answer.MutesRefused done = absurd done
 unresolved_of now old new (answer.StoredCount n) done = absurd done
-unresolved_of now old new (answer.Page a f s c) done = absurd done
+unresolved_of now old new (answer.Page h) done = absurd done
 unresolved_of now old new (answer.StoredAlert a) done = absurd done
 unresolved_of now old new answer.NotStored done = absurd done
 unresolved_of now old new (answer.Route r) done = absurd done
@@ -202,23 +195,19 @@ module _ (old new : SubscriptionView) (before after : Option Consumer) (missed g
   took_shown law (answer.SubscribeRefused w) next kept took = absurd next
   took_shown law (answer.Left t c u) next kept took = absurd next
   took_shown law (answer.Collected n) next kept took = absurd next
-  took_shown law answer.CollectRefused next kept took = absurd next
   took_shown law (answer.Taken n) next kept took = absurd next
   took_shown law answer.CloseAccepted next kept took = absurd next
   took_shown law answer.CloseRefused next kept took = absurd next
   took_shown law (answer.Trimmed n) next kept took = absurd next
-  took_shown law answer.TrimRefused next kept took = absurd next
   took_shown law (answer.Compacted n) next kept took = absurd next
-  took_shown law answer.TakeRefused next kept took = absurd next
-  took_shown law (answer.Group r c l a) next kept took = absurd next
+  took_shown law (answer.Group h) next kept took = absurd next
   took_shown law (answer.Member a) next kept took = absurd next
   took_shown law (answer.Swept s) next kept took = absurd next
   took_shown law (answer.Forgotten n) next kept took = absurd next
   took_shown law (answer.Muted r b) next kept took = absurd next
   took_shown law answer.NotMuted next kept took = absurd next
-  took_shown law answer.MutesRefused next kept took = absurd next
   took_shown law (answer.StoredCount n) next kept took = absurd next
-  took_shown law (answer.Page a f s c) next kept took = absurd next
+  took_shown law (answer.Page h) next kept took = absurd next
   took_shown law (answer.StoredAlert a) next kept took = absurd next
   took_shown law answer.NotStored next kept took = absurd next
   took_shown law (answer.Route r) next kept took = absurd next
@@ -255,23 +244,19 @@ module _ (old new : SubscriptionView) (before after : Option Consumer) (missed g
   reads_shown name answers (answer.SubscribeRefused w) next kept = absurd next
   reads_shown name answers (answer.Left t c u) next kept = absurd next
   reads_shown name answers (answer.Collected n) next kept = absurd next
-  reads_shown name answers answer.CollectRefused next kept = absurd next
   reads_shown name answers (answer.Taken n) next kept = absurd next
   reads_shown name answers answer.CloseAccepted next kept = absurd next
   reads_shown name answers answer.CloseRefused next kept = absurd next
   reads_shown name answers (answer.Trimmed n) next kept = absurd next
-  reads_shown name answers answer.TrimRefused next kept = absurd next
   reads_shown name answers (answer.Compacted n) next kept = absurd next
-  reads_shown name answers answer.TakeRefused next kept = absurd next
-  reads_shown name answers (answer.Group r c l a) next kept = absurd next
+  reads_shown name answers (answer.Group h) next kept = absurd next
   reads_shown name answers (answer.Member a) next kept = absurd next
   reads_shown name answers (answer.Swept s) next kept = absurd next
   reads_shown name answers (answer.Forgotten n) next kept = absurd next
   reads_shown name answers (answer.Muted r b) next kept = absurd next
   reads_shown name answers answer.NotMuted next kept = absurd next
-  reads_shown name answers answer.MutesRefused next kept = absurd next
   reads_shown name answers (answer.StoredCount n) next kept = absurd next
-  reads_shown name answers (answer.Page a f s c) next kept = absurd next
+  reads_shown name answers (answer.Page h) next kept = absurd next
   reads_shown name answers (answer.StoredAlert a) next kept = absurd next
   reads_shown name answers answer.NotStored next kept = absurd next
   reads_shown name answers (answer.Route r) next kept = absurd next
@@ -281,7 +266,7 @@ module _ (old new : SubscriptionView) (before after : Option Consumer) (missed g
 
   -- an alert was refused beside: one read too
   pub reads_missed : (name : List ℕ) (answers : List Answer) (given : Answer) → is_item given ≡ true → NextIs old given new → after ≡ before
-      → ReadsOne (view_before name) answers true ((answers ++ given ∷ []) ++ answer.TakeRefused ∷ []) (view_after name true)
+      → ReadsOne (view_before name) answers true ((answers ++ given ∷ []) ++ answer.OutOfMemory verb.Take ∷ []) (view_after name true)
   reads_missed name answers (answer.Item alert) is next kept = misses alert next kept (refl, refl)
   reads_missed name answers answer.Pending is next kept = absurd (false≢true is)
   reads_missed name answers answer.SawClosed is next kept = absurd (false≢true is)
@@ -294,23 +279,19 @@ module _ (old new : SubscriptionView) (before after : Option Consumer) (missed g
   reads_missed name answers (answer.SubscribeRefused w) is next kept = absurd (false≢true is)
   reads_missed name answers (answer.Left t c u) is next kept = absurd (false≢true is)
   reads_missed name answers (answer.Collected n) is next kept = absurd (false≢true is)
-  reads_missed name answers answer.CollectRefused is next kept = absurd (false≢true is)
   reads_missed name answers (answer.Taken n) is next kept = absurd (false≢true is)
   reads_missed name answers answer.CloseAccepted is next kept = absurd (false≢true is)
   reads_missed name answers answer.CloseRefused is next kept = absurd (false≢true is)
   reads_missed name answers (answer.Trimmed n) is next kept = absurd (false≢true is)
-  reads_missed name answers answer.TrimRefused is next kept = absurd (false≢true is)
   reads_missed name answers (answer.Compacted n) is next kept = absurd (false≢true is)
-  reads_missed name answers answer.TakeRefused is next kept = absurd (false≢true is)
-  reads_missed name answers (answer.Group r c l a) is next kept = absurd (false≢true is)
+  reads_missed name answers (answer.Group h) is next kept = absurd (false≢true is)
   reads_missed name answers (answer.Member a) is next kept = absurd (false≢true is)
   reads_missed name answers (answer.Swept s) is next kept = absurd (false≢true is)
   reads_missed name answers (answer.Forgotten n) is next kept = absurd (false≢true is)
   reads_missed name answers (answer.Muted r b) is next kept = absurd (false≢true is)
   reads_missed name answers answer.NotMuted is next kept = absurd (false≢true is)
-  reads_missed name answers answer.MutesRefused is next kept = absurd (false≢true is)
   reads_missed name answers (answer.StoredCount n) is next kept = absurd (false≢true is)
-  reads_missed name answers (answer.Page a f s c) is next kept = absurd (false≢true is)
+  reads_missed name answers (answer.Page h) is next kept = absurd (false≢true is)
   reads_missed name answers (answer.StoredAlert a) is next kept = absurd (false≢true is)
   reads_missed name answers answer.NotStored is next kept = absurd (false≢true is)
   reads_missed name answers (answer.Route r) is next kept = absurd (false≢true is)
@@ -324,6 +305,6 @@ module _ (old new : SubscriptionView) (before after : Option Consumer) (missed g
       subst (λ (every : List Answer). ReadsOne (view_before name) answers goes_on every (view_after name missed)) (sym is) (reads_shown name answers given next taken_it)
 
   pub missed_read : (name : List ℕ) (answers all : List Answer) (given : Answer) → is_item given ≡ true → NextIs old given new → after ≡ before
-      → all ≡ (answers ++ given ∷ []) ++ answer.TakeRefused ∷ [] → ReadsOne (view_before name) answers true all (view_after name true)
+      → all ≡ (answers ++ given ∷ []) ++ answer.OutOfMemory verb.Take ∷ [] → ReadsOne (view_before name) answers true all (view_after name true)
   missed_read name answers all given item next kept is =
       subst (λ (every : List Answer). ReadsOne (view_before name) answers true every (view_after name true)) (sym is) (reads_missed name answers given item next kept)

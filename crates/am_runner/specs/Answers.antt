@@ -12,10 +12,6 @@ abbrev pub is_out_of_memory : Answer → Bool
 is_out_of_memory (answer.PostRefused (Unread post_fault.NoMemory)) = true
 is_out_of_memory (answer.PostRefused (Put put_fault.NoMemory)) = true
 is_out_of_memory (answer.SubscribeRefused sub_fault.NoMemory) = true
-is_out_of_memory answer.CollectRefused = true
-is_out_of_memory answer.TrimRefused = true
-is_out_of_memory answer.TakeRefused = true
-is_out_of_memory answer.MutesRefused = true
 is_out_of_memory (answer.OutOfMemory word) = true
 is_out_of_memory _ = false
 

@@ -1,4 +1,4 @@
--- What is done between the lines of a live run: the journal is compacted, if it has become long.
+-- What may be done between the lines of a live run: the journal is compacted.
 use Rattle.std.specs.Prelude.{List, [], ◌∷◌, ◌++◌}
 use Rattle.am_alert.specs.declared.alert.Alert.{Alert}
 use Rattle.am_cast.specs.Posters.{PassView}
@@ -26,10 +26,12 @@ pub data Vouches (was : SessionView) : List OpenView → SessionView → Type 0 
       → SeesCall mid.front front (AnswersVouch one.subscription) → KnowsAllSent mid.pass pass front
       → Vouches was (some ++ one ∷ []) (record mid { pass = pass; front = front })
 
--- nothing is done; or the journal is compacted, then the stored alerts are counted, and then each open
--- subscription is shown to have taken its due
-pub data CompactsIfDue (config : Config) (setting : Setting) (old : SessionView) : SessionView → Type 0 where
-  not_due : CompactsIfDue config setting old old
-  compacts : {mid counted new : SessionView} {given : List Answer} → Does config setting old Compact given mid
-      → CountsStored config setting mid counted → Vouches counted counted.opened new
-      → CompactsIfDue config setting old new
+-- the journal is compacted, then the stored alerts are counted, and then each open subscription is shown to
+-- have taken its due
+pub record Compacts (config : Config) (setting : Setting) (old new : SessionView) : Type 0 where
+  pub given : List Answer
+  pub mid : SessionView
+  pub counted : SessionView
+  pub compacts : Does config setting old Compact given mid
+  pub counts : CountsStored config setting mid counted
+  pub vouches : Vouches counted counted.opened new

@@ -18,6 +18,7 @@ use Rattle.am_script.specs.declared.kind.Kind.{Kind}
 use Rattle.am_script.specs.declared.kind.Kind.TheVariants.{Plain, Dispatch, Inhibit, Notify}
 use Rattle.am_script.specs.declared.command.Verb.{Verb}
 use Rattle.am_script.specs.declared.command.Verb.TheVariants as verb
+use Rattle.am_runner.specs.declared.answer.GroupHead.{GroupHead}
 use Rattle.am_runner.specs.declared.answer.Answer.{Answer}
 use Rattle.am_runner.specs.declared.answer.Answer.TheVariants as answer
 use Rattle.am_runner.specs.declared.consumer.Consumer.{Consumer}
@@ -142,7 +143,7 @@ having_answered labels now old =
 
 -- an inhibitor is asked of a target: it answers, or it is out of memory, and then stays as it was
 abbrev pub AsksInhibitor : Labels → ℕ → InhibitorView → InhibitorView → Answer → Type 0
-AsksInhibitor labels now old new answer.MutesRefused = new ≡ old
+AsksInhibitor labels now old new (answer.OutOfMemory word) = (word ≡ verb.Mutes) × (new ≡ old)
 AsksInhibitor labels now old new given = (new ≡ having_answered labels now old)
     × (given ≡ muting_answer (muted old.alerts old.rules labels now))
 
@@ -151,15 +152,24 @@ pub data IsAsked (labels : Labels) (now : ℕ) : Consumer → Consumer → Answe
   asked : {old new : InhibitorView} {given : Answer} → AsksInhibitor labels now old new given
       → IsAsked labels now (Inhibitor old) (Inhibitor new) given
   asked_one_of_both : {notifier : NotifierView} {given : Answer}
-      → (given ≡ answer.MutesRefused) ⊎ (given ≡ muting_at notifier.inhibitor now labels)
+      → (given ≡ answer.OutOfMemory verb.Mutes) ⊎ (given ≡ muting_at notifier.inhibitor now labels)
       → IsAsked labels now (Notifier notifier) (Notifier notifier) given
   no_inhibitor : {dispatcher : DispatcherView} → IsAsked labels now (Dispatcher dispatcher)
       (Dispatcher dispatcher) (answer.NotOpen verb.Mutes)
 
+-- what is answered of a group before its alerts
+abbrev pub head_of_group : GroupView → GroupHead
+head_of_group group = record {
+  route = group.route;
+  receiver = group.receiver;
+  labels = group.labels;
+  alerts = length group.alerts;
+}
+
 -- a group, and then each of its alerts
 abbrev pub answers_of_group : GroupView → List Answer
 answers_of_group group =
-    answer.Group group.route group.receiver group.labels (length group.alerts)
+    answer.Group (head_of_group group)
     ∷ map answer.Member group.alerts
 
 -- an alert of a group, and then what mutes it at a moment (Alertmanager's `notify.MuteStage`)
@@ -170,7 +180,7 @@ answers_of_member inhibitor now alert =
 -- a group, and then each of its alerts with what mutes it at a moment
 abbrev pub answers_of_group_at : InhibitorView → ℕ → GroupView → List Answer
 answers_of_group_at inhibitor now group =
-    answer.Group group.route group.receiver group.labels (length group.alerts)
+    answer.Group (head_of_group group)
     ∷ flat_map (answers_of_member inhibitor now) group.alerts
 
 -- what is answered of the groups of a dispatcher, and of what mutes their alerts at a moment, if it is given

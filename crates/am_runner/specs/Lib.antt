@@ -13,4 +13,3 @@ pub mod Unanswered
 pub mod Compacting
 pub mod Turning
 pub mod Working
-pub mod inside

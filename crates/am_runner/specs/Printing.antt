@@ -11,6 +11,8 @@ use Rattle.am_routes.specs.declared.matched_route.MatchedRoute.{MatchedRoute}
 use Rattle.am_cast.specs.FaultTexts.{closed_text}
 use Rattle.am_provider.specs.FaultTexts.{post_refused_text, sub_fault_text}
 use Rattle.am_script.specs.ScriptTexts.{verb_text}
+use Rattle.am_runner.specs.declared.answer.GroupHead.{GroupHead}
+use Rattle.am_runner.specs.declared.answer.PageHead.{PageHead}
 use Rattle.am_runner.specs.declared.answer.Answer.{Answer}
 use Rattle.am_runner.specs.declared.answer.Answer.TheVariants as answer
 
@@ -30,10 +32,10 @@ left_text taken closed cut =
     ++ (if cut then codes " cut" else [])))
 
 -- a group of a dispatcher: its route, the receiver, its labels, and how many alerts it has
-abbrev pub group_text : ℕ → List ℕ → Labels → ℕ → List ℕ
-group_text route receiver labels alerts =
-    codes "group route " ++ (decimal route ++ (codes " receiver " ++ (quoted receiver
-    ++ (codes " labels " ++ (labels_text labels ++ (codes " alerts " ++ decimal alerts))))))
+abbrev pub group_text : GroupHead → List ℕ
+group_text group =
+    codes "group route " ++ (decimal group.route ++ (codes " receiver " ++ (quoted group.receiver
+    ++ (codes " labels " ++ (labels_text group.labels ++ (codes " alerts " ++ decimal group.alerts))))))
 
 -- a route that a label set matches: its number, the receiver, and the group labels there
 abbrev pub matched_text : MatchedRoute → List ℕ
@@ -48,10 +50,10 @@ swept_text swept =
 
 -- a page of what is stored: how many alerts it has, the index of the first, how many are stored in all, and
 -- after how many calls
-abbrev pub page_text : ℕ → ℕ → ℕ → ℕ → List ℕ
-page_text alerts from stored calls =
-    codes "page " ++ (decimal alerts ++ (codes " from " ++ (decimal from ++ (codes " of " ++ (decimal stored
-    ++ (codes " after " ++ decimal calls))))))
+abbrev pub page_text : PageHead → List ℕ
+page_text page =
+    codes "page " ++ (decimal page.alerts ++ (codes " from " ++ (decimal page.from
+    ++ (codes " of " ++ (decimal page.stored ++ (codes " after " ++ decimal page.calls))))))
 
 -- the rule that mutes a target, and the label set by which it does
 abbrev pub muted_text : ℕ → Labels → List ℕ
@@ -73,28 +75,24 @@ answer_text answer.SawClosed = codes "closed"
 answer_text answer.SawCut = codes "cut"
 answer_text (answer.Left taken closed cut) = left_text taken closed cut
 answer_text (answer.Collected removed) = codes "collect removed " ++ decimal removed
-answer_text answer.CollectRefused = codes "collect refused E0 NoMemory"
 answer_text (answer.Taken removed) = codes "take removed " ++ decimal removed
 answer_text answer.CloseAccepted = codes "close"
 answer_text answer.CloseRefused = codes "close refused " ++ closed_text
 answer_text (answer.Trimmed dropped) = codes "trim dropped " ++ decimal dropped
-answer_text answer.TrimRefused = codes "trim refused E0 NoMemory"
 answer_text (answer.Compacted dropped) = codes "compact dropped " ++ decimal dropped
-answer_text answer.TakeRefused = codes "take refused E0 NoMemory"
-answer_text (answer.Group route receiver labels alerts) = group_text route receiver labels alerts
+answer_text (answer.Group group) = group_text group
 answer_text (answer.Member alert) = codes "member " ++ alert_text alert
 answer_text (answer.Swept swept) = swept_text swept
 answer_text (answer.Forgotten alerts) = codes "forget alerts " ++ decimal alerts
 answer_text (answer.Muted rule by) = muted_text rule by
 answer_text answer.NotMuted = codes "not muted"
 answer_text (answer.StoredCount count) = codes "stored " ++ decimal count
-answer_text (answer.Page alerts from stored calls) = page_text alerts from stored calls
+answer_text (answer.Page page) = page_text page
 answer_text (answer.StoredAlert alert) = codes "alert " ++ alert_text alert
 answer_text answer.NotStored = codes "no alert"
 answer_text (answer.Route route) = codes "route " ++ listed_text route
 answer_text (answer.Matched route) = matched_text route
 answer_text (answer.OutOfMemory word) = verb_text word ++ codes " refused E0 NoMemory"
-answer_text answer.MutesRefused = codes "mutes refused E0 NoMemory"
 answer_text (answer.NotOpen word) = verb_text word ++ codes " none"
 
 -- an answer, after the number of its line

@@ -3,6 +3,7 @@ use Rattle.std.specs.Prelude.{ℕ, Bool, List, [], ◌∷◌, ◌++◌, codes, f
 use Rattle.json.specs.Json.{Json, null, boolean, string, object, Members, no_members, member}
 use Rattle.am_alert.specs.Printing.{alert_fault_text}
 use Rattle.am_alert.specs.declared.alert.Alert.{Alert}
+use Rattle.am_alert.specs.declared.post.AlertFault.{AlertFault}
 use Rattle.am_labels.specs.LabelSets.{Labels}
 use Rattle.am_cast.specs.FaultTexts.{closed_text}
 use Rattle.am_config.specs.declared.group_by.GroupBy.{GroupBy}
@@ -14,7 +15,10 @@ use Rattle.am_provider.specs.FaultTexts.{post_refused_text, sub_fault_text}
 use Rattle.am_script.specs.JsonLines.{about_line, alert_members, labels_json, object_line, texts_json, whole}
 use Rattle.am_script.specs.JsonLines.{worded}
 use Rattle.am_script.specs.ScriptTexts.{verb_text}
+use Rattle.am_script.specs.declared.command.Verb.{Verb}
 use Rattle.am_script.specs.declared.command.Verb.TheVariants as verb
+use Rattle.am_runner.specs.declared.answer.GroupHead.{GroupHead}
+use Rattle.am_runner.specs.declared.answer.PageHead.{PageHead}
 use Rattle.am_runner.specs.declared.answer.Answer.{Answer}
 use Rattle.am_runner.specs.declared.answer.Answer.TheVariants as answer
 
@@ -30,10 +34,6 @@ counting word name n = worded word (member name (whole n) no_members)
 abbrev pub refusing : List ℕ → List ℕ → Members
 refusing call why = worded (codes "refused")
     (member (codes "do") (string call) (member (codes "fault") (string why) no_members))
-
--- a call that was out of memory
-abbrev pub out_of_memory : List ℕ → Members
-out_of_memory call = refusing call (codes "E0 NoMemory")
 
 -- the place of a post's batch in the log, if it has one
 abbrev pub place_json : Option ℕ → Json
@@ -52,12 +52,12 @@ left_members taken closed cut = worded (codes "leave")
     (member (codes "closed") (boolean closed) (member (codes "cut") (boolean cut) no_members)))
 
 -- a group of a dispatcher: its route, the receiver, its labels, and how many alerts it has
-abbrev pub group_members : ℕ → List ℕ → Labels → ℕ → Members
-group_members route receiver labels alerts = worded (codes "group")
-    (member (codes "route") (whole route)
-    (member (codes "receiver") (string receiver)
-    (member (codes "labels") (labels_json labels)
-    (member (codes "alerts") (whole alerts) no_members))))
+abbrev pub group_members : GroupHead → Members
+group_members group = worded (codes "group")
+    (member (codes "route") (whole group.route)
+    (member (codes "receiver") (string group.receiver)
+    (member (codes "labels") (labels_json group.labels)
+    (member (codes "alerts") (whole group.alerts) no_members))))
 
 -- by which labels a route groups: `...` is all of them
 abbrev pub grouping_json : GroupBy → Json
@@ -89,23 +89,41 @@ swept_members swept = worded (codes "sweep")
 
 -- a page of what is stored: how many alerts it has, the index of the first, how many are stored in all, and
 -- after how many calls
-abbrev pub page_members : ℕ → ℕ → ℕ → ℕ → Members
-page_members alerts from stored calls = worded (codes "page")
-    (member (codes "alerts") (whole alerts)
-    (member (codes "from") (whole from)
-    (member (codes "stored") (whole stored)
-    (member (codes "calls") (whole calls) no_members))))
+abbrev pub page_members : PageHead → Members
+page_members page = worded (codes "page")
+    (member (codes "alerts") (whole page.alerts)
+    (member (codes "from") (whole page.from)
+    (member (codes "stored") (whole page.stored)
+    (member (codes "calls") (whole page.calls) no_members))))
+
+-- an invalid alert of an accepted post, by its index, and its fault
+abbrev pub invalid_members : ℕ → AlertFault → Members
+invalid_members index fault = worded (codes "invalid")
+    (member (codes "index") (whole index)
+    (member (codes "fault") (string (alert_fault_text fault)) no_members))
+
+-- a new subscription: its lane, and how many alerts were stored
+abbrev pub subscribed_members : ℕ → ℕ → Members
+subscribed_members lane opening = worded (codes "subscribe")
+    (member (codes "lane") (whole lane) (member (codes "opening") (whole opening) no_members))
+
+-- the rule that mutes a target, and the label set by which it does
+abbrev pub muted_members : ℕ → Labels → Members
+muted_members rule by = worded (codes "muted")
+    (member (codes "rule") (whole rule) (member (codes "by") (labels_json by) no_members))
+
+-- a command whose subscription isn't open
+abbrev pub not_open_members : Verb → Members
+not_open_members word =
+    worded (codes "none") (member (codes "do") (string (verb_text word)) no_members)
 
 -- the members of what a call answered
 abbrev pub answer_members : Answer → Members
 answer_members (answer.Posted valid place) = posted_members valid place
-answer_members (answer.Invalid index why) = worded (codes "invalid")
-    (member (codes "index") (whole index)
-    (member (codes "fault") (string (alert_fault_text why)) no_members))
+answer_members (answer.Invalid index why) = invalid_members index why
 answer_members (answer.CutLane lane) = counting (codes "cut_lane") (codes "lane") lane
 answer_members (answer.PostRefused why) = refusing (verb_text verb.Post) (post_refused_text why)
-answer_members (answer.Subscribed lane opening) = worded (codes "subscribe")
-    (member (codes "lane") (whole lane) (member (codes "opening") (whole opening) no_members))
+answer_members (answer.Subscribed lane opening) = subscribed_members lane opening
 answer_members (answer.SubscribeRefused why) = refusing (verb_text verb.Subscribe) (sub_fault_text why)
 answer_members (answer.Item alert) = showing (codes "item") alert
 answer_members answer.Pending = worded (codes "pending") no_members
@@ -113,32 +131,25 @@ answer_members answer.SawClosed = worded (codes "closed") no_members
 answer_members answer.SawCut = worded (codes "cut") no_members
 answer_members (answer.Left taken closed cut) = left_members taken closed cut
 answer_members (answer.Collected removed) = counting (codes "collect") (codes "removed") removed
-answer_members answer.CollectRefused = out_of_memory (verb_text verb.Collect)
 answer_members (answer.Taken removed) = counting (codes "take") (codes "removed") removed
 answer_members answer.CloseAccepted = worded (codes "close") no_members
 answer_members answer.CloseRefused = refusing (verb_text verb.Close) closed_text
 answer_members (answer.Trimmed dropped) = counting (codes "trim") (codes "dropped") dropped
-answer_members answer.TrimRefused = out_of_memory (verb_text verb.Trim)
 answer_members (answer.Compacted dropped) = counting (codes "compact") (codes "dropped") dropped
-answer_members answer.TakeRefused = out_of_memory (codes "take")
-answer_members (answer.Group route receiver labels alerts) =
-    group_members route receiver labels alerts
+answer_members (answer.Group group) = group_members group
 answer_members (answer.Member alert) = showing (codes "member") alert
 answer_members (answer.Swept swept) = swept_members swept
 answer_members (answer.Forgotten alerts) = counting (codes "forget") (codes "alerts") alerts
-answer_members (answer.Muted rule by) = worded (codes "muted")
-    (member (codes "rule") (whole rule) (member (codes "by") (labels_json by) no_members))
+answer_members (answer.Muted rule by) = muted_members rule by
 answer_members answer.NotMuted = worded (codes "not_muted") no_members
 answer_members (answer.StoredCount count) = counting (codes "stored") (codes "alerts") count
-answer_members (answer.Page alerts from stored calls) = page_members alerts from stored calls
+answer_members (answer.Page page) = page_members page
 answer_members (answer.StoredAlert alert) = showing (codes "alert") alert
 answer_members answer.NotStored = worded (codes "no_alert") no_members
 answer_members (answer.Route route) = listed_members route
 answer_members (answer.Matched route) = matched_members route
-answer_members (answer.OutOfMemory word) = out_of_memory (verb_text word)
-answer_members answer.MutesRefused = out_of_memory (verb_text verb.Mutes)
-answer_members (answer.NotOpen word) =
-    worded (codes "none") (member (codes "do") (string (verb_text word)) no_members)
+answer_members (answer.OutOfMemory word) = refusing (verb_text word) (codes "E0 NoMemory")
+answer_members (answer.NotOpen word) = not_open_members word
 
 -- how many answers a line of input has
 abbrev pub count_members : ℕ → Members

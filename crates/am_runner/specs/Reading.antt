@@ -56,7 +56,7 @@ pub data ReadsOne (old : OpenView) (before : List Answer) : Bool → List Answer
   misses : {new : OpenView} (alert : Alert) → ShowsItem old.subscription alert new.subscription
       → new.consumer ≡ old.consumer → (new.name ≡ old.name) × (new.missed ≡ true)
       → ReadsOne old before true
-      ((before ++ answer.Item alert ∷ []) ++ answer.TakeRefused ∷ []) new
+      ((before ++ answer.Item alert ∷ []) ++ answer.OutOfMemory verb.Take ∷ []) new
   ends : {new : OpenView} (last : Answer) → is_item last ≡ false
       → NextIs old.subscription last new.subscription
       → new.consumer ≡ old.consumer → (new.name ≡ old.name) × (new.missed ≡ old.missed)

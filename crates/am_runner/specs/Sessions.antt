@@ -108,7 +108,12 @@ taken_answers removed = answer.Taken (length removed) ∷ map answer.StoredAlert
 -- alerts
 abbrev pub page_answers : ℕ → Page → List Answer
 page_answers from page =
-    answer.Page (length page.alerts) from page.stored page.calls ∷ map answer.StoredAlert page.alerts
+    answer.Page (record {
+      alerts = length page.alerts;
+      from = from;
+      stored = page.stored;
+      calls = page.calls;
+    }) ∷ map answer.StoredAlert page.alerts
 
 -- what is answered of the stored alert of a label set, if there is one
 abbrev pub found_answer : Option Alert → Answer
@@ -247,7 +252,8 @@ pub data Does (config : Config) (setting : Setting) (old : SessionView)
       → Does config setting old (Collect at) (answer.Collected removed ∷ []) (record old { front = front })
   collect_refused : {at : ℕ} {error : AllocError} {front : FrontView EntryView}
       → SeesCall old.front front (AnswersCollect at (Err error))
-      → Does config setting old (Collect at) (answer.CollectRefused ∷ []) (record old { front = front })
+      → Does config setting old (Collect at) (answer.OutOfMemory verb.Collect ∷ [])
+      (record old { front = front })
   took : {at : ℕ} {removed : List Alert} {front : FrontView EntryView}
       → SeesCall old.front front (AnswersTake {E = AllocError} at (Ok removed))
       → Does config setting old (Take at) (taken_answers removed) (record old { front = front })
@@ -264,7 +270,7 @@ pub data Does (config : Config) (setting : Setting) (old : SessionView)
       → Does config setting old Trim (answer.Trimmed dropped ∷ []) (record old { front = front })
   trim_refused : {error : AllocError} {front : FrontView EntryView}
       → SeesCall old.front front (AnswersTrim (Err error))
-      → Does config setting old Trim (answer.TrimRefused ∷ []) (record old { front = front })
+      → Does config setting old Trim (answer.OutOfMemory verb.Trim ∷ []) (record old { front = front })
   compacted : {dropped : ℕ} {front : FrontView EntryView}
       → SeesCall old.front front (AnswersCompact {E = AllocError} (Ok dropped))
       → Does config setting old Compact (answer.Compacted dropped ∷ []) (record old { front = front })

@@ -1,6 +1,8 @@
 -- The outcome of a thread's run of its lines.
-use Rattle.std.specs.Prelude.{◌≡◌, ◌≢◌, ℕ, ◌+◌, List, [], ◌∷◌, ◌++◌, length, Result, Ok, IfOk}
+use Rattle.std.specs.Prelude.{◌≡◌, ◌≢◌, ℕ, ◌+◌, Bool, List, [], ◌∷◌, ◌++◌, length, Result, Ok, IfOk}
 use Rattle.std.specs.Global.{Vec}
+use Rattle.std.specs.List.{All}
+use mathlib.Core.List.{IsPrefix}
 use Rattle.am_alert.specs.declared.alert.Alert.{Alert}
 use Rattle.am_store.specs.declared.call.Call.{Call}
 use Rattle.am_cast.specs.Posters.{PassView}
@@ -9,7 +11,7 @@ use Rattle.am_provider.specs.Histories.{EntryView}
 use Rattle.am_config.specs.declared.config.Config.{Config}
 use Rattle.am_script.specs.declared.command.Line.{Line}
 use Rattle.am_runner.specs.Sessions.{Setting, SessionView, Does, LeavesAll, new_session}
-use Rattle.am_runner.specs.Turning.{Order, IsTurn, SeesMore}
+use Rattle.am_runner.specs.Turning.{Order, IsTurn, SeesMore, order_of}
 use Rattle.am_runner.specs.declared.answer.Answer.{Answer}
 
 -- a session's caller sees more of the history, and makes no call
@@ -78,3 +80,11 @@ pub data AreWork {E : Type 0} (config : Config) (setting : Setting) (order : Ord
       → AreWork config setting order lines thread before
       → IsWork config setting order lines thread one.answers one.pass one.front
       → AreWork config setting order lines (thread + 1) (before ++ one ∷ [])
+
+-- the same, whatever turns there were, if each thread had seen a beginning of them. They count if they are
+-- taken in an order
+abbrev pub AreWorkIn : {E : Type 0} → Config → Setting → Bool → List Line → ℕ → List (Outcome E)
+    → List (FrontView (FrontView EntryView)) → Type 0
+AreWorkIn config setting ordered lines count outcomes seen = (turns : List (FrontView EntryView))
+    → All (λ (one : FrontView (FrontView EntryView)). IsPrefix one.seen turns) seen
+    → AreWork config setting (order_of ordered turns) lines count outcomes

@@ -9,6 +9,7 @@ ghost use Rattle.am_runner.specs.Printing.{matched_text, page_text, posted_text,
 
 use crate::answer_json::write_objects;
 use crate::form::Form;
+use crate::room_for_answer::RoomForAnswer;
 use am_alert::{Alert, AlertFault, PostFault};
 use am_labels::{LabelSet, Quoted, Text};
 use am_provider::{PostRefused, PutFault, SubFault};
@@ -20,22 +21,13 @@ use std::fmt;
 /// One answer, which is one line of the output.
 #[derive(Drop)]
 pub enum Answer {
-    Posted {
-        valid: u32,
-        place: Option<u64>,
-    },
+    Posted { valid: u32, place: Option<u64> },
     /// An invalid alert of an accepted post, by its index in the post.
-    Invalid {
-        index: u32,
-        fault: AlertFault,
-    },
+    Invalid { index: u32, fault: AlertFault },
     /// The post before it cut this lane, whose subscriber was too slow.
     CutLane(u32),
     PostRefused(PostRefused),
-    Subscribed {
-        lane: u32,
-        opening: u64,
-    },
+    Subscribed { lane: u32, opening: u64 },
     SubscribeRefused(SubFault),
     Item(Alert),
     Pending,
@@ -43,56 +35,29 @@ pub enum Answer {
     SawClosed,
     /// A subscription was answered that it was cut.
     SawCut,
-    Left {
-        taken: u64,
-        closed: bool,
-        cut: bool,
-    },
+    Left { taken: u64, closed: bool, cut: bool },
     Collected(u64),
-    CollectRefused,
     /// How many alerts a collection removed; they follow.
     Taken(u64),
     CloseAccepted,
     CloseRefused,
     /// How many calls were dropped from the journal.
     Trimmed(u64),
-    TrimRefused,
     /// How many calls of the journal went out of memory.
     Compacted(u64),
-    /// The item before it was not taken by the consumer of its subscription, which was out of
-    /// memory.
-    TakeRefused,
-    /// A group of a dispatcher, with how many alerts it has.
-    Group {
-        route: u64,
-        receiver: Text,
-        labels: LabelSet,
-        alerts: u64,
-    },
+    Group(GroupHead),
     /// An alert of the last group before it.
     Member(Alert),
     Swept(Swept),
     /// How many alerts a sweep of an inhibitor dropped.
     Forgotten(u64),
     /// A target is muted by the rule of this number, and by the alert of this label set.
-    Muted {
-        rule: u64,
-        by: LabelSet,
-    },
+    Muted { rule: u64, by: LabelSet },
     NotMuted,
-    MutesRefused,
     /// How many alerts are stored; they follow.
     StoredCount(u64),
     /// A page of what is stored, whose alerts follow.
-    Page {
-        alerts: u64,
-        /// The index of the first.
-        from: u64,
-        /// How many are stored in all.
-        stored: u64,
-        /// How many calls were accepted by then.
-        calls: u64,
-    },
+    Page(PageHead),
     /// An alert that is stored, or that was until a collection removed it.
     StoredAlert(Alert),
     /// No alert of the label set is stored.
@@ -101,10 +66,32 @@ pub enum Answer {
     Route(ListedRoute),
     /// A route that a label set matches.
     Matched(MatchedRoute),
-    /// This command was out of memory.
+    /// This command was out of memory. After an item it is `take`: the consumer of its subscription didn't take it.
     OutOfMemory(Verb),
     /// The command's subscription isn't open, since its subscribe was refused.
     NotOpen(Verb),
+}
+
+/// A group of a dispatcher, with how many alerts it has.
+#[derive(Drop)]
+pub struct GroupHead {
+    pub route: u64,
+    pub receiver: Text,
+    pub labels: LabelSet,
+    pub alerts: u64,
+}
+
+/// A page of what is stored.
+#[derive(Clone, Copy, Debug, Drop)]
+pub struct PageHead {
+    /// How many alerts it has.
+    pub alerts: u64,
+    /// The index of the first.
+    pub from: u64,
+    /// How many are stored in all.
+    pub stored: u64,
+    /// How many calls were accepted by then.
+    pub calls: u64,
 }
 
 impl Answer {
@@ -122,10 +109,6 @@ impl Answer {
             Answer::PostRefused(PostRefused::Unread(PostFault::NoMemory))
             | Answer::PostRefused(PostRefused::Put(PutFault::NoMemory))
             | Answer::SubscribeRefused(SubFault::NoMemory)
-            | Answer::CollectRefused
-            | Answer::TrimRefused
-            | Answer::TakeRefused
-            | Answer::MutesRefused
             | Answer::OutOfMemory(_) => true,
             _ => false,
         }
@@ -151,38 +134,24 @@ impl fmt::Display for Answer {
             Answer::SawCut => f.write_str("cut"),
             Answer::Left { taken, closed, cut } => write_left(*taken, *closed, *cut, f),
             Answer::Collected(removed) => write!(f, "collect removed {removed}"),
-            Answer::CollectRefused => f.write_str("collect refused E0 NoMemory"),
             Answer::Taken(removed) => write!(f, "take removed {removed}"),
             Answer::CloseAccepted => f.write_str("close"),
             Answer::CloseRefused => f.write_str("close refused E14 Closed"),
             Answer::Trimmed(dropped) => write!(f, "trim dropped {dropped}"),
-            Answer::TrimRefused => f.write_str("trim refused E0 NoMemory"),
             Answer::Compacted(dropped) => write!(f, "compact dropped {dropped}"),
-            Answer::TakeRefused => f.write_str("take refused E0 NoMemory"),
-            Answer::Group {
-                route,
-                receiver,
-                labels,
-                alerts,
-            } => write_group(*route, receiver, labels, *alerts, f),
+            Answer::Group(group) => write_group(group, f),
             Answer::Member(alert) => write!(f, "member {alert}"),
             Answer::Swept(swept) => write_swept(*swept, f),
             Answer::Forgotten(alerts) => write!(f, "forget alerts {alerts}"),
             Answer::Muted { rule, by } => write!(f, "muted rule {rule} by {by}"),
             Answer::NotMuted => f.write_str("not muted"),
             Answer::StoredCount(count) => write!(f, "stored {count}"),
-            Answer::Page {
-                alerts,
-                from,
-                stored,
-                calls,
-            } => write_page(*alerts, *from, *stored, *calls, f),
+            Answer::Page(page) => write_page(*page, f),
             Answer::StoredAlert(alert) => write!(f, "alert {alert}"),
             Answer::NotStored => f.write_str("no alert"),
             Answer::Route(route) => write!(f, "route {route}"),
             Answer::Matched(route) => write_matched(route, f),
             Answer::OutOfMemory(verb) => write!(f, "{verb} refused E0 NoMemory"),
-            Answer::MutesRefused => f.write_str("mutes refused E0 NoMemory"),
             Answer::NotOpen(verb) => write!(f, "{verb} none"),
         }
     }
@@ -219,17 +188,12 @@ fn write_left<W: fmt::Write>(
     Ok(())
 }
 
-fn write_group<W: fmt::Write>(
-    route: u64,
-    receiver: &Text,
-    labels: &LabelSet,
-    alerts: u64,
-    f: &mut fmt::Formatter<W>,
-) -> fmt::Result
-    ensures { DisplaysOnOk W.write_str_gives f.old result
-        (Some (group_text route receiver.now labels.now alerts)) f.new }
+fn write_group<W: fmt::Write>(group: &GroupHead, f: &mut fmt::Formatter<W>) -> fmt::Result
+    ensures { DisplaysOnOk W.write_str_gives f.old result (Some (group_text group.now)) f.new }
 {
-    let receiver = Quoted(receiver.as_str());
+    let (route, alerts) = (group.route, group.alerts);
+    let receiver = Quoted(group.receiver.as_str());
+    let labels = &group.labels;
     write!(
         f,
         "group route {route} receiver {receiver} labels {labels} alerts {alerts}"
@@ -255,25 +219,22 @@ fn write_swept<W: fmt::Write>(swept: Swept, f: &mut fmt::Formatter<W>) -> fmt::R
     write!(f, "sweep alerts {alerts} groups {groups}")
 }
 
-fn write_page<W: fmt::Write>(
-    alerts: u64,
-    from: u64,
-    stored: u64,
-    calls: u64,
-    f: &mut fmt::Formatter<W>,
-) -> fmt::Result
-    ensures { DisplaysOnOk W.write_str_gives f.old result
-        (Some (page_text alerts from stored calls)) f.new }
+fn write_page<W: fmt::Write>(page: PageHead, f: &mut fmt::Formatter<W>) -> fmt::Result
+    ensures { DisplaysOnOk W.write_str_gives f.old result (Some (page_text page)) f.new }
 {
+    let PageHead {
+        alerts,
+        from,
+        stored,
+        calls,
+    } = page;
     write!(f, "page {alerts} from {from} of {stored} after {calls}")
 }
 
 pub(crate) fn one(alloc: Global, answer: Answer) -> Result<Vec<Answer>, AllocError>
     ensures { IfOk result (λ answers. answers.items ≡ answer ∷ []) }
 {
-    let mut answers = Vec::new(alloc);
-    answers.push(answer)?;
-    Ok(answers)
+    Ok(RoomForAnswer::make(alloc)?.filled(answer))
 }
 
 /// Writes the answers to the line of input with this number.

@@ -1,23 +1,24 @@
 //! How answers are printed as JSON.
 
-ghost use Rattle.std.specs.Prelude.{◌≡◌, ◌++◌, ◌∷◌, [], OnOk, codes, string_bytes};
-ghost use Rattle.json.specs.Json.{string};
+ghost use Rattle.std.specs.Prelude.{◌≡◌, ◌++◌, ◌∷◌, [], IfSome, OnOk, codes, string_bytes};
 ghost use Rattle.json.specs.Token.{end_object};
 ghost use Rattle.json.specs.Tree.{members_tokens};
 ghost use Rattle.am_script.specs.ScriptTexts.{verb_text};
 ghost use Rattle.am_script.specs.JsonLines.{about_line, named, object_line};
 ghost use Rattle.am_runner.specs.PrintingJson.{answer_members, count_members, counting, group_members};
-ghost use Rattle.am_runner.specs.PrintingJson.{grouping_json, left_members, listed_members};
-ghost use Rattle.am_runner.specs.PrintingJson.{matched_members, objects_text, out_of_memory};
-ghost use Rattle.am_runner.specs.PrintingJson.{page_members, posted_members, swept_members};
+ghost use Rattle.am_runner.specs.PrintingJson.{grouping_json, invalid_members, left_members, listed_members};
+ghost use Rattle.am_runner.specs.PrintingJson.{matched_members, muted_members, not_open_members, objects_text};
+ghost use Rattle.am_runner.specs.PrintingJson.{page_members, posted_members, refusing, showing};
+ghost use Rattle.am_runner.specs.PrintingJson.{subscribed_members, swept_members};
 
-use crate::answer::Answer;
+use crate::answer::{Answer, GroupHead, PageHead};
+use am_alert::{Alert, AlertFault};
 use am_config::GroupBy;
 use am_labels::{LabelSet, Text};
 use am_routes::{ListedRoute, MatchedRoute, Swept};
 use am_script::{JsonLine, Verb};
 use std::alloc::{AllocError, Global};
-use std::slice;
+use std::{fmt, slice};
 
 /// Writes an object for each answer to the line of input with this number, and one with how many
 /// there are.
@@ -61,101 +62,36 @@ pub fn write_members(line: &mut JsonLine, answer: &Answer) -> Result<(), AllocEr
 {
     match answer {
         Answer::Posted { valid, place } => write_posted(line, *valid, *place),
-        Answer::Invalid { index, fault } => {
-            line.text("answer", "invalid")?;
-            line.number("index", u64::from(*index))?;
-            line.shown("fault", fault)
-        }
-        Answer::CutLane(lane) => {
-            line.text("answer", "cut_lane")?;
-            line.number("lane", u64::from(*lane))
-        }
-        Answer::PostRefused(fault) => {
-            write_refused(line, Verb::Post)?;
-            line.shown("fault", fault)
-        }
-        Answer::Subscribed { lane, opening } => {
-            line.text("answer", "subscribe")?;
-            line.number("lane", u64::from(*lane))?;
-            line.number("opening", *opening)
-        }
-        Answer::SubscribeRefused(fault) => {
-            write_refused(line, Verb::Subscribe)?;
-            line.shown("fault", fault)
-        }
-        Answer::Item(alert) => {
-            line.text("answer", "item")?;
-            line.alert("alert", alert)
-        }
+        Answer::Invalid { index, fault } => write_invalid(line, *index, fault),
+        Answer::CutLane(lane) => write_number(line, "cut_lane", "lane", u64::from(*lane)),
+        Answer::PostRefused(fault) => write_fault(line, Verb::Post, fault),
+        Answer::Subscribed { lane, opening } => write_subscribed(line, *lane, *opening),
+        Answer::SubscribeRefused(fault) => write_fault(line, Verb::Subscribe, fault),
+        Answer::Item(alert) => write_alert(line, "item", alert),
         Answer::Pending => line.text("answer", "pending"),
         Answer::SawClosed => line.text("answer", "closed"),
         Answer::SawCut => line.text("answer", "cut"),
         Answer::Left { taken, closed, cut } => write_left(line, *taken, *closed, *cut),
-        Answer::Collected(removed) => {
-            line.text("answer", "collect")?;
-            line.number("removed", *removed)
-        }
-        Answer::CollectRefused => write_no_memory(line, "collect"),
+        Answer::Collected(removed) => write_number(line, "collect", "removed", *removed),
         Answer::Taken(removed) => write_number(line, "take", "removed", *removed),
         Answer::CloseAccepted => line.text("answer", "close"),
-        Answer::CloseRefused => {
-            write_refused(line, Verb::Close)?;
-            line.text("fault", "E14 Closed")
-        }
-        Answer::Trimmed(dropped) => {
-            line.text("answer", "trim")?;
-            line.number("dropped", *dropped)
-        }
-        Answer::TrimRefused => write_no_memory(line, "trim"),
+        Answer::CloseRefused => write_refused(line, Verb::Close, "E14 Closed"),
+        Answer::Trimmed(dropped) => write_number(line, "trim", "dropped", *dropped),
         Answer::Compacted(dropped) => write_number(line, "compact", "dropped", *dropped),
-        Answer::TakeRefused => write_no_memory(line, "take"),
-        Answer::Group {
-            route,
-            receiver,
-            labels,
-            alerts,
-        } => write_group(line, *route, receiver, labels, *alerts),
-        Answer::Member(alert) => {
-            line.text("answer", "member")?;
-            line.alert("alert", alert)
-        }
+        Answer::Group(group) => write_group(line, group),
+        Answer::Member(alert) => write_alert(line, "member", alert),
         Answer::Swept(swept) => write_swept(line, *swept),
-        Answer::Forgotten(alerts) => {
-            line.text("answer", "forget")?;
-            line.number("alerts", *alerts)
-        }
-        Answer::Muted { rule, by } => {
-            line.text("answer", "muted")?;
-            line.number("rule", *rule)?;
-            line.labels("by", by)
-        }
+        Answer::Forgotten(alerts) => write_number(line, "forget", "alerts", *alerts),
+        Answer::Muted { rule, by } => write_muted(line, *rule, by),
         Answer::NotMuted => line.text("answer", "not_muted"),
-        Answer::MutesRefused => write_no_memory(line, "mutes"),
-        Answer::StoredCount(count) => {
-            line.text("answer", "stored")?;
-            line.number("alerts", *count)
-        }
-        Answer::Page {
-            alerts,
-            from,
-            stored,
-            calls,
-        } => write_page(line, *alerts, *from, *stored, *calls),
-        Answer::StoredAlert(alert) => {
-            line.text("answer", "alert")?;
-            line.alert("alert", alert)
-        }
+        Answer::StoredCount(count) => write_number(line, "stored", "alerts", *count),
+        Answer::Page(page) => write_page(line, *page),
+        Answer::StoredAlert(alert) => write_alert(line, "alert", alert),
         Answer::NotStored => line.text("answer", "no_alert"),
         Answer::Route(route) => write_route(line, route),
         Answer::Matched(route) => write_matched(line, route),
-        Answer::OutOfMemory(verb) => {
-            write_refused(line, *verb)?;
-            line.text("fault", "E0 NoMemory")
-        }
-        Answer::NotOpen(verb) => {
-            line.text("answer", "none")?;
-            line.shown("do", verb)
-        }
+        Answer::OutOfMemory(verb) => write_refused(line, *verb, "E0 NoMemory"),
+        Answer::NotOpen(verb) => write_not_open(line, *verb),
     }
 }
 
@@ -181,21 +117,15 @@ fn write_left(line: &mut JsonLine, taken: u64, closed: bool, cut: bool) -> Resul
     line.flag("cut", cut)
 }
 
-fn write_group(
-    line: &mut JsonLine,
-    route: u64,
-    receiver: &Text,
-    labels: &LabelSet,
-    alerts: u64,
-) -> Result<(), AllocError>
-    ensures { OnOk result (line.new ++ end_object ∷ []
-        ≡ line.old ++ members_tokens (group_members route receiver.now labels.now alerts)) }
+fn write_group(line: &mut JsonLine, group: &GroupHead) -> Result<(), AllocError>
+    ensures { OnOk result
+        (line.new ++ end_object ∷ [] ≡ line.old ++ members_tokens (group_members group.now)) }
 {
     line.text("answer", "group")?;
-    line.number("route", route)?;
-    line.text("receiver", receiver.as_str())?;
-    line.labels("labels", labels)?;
-    line.number("alerts", alerts)
+    line.number("route", group.route)?;
+    line.text("receiver", group.receiver.as_str())?;
+    line.labels("labels", &group.labels)?;
+    line.number("alerts", group.alerts)
 }
 
 fn write_route(line: &mut JsonLine, route: &ListedRoute) -> Result<(), AllocError>
@@ -244,21 +174,59 @@ fn write_swept(line: &mut JsonLine, swept: Swept) -> Result<(), AllocError>
     line.number("groups", groups)
 }
 
-fn write_page(
-    line: &mut JsonLine,
-    alerts: u64,
-    from: u64,
-    stored: u64,
-    calls: u64,
-) -> Result<(), AllocError>
-    ensures { OnOk result (line.new ++ end_object ∷ []
-        ≡ line.old ++ members_tokens (page_members alerts from stored calls)) }
+fn write_page(line: &mut JsonLine, page: PageHead) -> Result<(), AllocError>
+    ensures { OnOk result
+        (line.new ++ end_object ∷ [] ≡ line.old ++ members_tokens (page_members page)) }
 {
     line.text("answer", "page")?;
-    line.number("alerts", alerts)?;
-    line.number("from", from)?;
-    line.number("stored", stored)?;
-    line.number("calls", calls)
+    line.number("alerts", page.alerts)?;
+    line.number("from", page.from)?;
+    line.number("stored", page.stored)?;
+    line.number("calls", page.calls)
+}
+
+fn write_invalid(line: &mut JsonLine, index: u32, fault: &AlertFault) -> Result<(), AllocError>
+    ensures { OnOk result
+        (line.new ++ end_object ∷ [] ≡ line.old ++ members_tokens (invalid_members index fault.now)) }
+{
+    line.text("answer", "invalid")?;
+    line.number("index", u64::from(index))?;
+    line.shown("fault", fault)
+}
+
+fn write_subscribed(line: &mut JsonLine, lane: u32, opening: u64) -> Result<(), AllocError>
+    ensures { OnOk result
+        (line.new ++ end_object ∷ [] ≡ line.old ++ members_tokens (subscribed_members lane opening)) }
+{
+    line.text("answer", "subscribe")?;
+    line.number("lane", u64::from(lane))?;
+    line.number("opening", opening)
+}
+
+fn write_muted(line: &mut JsonLine, rule: u64, by: &LabelSet) -> Result<(), AllocError>
+    ensures { OnOk result
+        (line.new ++ end_object ∷ [] ≡ line.old ++ members_tokens (muted_members rule by.now)) }
+{
+    line.text("answer", "muted")?;
+    line.number("rule", rule)?;
+    line.labels("by", by)
+}
+
+fn write_not_open(line: &mut JsonLine, verb: Verb) -> Result<(), AllocError>
+    ensures { OnOk result
+        (line.new ++ end_object ∷ [] ≡ line.old ++ members_tokens (not_open_members verb)) }
+{
+    line.text("answer", "none")?;
+    line.shown("do", &verb)
+}
+
+// An answer that shows an alert.
+fn write_alert(line: &mut JsonLine, word: &str, alert: &Alert) -> Result<(), AllocError>
+    ensures { OnOk result
+        (line.new ++ end_object ∷ [] ≡ line.old ++ members_tokens (showing word.now alert.now)) }
+{
+    line.text("answer", word)?;
+    line.alert("alert", alert)
 }
 
 // An answer that has a number.
@@ -270,20 +238,26 @@ fn write_number(line: &mut JsonLine, word: &str, name: &str, number: u64) -> Res
     line.number(name, number)
 }
 
-// That a call was refused; why is still to come.
-fn write_refused(line: &mut JsonLine, verb: Verb) -> Result<(), AllocError>
-    ensures { OnOk result (line.new ≡ line.old
-        ++ (named (codes "answer") (string (codes "refused")) ++ named (codes "do") (string (verb_text verb)))) }
+// That a call was refused, for a fault.
+fn write_fault<F: fmt::Display>(
+    line: &mut JsonLine,
+    verb: Verb,
+    fault: &F,
+) -> Result<(), AllocError>
+    ensures { OnOk result (IfSome (F.output fault.now) (λ why.
+        line.new ++ end_object ∷ [] ≡ line.old ++ members_tokens (refusing (verb_text verb) why))) }
 {
     line.text("answer", "refused")?;
-    line.shown("do", &verb)
+    line.shown("do", &verb)?;
+    line.shown("fault", fault)
 }
 
-fn write_no_memory(line: &mut JsonLine, call: &str) -> Result<(), AllocError>
+// The same, for what has this text.
+fn write_refused(line: &mut JsonLine, verb: Verb, why: &str) -> Result<(), AllocError>
     ensures { OnOk result
-        (line.new ++ end_object ∷ [] ≡ line.old ++ members_tokens (out_of_memory call.now)) }
+        (line.new ++ end_object ∷ [] ≡ line.old ++ members_tokens (refusing (verb_text verb) why.now)) }
 {
     line.text("answer", "refused")?;
-    line.text("do", call)?;
-    line.text("fault", "E0 NoMemory")
+    line.shown("do", &verb)?;
+    line.text("fault", why)
 }

@@ -2,12 +2,12 @@
 //! shows, and knows of no provider.
 
 ghost use Rattle.std.specs.Prelude.{◌≡◌, ◌⊎◌, ◌++◌, ◌∷◌, [], List, IfOk, OnOk, OnErr, flat_map, length, map};
-ghost use Rattle.am_runner.specs.Consuming.{answers_of_group, answers_of_groups, fresh_consumer, sweep_word};
+ghost use Rattle.am_runner.specs.Consuming.{answers_of_group, answers_of_groups, fresh_consumer, head_of_group, sweep_word};
 ghost use Rattle.am_runner.specs.Consuming.{AsksInhibitor, HasTaken, IsAsked, IsSwept, TakesAlert, having_answered, muting_at};
 ghost use Rattle.am_runner.specs.Notifiers.{unasked};
 ghost use Rattle.am_alert.specs.declared.alert.Alert.{Alert};
 
-use crate::answer::{Answer, one};
+use crate::answer::{Answer, GroupHead, one};
 use crate::notifier::Notifier;
 use am_alert::{Alert, Moment};
 use am_config::Config;
@@ -137,7 +137,7 @@ pub(crate) fn muting_answer(
     now: Moment,
 ) -> Result<Answer, AllocError>
     ensures asks { IfOk result (AsksInhibitor labels.now now inhibitor.old inhibitor.new) }
-    ensures answer { IfOk result (λ answer. (answer ≡ Answer.MutesRefused)
+    ensures answer { IfOk result (λ answer. (answer ≡ Answer.OutOfMemory Verb.Mutes)
         ⊎ (answer ≡ muting_at inhibitor.old now labels.now)) }
     ensures lost { OnErr result (inhibitor.new ≡ having_answered labels.now now inhibitor.old) }
     ensures same { unasked inhibitor.new ≡ unasked inhibitor.old }
@@ -148,7 +148,7 @@ pub(crate) fn muting_answer(
             by: muting.1.copy()?,
         }),
         Ok(None) => Ok(Answer::NotMuted),
-        Err(_) => Ok(Answer::MutesRefused),
+        Err(_) => Ok(Answer::OutOfMemory(Verb::Mutes)),
     }
 }
 
@@ -179,16 +179,16 @@ fn add_group(answers: &mut Vec<Answer>, group: &Group<'_>) -> Result<(), AllocEr
 }
 
 pub(crate) fn add_group_line(answers: &mut Vec<Answer>, group: &Group<'_>) -> Result<(), AllocError>
-    ensures { OnOk result (answers.new.items ≡ answers.old.items ++ Answer.Group
-        group.now.route group.now.receiver group.now.labels (length group.now.alerts) ∷ []) }
+    ensures { OnOk result
+        (answers.new.items ≡ answers.old.items ++ Answer.Group (head_of_group group.now) ∷ []) }
 {
     let alloc = *answers.allocator();
-    answers.push(Answer::Group {
+    answers.push(Answer::Group(GroupHead {
         route: group.route().0,
         receiver: Text::from_str(alloc, group.receiver())?,
         labels: group.labels().copy()?,
         alerts: group.alerts().len() as u64,
-    })?;
+    }))?;
     Ok(())
 }
 

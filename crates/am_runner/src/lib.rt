@@ -26,7 +26,6 @@ mod laws;
 mod not_run;
 mod notifier;
 mod open_subscription;
-mod pace;
 mod prepared_config;
 mod register;
 mod room_for_answer;
@@ -37,7 +36,7 @@ mod turns;
 mod unanswered;
 mod work;
 
-pub use answer::{Answer, write_answers};
+pub use answer::{Answer, GroupHead, PageHead, write_answers};
 pub use answer_json::{write_count, write_members};
 pub use consumer::{Consumer, Half};
 pub use context::Context;

@@ -229,7 +229,7 @@ fn read_beside<N: Origin>(
         Err(_) => {
             *missed = true;
             answers.push(answer)?;
-            answers.push(Answer::TakeRefused)?;
+            answers.push(Answer::OutOfMemory(Verb::Take))?;
             Ok(true)
         }
     }

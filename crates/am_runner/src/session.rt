@@ -17,7 +17,6 @@ use crate::answer::Answer;
 use crate::consumer::Half;
 use crate::context::Context;
 use crate::open_subscription::OpenSubscription;
-use crate::pace::Pace;
 use crate::register::{Register, TurnsSeen};
 use crate::room_for_answer::RoomForAnswer;
 use crate::session::routes::{ask_tree, show_tree};
@@ -35,7 +34,6 @@ use std::sync::Wait;
 pub struct Session<'p, 'c, N: Recorded> {
     caller: Caller<N>,
     opened: Vec<OpenSubscription<'p, 'c, N>>,
-    pace: Pace,
 }
 
 impl<'p, 'c, N: Recorded> Model for Session<'p, 'c, N> {
@@ -67,7 +65,6 @@ impl<'p, 'c, N: Recorded> Session<'p, 'c, N> {
         Session {
             caller,
             opened: Vec::new(alloc),
-            pace: Pace::begin(),
         }
     }
 
@@ -145,24 +142,6 @@ impl<'p, 'c, N: Recorded> Session<'p, 'c, N> {
             self.old command.now self.new) }
         ensures same { context.new ≡ context.old }
     {
-        let answers = self.perform(context, command)?;
-        self.pace.note(&answers);
-        Ok(answers)
-    }
-
-    fn perform<R: Wait, G: Gate>(
-        &mut self,
-        context: &mut Context<'p, 'c, N, R, G>,
-        command: &Command,
-    ) -> Result<Vec<Answer>, AllocError>
-        ensures does { IfOk result (λ answers. Does context.old.config
-            (setting_of N.places N.policy context.old.provider.now.resolve_timeout)
-            self.old command.now answers.items self.new) }
-        ensures unanswered { OnErr result (loses_nothing command.now ≡ true → IsUnanswered context.old.config
-            (setting_of N.places N.policy context.old.provider.now.resolve_timeout)
-            self.old command.now self.new) }
-        ensures same { context.new ≡ context.old }
-    {
         let alloc = context.alloc;
         match command {
             Command::Post { at, body } => self.post(context, *at, body),
@@ -171,12 +150,8 @@ impl<'p, 'c, N: Recorded> Session<'p, 'c, N> {
                 Ok(RoomForAnswer::make(alloc)?.filled(self.subscribe(context, name, *kind)?))
             }
             Command::Read { name, max } => self.read(context, name, *max),
-            Command::Leave { name } => Ok(RoomForAnswer::make(alloc)?.filled(self.leave(
-                context, name,
-            ))),
-            Command::Collect { at } => Ok(RoomForAnswer::make(alloc)?.filled(self.collect(
-                context, *at,
-            ))),
+            Command::Leave { name } => self.leave(context, name),
+            Command::Collect { at } => self.collect(context, *at),
             Command::Take { at } => self.take(context, *at),
             Command::Close => Ok(RoomForAnswer::make(alloc)?.filled(self.close(context))),
             Command::Trim => Ok(RoomForAnswer::make(alloc)?.filled(self.trim(context))),

@@ -8,7 +8,7 @@ ghost use Rattle.am_provider.specs.Callers.{IsNewCaller};
 ghost use Rattle.am_provider.specs.Histories.{EntryView};
 ghost use Rattle.am_runner.specs.Sessions.{setting_of};
 ghost use Rattle.am_runner.specs.Turning.{order_of};
-ghost use Rattle.am_runner.specs.Working.{AreWork, IsWork, outcome_of};
+ghost use Rattle.am_runner.specs.Working.{AreWork, AreWorkIn, IsWork, outcome_of};
 
 use crate::answer::Answer;
 use crate::configured::Configured;
@@ -41,19 +41,25 @@ type Worked<N, M> = (ThreadOutcome<N>, TurnsSeen<N, M>);
 // The outcomes of threads, and what each had seen of the turns.
 type Outcomes<N, M> = (Vec<ThreadOutcome<N>>, Vec<TurnsSeen<N, M>>);
 
-// What all threads share.
+// What a script is run on.
 #[derive(Drop)]
-struct Shared<'s, N: Recorded, M: Timeline, C, R, T> {
+struct Run<'s, N: Recorded, C, R, T> {
     rt: &'s R,
     alloc: Global,
     provider: &'s Provider<N>,
     config: &'s C,
     lines: &'s [Line],
     turns: &'s T,
-    register: &'s Register<N, M>,
-    start: &'s Start,
     // A line's number and eight more fit.
     ghost few: { length lines.now < 2 ^ 64 - 8 },
+}
+
+// What all threads share.
+#[derive(Drop)]
+struct Shared<'s, N: Recorded, M: Timeline, C, R, T> {
+    run: &'s Run<'s, N, C, R, T>,
+    register: &'s Register<N, M>,
+    start: &'s Start,
 }
 
 // That a thread's outcome is the work that its lines ask for.
@@ -64,6 +70,24 @@ struct RunsLines<'s, C, T> {
     timeout: Duration,
     thread: Thread,
     turns: PhantomData<T>,
+}
+
+impl<'s, C, T> RunsLines<'s, C, T> {
+    // That it is so of a thread in this run.
+    fn by<N: Recorded, R>(run: &Run<'s, N, C, R, T>, thread: Thread) -> RunsLines<'s, C, T>
+        ensures config { result.config ≡ run.now.config }
+        ensures lines { result.lines ≡ run.now.lines }
+        ensures timeout { result.timeout ≡ run.now.provider.now.resolve_timeout }
+        ensures thread { result.thread ≡ thread }
+    {
+        RunsLines {
+            config: run.config,
+            lines: run.lines,
+            timeout: run.provider.resolve_timeout,
+            thread,
+            turns: PhantomData::<T>,
+        }
+    }
 }
 
 impl<'s, N: Recorded, M: Timeline, C: Configured, T: Turns> Promise<Worked<N, M>>
@@ -114,18 +138,6 @@ pub fn run_threads<N: Recorded + Send + Sync, R: Threads + Wait + Sync, T: Turns
     run_registered::<N, Brand, Config, R, T>(&run, callers, taken)
 }
 
-// What a script is run on.
-#[derive(Drop)]
-struct Run<'s, N: Recorded, C, R, T> {
-    rt: &'s R,
-    alloc: Global,
-    provider: &'s Provider<N>,
-    config: &'s C,
-    lines: &'s [Line],
-    turns: &'s T,
-    ghost few: { length lines.now < 2 ^ 64 - 8 },
-}
-
 // Runs the lines, with a register of the turns.
 fn run_registered<
     N: Recorded + Send + Sync,
@@ -147,29 +159,16 @@ fn run_registered<
         (setting_of N.places N.policy run.now.provider.now.resolve_timeout) (order_of T.ordered turns) run.now.lines.now 8
         (map (λ one. outcome_of one.0 one.1.pass one.1.front) all.items)) }
 {
-    let Run {
-        rt,
-        alloc,
-        provider,
-        config,
-        lines,
-        turns,
-    } = *run;
     let mut callers = callers;
-    let onlooker = onlooker_of(provider, &mut callers);
+    let onlooker = onlooker_of(run.provider, &mut callers);
     let register = Register::new(open::<Front<Entry, N>, M>(taken), onlooker);
     let start = Start::new(THREADS);
     let shared = Shared {
-        rt,
-        alloc,
-        provider,
-        config,
-        lines,
-        turns,
+        run,
         register: &register,
         start: &start,
     };
-    let (outcomes, seen) = run_shared(rt, &shared, callers)?;
+    let (outcomes, seen) = run_shared(&shared, callers)?;
     register.conclude(seen);
     Ok(outcomes)
 }
@@ -190,33 +189,24 @@ fn run_shared<
     C: Configured + Sync,
     R: Threads + Wait + Sync,
     T: Turns + Sync,
->(
-    rt: &R,
-    shared: &Shared<'_, N, M, C, R, T>,
-    callers: Vec<Caller<N>>,
-) -> Result<Outcomes<N, M>, NotRun>
+>(shared: &Shared<'_, N, M, C, R, T>, callers: Vec<Caller<N>>) -> Result<Outcomes<N, M>, NotRun>
     requires count { vec_len callers ≡ 8 }
     requires fresh { All (λ caller. IsNewCaller caller.pass caller.front) callers.items }
-    ensures { IfOk result (λ all. (turns : List (FrontView EntryView))
-        → All (λ one. IsPrefix one.seen turns) all.1.items
-        → AreWork (C.shown shared.now.config.now)
-        (setting_of N.places N.policy shared.now.provider.now.resolve_timeout) (order_of T.ordered turns)
-        shared.now.lines.now 8
-        (map (λ one. outcome_of one.0 one.1.pass one.1.front) all.0.items)) }
+    ensures { IfOk result (λ all. AreWorkIn (C.shown shared.now.run.now.config.now)
+        (setting_of N.places N.policy shared.now.run.now.provider.now.resolve_timeout) T.ordered
+        shared.now.run.now.lines.now 8 (map (λ one. outcome_of one.0 one.1.pass one.1.front) all.0.items) all.1.items) }
 {
     thread::scope(
         thread::scope_env(),
-        rt,
+        shared.run.rt,
         |scope| -> Result<Outcomes<N, M>, NotRun>
             requires count { vec_len callers ≡ 8 }
             requires fresh { All (λ caller. IsNewCaller caller.pass caller.front) callers.items }
-            ensures { IfOk result (λ all. (turns : List (FrontView EntryView))
-                → All (λ one. IsPrefix one.seen turns) all.1.items
-                → AreWork (C.shown shared.entry.now.config.now)
-                (setting_of N.places N.policy shared.entry.now.provider.now.resolve_timeout) (order_of T.ordered turns)
-                shared.entry.now.lines.now 8
-                (map (λ one. outcome_of one.0 one.1.pass one.1.front) all.0.items)) }
-        { run_from(rt, scope, shared, callers) },
+            ensures { IfOk result (λ all. AreWorkIn (C.shown shared.entry.now.run.now.config.now)
+                (setting_of N.places N.policy shared.entry.now.run.now.provider.now.resolve_timeout) T.ordered
+                shared.entry.now.run.now.lines.now 8
+                (map (λ one. outcome_of one.0 one.1.pass one.1.front) all.0.items) all.1.items) }
+        { run_from(scope, shared, callers) },
     )
 }
 
@@ -230,40 +220,29 @@ fn run_from<
     R: Threads + Wait + Sync,
     T: Turns + Sync,
 >(
-    rt: &R,
     scope: &Scope<'s, E>,
     shared: &'s Shared<'s, N, M, C, R, T>,
     callers: Vec<Caller<N>>,
 ) -> Result<Outcomes<N, M>, NotRun>
     requires count { vec_len callers ≤ 8 }
     requires fresh { All (λ caller. IsNewCaller caller.pass caller.front) callers.items }
-    ensures { IfOk result (λ all. (turns : List (FrontView EntryView))
-        → All (λ one. IsPrefix one.seen turns) all.1.items
-        → AreWork (C.shown shared.now.config.now)
-        (setting_of N.places N.policy shared.now.provider.now.resolve_timeout) (order_of T.ordered turns)
-        shared.now.lines.now (vec_len callers)
-        (map (λ one. outcome_of one.0 one.1.pass one.1.front) all.0.items)) }
+    ensures { IfOk result (λ all. AreWorkIn (C.shown shared.now.run.now.config.now)
+        (setting_of N.places N.policy shared.now.run.now.provider.now.resolve_timeout) T.ordered
+        shared.now.run.now.lines.now (vec_len callers)
+        (map (λ one. outcome_of one.0 one.1.pass one.1.front) all.0.items) all.1.items) }
 {
+    let (rt, alloc) = (shared.run.rt, shared.run.alloc);
     let mut callers = callers;
     let Some(caller) = callers.pop() else {
-        return Ok((Vec::new(shared.alloc), Vec::new(shared.alloc)));
+        return Ok((Vec::new(alloc), Vec::new(alloc)));
     };
     let thread = Thread::new(callers.len() as u32);
-    let promise = RunsLines {
-        config: shared.config,
-        lines: shared.lines,
-        timeout: shared.provider.resolve_timeout,
-        thread,
-        turns: PhantomData::<T>,
+    let promise = RunsLines::by(shared.run, thread);
+    let Ok(child) = scope.spawn_with(promise, move || work_when_told(shared, thread, caller)) else {
+        shared.start.give_up(rt);
+        return Err(NotRun::NoThread);
     };
-    let child = match scope.spawn_with(promise, move || work_when_told(shared, thread, caller)) {
-        Ok(child) => child,
-        Err(_) => {
-            shared.start.give_up(rt);
-            return Err(NotRun::NoThread);
-        }
-    };
-    let others = run_from(rt, scope, shared, callers);
+    let others = run_from(scope, shared, callers);
     let (outcome, seen) = child.join(rt);
     let (mut all, mut all_seen) = others?;
     all.push(outcome)?;
@@ -279,22 +258,22 @@ fn work_when_told<N: Recorded, M: Timeline, C: Configured, R: Wait, T: Turns>(
 ) -> Worked<N, M>
     requires { IsNewCaller caller.pass caller.front }
     ensures { (turns : List (FrontView EntryView)) → IsPrefix result.1.seen turns
-        → IsWork (C.shown shared.now.config.now)
-        (setting_of N.places N.policy shared.now.provider.now.resolve_timeout) (order_of T.ordered turns)
-        shared.now.lines.now thread result.0.0 result.0.1.pass result.0.1.front }
+        → IsWork (C.shown shared.now.run.now.config.now)
+        (setting_of N.places N.policy shared.now.run.now.provider.now.resolve_timeout) (order_of T.ordered turns)
+        shared.now.run.now.lines.now thread result.0.0 result.0.1.pass result.0.1.front }
 {
-    let rt = shared.rt;
-    if !shared.start.arrive(rt) {
+    let run = shared.run;
+    if !shared.start.arrive(run.rt) {
         return not_run(shared, caller);
     }
     let mut context = Context {
-        rt,
-        alloc: shared.alloc,
-        provider: shared.provider,
-        config: PreparedConfig::new(shared.config.config()),
-        turns: shared.turns,
+        rt: run.rt,
+        alloc: run.alloc,
+        provider: run.provider,
+        config: PreparedConfig::new(run.config.config()),
+        turns: run.turns,
     };
-    work(&mut context, shared.register, shared.lines, thread, caller)
+    work(&mut context, shared.register, run.lines, thread, caller)
 }
 
 fn not_run<N: Recorded, M: Timeline, C, R: Wait, T>(
@@ -305,6 +284,6 @@ fn not_run<N: Recorded, M: Timeline, C, R: Wait, T>(
 {
     (
         (Err(AllocError), caller),
-        shared.register.onlooker(shared.rt),
+        shared.register.onlooker(shared.run.rt),
     )
 }

@@ -1,6 +1,7 @@
 //! A script's run from its text: read, run in eight threads, and settled.
 
 ghost use Rattle.std.specs.Prelude.{◌≡◌, ◌≤◌};
+ghost use Rattle.am_provider.specs.PartsOf.{AreOf};
 
 use am_config::{Config, ConfigFault};
 use am_provider::{Caller, Counts, Ended, Parts, Policy, Provider, Recorded, Settled};
@@ -207,11 +208,7 @@ fn run_over<N: Recorded + Send + Sync, R: Threads + Wait + Sync, T: Turns + Sync
     lines: &[Line],
     turns: &T,
 ) -> Result<(Result<Answers, Stopped>, Settled), Stopped>
-    requires table { parts.log.board.shared.table_id ≡ N.table }
-    requires ledger { (parts.ledger.name ≡ N.name) × (parts.ledger.parts ≡ N.parts) }
-    requires history { parts.history.board.shared.table_id ≡ N.timeline }
-    requires entries { (parts.history.ledger.name ≡ N.entries)
-        × (parts.history.ledger.parts ≡ N.holders) }
+    requires parts { AreOf N.table N.name N.parts N.timeline N.entries N.holders parts }
     requires limits { (parts.log.places ≡ N.places) × (log.policy ≡ N.policy) }
     requires posters { parts.posters ≡ 8 }
 {

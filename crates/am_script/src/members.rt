@@ -61,44 +61,26 @@ pub(crate) fn verb_at(value: &Value) -> Result<Verb, LineFault>
 fn verb_of(text: &str) -> Option<Verb>
     ensures { result ≡ verb_of text.now }
 {
-    if text == "post" {
-        Some(Verb::Post)
-    } else if text == "put" {
-        Some(Verb::Put)
-    } else if text == "subscribe" {
-        Some(Verb::Subscribe)
-    } else if text == "read" {
-        Some(Verb::Read)
-    } else if text == "leave" {
-        Some(Verb::Leave)
-    } else if text == "collect" {
-        Some(Verb::Collect)
-    } else if text == "take" {
-        Some(Verb::Take)
-    } else if text == "close" {
-        Some(Verb::Close)
-    } else if text == "trim" {
-        Some(Verb::Trim)
-    } else if text == "compact" {
-        Some(Verb::Compact)
-    } else if text == "groups" {
-        Some(Verb::Groups)
-    } else if text == "sweep" {
-        Some(Verb::Sweep)
-    } else if text == "forget" {
-        Some(Verb::Forget)
-    } else if text == "mutes" {
-        Some(Verb::Mutes)
-    } else if text == "stored" {
-        Some(Verb::Stored)
-    } else if text == "get" {
-        Some(Verb::Get)
-    } else if text == "routes" {
-        Some(Verb::Routes)
-    } else if text == "route" {
-        Some(Verb::Route)
-    } else {
-        None
+    match text {
+        "post" => Some(Verb::Post),
+        "put" => Some(Verb::Put),
+        "subscribe" => Some(Verb::Subscribe),
+        "read" => Some(Verb::Read),
+        "leave" => Some(Verb::Leave),
+        "collect" => Some(Verb::Collect),
+        "take" => Some(Verb::Take),
+        "close" => Some(Verb::Close),
+        "trim" => Some(Verb::Trim),
+        "compact" => Some(Verb::Compact),
+        "groups" => Some(Verb::Groups),
+        "sweep" => Some(Verb::Sweep),
+        "forget" => Some(Verb::Forget),
+        "mutes" => Some(Verb::Mutes),
+        "stored" => Some(Verb::Stored),
+        "get" => Some(Verb::Get),
+        "routes" => Some(Verb::Routes),
+        "route" => Some(Verb::Route),
+        _ => None,
     }
 }
 

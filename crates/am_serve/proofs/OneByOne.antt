@@ -4,14 +4,13 @@ use Rattle.std.specs.Io.KnownBytes.{Appends}
 use Rattle.std.specs.Io.BufRead.{drop_through}
 use Rattle.am_config.specs.declared.config.Config.{Config}
 use Rattle.am_script.proofs.Outputs.{appends_more, appends_none}
-use Rattle.am_runner.specs.Compacting.{CompactsIfDue}
 use Rattle.am_runner.specs.Sessions.{Setting}
 use Rattle.am_runner.specs.declared.form.Form.{Form}
 use Rattle.am_serve.specs.Answering.{Answers}
 use Rattle.am_serve.specs.Standing.{RunView}
 use Rattle.am_serve.specs.Reading.{Begins, IsNext, no_lines}
 use Rattle.am_serve.specs.Reading as reading
-use Rattle.am_serve.specs.Serving.{Serves, nothing, one_more, between, AreRead, IsBeginning, IsServed, IsServedInPart}
+use Rattle.am_serve.specs.Serving.{CompactsIfDue, Serves, nothing, one_more, between, AreRead, IsBeginning, IsServed, IsServedInPart}
 
 -- a list of no length has nothing
 pub none_of : {A : Type 0} (xs : List A) → length xs ≡ 0 → xs ≡ []

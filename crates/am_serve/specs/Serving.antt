@@ -2,12 +2,17 @@
 use Rattle.std.specs.Prelude.{◌≡◌, ◌⊎◌, ℕ, ◌+◌, List, [], ◌∷◌, ◌++◌, length, Option, Some, IfSome}
 use Rattle.std.specs.Io.KnownBytes.{Appends}
 use Rattle.am_config.specs.declared.config.Config.{Config}
-use Rattle.am_runner.specs.Compacting.{CompactsIfDue}
+use Rattle.am_runner.specs.Compacting.{Compacts}
 use Rattle.am_runner.specs.Sessions.{Setting, SessionView}
 use Rattle.am_runner.specs.declared.form.Form.{Form}
 use Rattle.am_serve.specs.Answering.{Answers}
 use Rattle.am_serve.specs.Standing.{RunView}
 use Rattle.am_serve.specs.Reading.{Begins}
+
+-- what is done between two lines: nothing, or the journal is compacted
+pub data CompactsIfDue (config : Config) (setting : Setting) (old : SessionView) : SessionView → Type 0 where
+  not_due : CompactsIfDue config setting old old
+  compacts : {new : SessionView} → Compacts config setting old new → CompactsIfDue config setting old new
 
 -- what lines print, and what they do to a run: each what it answers, in their order. The first has this
 -- number. Between two lines the journal may be compacted, which prints nothing

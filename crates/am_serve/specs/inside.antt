@@ -1,2 +1,3 @@
 -- Definitions that only code of this crate cites.
 pub mod Buffered
+pub mod Paces

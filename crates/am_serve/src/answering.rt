@@ -124,11 +124,14 @@ fn run_command<'p, 'c, N: Recorded, R: Wait, G: Gate>(
         return no_memory(alloc, form, number);
     }
     match run.session.run(context, command) {
-        Ok(given) => match write_given(&mut text, form, number, run.follows, &run.known, &given) {
-            Ok(()) => with_what_came(context, run, form, number, command, &given, text),
-            Err(_) if is_question(command) => no_memory(alloc, form, number),
-            Err(error) => Err(error),
-        },
+        Ok(given) => {
+            run.pace.note(&given);
+            match write_given(&mut text, form, number, run.follows, &run.known, &given) {
+                Ok(()) => with_what_came(context, run, form, number, command, &given, text),
+                Err(_) if is_question(command) => no_memory(alloc, form, number),
+                Err(error) => Err(error),
+            }
+        }
         Err(_) if loses_nothing(command) => no_memory(alloc, form, number),
         Err(error) => Err(error),
     }

@@ -21,6 +21,7 @@
 mod answering;
 mod known;
 mod live_run;
+mod pace;
 mod reading;
 mod serving;
 mod showing;

@@ -1,11 +1,12 @@
-//! What a run of lines has: its session, the reads that go on, and the alerts that it knows.
+//! What a run of lines has: its session, the reads that go on, the alerts that it knows, and its pace.
 
 ghost use Rattle.std.specs.Prelude.{◌≡◌, []};
-ghost use Rattle.am_runner.specs.Compacting.{CompactsIfDue};
+ghost use Rattle.am_serve.specs.Serving.{CompactsIfDue};
 ghost use Rattle.am_config.specs.declared.config.Config.{Config};
 ghost use Rattle.am_runner.specs.Sessions.{Setting};
 
 use crate::known::KnownAlerts;
+use crate::pace::Pace;
 use crate::standing::StandingRead;
 use am_provider::Recorded;
 use am_runner::{Context, Session};
@@ -22,6 +23,7 @@ pub struct LiveRun<'p, 'c, N: Recorded> {
     pub(crate) follows: bool,
     pub(crate) reads: Vec<StandingRead>,
     pub(crate) known: KnownAlerts,
+    pub(crate) pace: Pace,
 }
 
 impl<'p, 'c, N: Recorded> Model for LiveRun<'p, 'c, N> {
@@ -57,16 +59,22 @@ impl<'p, 'c, N: Recorded> LiveRun<'p, 'c, N> {
             follows,
             reads: Vec::new(alloc),
             known: IndexMap::new(alloc),
+            pace: Pace::begin(),
         }
     }
 
-    /// What is done between two lines: [`Session::compact_if_due`].
+    /// What is done between two lines: [`Session::compact_and_vouch`], if the journal has become long next to the store.
+    /// The same call decides that for every line, so that each pays for its own alerts alone.
     pub fn compact_if_due<R: Wait, G>(&mut self, context: &Context<'p, 'c, N, R, G>)
         ensures { (config : Config) (setting : Setting)
             → CompactsIfDue config setting self.old.session self.new.session
             × (self.new ≡ record self.old { session = self.new.session }) }
     {
-        self.session.compact_if_due(context);
+        if !self.pace.is_due() {
+            return;
+        }
+        let stored = self.session.compact_and_vouch(context);
+        self.pace.restart(stored);
     }
 
     /// The session, to be ended.
@@ -78,6 +86,7 @@ impl<'p, 'c, N: Recorded> LiveRun<'p, 'c, N> {
             follows: _,
             reads: _,
             known: _,
+            pace: _,
         } = self;
         session
     }

@@ -33,8 +33,8 @@ const endPatience = 30 * time.Second
 var (
 	program = kingpin.Flag("provider.program", "The proved program, or the script replay that runs it. "+
 		"If it is missing: "+programName+" in this command's folder, or else on the PATH.").Envar("SINNORAKU_PROGRAM").String()
-	places = kingpin.Flag("provider.places", "How many batches the provider's log holds for the slowest reader, 1 to 256.").
-		Default("256").Int()
+	places = kingpin.Flag("provider.places", "How many batches the provider's log holds for the slowest reader, 1 to 65536.").
+		Default("4096").Int()
 	full = kingpin.Flag("provider.full", "If the log is full: cut off the reader who is too slow, or refuse the post.").
 		Default("cut").Enum("cut", "refuse")
 )
@@ -49,8 +49,8 @@ type Alerts struct{ *sinnoraku.Alerts }
 func NewAlerts(
 	ctx context.Context, m types.Marker, intervalGC time.Duration, cb AlertStoreCallback, l log.Logger, r prometheus.Registerer,
 ) (*Alerts, error) {
-	if *places < 1 || *places > 256 {
-		return nil, fmt.Errorf("--provider.places takes a number from 1 to 256, not %d", *places)
+	if *places < 1 || *places > 65536 {
+		return nil, fmt.Errorf("--provider.places takes a number from 1 to 65536, not %d", *places)
 	}
 	path, err := pathOf(*program)
 	if err != nil {

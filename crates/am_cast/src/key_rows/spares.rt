@@ -1,6 +1,7 @@
 //! Blocks of segments that have ended, for later segments of their size.
 //!
-//! As many blocks are kept as the log has places, since one harvest can end that many segments.
+//! As many blocks are kept as the log has places, since one harvest can end that many segments, but no more than
+//! MOST_SPARES: in a longer log the others are freed.
 ghost use Rattle.std.specs.Prelude.{◌≡◌, [], IfSome};
 ghost use Rattle.std.specs.List.{All};
 

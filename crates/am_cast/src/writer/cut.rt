@@ -1,13 +1,13 @@
 //! Publishing that cuts, from the call down to the steps: a lane that lags by as many batches as the log has
 //! places gets no more keys.
-ghost use mathlib.Core.List.{IsPrefix};
 ghost use Rattle.std.specs.Prelude.{◌≡◌, ◌≢◌, ◌+◌, ◌/◌, ◌%◌, ◌<◌, ◌≤◌, true, false, length, [], ℕ, IfOk, ◌++◌, ◌∷◌, slice_index_or, IfErr, OnOk, OnErr};
 ghost use Rattle.am_cast.specs.declared.batch_view.BatchView.{BatchView};
 ghost use Rattle.am_cast.specs.Rule.{live, cut, vacated, gone};
-ghost use Rattle.am_cast.specs.Changes.{longer_tail, marked, severed, known_to, AreInLog, own_at};
+ghost use Rattle.am_cast.specs.Changes.{longer_tail, marked, severed, known_to, own_at};
 ghost use Rattle.am_cast.specs.Seats.{account_of};
 ghost use Rattle.am_cast.specs.Keys.{batch_items};
-ghost use Rattle.am_cast.specs.Writers.{IsCalm, Calm, HasRoom, IsBehind, IsCutAs, SameAdmission, StaysAs};
+ghost use Rattle.am_cast.specs.Writers.{AreLoaded, IsCalm, Calm, HasRoom, IsBehind, IsCutAs, SameAdmission, StaysAs};
+ghost use Rattle.am_cast.specs.Posters.{KnowsOwn};
 ghost use Rattle.am_cast.specs.inside.WriterStates.{OneAccount, OnlyAccount, KeepsRoom};
 ghost use Rattle.am_cast.specs.Refusals.{IsCutRefusal, IsOpen};
 
@@ -41,14 +41,10 @@ impl<T: Drop, P, A, N: Feed> Writer<T, P, A, N> {
         ensures cut { IfOk result (λ r. (l : ℕ) → l < LANES
             → IsCutAs (length self.old.tail.log) self.old.tail.places (account_of self.old l)
             (account_of self.new l) (slice_index_or r.cut l false)) }
-        ensures known { OnOk result (AreInLog pass.new.own pass.new.noted
-            × IsPrefix pass.old.noted pass.new.noted) }
+        ensures known { OnOk result (KnowsOwn pass.old pass.new) }
         ensures lanes { (l : ℕ) → l < LANES
             → SameAdmission (account_of self.old l) (account_of self.new l) }
-        ensures loads { (l : ℕ) → l < LANES → (account_of self.old l).stand ≡ live
-            → (account_of self.old l).loads < (account_of self.new l).loads }
-        ensures aways { (l : ℕ) → l < LANES → (account_of self.old l).away ≡ true
-            → (account_of self.old l).loads < (account_of self.new l).loads }
+        ensures loads { AreLoaded self.old self.new }
 
         ensures err { OnErr result ((self.new.tail ≡ self.old.tail) × (pass.new ≡ pass.old)
             × ((l : ℕ) → l < LANES → StaysAs (account_of self.old l) (account_of self.new l))) }
@@ -56,22 +52,13 @@ impl<T: Drop, P, A, N: Feed> Writer<T, P, A, N> {
     {
         self.state.harvest(cast);
         if self.is_closed() {
-            return Err(Refused {
-                fault: PublishFault::Closed,
-                batch,
-            });
+            return Err(Refused::new(PublishFault::Closed, batch));
         }
         if self.len() >= LONGEST_LOG {
-            return Err(Refused {
-                fault: PublishFault::LogEnd,
-                batch,
-            });
+            return Err(Refused::new(PublishFault::LogEnd, batch));
         }
         if self.state.reserve().is_err() {
-            return Err(Refused {
-                fault: PublishFault::NoMemory,
-                batch,
-            });
+            return Err(Refused::new(PublishFault::NoMemory, batch));
         }
         let cut = self.state.make_all_room(cast);
         let place = self.len();

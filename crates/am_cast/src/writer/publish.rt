@@ -4,16 +4,16 @@
 //! All lanes' words loaded first, so that their lines come together, brought nothing. Nor does a fill
 //! exchange the new key for an old one: that would keep keys of passed places for a turn, which
 //! `Writer::freed` promises it doesn't.
-ghost use mathlib.Core.List.{IsPrefix};
 ghost use Rattle.std.specs.Prelude.{◌≡◌, ◌≢◌, ◌+◌, ◌<◌, ◌≤◌, true, false, length, None, Some, [], ℕ, IfOk, ◌++◌, ◌∷◌, IfErr, OnOk, OnErr};
 ghost use Rattle.am_segment.specs.Segments.{MayJoin};
 ghost use Rattle.am_cast.specs.declared.batch_view.BatchView.{BatchView};
 ghost use Rattle.am_cast.specs.Rule.{live};
-ghost use Rattle.am_cast.specs.Changes.{longer_tail, back, laying, longer, both_of, AreInLog, own_at};
+ghost use Rattle.am_cast.specs.Changes.{longer_tail, back, laying, longer, both_of, own_at};
 ghost use Rattle.am_cast.specs.Seats.{account_of};
 ghost use Rattle.am_cast.specs.Keys.{batch_items, key_of};
 ghost use Rattle.am_cast.specs.inside.Tags.{batch_of_tag};
-ghost use Rattle.am_cast.specs.Writers.{Calm, HasRoom, SameAdmission, StaysAs};
+ghost use Rattle.am_cast.specs.Writers.{AreLoaded, Calm, HasRoom, SameAdmission, StaysAs};
+ghost use Rattle.am_cast.specs.Posters.{KnowsOwn};
 ghost use Rattle.am_cast.specs.inside.Filling.{FilledTo, AllLaid, AreReady, owner_of};
 ghost use Rattle.am_cast.specs.inside.WriterStates.{OneAccount};
 ghost use Rattle.am_cast.specs.inside.KeyRows.{bucket_of};
@@ -52,13 +52,9 @@ impl<T: Drop, P, A, N: Feed> Writer<T, P, A, N> {
             × ((x : BatchView T P) × (x.post ≡ post.value) × (batch_items x ≡ batch.items)
             × (self.new.tail ≡ longer_tail x self.old.tail)
             × (pass.new.own ≡ pass.old.own ++ own_at place x ∷ []))) }
-        ensures known { OnOk result (AreInLog pass.new.own pass.new.noted
-            × IsPrefix pass.old.noted pass.new.noted) }
+        ensures known { OnOk result (KnowsOwn pass.old pass.new) }
         ensures lanes { (l : ℕ) → l < LANES → StaysAs (account_of self.old l) (account_of self.new l) }
-        ensures loads { (l : ℕ) → l < LANES → (account_of self.old l).stand ≡ live
-            → (account_of self.old l).loads < (account_of self.new l).loads }
-        ensures aways { (l : ℕ) → l < LANES → (account_of self.old l).away ≡ true
-            → (account_of self.old l).loads < (account_of self.new l).loads }
+        ensures loads { AreLoaded self.old self.new }
 
         ensures err { OnErr result ((self.new.tail ≡ self.old.tail) × (pass.new ≡ pass.old)) }
         ensures refused { IfErr result (λ e. (e.batch ≡ batch)
@@ -66,29 +62,17 @@ impl<T: Drop, P, A, N: Feed> Writer<T, P, A, N> {
     {
         let full = self.harvest(cast);
         if self.is_closed() {
-            return Err(Refused {
-                fault: PublishFault::Closed,
-                batch,
-            });
+            return Err(Refused::new(PublishFault::Closed, batch));
         }
         if self.len() >= LONGEST_LOG {
-            return Err(Refused {
-                fault: PublishFault::LogEnd,
-                batch,
-            });
+            return Err(Refused::new(PublishFault::LogEnd, batch));
         }
         if let Some((lane, passed)) = full {
-            return Err(Refused {
-                fault: PublishFault::Full { lane, passed },
-                batch,
-            });
+            return Err(Refused::new(PublishFault::Full { lane, passed }, batch));
         }
         match self.publish_harvested(cast, batch, post, pass) {
             Ok(place) => Ok(place),
-            Err(batch) => Err(Refused {
-                fault: PublishFault::NoMemory,
-                batch,
-            }),
+            Err(batch) => Err(Refused::new(PublishFault::NoMemory, batch)),
         }
     }
 
@@ -107,8 +91,7 @@ impl<T: Drop, P, A, N: Feed> Writer<T, P, A, N> {
             × ((x : BatchView T P) × (x.post ≡ post.value) × (batch_items x ≡ batch.items)
             × (self.new.tail ≡ longer_tail x self.old.tail)
             × (pass.new.own ≡ pass.old.own ++ own_at place x ∷ []))) }
-        ensures known { OnOk result (AreInLog pass.new.own pass.new.noted
-            × IsPrefix pass.old.noted pass.new.noted) }
+        ensures known { OnOk result (KnowsOwn pass.old pass.new) }
         ensures lanes { (l : ℕ) → l < LANES → StaysAs (account_of self.old l) (account_of self.new l) }
 
         ensures err { OnErr result ((self.new ≡ self.old) × (pass.new ≡ pass.old)) }

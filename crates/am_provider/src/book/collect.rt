@@ -4,7 +4,7 @@ ghost use Rattle.std.specs.Prelude.{◌≡◌, IfOk, OnOk, OnErr, not, filter, c
 ghost use Rattle.am_alert.specs.Merging.{is_resolved_at};
 ghost use Rattle.am_store.specs.Journal.{with_call};
 ghost use Rattle.am_store.specs.Stored.{stored};
-ghost use Rattle.am_provider.specs.Posts.{HasSameLimits};
+ghost use Rattle.am_provider.specs.Posts.{KeepsRest};
 
 use crate::book::{Book, ENTRIES};
 use crate::feed::Origin;
@@ -24,9 +24,7 @@ impl<N: Origin> Book<N> {
         ensures stored { OnOk result
             (self.new.stored ≡ filter (λ alert. not (is_resolved_at now alert)) self.old.stored) }
         ensures log { self.new.log ≡ self.old.log }
-        ensures endings { (self.new.endings ≡ self.old.endings) × (self.new.early ≡ self.old.early) }
-        ensures gone { self.new.gone ≡ self.old.gone }
-        ensures limits { HasSameLimits self.old self.new }
+        ensures rest { KeepsRest self.old self.new }
         ensures err { OnErr result (self.new ≡ self.old) }
     {
         self.journal.reserve(ENTRIES)?;
@@ -45,9 +43,7 @@ impl<N: Origin> Book<N> {
         ensures stored { OnOk result
             (self.new.stored ≡ filter (λ alert. not (is_resolved_at now alert)) self.old.stored) }
         ensures log { self.new.log ≡ self.old.log }
-        ensures endings { (self.new.endings ≡ self.old.endings) × (self.new.early ≡ self.old.early) }
-        ensures gone { self.new.gone ≡ self.old.gone }
-        ensures limits { HasSameLimits self.old self.new }
+        ensures rest { KeepsRest self.old self.new }
         ensures err { OnErr result (self.new ≡ self.old) }
     {
         let resolved = self.resolved(now)?;

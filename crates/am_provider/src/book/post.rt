@@ -1,23 +1,23 @@
 //! Posting, to all lanes as one batch.
 
-ghost use Rattle.std.specs.Prelude.{◌≡◌, ◌↔◌, ◌≤◌, ◌<◌, IsTrue, IfOk, IfErr, OnOk, OnErr, IsErrOf, None, Some, false, [], length, nat_eq, if◌then◌else◌};
+ghost use Rattle.std.specs.Prelude.{◌≡◌, ◌↔◌, ◌≤◌, ◌<◌, IsTrue, IfOk, IfErr, OnOk, OnErr, IsErrOf, Some, false, [], length};
 ghost use mathlib.Core.List.{IsPrefix};
 ghost use Rattle.am_alert.specs.declared.post.TheConstants.{MAX_ALERTS};
 ghost use Rattle.am_cast.specs.Rule.{cut};
 ghost use Rattle.am_store.specs.Journal.{with_call, call_count, is_closed};
 ghost use Rattle.am_store.specs.Judging.{AreJudged};
 ghost use Rattle.am_provider.specs.BookView.{batches};
-ghost use Rattle.am_provider.specs.Posts.{AddsOwn, IsCutBy, IsCutTo, PutsIf, IsPutCause, IsPutIfCause};
-ghost use Rattle.am_provider.specs.Posts.{IsAsBefore, Loads, WasAskedBefore, HasSameLimits};
+ghost use Rattle.am_provider.specs.Posts.{AddsOwn, IsCutTo, Puts, PutsIf, IsPutCause, IsPutIfCause};
+ghost use Rattle.am_provider.specs.Posts.{IsAsBefore, Loads, KeepsRest, WasAskedBefore};
 
-use crate::answers::{Policy, Posted, PostedIf};
+use crate::answers::{Posted, PostedIf};
 use crate::book::{Book, ENTRIES};
 use crate::faults::PutFault;
 use crate::feed::{Cast, Origin};
 use crate::pass::Pass;
-use crate::sending::send_batch;
+use crate::sending::{look_for_room, send_batch};
 use am_alert::{Alert, Alerts, Moment, Post};
-use am_cast::{LONGEST_LOG, Published};
+use am_cast::Published;
 use am_store::store::absorb::{Absorbed, absorb_each, take_back};
 use am_store::store::judge::{Judged, judge_each};
 use am_store::{Call, LaneSet};
@@ -34,23 +34,12 @@ impl<N: Origin> Book<N> {
         post: Post,
         now: Moment,
     ) -> Result<Posted, PutFault>
-        ensures journal { OnOk result
-            (self.new.journal ≡ with_call self.old.journal (Call.Posted now post.valid)) }
+        ensures posted { IfOk result (Puts self.old self.new pass.old pass.new now post) }
         ensures last { OnOk result (self.new.gone < call_count self.new.journal) }
-        ensures valid { IfOk result (λ posted. posted.valid ≡ length post.valid) }
-        ensures faults { IfOk result (λ posted. posted.faults ≡ post.faults) }
-        ensures place { IfOk result (λ posted. posted.place
-            ≡ (if nat_eq (length post.valid) 0 then None else Some (length (batches self.old)))) }
-        ensures own { IfOk result (λ posted.
-            AddsOwn pass.old now post.valid posted.place pass.new) }
-
         ensures log { IsPrefix (batches self.old) (batches self.new) }
-        ensures cut { IfOk result (λ posted. IsCutBy self.old self.new posted.cut) }
         ensures loads { 0 < length post.valid → is_closed self.old.journal ≡ false
             → Loads self.old.log self.new.log }
-        ensures endings { (self.new.endings ≡ self.old.endings) × (self.new.early ≡ self.old.early) }
-        ensures gone { self.new.gone ≡ self.old.gone }
-        ensures limits { HasSameLimits self.old self.new }
+        ensures rest { KeepsRest self.old self.new }
 
         ensures closed { IsErrOf result PutFault.Closed ↔ IsTrue (is_closed self.old.journal) }
         ensures refused { IfErr result (IsPutCause self.old self.new (length post.valid)) }
@@ -62,12 +51,7 @@ impl<N: Origin> Book<N> {
         let Post { valid, faults } = post;
         if valid.as_slice().is_empty() {
             self.post_nothing(valid, now)?;
-            return Ok(Posted {
-                valid: 0,
-                place: None,
-                cut: LaneSet::EMPTY,
-                faults,
-            });
+            return Ok(Posted::nothing(faults));
         }
         let valid_count = valid.as_slice().len() as u32;
         let Published { place, cut } = self.post_some(cast, pass, valid, now)?;
@@ -95,9 +79,7 @@ impl<N: Origin> Book<N> {
         ensures posted { IfOk result
             (PutsIf F.FnMut accepts.old accepts.new self.old self.new pass.old pass.new now post) }
         ensures log { IsPrefix (batches self.old) (batches self.new) }
-        ensures endings { (self.new.endings ≡ self.old.endings) × (self.new.early ≡ self.old.early) }
-        ensures gone { self.new.gone ≡ self.old.gone }
-        ensures limits { HasSameLimits self.old self.new }
+        ensures rest { KeepsRest self.old self.new }
 
         ensures closed { IsErrOf result PutFault.Closed ↔ IsTrue (is_closed self.old.journal) }
         ensures refused { IfErr result
@@ -173,42 +155,24 @@ impl<N: Origin> Book<N> {
         requires open { is_closed self.old.journal ≡ false }
         requires some { 0 < length valid }
         requires few { length valid ≤ MAX_ALERTS }
-        ensures journal { OnOk result
-            (self.new.journal ≡ with_call self.old.journal (Call.Posted now valid)) }
+        ensures journal { OnOk result (self.new.journal ≡ with_call self.old.journal (Call.Posted now valid)) }
         ensures last { OnOk result (self.new.gone < call_count self.new.journal) }
         ensures own { IfOk result (λ sent. (sent.place ≡ length (batches self.old))
             × AddsOwn pass.old now valid (Some sent.place) pass.new) }
         ensures log { IsPrefix (batches self.old) (batches self.new) }
         ensures cut { IfOk result (λ sent. IsCutTo self.old self.new sent.cut) }
         ensures loads { Loads self.old.log self.new.log }
-        ensures endings { (self.new.endings ≡ self.old.endings) × (self.new.early ≡ self.old.early) }
-        ensures gone { self.new.gone ≡ self.old.gone }
-        ensures limits { HasSameLimits self.old self.new }
+        ensures rest { KeepsRest self.old self.new }
 
         ensures refused { IfErr result (IsPutCause self.old self.new (length valid)) }
         ensures err { OnErr result (IsAsBefore self.old self.new × (pass.new ≡ pass.old)) }
     {
-        let full = self.log.harvest(cast);
-        if self.log.len() >= LONGEST_LOG {
-            return Err(PutFault::LogEnd);
-        }
-        if let (Policy::Refuse, Some((lane, passed))) = (self.policy, full) {
-            return Err(PutFault::Full {
-                lane: lane as u32,
-                passed,
-            });
-        }
+        let policy = self.policy;
+        look_for_room(&mut self.log, cast, policy)?;
         self.journal.reserve(ENTRIES)?;
         let Absorbed { batch, undo } = absorb_each(&mut self.stored, valid.as_slice(), now)?;
         let call = Call::Posted { now, alerts: valid };
-        match send_batch(
-            &mut self.log,
-            cast,
-            self.policy,
-            batch,
-            &call,
-            &mut pass.pass,
-        ) {
+        match send_batch(&mut self.log, cast, policy, batch, &call, &mut pass.pass) {
             Ok(sent) => {
                 self.tally.add(&mut pass.share, 1);
                 self.journal.push(call);

@@ -10,7 +10,7 @@ ghost use Rattle.am_provider.specs.Rising.{IsRising};
 ghost use Rattle.am_provider.specs.Settling.{IsOwn, IsSettled, own_in, own_of, parts_in};
 
 use crate::answers::Counts;
-use crate::book::Book;
+use crate::book::{Book, Held};
 use crate::feed::{Cast, Origin, Writer};
 use crate::pass::{Joined, Pass, join_all};
 use crate::settled::Settled;
@@ -79,7 +79,15 @@ impl<N: Origin> Book<N> {
             posts,
             stored: _,
         } = self.counts();
-        let (journal, store, ended, early, posters, mut log, mut tally) = self.into_parts();
+        let Held {
+            journal,
+            store,
+            ended,
+            early,
+            posters,
+            mut log,
+            mut tally,
+        } = self.into_parts();
         let complete = audit(&cast, &mut log, &mut tally, all, count, posters);
         am_cast::end(cast, log);
         Settled {

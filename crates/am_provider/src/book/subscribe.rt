@@ -7,7 +7,7 @@ ghost use Rattle.am_store.specs.Journal.{with_call, call_count, is_closed, AreAl
 ghost use Rattle.am_store.specs.Stored.{stored};
 ghost use Rattle.am_provider.specs.BookView.{batches};
 ghost use Rattle.am_provider.specs.Subscriptions.{taken};
-ghost use Rattle.am_provider.specs.Posts.{HasSameLimits};
+ghost use Rattle.am_provider.specs.Posts.{HasSameLimits, KeepsRest};
 ghost use Rattle.am_provider.specs.Vouching.{HasTakenDue, KnowsWholeLog};
 
 use crate::answers::Ended;
@@ -30,17 +30,14 @@ impl<N: Origin> Book<N> {
         ensures at { IfOk result (λ made. made.at ≡ call_count self.old.journal) }
         ensures opening { IfOk result (λ made. made.opening ≡ self.old.stored) }
         ensures fresh { IfOk result (λ made. (taken made ≡ []) × (made.closed_told ≡ false)) }
-        ensures start { IfOk result (λ made.
-            made.cursor.lane.start ≡ length (batches self.old)) }
+        ensures start { IfOk result (λ made. made.cursor.lane.start ≡ length (batches self.old)) }
         ensures log { self.new.log.tail ≡ self.old.log.tail }
         ensures lane { IfOk result (λ made.
             (account_of self.new.log made.cursor.lane.number).stand ≡ live) }
         ensures others { IfOk result (λ made. (lane : ℕ) → lane ≢ made.cursor.lane.number
             → account_of self.new.log lane ≡ account_of self.old.log lane) }
         ensures stored { self.new.stored ≡ self.old.stored }
-        ensures endings { (self.new.endings ≡ self.old.endings) × (self.new.early ≡ self.old.early) }
-        ensures gone { self.new.gone ≡ self.old.gone }
-        ensures limits { HasSameLimits self.old self.new }
+        ensures rest { KeepsRest self.old self.new }
 
         ensures closed { IsErrOf result SubFault.Closed ↔ IsTrue (is_closed self.old.journal) }
         ensures no_lane { IsErrOf result SubFault.NoLane

@@ -3,7 +3,7 @@
 ghost use Rattle.std.specs.Prelude.{◌≡◌, ◌∷◌, []};
 ghost use Rattle.am_config.specs.declared.config.Config.{Config};
 ghost use Rattle.am_runner.specs.Sessions.{Does, Setting};
-ghost use Rattle.am_runner.specs.Compacting.{CompactsIfDue, CountsStored, Vouches};
+ghost use Rattle.am_runner.specs.Compacting.{Compacts, CountsStored, Vouches};
 
 use crate::answer::Answer;
 use crate::context::Context;
@@ -30,7 +30,7 @@ impl<'p, 'c, N: Recorded> Session<'p, 'c, N> {
     {
         let dropped = match context.provider.trim(context.rt, &mut self.caller) {
             Ok(dropped) => dropped,
-            Err(_) => return Answer::TrimRefused,
+            Err(_) => return Answer::OutOfMemory(Verb::Trim),
         };
         Answer::Trimmed(dropped)
     }
@@ -46,19 +46,19 @@ impl<'p, 'c, N: Recorded> Session<'p, 'c, N> {
         Answer::Compacted(dropped)
     }
 
-    /// What is done between the lines of a live run: if the journal has become long next to the store, its calls are
-    /// taken out of memory. The same call decides that for every line, so that each pays for its own alerts alone. Then
-    /// each open subscription, which may never leave, is shown to have taken its due so far.
-    pub fn compact_if_due<R: Wait, G>(&mut self, context: &Context<'p, 'c, N, R, G>)
-        ensures { (config : Config) (setting : Setting) → CompactsIfDue config setting self.old self.new }
+    /// What may be done between the lines of a live run: the journal's calls are taken out of memory, and each open
+    /// subscription, which may never leave, is shown to have taken its due so far. It returns how many alerts are stored,
+    /// if that could be asked.
+    pub fn compact_and_vouch<R: Wait, G>(
+        &mut self,
+        context: &Context<'p, 'c, N, R, G>,
+    ) -> Option<u64>
+        ensures { (config : Config) (setting : Setting) → Compacts config setting self.old self.new }
     {
-        if !self.pace.is_due() {
-            return;
-        }
         let _dropped = self.compact(context);
         let stored = self.count_stored(context);
-        self.pace.restart(stored);
         self.vouch(context);
+        stored
     }
 
     fn vouch<R: Wait, G>(&mut self, context: &Context<'p, 'c, N, R, G>)

@@ -10,8 +10,9 @@ ghost use Rattle.am_runner.specs.Unanswered.{IsDone};
 ghost use Rattle.am_provider.specs.Callers.{SeesCall};
 ghost use Rattle.am_provider.specs.Headline.{AnswersPage};
 
-use crate::answer::{Answer, one};
+use crate::answer::{Answer, PageHead, one};
 use crate::context::Context;
+use crate::room_for_answer::RoomForAnswer;
 use crate::session::Session;
 use am_alert::Moment;
 use am_labels::LabelSet;
@@ -26,16 +27,18 @@ impl<'p, 'c, N: Recorded> Session<'p, 'c, N> {
         &mut self,
         context: &Context<'p, 'c, N, R, G>,
         at: Moment,
-    ) -> Answer
-        ensures { (config : Config) (setting : Setting) → Does config setting
-            self.old (Command.Collect at) (result ∷ []) self.new }
+    ) -> Result<Vec<Answer>, AllocError>
+        ensures does { IfOk result (λ answers. (config : Config) (setting : Setting) → Does config setting
+            self.old (Command.Collect at) answers.items self.new) }
+        ensures err { OnErr result (self.new ≡ self.old) }
     {
+        let room = RoomForAnswer::make(context.alloc)?;
         let provider = context.provider;
         let removed = match provider.collect_resolved(context.rt, &mut self.caller, at) {
             Ok(removed) => removed,
-            Err(_) => return Answer::CollectRefused,
+            Err(_) => return Ok(room.filled(Answer::OutOfMemory(Verb::Collect))),
         };
-        Answer::Collected(removed)
+        Ok(room.filled(Answer::Collected(removed)))
     }
 
     pub(super) fn take<R: Wait, G>(
@@ -148,12 +151,12 @@ fn page_answers(alloc: Global, from: u32, page: &Page) -> Result<Vec<Answer>, Al
     let alerts = page.alerts.as_slice();
     let mut answers = one(
         alloc,
-        Answer::Page {
+        Answer::Page(PageHead {
             alerts: alerts.len() as u64,
             from: u64::from(from),
             stored: page.stored,
             calls: page.calls,
-        },
+        }),
     )?;
     add_stored(&mut answers, alerts)?;
     Ok(answers)

@@ -11,6 +11,7 @@ use crate::answer::{Answer, one};
 use crate::consumer::Consumer;
 use crate::context::Context;
 use crate::open_subscription::OpenSubscription;
+use crate::room_for_answer::RoomForAnswer;
 use crate::session::{Session, index_named};
 use am_labels::Text;
 use am_provider::{Caller, Ended, Recorded, history_laws};
@@ -77,10 +78,12 @@ impl<'p, 'c, N: Recorded> Session<'p, 'c, N> {
         &mut self,
         context: &Context<'p, 'c, N, R, G>,
         name: &Text,
-    ) -> Answer
-        ensures { (config : Config) (setting : Setting) → Does config setting
-            self.old (Command.Leave name.now) (result ∷ []) self.new }
+    ) -> Result<Vec<Answer>, AllocError>
+        ensures does { IfOk result (λ answers. (config : Config) (setting : Setting) → Does config setting
+            self.old (Command.Leave name.now) answers.items self.new) }
+        ensures err { OnErr result (self.new ≡ self.old) }
     {
+        let room = RoomForAnswer::make(context.alloc)?;
         match index_named(&self.opened, name) {
             Some(index) => {
                 let Ended {
@@ -89,9 +92,9 @@ impl<'p, 'c, N: Recorded> Session<'p, 'c, N> {
                     closed,
                     cut,
                 } = self.leave_at(context, index);
-                Answer::Left { taken, closed, cut }
+                Ok(room.filled(Answer::Left { taken, closed, cut }))
             }
-            None => Answer::NotOpen(Verb::Leave),
+            None => Ok(room.filled(Answer::NotOpen(Verb::Leave))),
         }
     }
 
@@ -110,11 +113,7 @@ impl<'p, 'c, N: Recorded> Session<'p, 'c, N> {
         while !self.opened.is_empty() {
             let _ended = self.leave_at(context, 0);
         }
-        let Session {
-            caller,
-            opened,
-            pace: _,
-        } = self;
+        let Session { caller, opened } = self;
         opened.destroy_empty();
         caller
     }

@@ -1,6 +1,7 @@
 use Rattle.std.proofs.Common.{◌≡◌, ◌∙◌, ◌++◌, ◌∷◌, [], true, List, ap}
 use Rattle.am_runner.specs.declared.answer.Answer.{Answer}
-use Rattle.am_runner.specs.declared.answer.Answer.TheVariants.{Pending, TakeRefused}
+use Rattle.am_script.specs.declared.command.Verb.TheVariants as verb
+use Rattle.am_runner.specs.declared.answer.Answer.TheVariants.{OutOfMemory, Pending}
 use Rattle.am_runner.proofs.Reading.{last_pending}
 use Rattle.am_runner.proofs.Taking.{took_shown, read_one, missed_read}
 use Rattle.am_runner.proofs.open_subscription.read_beside.Goals as goal
@@ -21,7 +22,7 @@ returns-in_ok-push-in-Ok-take_shown-clause-reads g c name =
 pub returns-in_ok-push-in-Err-take_shown-2-clause-reads : goal.returns-in_ok-push-in-Err-take_shown-2-clause-reads
 returns-in_ok-push-in-Err-take_shown-2-clause-reads g c name =
     missed_read c.args.subscription.now c.next_answer.new.subscription c.args.consumer.now c.take_shown.new.consumer c.args.missed.now true name c.args.answers.now.items _ c.in-Ok.answer c.in-Err-take_shown.ensures.err.0 c.in-Ok.ensures.next c.in-Err-take_shown.ensures.err.1
-    (c.in_ok-push-in-Err-take_shown-2.ensures.items ∙ ap (λ (all : List Answer). all ++ TakeRefused ∷ []) c.in_ok-push-in-Err-take_shown.ensures.items)
+    (c.in_ok-push-in-Err-take_shown-2.ensures.items ∙ ap (λ (all : List Answer). all ++ OutOfMemory verb.Take ∷ []) c.in_ok-push-in-Err-take_shown.ensures.items)
 
 pub returns-in_ok-push-in-Ok-take_shown-clause-past : goal.returns-in_ok-push-in-Ok-take_shown-clause-past
 returns-in_ok-push-in-Ok-take_shown-clause-past g c = λ ends.
@@ -29,4 +30,4 @@ returns-in_ok-push-in-Ok-take_shown-clause-past g c = λ ends.
 
 pub returns-in_ok-push-in-Err-take_shown-2-clause-past : goal.returns-in_ok-push-in-Err-take_shown-2-clause-past
 returns-in_ok-push-in-Err-take_shown-2-clause-past g c = λ ends.
-    let no : TakeRefused ≡ Pending = last_pending _ _ TakeRefused c.in_ok-push-in-Err-take_shown-2.ensures.items ends in cc
+    let no : OutOfMemory verb.Take ≡ Pending = last_pending _ _ (OutOfMemory verb.Take) c.in_ok-push-in-Err-take_shown-2.ensures.items ends in cc

@@ -36,7 +36,7 @@ returns-in-Ok-write_given-clause-obeys g c =
     let printed : string_bytes c.write_given.new.text ≡ shown.0 = shown.1 ∙ ap (λ (before : List ℕ). before ++ shown.0) c.in-Ok.ensures.bytes in
     let are : AnswersArePrinted c.args.number old.known given old.follows c.args.form shown.0 =
     subst (λ (known : Known). AnswersArePrinted c.args.number known given old.follows c.args.form shown.0) c.make_room.ensures
-    (subst (λ (answers : List Answer). AnswersArePrinted c.args.number room answers old.follows c.args.form shown.0) c.deref.ensures.value shown.2) in
+    (subst (λ (answers : List Answer). AnswersArePrinted c.args.number room answers old.follows c.args.form shown.0) c.deref-in-Ok-run.ensures.value shown.2) in
     let free : has_free_name command old.session.opened ≡ true = subst (λ (run : RunView). has_free_name command run.session.opened ≡ true) (sym c.run.view_is) c.requires.name in
     let timely : has_moment_if_needed command old.session.opened ≡ true = subst (λ (run : RunView). has_moment_if_needed command run.session.opened ≡ true) (sym c.run.view_is) c.requires.moment in
     IfOk-weaker c.with_what_came.result _ _ (λ text so.

@@ -148,7 +148,7 @@ func TestAProgramThatLeavesOutALine(t *testing.T) {
 }
 
 func TestOptionsHaveDefaults(t *testing.T) {
-	want := Options{Places: 256, Interval: 5 * time.Second, Patience: 30 * time.Second}
+	want := Options{Places: usualPlaces, Interval: 5 * time.Second, Patience: 30 * time.Second}
 	for _, given := range []Options{{}, {Interval: -1, Patience: -1}} {
 		if got := given.withDefaults(); got != want {
 			t.Errorf("%v of %v", got, given)

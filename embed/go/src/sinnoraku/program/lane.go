@@ -19,8 +19,6 @@ const (
 	fewComing  = mostComing / 2
 	// How many alerts one line can read at most.
 	longestRead = 65_536
-	// So many of the longest reads reach the end of a full log, whose places hold 1,024 alerts each.
-	readsOfFullLog = 256 * mostAlerts / longestRead
 	// How many alerts wait for a reader before no more are asked for.
 	mostWaiting = 16 * mostAlerts
 	// How many alerts no store can hold.
@@ -151,12 +149,12 @@ func (l *lane) join() (*member, error) {
 		return nil, errCut
 	}
 	var lines []request
-	for len(lines) < readsOfFullLog {
+	for reads := l.readers.readsOfFullLog; len(lines) < reads; {
 		lines = append(lines, l.readOf(longestRead))
 	}
 	it := l.add(nil)
+	l.away += len(lines) + 1
 	lines = append(lines, l.readOf(mostComing), request{text: getStored, to: l, joins: it})
-	l.away += readsOfFullLog + 1
 	calls := l.readers.process.send(lines...)
 	it.opening = calls[len(calls)-1]
 	return it, nil

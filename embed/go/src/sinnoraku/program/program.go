@@ -30,11 +30,14 @@ type Alert struct {
 	Timeout bool
 }
 
+// How many batches the log holds if the options don't say.
+const usualPlaces = 4096
+
 // Options say how the program is run.
 type Options struct {
 	// Program is the path of the replay program, or of the script replay that runs it.
 	Program string
-	// Places is how many batches its log holds for the slowest reader, 1 to 256; 0 is 256.
+	// Places is how many batches its log holds for the slowest reader, 1 to 65,536; 0 is 4,096.
 	Places int
 	// Refuse has a Put refused if the log is full. Without it the readers that hold it up are cut off.
 	Refuse bool
@@ -48,7 +51,7 @@ type Options struct {
 // withDefaults are the options with what is 0 replaced.
 func (o Options) withDefaults() Options {
 	if o.Places == 0 {
-		o.Places = 256
+		o.Places = usualPlaces
 	}
 	if o.Interval <= 0 {
 		o.Interval = 5 * time.Second

@@ -24,8 +24,10 @@ var (
 // readers are all lanes of a program that are open.
 type readers struct {
 	process *process
-	mostLag int           // how many batches of the log may be unread before a put waits until they are read
-	own     chan struct{} // has an element for each own lane that is open
+	mostLag int // how many batches of the log may be unread before a put waits until they are read
+	// How many of the longest reads reach the end of a full log, whose batches have at most 1,024 alerts each.
+	readsOfFullLog int
+	own            chan struct{} // has an element for each own lane that is open
 
 	sharing sync.Mutex // held while one joins the shared lane
 	shared  *lane      // nil if nobody has shared it yet
@@ -38,6 +40,7 @@ type readers struct {
 // init is called with how many batches the log holds. A half is left to puts that come at the same time.
 func (r *readers) init(places int) {
 	r.mostLag = (places + 1) / 2
+	r.readsOfFullLog = (places*mostAlerts + longestRead - 1) / longestRead
 	r.own = make(chan struct{}, ownLanes)
 	r.open = map[string]*lane{}
 }

@@ -17,9 +17,9 @@ returns-clause-settled g c =
       gone = parts.gone;
       journal = parts.journal;
       store = parts.stored;
-      ended = parts.endings;
+      ended = parts.ended;
       early = parts.early;
-      ends = parts.early ∙ (parts.faithful.ends ∙ sym (trimmed_lefts c.args.self.journal (journal_of c.into_parts-journal.result.0) (c.args.self.gone - c.args.self.journal.before) parts.journal));
+      ends = parts.early ∙ (parts.faithful.ends ∙ sym (trimmed_lefts c.args.self.journal (journal_of c.into_parts-journal.result.journal) (c.args.self.gone - c.args.self.journal.before) parts.journal));
       posts = subst (λ (q : LogView). AreInLog own q.tail.log) parts.log.0 audit.stand;
       once = audit.once;
       all = λ yes place inside. audit.all yes place (subst (λ (q : LogView). place < length q.tail.log) (sym parts.log.0) inside);
@@ -28,9 +28,9 @@ returns-clause-settled g c =
 pub invariant_of-result-clause-places_of_journal : goal.invariant_of-result-clause-places_of_journal
 invariant_of-result-clause-places_of_journal g c =
     let parts = c.into_parts-journal.ensures in
-    c.counts-places.ensures.places ∙ places_left c.args.self (journal_of c.into_parts-journal.result.0) (c.args.self.gone - c.args.self.journal.before) parts.faithful parts.journal
+    c.counts-places.ensures.places ∙ places_left c.args.self (journal_of c.into_parts-journal.result.journal) (c.args.self.gone - c.args.self.journal.before) parts.faithful parts.journal
 
 pub invariant_of-result-clause-posts_of_journal : goal.invariant_of-result-clause-posts_of_journal
 invariant_of-result-clause-posts_of_journal g c =
     let parts = c.into_parts-journal.ensures in
-    c.counts-places.ensures.posts ∙ sym (trimmed_posts c.args.self.journal (journal_of c.into_parts-journal.result.0) (c.args.self.gone - c.args.self.journal.before) parts.journal)
+    c.counts-places.ensures.posts ∙ sym (trimmed_posts c.args.self.journal (journal_of c.into_parts-journal.result.journal) (c.args.self.gone - c.args.self.journal.before) parts.journal)

@@ -9,19 +9,11 @@ use Rattle.am_provider.proofs.book.Book.post_if.Goals as goal
 pub returns-in-Ok-clause-posted : goal.returns-in-Ok-clause-posted
 returns-in-Ok-clause-posted g c =
     let kept = c.in_ok-accepted.accepted in
-    let judged = c.in_ok-accepted.ensures.judged in
-    let posted = c.in-Ok.ensures in (
+    let judged = c.in_ok-accepted.ensures.judged in (
       kept,
       judged,
       c.in_ok-accepted.ensures.faults,
-      subst (λ (b : BookView). Puts b c.post.new.self c.args.pass.now c.post.new.pass c.args.now kept c.in-Ok.posted) c.judge.ensures.same (record {
-        journal = posted.journal;
-        valid = posted.valid;
-        faults = posted.faults;
-        place = posted.place;
-        own = posted.own;
-        cut = posted.cut;
-      }),
+      subst (λ (b : BookView). Puts b c.post.new.self c.args.pass.now c.post.new.pass c.args.now kept c.in-Ok.posted) c.judge.ensures.same c.in-Ok.ensures.posted,
     )
 
 pub returns-in-Err-clause-refused : goal.returns-in-Err-clause-refused

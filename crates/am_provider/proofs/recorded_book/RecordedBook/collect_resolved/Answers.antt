@@ -15,8 +15,8 @@ invariant_of-self-2 g c =
     let log = c.in-Ok.ensures.log in (
       subst (IsRecorded g.N.Recorded.policy g.N.Recorded.places new) (sym c.record.ensures.longer)
           (recorded_more old new c.self.inside.history (Collected c.args.now) 0 None c.self.invariant.0 c.kept.ensures c.kept-2.ensures c.in-Ok.ensures.journal
-          (prefix_same _ _ (ap (λ (q : LogView). q.tail.log) log)) c.in-Ok.ensures.limits
-          (cuts_same old new (Collected c.args.now) 0 (λ lane was. refl) (ap (λ (q : LogView). q.accounts) log)) (lags_same old new c.self.inside.history (Collected c.args.now) 0 None c.self.invariant.0 (λ lane was. refl) (ap (λ (q : LogView). q.accounts) log)) c.in-Ok.ensures.endings c.in-Ok.ensures.gone),
+          (prefix_same _ _ (ap (λ (q : LogView). q.tail.log) log)) c.in-Ok.ensures.rest.limits
+          (cuts_same old new (Collected c.args.now) 0 (λ lane was. refl) (ap (λ (q : LogView). q.accounts) log)) (lags_same old new c.self.inside.history (Collected c.args.now) 0 None c.self.invariant.0 (λ lane was. refl) (ap (λ (q : LogView). q.accounts) log)) c.in-Ok.ensures.rest.endings c.in-Ok.ensures.rest.gone),
       c.self.invariant.1,
     )
 

@@ -15,13 +15,13 @@ invariant_of-self-2 g c =
     let old = c.self.inside.book in
     let new = c.post.new.self in
     let entries = c.self.inside.history in
-    let posted = c.in-Ok.ensures in
+    let posted = c.in-Ok.ensures.posted in
     let call = Posted c.args.now c.args.post.valid in
     let bits = c.in-Ok.posted.cut in
     let last : c.last_call.result.now ≡ call = last_is old.journal new.journal call c.last_call.result.now posted.journal c.last_call.ensures in (
       subst (IsRecorded g.N.Recorded.policy g.N.Recorded.places new) (sym (c.record.ensures.longer ∙ ap (λ one. entries ++ Accepted one bits None ∷ []) last))
           (recorded_more old new entries call bits None c.self.invariant.0 c.kept.ensures c.kept-2.ensures posted.journal
-          posted.log posted.limits (cuts_posted old new c.args.now c.args.post.valid bits posted.cut) (lags_posted old new entries c.args.now c.args.post.valid bits c.self.invariant.0 c.kept.ensures posted.cut) posted.endings posted.gone),
+          c.in-Ok.ensures.log c.in-Ok.ensures.rest.limits (cuts_posted old new c.args.now c.args.post.valid bits posted.cut) (lags_posted old new entries c.args.now c.args.post.valid bits c.self.invariant.0 c.kept.ensures posted.cut) c.in-Ok.ensures.rest.endings c.in-Ok.ensures.rest.gone),
       c.self.invariant.1,
     )
 
@@ -30,7 +30,7 @@ returns-clause-sees g c =
     let old = c.self.inside.book in
     let new = c.post.new.self in
     let entries = c.self.inside.history in
-    let posted = c.in-Ok.ensures in
+    let posted = c.in-Ok.ensures.posted in
     let call = Posted c.args.now c.args.post.valid in
     let bits = c.in-Ok.posted.cut in
     let last : c.last_call.result.now ≡ call = last_is old.journal new.journal call c.last_call.result.now posted.journal c.last_call.ensures in

@@ -18,8 +18,8 @@ invariant_of-self-2 g c =
     let lives = made.lane in (
       subst (IsRecorded g.N.Recorded.policy g.N.Recorded.places new) (sym (c.record.ensures.longer ∙ ap (λ lane. entries ++ Accepted (Subscribed lane) 0 None ∷ []) c.lane.ensures))
           (recorded_more old new entries (Subscribed number) 0 None c.self.invariant.0 c.kept.ensures c.kept-2.ensures made.journal
-          (prefix_same _ _ (ap (λ (t : Tail Batch). t.log) made.log)) made.limits
-          (cuts_one old new (Subscribed number) 0 number (λ lane was. refl) (λ stands. omega (arith, lives, stands)) made.others) (lags_one old new entries (Subscribed number) 0 None number c.self.invariant.0 (λ lane was. refl) made.others) made.endings made.gone),
+          (prefix_same _ _ (ap (λ (t : Tail Batch). t.log) made.log)) made.rest.limits
+          (cuts_one old new (Subscribed number) 0 number (λ lane was. refl) (λ stands. omega (arith, lives, stands)) made.others) (lags_one old new entries (Subscribed number) 0 None number c.self.invariant.0 (λ lane was. refl) made.others) made.rest.endings made.rest.gone),
       c.self.invariant.1,
     )
 

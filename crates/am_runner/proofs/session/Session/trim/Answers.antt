@@ -3,8 +3,9 @@ use Rattle.am_alert.specs.declared.alert.Alert.{Alert}
 use Rattle.am_store.specs.declared.call.Call.{Call}
 use Rattle.am_cast.specs.Posters.{PassView}
 use Rattle.am_runner.specs.Sessions.{SessionView, Does, trimmed, trim_refused}
-use Rattle.am_runner.specs.declared.answer.Answer.TheVariants.{Trimmed, TrimRefused}
+use Rattle.am_runner.specs.declared.answer.Answer.TheVariants.{Trimmed, OutOfMemory}
 use Rattle.am_script.specs.declared.command.Command.TheVariants.{Trim}
+use Rattle.am_script.specs.declared.command.Verb.TheVariants as verb
 use Rattle.am_runner.proofs.session.Session.trim.Goals as goal
 
 pub returns : goal.returns
@@ -17,6 +18,6 @@ returns g c config setting =
 pub returns-in-Err : goal.returns-in-Err
 returns-in-Err g c config setting =
     let command = Trim in
-    subst (λ (old : SessionView). Does config setting old command (TrimRefused ∷ []) (record { pass = c.trim.new.caller.pass; front = c.trim.new.caller.front; opened = c.self.inside.opened.items })) c.self.view_is
-    (subst (λ (pass : PassView Alert Call). Does config setting (record { pass = c.self.inside.caller.pass; front = c.self.inside.caller.front; opened = c.self.inside.opened.items }) command (TrimRefused ∷ []) (record { pass = pass; front = c.trim.new.caller.front; opened = c.self.inside.opened.items })) (sym c.in-Err.ensures.pass)
+    subst (λ (old : SessionView). Does config setting old command (OutOfMemory verb.Trim ∷ []) (record { pass = c.trim.new.caller.pass; front = c.trim.new.caller.front; opened = c.self.inside.opened.items })) c.self.view_is
+    (subst (λ (pass : PassView Alert Call). Does config setting (record { pass = c.self.inside.caller.pass; front = c.self.inside.caller.front; opened = c.self.inside.opened.items }) command (OutOfMemory verb.Trim ∷ []) (record { pass = pass; front = c.trim.new.caller.front; opened = c.self.inside.opened.items })) (sym c.in-Err.ensures.pass)
     (trim_refused c.in-Err.ensures.sees))

@@ -13,9 +13,9 @@
 //! 10,000 alerts took 1.7 times what one takes that was just begun.
 
 ghost use Rattle.std.specs.Prelude.{◌≡◌, ◌+◌, ◌/◌, ◌<◌, ◌↔◌, IsTrue, min, unwrap_or};
-ghost use Rattle.am_runner.specs.inside.Paces.{growth_by, growth_of};
+ghost use Rattle.am_serve.specs.inside.Paces.{growth_by, growth_of};
 
-use crate::answer::Answer;
+use am_runner::Answer;
 
 // What makes no compaction due, however little is stored.
 const LITTLE: u64 = 1_024;

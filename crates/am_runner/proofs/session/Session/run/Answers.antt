@@ -8,7 +8,7 @@ use Rattle.am_runner.specs.Sessions.{Does, routes, route, setting_of}
 use Rattle.am_runner.specs.Unanswered.{not_done}
 use Rattle.am_runner.proofs.LostAnswers.{asked, kept, renamed}
 use Rattle.am_runner.proofs.Results.{if_ok_map, on_err, on_err_map}
-use Rattle.am_runner.proofs.session.Session.perform.Goals as goal
+use Rattle.am_runner.proofs.session.Session.run.Goals as goal
 
 pub returns-in-Routes-clause-does : goal.returns-in-Routes-clause-does
 returns-in-Routes-clause-does g c =
@@ -25,12 +25,6 @@ returns-in-Route-clause-does g c =
 
 pub returns-in_err-make-in-Subscribe-clause-unanswered : goal.returns-in_err-make-in-Subscribe-clause-unanswered
 returns-in_err-make-in-Subscribe-clause-unanswered g c = on_err c.from_residual.result (λ safe. not_done)
-
-pub returns-in_err-make-in-Leave-clause-unanswered : goal.returns-in_err-make-in-Leave-clause-unanswered
-returns-in_err-make-in-Leave-clause-unanswered g c = on_err c.from_residual-in_err-make-in-Leave.result (λ safe. not_done)
-
-pub returns-in_err-make-in-Collect-clause-unanswered : goal.returns-in_err-make-in-Collect-clause-unanswered
-returns-in_err-make-in-Collect-clause-unanswered g c = on_err c.from_residual-in_err-make-in-Collect.result (λ safe. not_done)
 
 pub returns-in_err-make-in-Close-clause-unanswered : goal.returns-in_err-make-in-Close-clause-unanswered
 returns-in_err-make-in-Close-clause-unanswered g c = on_err c.from_residual-in_err-make-in-Close.result (λ safe. not_done)
@@ -78,3 +72,9 @@ returns-in-Route-clause-unanswered g c = on_err c.ask_tree.result (λ safe. not_
 pub returns-in-Mutes-clause-unanswered : goal.returns-in-Mutes-clause-unanswered
 returns-in-Mutes-clause-unanswered g c =
     on_err_map c.mutes.result c.mutes.ensures.unanswered (λ done safe. renamed _ _ _ _ _ (Mutes c.in-Mutes.name c.in-Mutes.at c.in-Mutes.labels) c.in-Mutes.is (done _ _))
+
+pub returns-in-Leave-clause-unanswered : goal.returns-in-Leave-clause-unanswered
+returns-in-Leave-clause-unanswered g c = on_err_map c.leave.result c.leave.ensures.err (λ is safe. kept _ _ _ _ _ is)
+
+pub returns-in-Collect-clause-unanswered : goal.returns-in-Collect-clause-unanswered
+returns-in-Collect-clause-unanswered g c = on_err_map c.collect.result c.collect.ensures.err (λ is safe. kept _ _ _ _ _ is)

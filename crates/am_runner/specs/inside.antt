@@ -1,2 +1,0 @@
--- Definitions that only code of this crate cites.
-pub mod Paces
