@@ -32,7 +32,7 @@ is_some_of (Some x) P h = refl
 pub all_some : {S O : Type 0} (Done : ℕ → FrontView EntryView → O → Type 0) (front : S → FrontView EntryView) (outcome : S → Option O) (seats : List S) → AreOutcomes (λ i f o. IsSomeAnd o (Done i f)) (map front seats) (map outcome seats) → All (λ seat. IsSome (outcome seat)) seats
 all_some Done front outcome seats are = λ k d h. subst IsSome (get_or-map outcome seats k d (outcome d) h) (is_some_of _ (Done k (get_or (map front seats) k (front d))) (are.each k (front d) (outcome d) (subst (λ n. k < n) (sym (length-map seats front)) h)))
 
-fronts_of : {S C F : Type 0} (caller : S → C) (front : C → F) (seats : List S) → map (λ seat. front (caller seat)) seats ≡ map front (map caller seats)
+pub fronts_of : {S C F : Type 0} (caller : S → C) (front : C → F) (seats : List S) → map (λ seat. front (caller seat)) seats ≡ map front (map caller seats)
 fronts_of caller front [] = refl
 fronts_of caller front (x ∷ xs) = ap (λ l. front (caller x) ∷ l) (fronts_of caller front xs)
 
@@ -65,6 +65,10 @@ outcomes_step outcome old x new seat rest iter all items is step known = map_las
 
 pub callers_step : {S C : Type 0} (caller : S → C) (old new : List C) (seat : S) (rest iter : List S) (all : List C) → new ≡ old ++ caller seat ∷ [] → iter ≡ seat ∷ rest → old ++ map caller iter ≡ all → new ++ map caller rest ≡ all
 callers_step caller old new seat rest iter all items step known = list_last old (caller seat) new (map caller rest) items ∙ (ap (λ l. old ++ map caller l) (sym step) ∙ known)
+
+-- a seat is made of the next caller
+pub made_step : {S X : Type 0} (f : S → X) (old : List S) (seat : S) (new : List S) (x : X) (rest iter all : List X) → new ≡ old ++ seat ∷ [] → f seat ≡ x → iter ≡ x ∷ rest → map f old ++ iter ≡ all → map f new ++ rest ≡ all
+made_step f old seat new x rest iter all items is step known = map_last f old seat new rest items ∙ (ap (λ y. map f old ++ y ∷ rest) is ∙ (ap (λ l. map f old ++ l) (sym step) ∙ known))
 
 -- no seat is left
 pub ended : {S X : Type 0} (f : S → X) (done : List X) (iter : List S) (all : List X) → iter ≡ [] → done ++ map f iter ≡ all → done ≡ all

@@ -1,2 +1,4 @@
+pub mod Clients
+pub mod Owed
 pub mod Runs
 pub mod Waits

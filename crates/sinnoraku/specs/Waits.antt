@@ -3,7 +3,7 @@ use Rattle.std.specs.Prelude.{◌≡◌, ◌-◌, ◌<◌, ◌⊎◌, ℕ, Optio
 use Rattle.am_alert.specs.declared.alert.Alert.{Alert}
 use Rattle.am_provider.specs.Showings.{ShowsItem, StaysShown, Shows}
 use Rattle.am_provider.specs.declared.answers.Step.TheVariants as step
-use Rattle.am_provider.specs.Subscriptions.{SubscriptionView}
+use Rattle.am_provider.specs.Subscriptions.{SubscriptionView, taken}
 use Rattle.sinnoraku.specs.declared.next.Next.{Next}
 use Rattle.sinnoraku.specs.declared.next.Next.TheVariants as next
 
@@ -24,7 +24,7 @@ AnswersNext old (Ok shown) new = ShowsNext old shown new
 AnswersNext old (Err fault) new = (alert : Alert) × ShowsNext old (next.Alert alert) new
 
 -- what an iterator gives that may still be asked this many times, and then once less: an alert, or a lack of
--- memory, and nothing only if no more will come
+-- memory. It gives nothing only if no more will come or it may not be asked, and then it has shown nothing
 abbrev pub GivesNext : {E : Type 0} → ℕ → SubscriptionView → Option (Result Alert E) → ℕ → SubscriptionView
     → Type 0
 GivesNext left old (Some (Ok alert)) rest new =
@@ -32,4 +32,5 @@ GivesNext left old (Some (Ok alert)) rest new =
 GivesNext left old (Some (Err fault)) rest new =
     (rest ≡ left - 1) × ((alert : Alert) × ShowsNext old (next.Alert alert) new)
 GivesNext left old None rest new =
-    (rest ≡ left - 1) × (0 < left → ShowsNext old next.Closed new ⊎ ShowsNext old next.Cut new)
+    (rest ≡ left - 1) × (taken new ≡ taken old)
+    × (0 < left → ShowsNext old next.Closed new ⊎ ShowsNext old next.Cut new)

@@ -20,6 +20,7 @@ pub struct Iter<'r, 'p, N: Recorded, R: Wait> {
 
 impl<'r, 'p, N: Recorded, R: Wait> Iter<'r, 'p, N, R> {
     pub(crate) fn new(rt: &'r R, reader: &'r mut Reader<'p, N>) -> Iter<'r, 'p, N, R>
+        ensures same_reader { result.reader.ghost_name ≡ reader.entry.ghost_name }
         ensures reader { result.reader.now ≡ reader.old }
         ensures left { result.left ≡ u64.MAX }
     {
@@ -32,7 +33,9 @@ impl<'r, 'p, N: Recorded, R: Wait> Iter<'r, 'p, N, R> {
 }
 
 impl<'r, 'p, N: Recorded, R: Wait> Drop for Iter<'r, 'p, N, R> {
-    fn drop(self) {
+    fn drop(self)
+        ensures { self.exit.1.0.now ≡ self.entry.reader.now }
+    {
         let Iter {
             rt: _,
             reader: _,
@@ -47,7 +50,8 @@ impl<'r, 'p, N: Recorded, R: Wait> Iterator for Iter<'r, 'p, N, R> {
     type Item = Result<Alert, AllocError>;
 
     ghost next_gives = { λ s given t.
-        GivesNext s.left s.reader.now.subscription given t.left t.reader.now.subscription };
+        GivesNext s.left s.reader.now.subscription given t.left t.reader.now.subscription
+        × (t.reader.ghost_name ≡ s.reader.ghost_name) × (t.reader.now.provider ≡ s.reader.now.provider) };
 
     ghost remaining = { λ s. at_most s.left };
 

@@ -1,9 +1,20 @@
 //! An alert provider begun and settled by one call, with a program of yours between.
 //!
-//! A [`Program`] is handed the provider and its callers. [`run`] begins a provider with these [`Limits`], runs the
-//! program, and settles. [`run_workers`] does so with a [`Worker`], which works with each caller in a thread of its own.
-//! Which provider a caller belongs to is part of its type, so that a caller or a subscription of another one doesn't
-//! compile. A [`Reader`] is a subscription with the provider that it reads from: it can wait.
+//! [`run`] begins a provider with these [`Limits`], runs a [`Program`] with its clients in this thread, and settles.
+//! [`run_workers`] does so with a [`Worker`], which works with each client in a thread of its own. A [`Client`] is a
+//! caller with its provider: it posts, subscribes and asks. A [`Reader`] is a subscription with its provider: it can wait.
+//! Which provider these belong to is part of their type, so that those of another one don't compile.
+//!
+//! <!-- from crates/uses/src/one_thread.rt -->
+//! ```rust
+//! fn run<N: Recorded>(self, rt: &R, clients: &mut [Client<'_, N>]) -> Result<()> {
+//!     let client = &mut clients[0];
+//!     let mut reader = client.subscribe(rt)?;
+//!     let done = post_and_print(rt, client, &mut reader);
+//!     client.leave(rt, reader);
+//!     done
+//! }
+//! ```
 //!
 //! A slow reader gets everything in its own time, as long as it lags by fewer batches than there are places.
 //! With as many the next post is refused ([`Policy::Refuse`]), or the reader is cut off ([`Policy::Cut`]).
@@ -12,6 +23,8 @@
 //! This crate adds no promise to those of am_provider, whose words its contracts cite.
 #![tactic(auto)]
 
+mod client;
+mod clients;
 mod iter;
 mod limits;
 mod next;
@@ -20,14 +33,16 @@ mod reader;
 mod seat;
 mod worker;
 
-pub use am_alert::{Alert, Moment, Post, PostFault, read_post};
+pub use am_alert::{Alert, AlertParts, Moment, Post, PostFault, read_post};
+pub use am_labels::{LabelSet, Text};
 pub use am_provider::{
     AlreadyClosed, Caller, Ended, Page, Policy, PostRefused, Posted, PostedIf, Provider, PutFault,
     Recorded, Settled, SubFault, Subscription,
 };
 pub use am_store::{SharedAlert, StoredAlerts};
+pub use client::Client;
 pub use iter::Iter;
-pub use limits::Limits;
+pub use limits::{Limits, USUAL_PLACES};
 pub use next::Next;
 pub use program::{Program, run};
 pub use reader::Reader;

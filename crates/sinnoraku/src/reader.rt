@@ -41,6 +41,7 @@ impl<'p, N: Recorded> Reader<'p, N> {
     /// Goes over the alerts, one after another, and sleeps while there is none. It ends when no more will come; `leave`
     /// says why.
     pub fn iter<'r, R: Wait>(&'r mut self, rt: &'r R) -> Iter<'r, 'p, N, R>
+        ensures same_reader { result.reader.ghost_name ≡ self.entry.ghost_name }
         ensures reader { result.reader.now ≡ self.old }
         ensures left { result.left ≡ u64.MAX }
     {

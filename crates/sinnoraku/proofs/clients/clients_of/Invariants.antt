@@ -1,0 +1,12 @@
+use Rattle.std.proofs.Common.{◌≡◌, ◌+◌, ◌≤◌, ◌++◌, length, map, vec_len, vec_capacity}
+use Rattle.std.specs.List.{All}
+use Rattle.std.specs.Vec.Iter.{into_iter_items, into_iter_len}
+use Rattle.sinnoraku.proofs.clients.clients_of.Given as goal
+
+abbrev pub invariant-loop-caller : goal.invariant-loop-caller
+invariant-loop-caller g l = record {
+  done : map (λ client. client.caller) l.clients.items ++ into_iter_items l.caller-iterator ≡ l.fn.callers.items;
+  limits : All (λ client. client.limits ≡ l.limits) l.clients.items;
+  room : vec_len l.clients + length (into_iter_items l.caller-iterator) ≤ vec_capacity l.clients;
+  left : into_iter_len l.caller-iterator ≡ length (into_iter_items l.caller-iterator);
+}
