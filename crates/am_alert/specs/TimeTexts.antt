@@ -1,6 +1,6 @@
 -- The instant of a time text, by jiff's Temporal reader.
 use Rattle.std.specs.Prelude.{◌≡◌, ℕ, ℤ, pos, negsuc, ◌+ℤ◌, List, [], ◌∷◌, if◌then◌else◌, nat_eq}
-use Rattle.std.specs.Prelude.{Option, Some, None, Result, Ok, Err}
+use Rattle.std.specs.Prelude.{Option, Some, None, Result, Ok, Err, option_map}
 use Rattle.jiff.specs.Words.{Error, parse_timestamp}
 use Rattle.am_alert.specs.declared.time_text.TimeFault.{TimeFault}
 use Rattle.am_alert.specs.declared.time_text.TimeFault.TheVariants.{BadTime, NoMemory}
@@ -9,20 +9,30 @@ use Rattle.am_alert.specs.declared.time_text.TimeFault.TheVariants.{BadTime, NoM
 abbrev pub year_1970 : ℕ
 year_1970 = 62_135_596_800_000_000_000
 
--- 0001-01-01T00:00:00Z, Go's zero time, counts as absent, and an earlier instant isn't readable
-abbrev pub from_year_one : ℤ → Option (Option ℕ)
-from_year_one (pos n) = Some (if nat_eq n 0 then None else Some n)
+-- an instant isn't before the year 1
+abbrev pub from_year_one : ℤ → Option ℕ
+from_year_one (pos n) = Some n
 from_year_one (negsuc n) = None
 
 -- the instant of what jiff read, if it read one
-abbrev pub instant_of : Result ℤ Error → Option (Option ℕ)
+abbrev pub instant_of : Result ℤ Error → Option ℕ
 instant_of (Ok nanosecond) = from_year_one (nanosecond +ℤ pos year_1970)
 instant_of (Err e) = None
+
+-- what reading an instant's text answers
+abbrev pub ReadsMoment : List ℕ → Result ℕ TimeFault → Type 0
+ReadsMoment text (Ok moment) = instant_of (parse_timestamp text) ≡ Some moment
+ReadsMoment text (Err BadTime) = instant_of (parse_timestamp text) ≡ None
+ReadsMoment text (Err NoMemory) = ⊥
+
+-- 0001-01-01T00:00:00Z, Go's zero time, counts as absent
+abbrev pub unless_zero : ℕ → Option ℕ
+unless_zero n = if nat_eq n 0 then None else Some n
 
 -- what a time text gives, if it is readable: an instant, or that the time is absent
 abbrev pub time_of : List ℕ → Option (Option ℕ)
 time_of [] = Some None
-time_of (c ∷ cs) = instant_of (parse_timestamp (c ∷ cs))
+time_of (c ∷ cs) = option_map unless_zero (instant_of (parse_timestamp (c ∷ cs)))
 
 -- what reading a time text answers
 abbrev pub ReadsTime : List ℕ → Result (Option ℕ) TimeFault → Type 0

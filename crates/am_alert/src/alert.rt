@@ -9,7 +9,7 @@ use std::alloc::AllocError;
 use std::fmt;
 
 /// What was reported of one label set.
-#[derive(Debug, Drop, PartialEq)]
+#[derive(Debug, Drop, PartialEq, Eq)]
 pub struct Alert {
     /// They identify the alert.
     pub labels: LabelSet,
@@ -34,19 +34,28 @@ impl Alert {
         self.end <= now
     }
 
-    /// The same alert once more, which shares its texts. It takes no memory, and fails only if
-    /// there are 2^63 copies already.
+    /// Its clone.
     pub fn copy(&self) -> Result<Alert, AllocError>
         ensures { IfOk result (λ copy. copy ≡ self.now) }
     {
+        self.clone()
+    }
+}
+
+impl Clone for Alert {
+    ghost is_clone = { λ alert clone. clone ≡ alert };
+
+    /// The same alert once more, which shares its texts. It takes no memory, and fails only if
+    /// there are 2^63 clones already.
+    fn clone(&self) -> Result<Alert, AllocError> {
         Ok(Alert {
-            labels: self.labels.copy()?,
-            annotations: self.annotations.copy()?,
+            labels: self.labels.clone()?,
+            annotations: self.annotations.clone()?,
             start: self.start,
             end: self.end,
             updated: self.updated,
             timeout: self.timeout,
-            generator: self.generator.copy()?,
+            generator: self.generator.clone()?,
         })
     }
 }

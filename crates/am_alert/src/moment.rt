@@ -5,22 +5,24 @@ ghost use Rattle.std.specs.Duration.{as_nanos};
 ghost use Rattle.am_alert.specs.Moments.{moments, later};
 ghost use Rattle.am_alert.specs.Calendar.{parts_of};
 ghost use Rattle.am_alert.specs.Printing.{moment_text};
-ghost use Rattle.am_alert.specs.TimeTexts.{year_1970};
+ghost use Rattle.am_alert.specs.TimeTexts.{ReadsMoment, year_1970};
 
 use crate::civil_time::CivilTime;
 use crate::moment_text::MomentText;
+use crate::time_text::TimeFault;
 use jiff::Timestamp;
 use jiff::fmt::temporal::DateTimePrinter;
 use jiff::tz::Offset;
 use std::fmt;
 use std::marker::Model;
+use std::str::FromStr;
 use std::time::Duration;
 
 // How many instants there are.
 const MOMENTS: u128 = 315_537_804_001_000_000_000;
 
 // The nanoseconds from 0001-01-01T00:00:00Z to 1970-01-01T00:00:00Z.
-pub(crate) const YEAR_1970: i128 = 62_135_596_800_000_000_000;
+const YEAR_1970: i128 = 62_135_596_800_000_000_000;
 
 /// An instant, not before 0001-01-01T00:00:00Z and not after the last one that `jiff` has.
 /// Contracts see it as the nanoseconds since 0001-01-01T00:00:00Z.
@@ -66,6 +68,14 @@ impl Moment {
         } else {
             None
         }
+    }
+
+    /// The instant that many nanoseconds after 1970-01-01T00:00:00Z, as a system's clock counts, unless
+    /// it is after the last one.
+    pub fn from_unix_nanos(nanoseconds: u128) -> Option<Moment>
+        ensures { result ≡ later year_1970 nanoseconds }
+    {
+        Moment::try_new(nanoseconds.checked_add(YEAR_1970 as u128)?)
     }
 
     /// The instant that much later, if there is one.
@@ -119,6 +129,26 @@ impl Moment {
             second: shown.time.second,
             nanosecond: shown.time.subsec_nanosecond,
         }
+    }
+}
+
+/// Reads what RFC 3339 and jiff's Temporal reader take, with an offset or `Z`.
+impl FromStr for Moment {
+    type Err = TimeFault;
+
+    ghost from_str_gives = { ReadsMoment };
+
+    fn from_str(text: &str) -> Result<Moment, TimeFault> {
+        let Ok(timestamp) = text.parse::<Timestamp>() else {
+            return Err(TimeFault::BadTime);
+        };
+        let nanoseconds = timestamp.to_plain().nanosecond + YEAR_1970;
+        if nanoseconds < 0 {
+            return Err(TimeFault::BadTime);
+        }
+        Ok(Moment {
+            nanoseconds: nanoseconds as u128,
+        })
     }
 }
 

@@ -8,8 +8,8 @@ ghost use Rattle.am_alert.specs.declared.post.TheConstants.{MAX_ALERTS};
 
 use crate::alerts::Alerts;
 use std::alloc::{AllocError, AllocFailed};
-use std::fmt;
 use std::marker::Model;
+use std::{fmt, slice};
 use thiserror::Error;
 
 /// A post has at most this many bytes.
@@ -48,6 +48,24 @@ impl Faults {
         ensures { result.now ≡ self.now }
     {
         &self.faults
+    }
+}
+
+impl<'a> IntoIterator for &'a Faults {
+    type Item = &'a (u32, AlertFault);
+
+    type IntoIter = slice::Iter<'a, (u32, AlertFault)>;
+
+    ghost use Rattle.std.specs.Prelude.{◌≡◌, ℕ};
+    ghost use Rattle.std.specs.Iterator.Runs.{EveryRun, ItemsMapTo};
+    ghost use Rattle.std.specs.Slice.Iter.{iter_rest, iter_steps};
+    ghost use Rattle.am_alert.specs.declared.post.AlertFault.{AlertFault};
+
+    ghost into_iter_gives = { λ list iter. (iter_rest iter ≡ list.now)
+        × EveryRun (iter_steps {A = ℕ × AlertFault}) (λ run. ItemsMapTo run (λ x. x.now) (iter_rest run.from)) };
+
+    fn into_iter(self) -> slice::Iter<'a, (u32, AlertFault)> {
+        self.faults.iter()
     }
 }
 

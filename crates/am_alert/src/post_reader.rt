@@ -20,6 +20,7 @@ use am_labels::PairBuffer;
 use json::Scratch;
 use serde_json::Value;
 use std::alloc::{AllocError, Global};
+use std::fmt;
 use std::time::Duration;
 
 /// Reads posts one after another. The memory that reading one takes is kept for the next: 16 KiB, and as much as
@@ -138,4 +139,10 @@ fn read_elements(
         (elements_of now (as_nanos resolve_timeout) 0 (items_view elements.items)) }
 {
     Elements::read(alloc, elements)?.post(alloc, now, resolve_timeout)
+}
+
+impl fmt::Debug for PostReader {
+    fn fmt<W: fmt::Write>(&self, f: &mut fmt::Formatter<W>) -> fmt::Result {
+        f.debug_struct("PostReader").finish_non_exhaustive()
+    }
 }

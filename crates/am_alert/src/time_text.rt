@@ -4,8 +4,7 @@
 
 ghost use Rattle.am_alert.specs.TimeTexts.{ReadsTime};
 
-use crate::moment::{Moment, YEAR_1970};
-use jiff::Timestamp;
+use crate::moment::Moment;
 use thiserror::Error;
 
 /// Why a time text gives no instant.
@@ -27,15 +26,10 @@ pub fn read_time(text: &str) -> Result<Option<Moment>, TimeFault>
     if text.is_empty() {
         return Ok(None);
     }
-    let Ok(timestamp) = text.parse::<Timestamp>() else {
-        return Err(TimeFault::BadTime);
-    };
-    let nanoseconds = timestamp.to_plain().nanosecond + YEAR_1970;
-    if nanoseconds < 0 {
-        return Err(TimeFault::BadTime);
-    }
-    if nanoseconds == 0 {
-        return Ok(None);
-    }
-    Ok(Some(Moment::new(nanoseconds as u128)))
+    let moment: Moment = text.parse()?;
+    Ok(if moment.nanoseconds() == 0 {
+        None
+    } else {
+        Some(moment)
+    })
 }

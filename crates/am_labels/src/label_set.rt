@@ -144,11 +144,20 @@ impl LabelSet {
         self.pairs.as_pairs()
     }
 
-    /// The same label set once more, in O(1). It takes no memory, and fails only if there are 2^63
-    /// copies already.
+    /// Its clone.
     pub fn copy(&self) -> Result<LabelSet, AllocError>
         ensures { IfOk result (λ copy. copy ≡ self.now) }
     {
+        self.clone()
+    }
+}
+
+impl Clone for LabelSet {
+    ghost is_clone = { λ labels clone. clone ≡ labels };
+
+    /// The same label set once more, in O(1). It takes no memory, and fails only if there are 2^63
+    /// clones already.
+    fn clone(&self) -> Result<LabelSet, AllocError> {
         Ok(LabelSet {
             pairs: self.pairs.share()?,
         })

@@ -9,6 +9,7 @@ use crate::matcher::Matcher;
 use crate::prepared_matchers::PreparedMatchers;
 use std::alloc::{AllocError, Global};
 use std::marker::Model;
+use std::slice;
 
 /// Matchers in order, seen by contracts as their list.
 #[derive(Debug, Drop)]
@@ -61,5 +62,23 @@ impl Matchers {
             }
         }
         Ok(true)
+    }
+}
+
+impl<'a> IntoIterator for &'a Matchers {
+    type Item = &'a Matcher;
+
+    type IntoIter = slice::Iter<'a, Matcher>;
+
+    ghost use Rattle.std.specs.Prelude.{◌≡◌};
+    ghost use Rattle.std.specs.Iterator.Runs.{EveryRun, ItemsMapTo};
+    ghost use Rattle.std.specs.Slice.Iter.{iter_rest, iter_steps};
+    ghost use Rattle.am_labels.specs.Matchers.{MatcherView};
+
+    ghost into_iter_gives = { λ list iter. (iter_rest iter ≡ list.now)
+        × EveryRun (iter_steps {A = MatcherView}) (λ run. ItemsMapTo run (λ x. x.now) (iter_rest run.from)) };
+
+    fn into_iter(self) -> slice::Iter<'a, Matcher> {
+        self.matchers.iter()
     }
 }

@@ -5,6 +5,7 @@ ghost use Rattle.std.specs.Prelude.{◌≡◌};
 use crate::label_set::LabelSet;
 use crate::operator::Operator;
 use crate::search::Search;
+use std::fmt;
 use std::marker::Model;
 
 /// A matcher made ready to be asked many times: asking it takes no memory. Contracts see it as the
@@ -80,5 +81,14 @@ impl<'m> PreparedMatcher<'m> {
     {
         let found = labels.get(self.name);
         self.search.accepts(self.value, found)
+    }
+}
+
+impl fmt::Debug for PreparedMatcher<'_> {
+    fn fmt<W: fmt::Write>(&self, f: &mut fmt::Formatter<W>) -> fmt::Result {
+        f.debug_struct("PreparedMatcher")
+            .field("name", &self.name)
+            .field("value", &self.value)
+            .finish_non_exhaustive()
     }
 }

@@ -7,7 +7,7 @@ use crate::prepared_matcher::PreparedMatcher;
 use std::marker::Model;
 
 /// Prepared matchers in order, seen by contracts as their list.
-#[derive(Drop)]
+#[derive(Debug, Drop)]
 pub struct PreparedMatchers<'m> {
     pub matchers: Vec<PreparedMatcher<'m>>,
 }

@@ -49,11 +49,20 @@ impl SharedText {
         }
     }
 
-    /// The same text once more. It takes no memory, and fails only if there are 2^63 copies
-    /// already.
+    /// Its clone.
     pub fn copy(&self) -> Result<SharedText, AllocError>
         ensures { IfOk result (λ copy. copy ≡ self.now) }
     {
+        self.clone()
+    }
+}
+
+impl Clone for SharedText {
+    ghost is_clone = { λ text clone. clone ≡ text };
+
+    /// The same text once more. It takes no memory, and fails only if there are 2^63 clones
+    /// already.
+    fn clone(&self) -> Result<SharedText, AllocError> {
         let text = match &self.text {
             Some(shared) => Some(Arc::try_clone(shared)?),
             None => None,

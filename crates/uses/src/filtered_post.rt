@@ -6,8 +6,7 @@ use std::alloc::Global;
 use std::sync::Wait;
 use std::time::Duration;
 
-// 2024-01-01T00:00:00Z, in nanoseconds since the year 1.
-const NEW_YEAR: u128 = 63_839_664_000_000_000_000;
+const NEW_YEAR: &str = "2024-01-01T00:00:00Z";
 
 #[derive(Drop)]
 struct FilteredPost;
@@ -17,7 +16,7 @@ impl<R: Wait + Print + AllocGlobal> Program<R> for FilteredPost {
 
     fn run<N: Recorded>(self, rt: &R, clients: &mut [Client<'_, N>]) -> Result<()> {
         let client = &mut clients[0];
-        let now = Moment::new(NEW_YEAR);
+        let now: Moment = NEW_YEAR.parse()?;
         let mut parts = Vec::new(rt.alloc());
         for instance in ["db1", "db2", "db3"] {
             parts.push(disk_full(rt.alloc(), instance, now)?)?;

@@ -7,8 +7,8 @@ use std::sync::Wait;
 
 const BODY: &[u8] = b"[{\"labels\":{\"alertname\":\"DiskFull\"}}]";
 
-// 2024-01-01T00:00:00Z, in nanoseconds since the year 1. Every call says its moment.
-const NEW_YEAR: u128 = 63_839_664_000_000_000_000;
+// Every call says its moment.
+const NEW_YEAR: &str = "2024-01-01T00:00:00Z";
 
 #[derive(Drop)]
 struct OneThread;
@@ -31,7 +31,8 @@ fn post_and_print<N: Recorded, R: Wait + Print>(
     client: &mut Client<'_, N>,
     reader: &mut Reader<'_, N>,
 ) -> Result<()> {
-    client.post(rt, BODY, Moment::new(NEW_YEAR))?;
+    let now: Moment = NEW_YEAR.parse()?;
+    client.post(rt, BODY, now)?;
     client.close(rt)?;
     for alert in reader.iter(rt) {
         let alert = alert?;

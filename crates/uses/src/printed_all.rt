@@ -12,13 +12,13 @@ use std::thread::Threads;
 
 const BODY: &[u8] = b"[{\"labels\":{\"alertname\":\"DiskFull\"}}]";
 
-// 2024-01-01T00:00:00Z, in nanoseconds since the year 1.
-const NEW_YEAR: u128 = 63_839_664_000_000_000_000;
+const NEW_YEAR: &str = "2024-01-01T00:00:00Z";
 
 #[derive(Drop)]
 struct Relay {
     alloc: Global,
     ready: Barrier,
+    now: Moment,
 }
 
 impl<R: Wait> Worker<R> for Relay {
@@ -33,7 +33,7 @@ impl<R: Wait> Worker<R> for Relay {
             return Ok(Some(self.print(rt, client)?));
         }
         self.ready.wait(rt);
-        let posted = client.post(rt, BODY, Moment::new(NEW_YEAR));
+        let posted = client.post(rt, BODY, self.now);
         // Also after a refusal: the reader waits for the end.
         client.close(rt)?;
         posted?;
@@ -79,13 +79,12 @@ fn print_all<N: Recorded, R: Wait>(
 }
 
 pub fn start<R: Threads + Wait + Print + Sync>(rt: &R, alloc: Global) -> Result<()> {
-    let ready = Barrier::new(2);
-    let (outcomes, _settled) = run_workers(
-        rt,
+    let relay = Relay {
         alloc,
-        Limits::with_callers(2),
-        &Relay { alloc, ready },
-    )?;
+        ready: Barrier::new(2),
+        now: NEW_YEAR.parse()?,
+    };
+    let (outcomes, _settled) = run_workers(rt, alloc, Limits::with_callers(2), &relay)?;
     for outcome in outcomes {
         if let Some((text, _ended)) = outcome? {
             print!(rt; "{text}")?;

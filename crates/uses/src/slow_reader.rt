@@ -7,8 +7,7 @@ use std::sync::Wait;
 
 const BODY: &[u8] = b"[{\"labels\":{\"alertname\":\"DiskFull\"}}]";
 
-// 2024-01-01T00:00:00Z, in nanoseconds since the year 1.
-const NEW_YEAR: u128 = 63_839_664_000_000_000_000;
+const NEW_YEAR: &str = "2024-01-01T00:00:00Z";
 
 #[derive(Drop)]
 struct SlowReader;
@@ -31,8 +30,9 @@ fn post_twice<N: Recorded, R: Wait + Print>(
     client: &mut Client<'_, N>,
     reader: &mut Reader<'_, N>,
 ) -> Result<()> {
-    client.post(rt, BODY, Moment::new(NEW_YEAR))?;
-    match client.post(rt, BODY, Moment::new(NEW_YEAR)) {
+    let now: Moment = NEW_YEAR.parse()?;
+    client.post(rt, BODY, now)?;
+    match client.post(rt, BODY, now) {
         Ok(posted) => println!(rt; "posted, and the reader is cut: {}", posted.cut.contains(0))?,
         Err(refused) => println!(rt; "{refused}")?,
     }

@@ -22,8 +22,7 @@ const BODY: &[u8] =
     b"[{\"labels\":{\"alertname\":\"Down\",\"cluster\":\"a\",\"severity\":\"page\"}},\
 {\"labels\":{\"alertname\":\"Slow\",\"cluster\":\"a\",\"severity\":\"warn\",\"team\":\"db\"}}]";
 
-// 2024-01-01T00:00:00Z, in nanoseconds since the year 1.
-const NEW_YEAR: u128 = 63_839_664_000_000_000_000;
+const NEW_YEAR: &str = "2024-01-01T00:00:00Z";
 
 // The rule that mutes a label set, and the label set of the alert that fires.
 #[derive(Drop)]
@@ -56,7 +55,7 @@ fn judge(
     let muted_by = match inhibitor.mutes(labels, now)? {
         Some((rule, source)) => Some(MutedBy {
             rule,
-            source: source.copy()?,
+            source: source.clone()?,
         }),
         None => None,
     };
@@ -76,13 +75,13 @@ fn print_verdict<R: Print>(rt: &R, labels: &LabelSet, verdict: &Verdict) -> Resu
 
 pub fn start<R: Print>(rt: &R, alloc: Global) -> Result<()> {
     let config = Config::read(alloc, CONFIG)?;
-    let now = Moment::new(NEW_YEAR);
+    let now: Moment = NEW_YEAR.parse()?;
     let post = read_post(alloc, BODY, now, config.resolve_timeout)?;
     let mut inhibitor = Inhibitor::new(alloc, &config.rules)?;
-    for alert in post.valid.as_slice() {
+    for alert in &post.valid {
         inhibitor.take(alert)?;
     }
-    for alert in post.valid.as_slice() {
+    for alert in &post.valid {
         let verdict = judge(alloc, &config, &mut inhibitor, &alert.labels, now)?;
         print_verdict(rt, &alert.labels, &verdict)?;
     }
