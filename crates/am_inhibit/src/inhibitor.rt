@@ -20,6 +20,7 @@ use am_alert::{Alert, Moment};
 use am_config::InhibitRules;
 use am_labels::LabelSet;
 use std::alloc::{AllocError, Global};
+use std::fmt;
 use std::marker::Model;
 
 /// What mutes a target.
@@ -302,5 +303,11 @@ fn undo_all(indexes: &mut [SourceIndex<'_>], changes: Vec<SourceChange>)
     let mut left = changes;
     while let Some(change) = left.pop() {
         indexes[left.len()].undo(change);
+    }
+}
+
+impl fmt::Debug for Inhibitor<'_> {
+    fn fmt<W: fmt::Write>(&self, f: &mut fmt::Formatter<W>) -> fmt::Result {
+        f.debug_struct("Inhibitor").finish_non_exhaustive()
     }
 }

@@ -16,6 +16,7 @@ use crate::entry::Entry;
 use crate::feed::{Cast, Recorded};
 use crate::pass::{Joined, Pass};
 use am_history::{Front, History, HistoryTable};
+use std::fmt;
 
 /// One caller's right to call a provider: its right to post, and how much of the provider's history it
 /// has seen. A thread needs one of its own, and another thread may have it after that one.
@@ -87,4 +88,10 @@ pub(crate) fn gather<N: Recorded>(
         front.merge(table, other);
     }
     Some((passes, front))
+}
+
+impl<N: Recorded> fmt::Debug for Caller<N> {
+    fn fmt<W: fmt::Write>(&self, f: &mut fmt::Formatter<W>) -> fmt::Result {
+        f.debug_struct("Caller").finish_non_exhaustive()
+    }
 }

@@ -40,6 +40,7 @@ use am_history::{Front, HistoryTable, Opened, open};
 use am_labels::LabelSet;
 use am_store::{SharedAlert, StoredAlerts};
 use std::alloc::{AllocError, Global};
+use std::fmt;
 use std::sync::{Mutex, MutexGuard, Wait};
 use std::time::Duration;
 
@@ -387,5 +388,11 @@ impl<N: Recorded> Provider<N> {
             resolve_timeout: _,
         } = self;
         (cast, table, book.into_inner())
+    }
+}
+
+impl<N: Recorded> fmt::Debug for Provider<N> {
+    fn fmt<W: fmt::Write>(&self, f: &mut fmt::Formatter<W>) -> fmt::Result {
+        f.debug_struct("Provider").finish_non_exhaustive()
     }
 }

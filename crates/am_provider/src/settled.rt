@@ -8,6 +8,7 @@ ghost use Rattle.am_provider.specs.BookView.{places_of};
 use crate::answers::{Counts, Ended};
 use am_store::Journal;
 use am_store::store::AlertMap;
+use std::fmt;
 
 /// What is left of a provider once it is settled.
 #[derive(Drop)]
@@ -40,5 +41,15 @@ impl Settled {
             posts: self.posts,
             stored: self.store.len() as u64,
         }
+    }
+}
+
+impl fmt::Debug for Settled {
+    fn fmt<W: fmt::Write>(&self, f: &mut fmt::Formatter<W>) -> fmt::Result {
+        f.debug_struct("Settled")
+            .field("ended", &self.ended)
+            .field("early", &self.early)
+            .field("complete", &self.complete)
+            .finish_non_exhaustive()
     }
 }

@@ -20,6 +20,7 @@ use crate::feed::{Cast, Cursor, Origin, Writer};
 use crate::pass::Pass;
 use am_cast::Moved;
 use am_store::{Past, SharedAlert, StoredAlerts};
+use std::fmt;
 use std::marker::Model;
 
 /// One subscriber's place. It must be given back by `leave`. Contracts see it as what was stored when
@@ -373,5 +374,11 @@ fn note(moved: Moved, count: &mut u64, closed_told: &mut bool) -> Advance
             Advance::Closed
         }
         Moved::Cut => Advance::Cut,
+    }
+}
+
+impl<'a, N: Origin> fmt::Debug for Subscription<'a, N> {
+    fn fmt<W: fmt::Write>(&self, f: &mut fmt::Formatter<W>) -> fmt::Result {
+        f.debug_struct("Subscription").finish_non_exhaustive()
     }
 }

@@ -20,6 +20,7 @@ use am_config::RouteTree;
 use am_labels::LabelSet;
 use indexmap::IndexMap;
 use std::alloc::{AllocError, Global};
+use std::fmt;
 use std::marker::Model;
 
 /// What identifies a group.
@@ -269,4 +270,16 @@ fn remove_empty(groups: &mut GroupMap<'_>) -> u64
         { !group.is_empty() },
     );
     (before - groups.len()) as u64
+}
+
+impl fmt::Debug for Dispatcher<'_> {
+    fn fmt<W: fmt::Write>(&self, f: &mut fmt::Formatter<W>) -> fmt::Result {
+        f.debug_struct("Dispatcher").finish_non_exhaustive()
+    }
+}
+
+impl fmt::Debug for Noted {
+    fn fmt<W: fmt::Write>(&self, f: &mut fmt::Formatter<W>) -> fmt::Result {
+        f.debug_struct("Noted").finish_non_exhaustive()
+    }
 }

@@ -14,7 +14,7 @@ use am_labels::LabelSet;
 use indexmap::IndexMap;
 use std::alloc::{AllocError, Global};
 use std::marker::Model;
-use std::mem;
+use std::{fmt, mem};
 
 // Alerts by their label sets, in the order in which those began.
 type AlertsByLabels = IndexMap<LabelSet, Alert>;
@@ -200,4 +200,14 @@ fn remove_from(alerts: &mut AlertsByLabels, now: Moment) -> u64
         { !alert.resolved_at(now) },
     );
     (before - alerts.len()) as u64
+}
+
+impl fmt::Debug for Group<'_> {
+    fn fmt<W: fmt::Write>(&self, f: &mut fmt::Formatter<W>) -> fmt::Result {
+        f.debug_struct("Group")
+            .field("route", &self.route)
+            .field("receiver", &self.receiver)
+            .field("labels", &self.labels)
+            .finish_non_exhaustive()
+    }
 }

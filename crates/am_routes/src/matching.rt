@@ -18,7 +18,7 @@ use am_config::{Route, RouteTree};
 use am_labels::{LabelSet, Matchers, Operator, PreparedMatchers};
 use std::alloc::{AllocError, Global};
 use std::marker::Model;
-use std::mem;
+use std::{fmt, mem};
 
 /// A routing tree made ready to be asked many times: its matchers' searches are kept, so that
 /// asking compiles no pattern. Contracts see it as the tree's routes.
@@ -386,4 +386,10 @@ fn others_admit(
         return true;
     }
     others[at].admits(labels)
+}
+
+impl fmt::Debug for PreparedTree<'_> {
+    fn fmt<W: fmt::Write>(&self, f: &mut fmt::Formatter<W>) -> fmt::Result {
+        f.debug_struct("PreparedTree").finish_non_exhaustive()
+    }
 }

@@ -6,6 +6,7 @@ ghost use Rattle.am_store.specs.Shared.{alerts_in};
 use am_alert::Alert;
 use std::alloc::{AllocError, Global};
 use std::marker::Model;
+use std::slice;
 use std::sync::Arc;
 
 /// An alert with several owners.
@@ -56,5 +57,21 @@ impl StoredAlerts {
         ensures few { length self.now < 2 ^ 63 }
     {
         &self.alerts
+    }
+}
+
+impl<'a> IntoIterator for &'a StoredAlerts {
+    type Item = &'a SharedAlert;
+
+    type IntoIter = slice::Iter<'a, SharedAlert>;
+
+    ghost use Rattle.std.specs.Prelude.{◌≡◌};
+    ghost use Rattle.std.specs.Slice.Iter.{iter_rest};
+    ghost use Rattle.am_store.specs.Shared.{alerts_in};
+
+    ghost into_iter_gives = { λ list iter. alerts_in (iter_rest iter) ≡ list.now };
+
+    fn into_iter(self) -> slice::Iter<'a, SharedAlert> {
+        self.alerts.iter()
     }
 }

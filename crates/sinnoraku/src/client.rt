@@ -23,6 +23,7 @@ use am_provider::{
 };
 use am_store::{SharedAlert, StoredAlerts};
 use std::alloc::AllocError;
+use std::fmt;
 use std::sync::Wait;
 
 /// A caller, with the provider that it calls and that provider's limits. A thread needs one of its own.
@@ -230,5 +231,13 @@ impl<'p, N: Recorded> Client<'p, N> {
         ensures same { (self.new.provider ≡ self.old.provider) × (self.new.limits ≡ self.old.limits) }
     {
         self.provider.get(rt, &mut self.caller, labels)
+    }
+}
+
+impl<'p, N: Recorded> fmt::Debug for Client<'p, N> {
+    fn fmt<W: fmt::Write>(&self, f: &mut fmt::Formatter<W>) -> fmt::Result {
+        f.debug_struct("Client")
+            .field("limits", &self.limits)
+            .finish_non_exhaustive()
     }
 }

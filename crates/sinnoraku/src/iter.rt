@@ -8,6 +8,7 @@ use crate::reader::Reader;
 use am_alert::Alert;
 use am_provider::Recorded;
 use std::alloc::AllocError;
+use std::fmt;
 use std::sync::Wait;
 
 /// The alerts of a reader, one after another. Each is a copy, which shares its texts.
@@ -65,5 +66,11 @@ impl<'r, 'p, N: Recorded, R: Wait> Iterator for Iter<'r, 'p, N, R> {
             Ok(Next::Closed | Next::Cut) => None,
             Err(error) => Some(Err(error)),
         }
+    }
+}
+
+impl<'r, 'p, N: Recorded, R: Wait> fmt::Debug for Iter<'r, 'p, N, R> {
+    fn fmt<W: fmt::Write>(&self, f: &mut fmt::Formatter<W>) -> fmt::Result {
+        f.debug_struct("Iter").finish_non_exhaustive()
     }
 }

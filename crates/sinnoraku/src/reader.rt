@@ -7,6 +7,7 @@ use crate::iter::Iter;
 use crate::next::Next;
 use am_provider::{Provider, Recorded, Step, Subscription};
 use std::alloc::AllocError;
+use std::fmt;
 use std::sync::Wait;
 
 /// A subscription, with the provider that it reads from. Its subscription has to be given back by
@@ -46,5 +47,11 @@ impl<'p, N: Recorded> Reader<'p, N> {
         ensures left { result.left ≡ u64.MAX }
     {
         Iter::new(rt, self)
+    }
+}
+
+impl<'p, N: Recorded> fmt::Debug for Reader<'p, N> {
+    fn fmt<W: fmt::Write>(&self, f: &mut fmt::Formatter<W>) -> fmt::Result {
+        f.debug_struct("Reader").finish_non_exhaustive()
     }
 }
