@@ -25,14 +25,12 @@ ReadsMoment text (Ok moment) = instant_of (parse_timestamp text) ≡ Some moment
 ReadsMoment text (Err BadTime) = instant_of (parse_timestamp text) ≡ None
 ReadsMoment text (Err NoMemory) = ⊥
 
--- 0001-01-01T00:00:00Z, Go's zero time, counts as absent
-abbrev pub unless_zero : ℕ → Option ℕ
-unless_zero n = if nat_eq n 0 then None else Some n
-
--- what a time text gives, if it is readable: an instant, or that the time is absent
+-- what a time text gives, if it is readable: an instant, or that the time is absent, as 0001-01-01T00:00:00Z
+-- counts, Go's zero time
 abbrev pub time_of : List ℕ → Option (Option ℕ)
 time_of [] = Some None
-time_of (c ∷ cs) = option_map unless_zero (instant_of (parse_timestamp (c ∷ cs)))
+time_of (c ∷ cs) =
+    option_map (λ n. if nat_eq n 0 then None else Some n) (instant_of (parse_timestamp (c ∷ cs)))
 
 -- what reading a time text answers
 abbrev pub ReadsTime : List ℕ → Result (Option ℕ) TimeFault → Type 0

@@ -6,12 +6,10 @@
 //! came. Each moment is handed in: no clock is read. Who has read the JSON already makes a `Body` of
 //! its value, and who has none makes a post by `Post::from_parts`.
 //!
-//! ```text
-//! let post = read_post(alloc, body, now, Duration::from_secs(300))?;
-//! for alert in post.valid.as_slice() {
-//!     let holds = absorb(stored, alert, now)?;    // stored: an Option<&Alert> of its label set
-//!     println!(rt; "{holds}")?;                   // {a="1"} 2024-01-01T10:00:00Z .. given {}
-//! }
+//! <!-- from crates/uses/src/who_is_notified.rt -->
+//! ```rust
+//! let now: Moment = NEW_YEAR.parse()?;
+//! let post = read_post(alloc, BODY, now, config.resolve_timeout)?;
 //! ```
 //!
 //! This crate knows nothing of stores: it says what an alert is, not where it is kept.

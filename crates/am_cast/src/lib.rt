@@ -48,17 +48,15 @@
 //!
 //! A caller:
 //!
-//! ```text
-//! let parts = Parts::make(alloc, 256)?;                        // the table, and all its memory
-//! let Begun { cast, mut writer, mut passes } = begin::<Alert, Post, Note, Brand>(parts, 1)?;
-//! let mut cursor = writer.admit(&cast, note)?;                 // from the log's end on
-//! writer.publish(&cast, batch, post, &mut passes[0])?;         // Err gives the batch back
-//! match cursor.next() {                                        // no lock, no memory, no waiting
-//!     Step::Item(alert) => ..,                                 // lent until the next call
-//!     Step::Pending | Step::Closed | Step::Cut => ..,
-//! }                                                            // next_slice: the rest of a batch at once
-//! writer.retire(&cast, cursor);                                // a cursor must be given back
-//! end(cast, writer);                                           // all lanes idle: all is freed
+//! <!-- from crates/am_cast_tests/src/owned.rt -->
+//! ```rust
+//! // The number of the next item, or 100 if there is none.
+//! fn shown<N: Feed>(cursor: &mut Cursor<'_, Vec<u64>, u64, u64, N>) -> u64 {
+//!     match cursor.next() {
+//!         Step::Item(item) => *item.get(0).unwrap_or(&101),
+//!         _ => 100,
+//!     }
+//! }
 //! ```
 #![tactic(auto)]
 

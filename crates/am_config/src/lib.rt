@@ -5,15 +5,12 @@
 //! own matchers alone. Reading reports the first fault in a fixed order, with the path of the member
 //! at fault. Members that nothing here uses are ignored.
 //!
-//! ```text
-//! match Config::read(alloc, bytes) {                  // {"route":{"receiver":"ops", ..}}
-//!     Ok(config) => {
-//!         let root = &config.tree.root;
-//!         let group = root.group_by.labels_of(alloc, &alert.labels)?;
-//!         println!(rt; "{} {group}", root.receiver)?; // ops {job="api"}
-//!     }
-//!     Err(fault) => println!(rt; "{fault}")?,         // E17 Missing route.receiver
-//! }
+//! <!-- from crates/uses/src/who_is_notified.rt -->
+//! ```rust
+//! let config = Config::read(alloc, CONFIG)?;
+//! let now: Moment = NEW_YEAR.parse()?;
+//! let post = read_post(alloc, BODY, now, config.resolve_timeout)?;
+//! let mut inhibitor = Inhibitor::new(alloc, &config.rules)?;
 //! ```
 //!
 //! This crate decides nothing about alerts: which routes an alert matches is in am_routes, and which

@@ -6,13 +6,20 @@
 //! that have the same values as the source are muted. A label set that matches both sides of a rule
 //! is never muted by it because of an alert that does so too, so no alert mutes itself.
 //!
-//! ```text
+//! <!-- parts of crates/uses/src/who_is_notified.rt -->
+//! ```rust
 //! let mut inhibitor = Inhibitor::new(alloc, &config.rules)?;
-//! inhibitor.take(&alert)?;
-//! if let Some(muting) = inhibitor.mutes(&labels, now)? {
-//!     println!(rt; "rule {} by {}", muting.0, muting.1)?;     // rule 0 by {alertname="Down"}
+//! for alert in &post.valid {
+//!     inhibitor.take(alert)?;
 //! }
-//! let dropped = inhibitor.sweep(now);                 // resolved alerts are dropped
+//!
+//! let muted_by = match inhibitor.mutes(labels, now)? {
+//!     Some((rule, source)) => Some(MutedBy {
+//!         rule,
+//!         source: source.clone()?,
+//!     }),
+//!     None => None,
+//! };
 //! ```
 //!
 //! Without sweeps an inhibitor grows with the label sets that it takes, and an answer examines the

@@ -5,12 +5,16 @@
 //! `severity=~"page|crit"`; a missing label counts as empty. A caller who asks it often prepares
 //! it: it then keeps its pattern's search, and asking takes no memory.
 //!
-//! ```text
-//! let labels = LabelSet::from_pairs(alloc, pairs)?;   // a Vec<(String, String)>
-//! let matcher = Matcher::read(alloc, "severity=~\"page|crit\"")?;
-//! let mut prepared = matcher.prepare()?;
-//! if prepared.admits(&labels) {
-//!     println!(rt; "{labels}")?;                      // {alertname="DiskFull",severity="page"}
+//! <!-- from crates/am_parts_tests/src/matchers.rt -->
+//! ```rust
+//! // Whether a prepared matcher gives this answer, asked again and again.
+//! fn stays(matcher: &mut PreparedMatcher<'_>, labels: &LabelSet, answer: bool) -> bool {
+//!     for _ in 0..3 {
+//!         if matcher.admits(labels) != answer {
+//!             return false;
+//!         }
+//!     }
+//!     true
 //! }
 //! ```
 //!

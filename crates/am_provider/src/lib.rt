@@ -25,27 +25,21 @@
 //!
 //! # In one thread
 //!
-//!     let parts = Parts::make(alloc, 256, 2)?;                  // 256 places, 2 posters
-//!     let Begun { cast, mut book, mut passes } = Book::begin::<Brand>(alloc, parts, Policy::Refuse)?;
-//!     let mut subscription = book.subscribe(&cast)?;
-//!     book.post(&cast, &mut passes[0], post, now)?;
-//!     while let Step::Item(alert) = subscription.next() {       // no lock, no memory, no waiting
-//!         ..                                                    // next_slice: as many as lie together
-//!     }
-//!     let ended = book.leave(&cast, subscription);
+//! <!-- from crates/am_provider_tests/src/books.rt -->
+//! ```rust
+//! let mut subscription = book.subscribe(cast)?;
+//! let posted = post_three(alloc, book, cast, pass);
+//! let shown = matches!(subscription.next(), Step::Item(_));
+//! let open = !book.is_idle();
+//! let ended = book.leave(cast, subscription);
+//! ```
 //!
 //! # In many threads
 //!
 //! Each thread calls the provider with a `Caller` of its own. What a call answers is what one history of
 //! all calls gives at the call's place in it, whatever the threads do (`specs/Headline.antt`).
 //!
-//!     let parts = Parts::make(alloc, 256, 2)?;                  // 2 callers
-//!     let (provider, callers) = Provider::<Brand>::begin(alloc, parts, Policy::Refuse, timeout)?;
-//!     let mut subscription = provider.subscribe(rt, caller)?;   // in a thread that has this caller
-//!     subscription.wait_past(rt, &provider);                    // sleeps while there is nothing for it
-//!     provider.post(rt, caller, &NoGate, body, now)?;
-//!     let ended = provider.leave(rt, caller, subscription);
-//!     let settled = provider.settle(rt, callers);               // when all callers are back
+//! The crate `sinnoraku` begins a provider, hands its callers out and settles it; its CALLING.md has two threads that do so.
 //!
 //! One post, as its thread and a reader's see it:
 //!

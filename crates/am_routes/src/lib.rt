@@ -7,14 +7,13 @@
 //! sweep removes the resolved alerts, and then the empty groups. [`list_routes`] shows a tree as the
 //! list of its routes, and [`matched_routes`] says who is notified of a label set alone.
 //!
-//! ```text
-//! let config = Config::read(alloc, bytes)?;           // {"route":{"receiver":"ops", ..}}
-//! let mut dispatcher = Dispatcher::new(alloc, &config.tree)?;
-//! dispatcher.take(&alert)?;
-//! for group in dispatcher.groups() {
-//!     println!(rt; "{} {}", group.receiver(), group.labels())?;       // ops {job="api"}
+//! <!-- parts of crates/uses/src/who_is_notified.rt -->
+//! ```rust
+//! let routes = matched_routes(alloc, &config.tree, labels)?;
+//!
+//! for route in &verdict.routes {
+//!     println!(rt; "  {} {}", route.receiver.as_str(), route.labels)?;
 //! }
-//! let swept = dispatcher.sweep(now);                  // resolved alerts are removed
 //! ```
 //!
 //! This crate knows of no provider and sends nothing: it is given alerts and moments.

@@ -13,7 +13,11 @@
 //! one after another in the script's order (`InOrder`), or as the threads reach them (`Freely`). What comes
 //! back is what each line answered, and the passes, by which `Provider::settle` shows the journal.
 //!
-//!     let ran = run_threads(rt, alloc, &provider, passes, &config, &lines, &InOrder::new(alloc, &lines)?)?;
+//! <!-- from crates/am_replay/src/script_run.rt -->
+//! ```rust
+//! match run_threads(rt, alloc, &provider, callers, config, &lines, turns) {
+//!     Ok(outcomes) => Ok(end(rt, alloc, provider, lines, outcomes)?),
+//! ```
 #![tactic(auto)]
 
 mod answer;

@@ -10,12 +10,11 @@
 //! memory than a script may. A failed write has written a prefix of the text. An interrupted read or
 //! write is tried again, up to 1,000 times in a row.
 //!
-//! ```text
-//! let text = read_input(alloc, &mut input)?;          // all, or a prefix that exceeds a limit
-//! match read_script(alloc, text.as_slice()) {
-//!     Ok(lines) => run(lines),
-//!     Err(ScriptFault::Refused(refusal)) => write_text(&mut output, refusal_line(refusal))?,
-//!     Err(ScriptFault::NoMemory) => ..,
+//! <!-- from crates/am_script/src/tests.rt -->
+//! ```rust
+//! fn is_read_whole(alloc: Global, input: &[u8]) -> std::result::Result<bool, Failure> {
+//!     let text = read_input(alloc, &mut odd_reader(input))?;
+//!     Ok(text.as_slice() == input)
 //! }
 //! ```
 //!

@@ -19,23 +19,13 @@
 //! two words: the items' address, how many they are, and the block's places. Trusted are the toolchain
 //! and the library's allocator: each raw pointer is in `block.rt`, proved.
 //!
-//! A caller:
+//! Two keys without the memory of a list:
 //!
-//! ```text
-//! let mut builder = SegmentBuilder::with_places(alloc, 2)?;
-//! builder.push(alert);                             // Err(alert) where both places are filled
-//! let keys = builder.seal(subscribers)?;           // one for each, shared or sent
-//! keys[0].get(0);                                  // Some(&alert)
-//! reunite(keys);                                   // compiles where they are all of them
-//! ```
-//!
-//! The same without the memory of a list:
-//!
-//! ```text
-//! let (key, rest) = builder.hand_out(subscribers).next();      // and so on with the rest
-//! let mut home = JoinedKeys::new();
-//! home.add(key);                                   // and so with the others
-//! home.reunite();                                  // compiles where they are all of them
+//! <!-- from crates/am_segment/src/tests.rt -->
+//! ```rust
+//! let (first, rest) = builder.hand_out(2).next();
+//! let Some(rest) = rest else { unreachable!() };
+//! let (second, end) = rest.next();
 //! ```
 #![tactic(auto)]
 

@@ -7,12 +7,10 @@
 //! answer, unless something was done. Memory doesn't grow with the lines: the journal is compacted once
 //! more was posted than half of what is stored.
 //!
-//! ```text
-//! let (provider, mut callers) = Provider::<N>::begin(alloc, parts, policy, timeout)?;   // for one caller
-//! let config = PreparedConfig::new(&config);
-//! let mut context = Context { rt, alloc, provider: &provider, config, turns: &Freely };
-//! let mut run = LiveRun::begin(alloc, Session::begin(alloc, caller), false);
-//! serve(&mut context, &mut run, Form::Text, 1, &mut input, &mut output)?;
+//! <!-- from crates/am_replay/src/live.rt -->
+//! ```rust
+//! let mut run = LiveRun::begin(alloc, session, arguments.mode == Mode::Follow);
+//! let served = serve(&mut context, &mut run, arguments.form, 2, input, out);
 //! ```
 //!
 //! Who has lines of its own, and no reader, calls `answer_line` for each, and then `LiveRun::compact_if_due`.

@@ -20,12 +20,11 @@
 //! lane is harvested further or retired, or the writer cuts it. A cut lane passes the place in its hand, and
 //! then takes no more. Closing: a closed log neither grows nor admits; lanes read on to its end.
 //!
-//! ```text
-//! let mut state = State::new(alloc, 1, 1, 0)?;    // one place, one lane, no poster
-//! state.apply(Event::Admit(0))?;                  // true: lane 0 begins at place 0
-//! state.apply(Event::Publish(7))?;                // true: place 0 has the batch 7
-//! state.apply(Event::Publish(8))?;                // false: lane 0 lags by one batch
-//! state.freed(0);                                 // false: lane 0 needs it
+//! <!-- from crates/am_steps/src/tests.rt -->
+//! ```rust
+//! let mut state = State::new(alloc, 1, 2, 1)?;
+//! assert!(rt; state.apply(Event::Admit(1))?);
+//! assert!(rt; state.apply(Event::Open(1))?);
 //! ```
 #![tactic(auto)]
 

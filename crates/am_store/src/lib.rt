@@ -13,9 +13,12 @@
 //! A lane is a subscriber's slot, of which there are eight. An open one keeps when it was subscribed
 //! and what was stored then, so that the journal can be shortened up to the earliest of them.
 //!
-//!     let Absorbed { batch, undo } = absorb_each(&mut stored, posted.as_slice(), now)?;
-//!     ..                                                        // `batch` goes out, or else:
-//!     take_back(&mut stored, undo);
+//! <!-- parts of crates/am_provider/src/book/post.rt -->
+//! ```rust
+//! let Absorbed { batch, undo } = absorb_each(&mut self.stored, valid.as_slice(), now)?;
+//!
+//! take_back(&mut self.stored, undo);
+//! ```
 //!
 //! The store, what goes out and what late subscribers are shown have each alert in common: none of
 //! them copies one. The journal has the alerts as they were posted, with the same texts.
