@@ -1,5 +1,5 @@
-//! Tests of the log without a lock, of what no contract says: what whole runs show, in one thread and
-//! in several.
+//! Tests of the log without a lock and of its segments, of what no contract says:
+//! what whole runs show, in one thread and in several.
 #![tactic(auto)]
 
 #[cfg(test)]
@@ -10,5 +10,7 @@ mod log;
 mod longest;
 #[cfg(test)]
 mod owned;
+#[cfg(test)]
+mod segments;
 #[cfg(test)]
 mod threads;

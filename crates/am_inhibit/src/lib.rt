@@ -14,7 +14,7 @@
 //! }
 //!
 //! let muted_by = match inhibitor.mutes(labels, now)? {
-//!     Some((rule, source)) => Some(MutedBy {
+//!     Some((rule, source)) => Some(Mute {
 //!         rule,
 //!         source: source.clone()?,
 //!     }),

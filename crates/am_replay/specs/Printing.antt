@@ -8,7 +8,7 @@ use Rattle.std.specs.Fmt.{decimal}
 use Rattle.am_provider.specs.declared.answers.Counts.{Counts}
 use Rattle.am_runner.specs.Answers.{is_out_of_memory}
 use Rattle.json.specs.Json.{object, Members, no_members, member}
-use Rattle.am_script.specs.JsonLines.{object_line, whole, worded}
+use Rattle.am_script.specs.JsonLines.{object_line, decimal_json, worded}
 use Rattle.am_runner.specs.Forms.{answers_printed}
 use Rattle.am_runner.specs.declared.form.Form.{Form}
 use Rattle.am_runner.specs.declared.form.Form.TheVariants.{Text, Json}
@@ -41,9 +41,9 @@ counts_text counts =
 -- the same as members
 abbrev pub counts_members : Counts → Members
 counts_members counts = worded (codes "end")
-    (member (codes "places") (whole counts.places)
-    (member (codes "posts") (whole counts.posts)
-    (member (codes "stored") (whole counts.stored) no_members)))
+    (member (codes "places") (decimal_json counts.places)
+    (member (codes "posts") (decimal_json counts.posts)
+    (member (codes "stored") (decimal_json counts.stored) no_members)))
 
 -- the last line in a form
 abbrev pub counts_line : Form → Counts → List ℕ

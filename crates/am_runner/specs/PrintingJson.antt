@@ -12,7 +12,8 @@ use Rattle.am_routes.specs.declared.dispatcher.Swept.{Swept}
 use Rattle.am_routes.specs.declared.listed_route.ListedRoute.{ListedRoute}
 use Rattle.am_routes.specs.declared.matched_route.MatchedRoute.{MatchedRoute}
 use Rattle.am_provider.specs.FaultTexts.{post_refused_text, sub_fault_text}
-use Rattle.am_script.specs.JsonLines.{about_line, alert_members, labels_json, object_line, texts_json, whole}
+use Rattle.am_script.specs.JsonLines.{about_line, alert_members, decimal_json, labels_json, object_line}
+use Rattle.am_script.specs.JsonLines.{texts_json}
 use Rattle.am_script.specs.JsonLines.{worded}
 use Rattle.am_script.specs.ScriptTexts.{verb_text}
 use Rattle.am_script.specs.declared.command.Verb.{Verb}
@@ -28,7 +29,7 @@ showing word alert = worded word (member (codes "alert") (object (alert_members 
 
 -- an answer that has a number
 abbrev pub counting : List ℕ → List ℕ → ℕ → Members
-counting word name n = worded word (member name (whole n) no_members)
+counting word name n = worded word (member name (decimal_json n) no_members)
 
 -- a call that was refused, and why
 abbrev pub refusing : List ℕ → List ℕ → Members
@@ -37,27 +38,27 @@ refusing call why = worded (codes "refused")
 
 -- the place of a post's batch in the log, if it has one
 abbrev pub place_json : Option ℕ → Json
-place_json (Some place) = whole place
+place_json (Some place) = decimal_json place
 place_json None = null
 
 -- an accepted post
 abbrev pub posted_members : ℕ → Option ℕ → Members
 posted_members valid place = worded (codes "post")
-    (member (codes "valid") (whole valid) (member (codes "place") (place_json place) no_members))
+    (member (codes "valid") (decimal_json valid) (member (codes "place") (place_json place) no_members))
 
 -- a subscription that was left, whether it answered `Closed`, and whether a post cut it
 abbrev pub left_members : ℕ → Bool → Bool → Members
 left_members taken closed cut = worded (codes "leave")
-    (member (codes "taken") (whole taken)
+    (member (codes "taken") (decimal_json taken)
     (member (codes "closed") (boolean closed) (member (codes "cut") (boolean cut) no_members)))
 
 -- a group of a dispatcher: its route, the receiver, its labels, and how many alerts it has
 abbrev pub group_members : GroupHead → Members
 group_members group = worded (codes "group")
-    (member (codes "route") (whole group.route)
+    (member (codes "route") (decimal_json group.route)
     (member (codes "receiver") (string group.receiver)
     (member (codes "labels") (labels_json group.labels)
-    (member (codes "alerts") (whole group.alerts) no_members))))
+    (member (codes "alerts") (decimal_json group.alerts) no_members))))
 
 -- by which labels a route groups: `...` is all of them
 abbrev pub grouping_json : GroupBy → Json
@@ -67,8 +68,8 @@ grouping_json (Names names) = texts_json names
 -- a route of the routing tree
 abbrev pub listed_members : ListedRoute → Members
 listed_members route = worded (codes "route")
-    (member (codes "route") (whole route.id.0)
-    (member (codes "depth") (whole route.depth)
+    (member (codes "route") (decimal_json route.id.0)
+    (member (codes "depth") (decimal_json route.depth)
     (member (codes "receiver") (string route.receiver)
     (member (codes "matchers") (texts_json route.matchers)
     (member (codes "group_by") (grouping_json route.group_by)
@@ -77,40 +78,40 @@ listed_members route = worded (codes "route")
 -- a route that a label set matches: its number, the receiver, and the group labels there
 abbrev pub matched_members : MatchedRoute → Members
 matched_members route = worded (codes "matched")
-    (member (codes "route") (whole route.id.0)
+    (member (codes "route") (decimal_json route.id.0)
     (member (codes "receiver") (string route.receiver)
     (member (codes "labels") (labels_json route.labels) no_members)))
 
 -- how many alerts and groups a sweep removed
 abbrev pub swept_members : Swept → Members
 swept_members swept = worded (codes "sweep")
-    (member (codes "alerts") (whole swept.alerts)
-    (member (codes "groups") (whole swept.groups) no_members))
+    (member (codes "alerts") (decimal_json swept.alerts)
+    (member (codes "groups") (decimal_json swept.groups) no_members))
 
 -- a page of what is stored: how many alerts it has, the index of the first, how many are stored in all, and
 -- after how many calls
 abbrev pub page_members : PageHead → Members
 page_members page = worded (codes "page")
-    (member (codes "alerts") (whole page.alerts)
-    (member (codes "from") (whole page.from)
-    (member (codes "stored") (whole page.stored)
-    (member (codes "calls") (whole page.calls) no_members))))
+    (member (codes "alerts") (decimal_json page.alerts)
+    (member (codes "from") (decimal_json page.from)
+    (member (codes "stored") (decimal_json page.stored)
+    (member (codes "calls") (decimal_json page.calls) no_members))))
 
 -- an invalid alert of an accepted post, by its index, and its fault
 abbrev pub invalid_members : ℕ → AlertFault → Members
 invalid_members index fault = worded (codes "invalid")
-    (member (codes "index") (whole index)
+    (member (codes "index") (decimal_json index)
     (member (codes "fault") (string (alert_fault_text fault)) no_members))
 
 -- a new subscription: its lane, and how many alerts were stored
 abbrev pub subscribed_members : ℕ → ℕ → Members
 subscribed_members lane opening = worded (codes "subscribe")
-    (member (codes "lane") (whole lane) (member (codes "opening") (whole opening) no_members))
+    (member (codes "lane") (decimal_json lane) (member (codes "opening") (decimal_json opening) no_members))
 
 -- the rule that mutes a target, and the label set by which it does
 abbrev pub muted_members : ℕ → Labels → Members
 muted_members rule by = worded (codes "muted")
-    (member (codes "rule") (whole rule) (member (codes "by") (labels_json by) no_members))
+    (member (codes "rule") (decimal_json rule) (member (codes "by") (labels_json by) no_members))
 
 -- a command whose subscription isn't open
 abbrev pub not_open_members : Verb → Members
@@ -153,7 +154,7 @@ answer_members (answer.NotOpen word) = not_open_members word
 
 -- how many answers a line of input has
 abbrev pub count_members : ℕ → Members
-count_members count = member (codes "answers") (whole count) no_members
+count_members count = member (codes "answers") (decimal_json count) no_members
 
 -- the lines of the answers to one line of input, and of how many they are
 abbrev pub objects_text : ℕ → List Answer → List ℕ

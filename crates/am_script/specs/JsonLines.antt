@@ -17,8 +17,8 @@ abbrev pub named : List ℕ → Json → List Token
 named name it = key name ∷ json_tokens it
 
 -- a number in decimal digits
-abbrev pub whole : ℕ → Json
-whole n = number (decimal n)
+abbrev pub decimal_json : ℕ → Json
+decimal_json n = number (decimal n)
 
 -- names and values as members
 abbrev pub members_of_pairs : List (List ℕ × List ℕ) → Members
@@ -55,7 +55,7 @@ worded word own = member (codes "answer") (string word) own
 
 -- an object about a line of input: the line's number, and then the other members
 abbrev pub about_line : ℕ → Members → Json
-about_line line others = object (member (codes "line") (whole line) others)
+about_line line others = object (member (codes "line") (decimal_json line) others)
 
 -- a line of input is refused
 abbrev pub fault_members : Fault → Members

@@ -11,7 +11,7 @@ use std::alloc::Global;
 use std::io::{ErrorKind, Read};
 
 /// How many bytes one read gives at most.
-pub(crate) const CHUNK: usize = 4_096;
+pub const CHUNK: usize = 4_096;
 
 /// The input's bytes, to its end or to the first excess over a script's limits. No contract says
 /// when a read fails, nor how far an input with an excess is read. Tests check that it doesn't fail

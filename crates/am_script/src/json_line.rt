@@ -7,7 +7,7 @@ ghost use Rattle.json.specs.Token.{begin_array, begin_object, end_array, end_obj
 ghost use Rattle.json.specs.Token as token;
 ghost use Rattle.am_alert.specs.Printing.{moment_text};
 ghost use Rattle.am_script.specs.JsonLines.{about_line, alert_members, fault_members, labels_json, named};
-ghost use Rattle.am_script.specs.JsonLines.{object_line, texts_json, whole};
+ghost use Rattle.am_script.specs.JsonLines.{object_line, texts_json, decimal_json};
 ghost use Rattle.am_script.specs.inside.AlertTokens.{moments_tokens};
 
 use crate::script::Fault;
@@ -54,7 +54,7 @@ impl JsonLine {
 
     /// An object about the line of input with this number, which is its first member.
     pub fn about(alloc: Global, number: u64) -> Result<JsonLine, AllocError>
-        ensures { IfOk result (λ line. line ≡ begin_object ∷ named (codes "line") (whole number)) }
+        ensures { IfOk result (λ line. line ≡ begin_object ∷ named (codes "line") (decimal_json number)) }
     {
         let mut line = JsonLine::begin(alloc)?;
         line.number("line", number)?;
@@ -62,7 +62,7 @@ impl JsonLine {
     }
 
     pub fn number(&mut self, name: &str, number: u64) -> Result<(), AllocError>
-        ensures { OnOk result (self.new ≡ self.old ++ named name.now (whole number)) }
+        ensures { OnOk result (self.new ≡ self.old ++ named name.now (decimal_json number)) }
     {
         self.out.key(name)?;
         self.out.u64(number)

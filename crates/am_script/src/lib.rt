@@ -10,7 +10,7 @@
 //! memory than a script may. A failed write has written a prefix of the text. An interrupted read or
 //! write is tried again, up to 1,000 times in a row.
 //!
-//! <!-- from crates/am_script/src/tests.rt -->
+//! <!-- from crates/am_runner_tests/src/scripts.rt -->
 //! ```rust
 //! fn is_read_whole(alloc: Global, input: &[u8]) -> std::result::Result<bool, Failure> {
 //!     let text = read_input(alloc, &mut odd_reader(input))?;
@@ -44,7 +44,7 @@ mod thread;
 pub use advice::{config_advice, script_advice};
 pub use command::{Command, GivenMoment, Line, LineFault, Verb};
 pub use failure::Failure;
-pub use input::read_input;
+pub use input::{CHUNK, read_input};
 pub use json_line::{JsonLine, write_fault};
 pub use kind::Kind;
 pub use laws::limit_laws;
@@ -54,6 +54,3 @@ pub use output::write_text;
 pub use put_alerts::PutAlerts;
 pub use script::{Fault, Refusal, ScriptFault, config_line, read_script};
 pub use thread::{THREADS, Thread};
-
-#[cfg(test)]
-mod tests;

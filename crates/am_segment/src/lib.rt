@@ -21,7 +21,7 @@
 //!
 //! Two keys without the memory of a list:
 //!
-//! <!-- from crates/am_segment/src/tests.rt -->
+//! <!-- from crates/am_cast_tests/src/segments.rt -->
 //! ```rust
 //! let (first, rest) = builder.hand_out(2).next();
 //! let Some(rest) = rest else { unreachable!() };
@@ -44,6 +44,3 @@ pub use key::{MAX_KEYS, SegKey};
 pub use key_run::KeyRun;
 pub use laws::keys_in_order_are_all;
 pub use seal_fault::SealFault;
-
-#[cfg(test)]
-mod tests;

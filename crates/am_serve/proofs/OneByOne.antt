@@ -8,7 +8,7 @@ use Rattle.am_runner.specs.Sessions.{Setting}
 use Rattle.am_runner.specs.declared.form.Form.{Form}
 use Rattle.am_serve.specs.Answering.{Answers}
 use Rattle.am_serve.specs.Standing.{RunView}
-use Rattle.am_serve.specs.Reading.{Begins, IsNext, no_lines}
+use Rattle.am_serve.specs.Reading.{BeginsWith, IsNext, no_lines}
 use Rattle.am_serve.specs.Reading as reading
 use Rattle.am_serve.specs.Serving.{CompactsIfDue, Serves, nothing, one_more, between, AreRead, IsBeginning, IsServed, IsServedInPart}
 
@@ -39,9 +39,9 @@ one_more_read : (input rest new : Option (List ℕ)) (lines : List (List ℕ)) (
 one_more_read None rest new lines bytes read next = tt
 one_more_read (Some text) rest new lines bytes read next =
     let it : IsNext (Some read.0) (Some bytes) new = subst (λ (o : Option (List ℕ)). IsNext o (Some bytes) new) read.2 next in
-    (drop_through 10 read.0, subst (λ (b : List ℕ). Begins text (lines ++ b ∷ []) (drop_through 10 read.0)) (sym it.1) (reading.one_more read.1 it.0), it.2)
+    (drop_through 10 read.0, subst (λ (b : List ℕ). BeginsWith text (lines ++ b ∷ []) (drop_through 10 read.0)) (sym it.1) (reading.one_more read.1 it.0), it.2)
 
-begins_of : (input rest : Option (List ℕ)) (lines : List (List ℕ)) → AreRead input lines rest → IfSome input (λ text. (left : List ℕ) × Begins text lines left)
+begins_of : (input rest : Option (List ℕ)) (lines : List (List ℕ)) → AreRead input lines rest → IfSome input (λ text. (left : List ℕ) × BeginsWith text lines left)
 begins_of None rest lines read = tt
 begins_of (Some text) rest lines read = (read.0, read.1)
 

@@ -26,7 +26,7 @@ IsNextAs old (Some line) new = (bytes : List ℕ) × All (λ byte. byte ≢ 10) 
     × IsInputOf bytes line × IsNext old (Some bytes) new
 
 -- the first lines of a text, without their line feeds, and what follows them
-pub data Begins (text : List ℕ) : List (List ℕ) → List ℕ → Type 0 where
-  no_lines : Begins text [] text
-  one_more : {lines : List (List ℕ)} {rest : List ℕ} → Begins text lines rest → rest ≢ []
-      → Begins text (lines ++ first_piece 10 rest ∷ []) (drop_through 10 rest)
+pub data BeginsWith (text : List ℕ) : List (List ℕ) → List ℕ → Type 0 where
+  no_lines : BeginsWith text [] text
+  one_more : {lines : List (List ℕ)} {rest : List ℕ} → BeginsWith text lines rest → rest ≢ []
+      → BeginsWith text (lines ++ first_piece 10 rest ∷ []) (drop_through 10 rest)

@@ -7,7 +7,7 @@ use Rattle.am_runner.specs.Sessions.{Setting, SessionView}
 use Rattle.am_runner.specs.declared.form.Form.{Form}
 use Rattle.am_serve.specs.Answering.{Answers}
 use Rattle.am_serve.specs.Standing.{RunView}
-use Rattle.am_serve.specs.Reading.{Begins}
+use Rattle.am_serve.specs.Reading.{BeginsWith}
 
 -- what is done between two lines: nothing, or the journal is compacted
 pub data CompactsIfDue (config : Config) (setting : Setting) (old : SessionView) : SessionView → Type 0 where
@@ -31,7 +31,7 @@ pub data Serves (config : Config) (setting : Setting) (form : Form) (first : ℕ
 -- lines were read of an input, if its bytes are known
 abbrev pub AreRead : Option (List ℕ) → List (List ℕ) → Option (List ℕ) → Type 0
 AreRead old lines new =
-    IfSome old (λ text. (rest : List ℕ) × Begins text lines rest × (new ≡ Some rest))
+    IfSome old (λ text. (rest : List ℕ) × BeginsWith text lines rest × (new ≡ Some rest))
 
 -- the whole input was served: each line of it, and all that they print was written
 pub record IsServed (config : Config) (setting : Setting) (form : Form) (first : ℕ) (begun : RunView)
@@ -57,6 +57,6 @@ pub record IsServedInPart (config : Config) (setting : Setting) (form : Form) (f
   pub beginning : List ℕ
   pub last : RunView
   pub serves : Serves config setting form first begun lines printed last
-  pub read : IfSome input (λ text. (rest : List ℕ) × Begins text lines rest)
+  pub read : IfSome input (λ text. (rest : List ℕ) × BeginsWith text lines rest)
   pub next : IsBeginning config setting form (first + length lines) last beginning
   pub written_is : Appends out written (printed ++ beginning)

@@ -6,7 +6,7 @@ use Rattle.std.specs.List.{AllZip}
 use Rattle.std.specs.Fmt.{decimal}
 use Rattle.json.specs.Json.{Json as JsonTree, Members, member, no_members, string}
 use Rattle.am_labels.specs.Printing.{quoted}
-use Rattle.am_script.specs.JsonLines.{about_line, object_line, whole, worded}
+use Rattle.am_script.specs.JsonLines.{about_line, object_line, decimal_json, worded}
 use Rattle.am_runner.specs.Forms.{answers_printed}
 use Rattle.am_runner.specs.Printing.{answer_text}
 use Rattle.am_runner.specs.PrintingJson.{answer_members, count_members}
@@ -33,12 +33,13 @@ run_from place (at ∷ places) = if is_place place at then suc (run_from (place 
 
 -- some places that follow one another from one on
 abbrev pub run_members : ℕ → ℕ → Members
-run_members from count = member (codes "from") (whole from) (member (codes "count") (whole count) no_members)
+run_members from count =
+    member (codes "from") (decimal_json from) (member (codes "count") (decimal_json count) no_members)
 
 -- some alerts of a put, from an index on, have these places
 abbrev pub kept_members : ℕ → ℕ → ℕ → Members
 kept_members index from count =
-    worded (codes "kept") (member (codes "index") (whole index) (run_members from count))
+    worded (codes "kept") (member (codes "index") (decimal_json index) (run_members from count))
 
 -- some answers show the alerts that are known at these places
 abbrev pub as_put_members : ℕ → ℕ → Members

@@ -26,7 +26,7 @@ const NEW_YEAR: &str = "2024-01-01T00:00:00Z";
 
 // The rule that mutes a label set, and the label set of the alert that fires.
 #[derive(Drop)]
-struct MutedBy {
+struct Mute {
     rule: u64,
     source: LabelSet,
 }
@@ -35,7 +35,7 @@ struct MutedBy {
 #[derive(Drop)]
 struct Verdict {
     routes: Vec<MatchedRoute>,
-    muted_by: Option<MutedBy>,
+    muted_by: Option<Mute>,
 }
 
 // What a configuration says of a label set while the inhibitor's alerts fire.
@@ -53,7 +53,7 @@ fn judge(
 {
     let routes = matched_routes(alloc, &config.tree, labels)?;
     let muted_by = match inhibitor.mutes(labels, now)? {
-        Some((rule, source)) => Some(MutedBy {
+        Some((rule, source)) => Some(Mute {
             rule,
             source: source.clone()?,
         }),

@@ -3,7 +3,7 @@ use Rattle.std.proofs.lemmas.Result.{IfOk-weaker}
 use Rattle.json.specs.Json.{string}
 use Rattle.json.specs.Token.{Token, end_object}
 use Rattle.am_alert.specs.Printing.{alert_fault_text}
-use Rattle.am_script.specs.JsonLines.{named, whole}
+use Rattle.am_script.specs.JsonLines.{named, decimal_json}
 use Rattle.am_script.proofs.JsonLines.{and_then}
 use Rattle.am_runner.proofs.answer_json.write_invalid.Goals as goal
 
@@ -11,7 +11,7 @@ pub returns : goal.returns
 returns c =
     let part-0 : List Token = named (codes "answer") (string (codes "invalid")) in
     let step-0 : c.text.new.self ≡ c.args.line.now ++ part-0 = c.in_ok-text.ensures in
-    let part-1 : List Token = named (codes "index") (whole c.args.index) in
+    let part-1 : List Token = named (codes "index") (decimal_json c.args.index) in
     let step-1 : c.number.new.self ≡ c.text.new.self ++ part-1 = search rules in
     let part-2 : List Token = named (codes "fault") (string (alert_fault_text c.args.fault.now)) in
     IfOk-weaker c.shown.result _ _ (λ _ last. and_then c.number.new.self c.shown.new.self part-2 (end_object ∷ []) last

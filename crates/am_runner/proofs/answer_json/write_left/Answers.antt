@@ -2,7 +2,7 @@ use Rattle.std.proofs.Common.{◌≡◌, ◌∙◌, ◌++◌, ◌∷◌, [], Lis
 use Rattle.std.proofs.lemmas.Result.{IfOk-weaker}
 use Rattle.json.specs.Json.{boolean, string}
 use Rattle.json.specs.Token.{Token, end_object}
-use Rattle.am_script.specs.JsonLines.{named, whole}
+use Rattle.am_script.specs.JsonLines.{named, decimal_json}
 use Rattle.am_script.proofs.JsonLines.{and_then}
 use Rattle.am_runner.proofs.answer_json.write_left.Goals as goal
 
@@ -10,7 +10,7 @@ pub returns : goal.returns
 returns c =
     let part-0 : List Token = named (codes "answer") (string (codes "leave")) in
     let step-0 : c.text.new.self ≡ c.args.line.now ++ part-0 = c.in_ok-text.ensures in
-    let part-1 : List Token = named (codes "taken") (whole c.args.taken) in
+    let part-1 : List Token = named (codes "taken") (decimal_json c.args.taken) in
     let step-1 : c.number.new.self ≡ c.text.new.self ++ part-1 = c.in_ok-number.ensures in
     let part-2 : List Token = named (codes "closed") (boolean c.args.closed) in
     let step-2 : c.flag.new.self ≡ c.number.new.self ++ part-2 = c.in_ok-flag.ensures in

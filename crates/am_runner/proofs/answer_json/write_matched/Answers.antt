@@ -2,7 +2,7 @@ use Rattle.std.proofs.Common.{rules, ◌≡◌, ◌∙◌, ◌++◌, ◌∷◌, 
 use Rattle.std.proofs.lemmas.Result.{IfOk-weaker}
 use Rattle.json.specs.Json.{string}
 use Rattle.json.specs.Token.{Token, end_object}
-use Rattle.am_script.specs.JsonLines.{labels_json, named, whole}
+use Rattle.am_script.specs.JsonLines.{labels_json, named, decimal_json}
 use Rattle.am_script.proofs.JsonLines.{and_then}
 use Rattle.am_runner.proofs.answer_json.write_matched.Goals as goal
 
@@ -11,7 +11,7 @@ returns c =
     let route = c.args.route.now in
     let part-0 : List Token = named (codes "answer") (string (codes "matched")) in
     let step-0 : c.text.new.self ≡ c.args.line.now ++ part-0 = c.in_ok-text.ensures in
-    let part-1 : List Token = named (codes "route") (whole route.id.0) in
+    let part-1 : List Token = named (codes "route") (decimal_json route.id.0) in
     let step-1 : c.number.new.self ≡ c.text.new.self ++ part-1 = c.in_ok-number.ensures in
     let part-2 : List Token = named (codes "receiver") (string route.receiver) in
     let step-2 : c.text-2.new.self ≡ c.number.new.self ++ part-2 = search rules in

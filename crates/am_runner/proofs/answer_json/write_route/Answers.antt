@@ -3,7 +3,7 @@ use Rattle.am_routes.specs.declared.listed_route.ListedRoute.{ListedRoute}
 use Rattle.std.proofs.lemmas.Result.{IfOk-weaker}
 use Rattle.json.specs.Json.{boolean, string}
 use Rattle.json.specs.Token.{Token, end_object}
-use Rattle.am_script.specs.JsonLines.{named, texts_json, whole}
+use Rattle.am_script.specs.JsonLines.{named, texts_json, decimal_json}
 use Rattle.am_script.proofs.JsonLines.{and_then}
 use Rattle.am_runner.specs.PrintingJson.{grouping_json}
 use Rattle.am_runner.proofs.answer_json.write_route.Goals as goal
@@ -13,9 +13,9 @@ returns c =
     let route = c.args.route.now in
     let part-0 : List Token = named (codes "answer") (string (codes "route")) in
     let step-0 : c.text.new.self ≡ c.args.line.now ++ part-0 = c.in_ok-text.ensures in
-    let part-1 : List Token = named (codes "route") (whole route.id.0) in
+    let part-1 : List Token = named (codes "route") (decimal_json route.id.0) in
     let step-1 : c.number.new.self ≡ c.text.new.self ++ part-1 = c.in_ok-number.ensures in
-    let part-2 : List Token = named (codes "depth") (whole route.depth) in
+    let part-2 : List Token = named (codes "depth") (decimal_json route.depth) in
     let step-2 : c.number-2.new.self ≡ c.number.new.self ++ part-2 = c.in_ok-number-2.ensures in
     let part-3 : List Token = named (codes "receiver") (string route.receiver) in
     let step-3 : c.text-2.new.self ≡ c.number-2.new.self ++ part-3 = search rules in

@@ -4,7 +4,7 @@
 ghost use Rattle.std.specs.Prelude.{◌≡◌, ◌≤◌, length, IfOk};
 ghost use Rattle.am_segment.specs.Segments.{AreAllKeys};
 
-use crate::{JoinedKeys, MAX_ITEMS, MAX_KEYS, SealFault, SegKey, SegmentBuilder, reunite};
+use am_segment::{JoinedKeys, MAX_ITEMS, MAX_KEYS, SealFault, SegKey, SegmentBuilder, reunite};
 use std::alloc::{AllocError, Global};
 use std::mem::size_of;
 use std::sync::Arc;

@@ -3,7 +3,7 @@ use Rattle.std.specs.Prelude.{IsPermutation}
 use Rattle.std.proofs.lemmas.List.Sorted.{All-permutation, sum_by-IsPermutation}
 use Rattle.std.specs.List.{All}
 use Rattle.am_segment.specs.Segments.{KeyView, AreAllKeys}
-use Rattle.am_segment.proofs.tests.Sealed.reversed.Goals as goal
+use Rattle.am_cast_tests.proofs.segments.Sealed.reversed.Goals as goal
 
 -- all keys are all of them in any order
 in-any-order : {X : Type 0} (keys others : List (KeyView X)) → IsPermutation keys others → length others ≡ length keys → AreAllKeys keys → AreAllKeys others

@@ -1,4 +1,4 @@
-use Rattle.am_segment.proofs.tests.end_all.Given as goal
+use Rattle.am_cast_tests.proofs.segments.end_all.Given as goal
 
 abbrev pub invariant-loop-batch : goal.invariant-loop-batch
 invariant-loop-batch l = Unit {0}

@@ -1,10 +1,7 @@
 //! What no contract says: that reading and writing succeed, and that an input above a limit isn't read
 //! on. The inputs are of real size, and come in odd pieces.
 
-use crate::failure::Failure;
-use crate::input::{CHUNK, read_input};
-use crate::limits::{LONGEST_LINE, MOST_LINES};
-use crate::output::write_text;
+use am_script::{CHUNK, Failure, LONGEST_LINE, MOST_LINES, read_input, write_text};
 use std::alloc::{AllocError, Global};
 use std::io::{Error, ErrorKind, Read, Result, Write};
 use std::test::Fail;
