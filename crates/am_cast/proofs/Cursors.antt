@@ -1,5 +1,5 @@
 -- What a cursor has taken.
-use Rattle.std.proofs.Common.{◌≡◌, ℕ, zero, suc, ◌+◌, ◌-◌, ◌<◌, ◌≤◌, ◌⊎◌, inl, inr, ⊎_elim, List, [], ◌∷◌, ◌++◌, length, take, drop, sym, refl, ap, ◌∙◌, subst, arith, Bool, true, false, add-one, append_assoc, Option, Some, None, is_some, slice_get}
+use Rattle.std.proofs.Common.{◌≡◌, ℕ, zero, suc, ◌+◌, ◌-◌, ◌<◌, ◌≤◌, ◌⊎◌, List, [], ◌∷◌, ◌++◌, length, take, drop, sym, refl, ap, ◌∙◌, subst, arith, Bool, true, false, add-one, append_assoc, Option, Some, None, is_some, slice_get}
 use Rattle.std.proofs.lemmas.Bool.{false≢true}
 use mathlib.Core.Option.{some, some-ne-none, some-injective}
 use mathlib.Core.List.{IsPrefix}
@@ -12,7 +12,7 @@ use Rattle.am_cast.specs.declared.lends.Moved.TheVariants.{One, Pending, Closed,
 use Rattle.am_cast.specs.declared.views.LaneView.{LaneView}
 use Rattle.am_cast.specs.declared.views.Account.{Account}
 use Rattle.am_cast.specs.declared.views.Tail.{Tail}
-use Rattle.am_cast.specs.Rule.{Sound, first_lane}
+use Rattle.am_cast.specs.Rule.{Sound, first_lane, slot}
 use Rattle.am_cast.specs.Changes.{seeing, holding, left}
 use Rattle.am_cast.specs.Seats.{HoldsKey, Took, lane_of, some_or}
 use Rattle.am_cast.specs.Keys.{batch_items, all_items, key_of}
@@ -24,8 +24,8 @@ use Rattle.am_cast.specs.inside.Cursors.{CursorOk, HasHand}
 use Rattle.am_cast.specs.Lent.{IsItem, IsInHand, HasNews, Moves}
 use Rattle.am_cast.specs.inside.Moving.{NeedsLook, AfterLook}
 use Rattle.atomic_table.specs.Table.{rest}
-use Rattle.am_cast.specs.Rule.{slot}
-use Rattle.am_cast.proofs.Slots.{at_below, at_length, head_key}
+use Rattle.am_cast.proofs.Slots.{at_below, at_length}
+use Rattle.std.proofs.lemmas.Grind.{common_steps}
 
 module _ {X : Type 0} where
   pub take_more : (xs : List X) (n : ℕ) (x : X) → get_elem? xs n ≡ some x → take (suc n) xs ≡ take n xs ++ x ∷ []
@@ -69,11 +69,7 @@ module _ {X : Type 0} where
   get_there (x ∷ xs) (suc n) low = get_there xs n (omega arith)
 
   pub take_all : (xs : List X) (n : ℕ) → n ≡ length xs → take n xs ≡ xs
-  take_all xs n e = ap (λ (n : ℕ). take n xs) e ∙ go xs
-    where
-      go : (xs : List X) → take (length xs) xs ≡ xs
-      go [] = refl
-      go (x ∷ xs) = ap (λ (l : List X). x ∷ l) (go xs)
+  take_all xs n e = grind (arith, common_steps)
 
 module _ {T P : Type 0} where
   items_end : (xs : List (BatchView T P)) (x : BatchView T P) → all_items (xs ++ x ∷ []) ≡ all_items xs ++ batch_items x
@@ -104,16 +100,11 @@ module _ {T P A : Type 0} where
 
   -- the log is longer than it was seen
   pub taken_look : (c m : CursorView T P A) → m.lane ≡ seeing m.lane.front m.lane.told c.lane → m.shown ≡ 0 → c.shown ≡ 0 → IsPrefix c.lane.front m.lane.front → c.lane.passed ≤ length c.lane.front → shown_items m ≡ shown_items c
-  taken_look c m lane none₁ none₂ p h = let passed = ap (λ (v : LaneView (BatchView T P) A). v.passed) lane in let start = ap (λ (v : LaneView (BatchView T P) A). v.start) lane in
-      ap (λ (n : ℕ). all_items (drop m.lane.start (take m.lane.passed m.lane.front)) ++ take n (items_at m.lane.front m.lane.passed)) none₁
-      ∙ (λ i. all_items (drop (start i) (take (passed i) m.lane.front)) ++ []) ∙ ap (λ (l : List (BatchView T P)). all_items (drop c.lane.start l) ++ []) (take_front c.lane.front m.lane.front c.lane.passed p h)
-      ∙ ap (λ (n : ℕ). all_items (drop c.lane.start (take c.lane.passed c.lane.front)) ++ take n (items_at c.lane.front c.lane.passed)) (sym none₂)
+  taken_look c m lane none₁ none₂ p h = grind (arith, take_front)
 
   -- the first item of a place
   pub taken_first : (c d : CursorView T P A) (x : T) → d ≡ record { lane = holding c.lane; shown = 1 } → c.shown ≡ 0 → IsInHand d x → shown_items d ≡ shown_items c ++ x ∷ []
-  taken_first c d x e none_shown at = let items : List T = items_at c.lane.front c.lane.passed in let before : List T = all_items (drop c.lane.start (take c.lane.passed c.lane.front)) in
-      let first : slice_get items 0 ≡ Some x = subst (λ (d : CursorView T P A). IsInHand d x) e at in
-      ap (λ (d : CursorView T P A). shown_items d) e ∙ ap (λ (l : List T). before ++ l) (take_get items 0 x first) ∙ ap (λ (l : List T). l ++ x ∷ []) (sym (append_none before)) ∙ ap (λ (n : ℕ). (before ++ take n items) ++ x ∷ []) (sym none_shown)
+  taken_first c d x e none_shown at = grind (arith, take_get, append_none)
 
   -- a place is taken, of which the first item is shown
   pub takes_first : (c d : CursorView T P A) → d ≡ record { lane = holding c.lane; shown = 1 } → c.shown ≡ 0 → c.lane.cut ≡ false → c.lane.passed < length c.lane.front → IsItem c d
@@ -165,10 +156,7 @@ module _ {T P A : Type 0} where
 
   -- what a look finds, after all that was seen is passed
   pub found_news : (c s m : CursorView T P A) → NeedsLook c s → m.lane ≡ seeing m.lane.front m.lane.told s.lane → m.shown ≡ s.shown → IsPrefix s.lane.front m.lane.front → (m.lane.passed < length m.lane.front) ⊎ (m.lane.told ≡ true) → HasNews c m
-  found_news c s m needs lane shown p found = let at = needs.all in record {
-    taken = taken_look s m lane (shown ∙ needs.shown) needs.shown p (omega arith) ∙ needs.taken;
-    known = inr (⊎_elim (λ below. inl below) (λ told. inr (inr told)) found);
-  }
+  found_news c s m needs lane shown p found = grind (arith, taken_look)
 
   -- a hand is the same by another view of its lane's seat
   same_hand : (m m' : SeatState (BatchView T P) (KeyView T) A) (v : LaneView (BatchView T P) A) (shown : ℕ) (hand : Option ℕ) → m'.1 ≡ m.1 → HasHand m v shown hand → HasHand m' v shown hand
@@ -208,8 +196,7 @@ module _ {T P A : Type 0} where
 
   -- a hand that isn't empty holds a place
   pub is_held : (m : SeatState (BatchView T P) (KeyView T) A) (v : LaneView (BatchView T P) A) (shown : ℕ) (hand : Option ℕ) → is_some hand ≡ true → HasHand m v shown hand → v.held ≡ true
-  is_held m v shown (Some count) there has = has.0
-  is_held m v shown None there has = absurd (false≢true there)
+  is_held m v shown hand there has = grind (arith, false≢true)
 
   -- the slot in hand is full
   pub full_at : (m : SeatState (BatchView T P) (KeyView T) A) (v : LaneView (BatchView T P) A) (at : ℕ) → HoldsKey key_of m v → at ≡ slot v.places v.number v.passed → (k : KeyView T) × (m.1 ≡ (at, Some k) ∷ rest m.1)
@@ -218,12 +205,7 @@ module _ {T P A : Type 0} where
 
   -- the items that the key in the slot in hand shows
   pub items_held : (m : SeatState (BatchView T P) (KeyView T) A) (v : LaneView (BatchView T P) A) (at : ℕ) (k : KeyView T) → HoldsKey key_of m v → m.1 ≡ (at, Some k) ∷ rest m.1 → items_at v.front v.passed ≡ k.items
-  items_held m v at k has there = items_here v.front v.passed has.0 has.1
-      ∙ ap (λ (c : List (ℕ × Option (KeyView T))). items_of (head_key c)) (sym has.2 ∙ there)
-    where
-      items_of : Option (KeyView T) → List T
-      items_of (Some k) = k.items
-      items_of None = []
+  items_held m v at k has there = grind (arith, items_here)
 
   -- a key came into the hand, and its first item is shown
   pub cursor_took : (table t t' : TableId) (m m' : SeatState (BatchView T P) (KeyView T) A) (number places passed seen shown : ℕ) (closed cut : Bool) (hand : Option ℕ) (count : ℕ)
@@ -295,8 +277,8 @@ module _ {T P A : Type 0} where
 
   -- the same, of a cursor whose lane stays
   pub taken_sound : (t : Tail (BatchView T P)) (b : Account (KeyView T) A) (c : CursorView T P A) (l : ℕ) → Sound t b c.lane l → IsPrefix (shown_items c) (all_items (drop c.lane.start t.log))
-  taken_sound t b c l sd = let low = sd.counts.low in let mid = sd.mid in let start = sd.start in let high = sd.seen.high in taken_front t.log c sd.seen.begins (omega arith) (omega arith)
+  taken_sound t b c l sd = grind (arith, taken_front)
 
   -- the same, of a cursor whose lane has come home
   pub taken_home : (t : Tail (BatchView T P)) (b : Account (KeyView T) A) (c : CursorView T P A) (l : ℕ) → Sound t b (left c.lane) l → IsPrefix (shown_items c) (all_items (drop c.lane.start t.log))
-  taken_home t b c l sd = let low = sd.counts.low in let mid = sd.mid in let start = sd.start in let high = sd.seen.high in taken_front t.log c sd.seen.begins (omega arith) (omega arith)
+  taken_home t b c l sd = grind (arith, taken_front)

@@ -1,5 +1,5 @@
 -- A step that touches one lane keeps the rule.
-use Rattle.std.proofs.Common.{◌≡◌, ◌≢◌, ℕ, ◌<◌, ◌⊎◌, List, length, get_or, set, sym, refl, ap, ◌∙◌, subst, ⊎_elim, inl, inr, arith, Option, Some, None, length-set}
+use Rattle.std.proofs.Common.{◌≡◌, ◌≢◌, ℕ, ◌<◌, ◌⊎◌, List, length, get_or, set, sym, refl, ap, ◌∙◌, subst, ⊎_elim, inl, inr, arith, Option, Some, length-set}
 use mathlib.Core.Logic.{dite}
 use mathlib.Core.Option.{some, some-injective}
 use native.Mathlib.Decide.{ℕ_discrete}
@@ -17,13 +17,8 @@ use Rattle.am_cast.proofs.Events.{behind, LaneTo, AccountTo, BothTo}
 use Rattle.am_cast.specs.Steps.{KnowsOf}
 use Rattle.am_cast.proofs.Slots.{put, put_here, put_else, put_same, at_length}
 
-pub some_or : {X : Type 0} → X → Option X → X
-some_or x (Some y) = y
-some_or x None = x
-
 pub same_some : {X : Type 0} (x y : X) (o : Option X) → o ≡ Some x → o ≡ Some y → x ≡ y
-unfolding some_or
-same_some x y o e f = ap (some_or x) (sym e ∙ f)
+same_some x y o e f = grind arith
 
 abbrev pub St : Type 0 → Type 0 → Type 0 → Type 0
 St B K A = State (Option K) (View B K A)
@@ -32,34 +27,16 @@ module _ {B K A : Type 0} (key : B → ℕ → K) where
   -- a lane whose word and slots a step does not touch
   pub stays : (t : Tail B) (b : Account K A) (v : LaneView B A) (words words' : List ℕ) (homes homes' : Homes K) (l : ℕ) → get_or words' (lane_word l) 0 ≡ get_or words (lane_word l) 0
       → ((i : ℕ) → get_elem? homes' (slot t.places l i) ≡ get_elem? homes (slot t.places l i)) → LaneOk key t b v words homes l → LaneOk key t b v words' homes' l
-  stays t b v words words' homes homes' l word same ok = record {
-    sound = ok.sound;
-    word = word ∙ ok.word;
-    keys = λ i x a c d e f. same i ∙ ok.keys i x a c d e f;
-    empty = λ i a c d e f. same i ∙ ok.empty i a c d e f;
-    laid = λ k e. same b.stop ∙ ok.laid k e;
-    away = λ e x f g. same b.known ∙ ok.away e x f g;
-  }
+  stays t b v words words' homes homes' l word same ok = grind arith
 
   pub other_writer : (t : Tail B) (seat : ℕ) (account : ℕ → Account K A) (lane : ℕ → LaneView B A) (lane_seat : ℕ → ℕ) (l : ℕ) (b' : Account K A) (v' : LaneView B A) (id j : ℕ) → j ≢ id → (id ≡ seat) ⊎ (b' ≡ account l) → (dk : Option (WriterView B K A))
       → HasWriter t seat account lane lane_seat j dk → HasWriter t seat (put account l b') (put lane l v') lane_seat j dk
-  other_writer t seat account lane lane_seat l b' v' id j ne why None k = tt
-  other_writer t seat account lane lane_seat l b' v' id j ne why (Some q) k =
-      ⊎_elim (λ (e : id ≡ seat). absurd (ne (k.3 ∙ sym e))) (λ (e : b' ≡ account l). (k.0, k.1, (λ m a. k.2 m a ∙ ap some (sym (put_same account l b' m e))), k.3)) why
+  other_writer t seat account lane lane_seat l b' v' id j ne why dk k = grind (arith, put_same)
 
   pub other_lane_is : (t : Tail B) (seat : ℕ) (account : ℕ → Account K A) (lane : ℕ → LaneView B A) (lane_seat : ℕ → ℕ) (l : ℕ) (b' : Account K A) (v' : LaneView B A) (id j : ℕ) → j ≢ id
       → (lane_seat l ≡ id) ⊎ ((v' ≡ lane l) × (b'.stand ≡ idle → (account l).stand ≡ idle)) → (ln : Option (LaneView B A))
       → HasLane t seat account lane lane_seat j ln → HasLane t seat (put account l b') (put lane l v') lane_seat j ln
-  other_lane_is t seat account lane lane_seat l b' v' id j ne why None k = tt
-  other_lane_is t seat account lane lane_seat l b' v' id j ne why (Some v) k = dite (ℕ_discrete v.number l)
-      (λ (e : v.number ≡ l). ⊎_elim (λ (h : lane_seat l ≡ id). absurd (ne (sym k.2 ∙ ap lane_seat e ∙ h)))
-      (λ (h : (v' ≡ lane l) × (b'.stand ≡ idle → (account l).stand ≡ idle)). (
-        k.0,
-        put_same lane l v' v.number h.0 ∙ k.1,
-        k.2,
-        λ z. k.3 (ap (λ (m : ℕ). (account m).stand) e ∙ h.1 (ap (λ (c : Account K A). c.stand) (sym (put_here account l b') ∙ ap (put account l b') (sym e)) ∙ z)),
-      )) why)
-      (λ (other : v.number ≢ l). (k.0, put_else lane l v' v.number other ∙ k.1, k.2, λ z. k.3 (ap (λ (c : Account K A). c.stand) (sym (put_else account l b' v.number other)) ∙ z)))
+  other_lane_is t seat account lane lane_seat l b' v' id j ne why ln k = grind (arith, put_same, put_here, put_else)
 
   -- a step that changes the lane l, what the writer knows of it, and one view
   unfoldable pub one_lane : (s : St B K A) (r : Ruled key s) (l : ℕ) (b' : Account K A) (v' : LaneView B A) (id : ℕ) (u : View B K A) (dk : Option (WriterView B K A)) (ln : Option (LaneView B A)) (words' : List ℕ) (homes' : Homes K)
@@ -118,8 +95,7 @@ module _ {B K A : Type 0} (key : B → ℕ → K) where
 
   pub same_writer : (t : Tail B) (seat : ℕ) (account : ℕ → Account K A) (lane : ℕ → LaneView B A) (lane_seat : ℕ → ℕ) (l : ℕ) (b' : Account K A) (v' : LaneView B A) (j : ℕ) → b' ≡ account l → (dk : Option (WriterView B K A))
       → HasWriter t seat account lane lane_seat j dk → HasWriter t seat (put account l b') (put lane l v') lane_seat j dk
-  same_writer t seat account lane lane_seat l b' v' j e None k = tt
-  same_writer t seat account lane lane_seat l b' v' j e (Some q) k = (k.0, k.1, (λ m a. k.2 m a ∙ ap some (sym (put_same account l b' m e))), k.3)
+  same_writer t seat account lane lane_seat l b' v' j e dk k = grind (arith, put_same)
 
   -- what the rule says of the lane in a view
   pub lane_ok : (s : St B K A) (r : Ruled key s) (id : ℕ) (u : View B K A) (v : LaneView B A) → get_elem? s.views id ≡ some u → u.lane ≡ Some v
@@ -165,15 +141,7 @@ module _ {B K A : Type 0} (key : B → ℕ → K) where
 
   pub same_lane : (t : Tail B) (seat : ℕ) (account : ℕ → Account K A) (lane : ℕ → LaneView B A) (lane_seat : ℕ → ℕ) (l : ℕ) (b' : Account K A) (v' : LaneView B A) (j : ℕ) → v' ≡ lane l → (b'.stand ≡ idle → (account l).stand ≡ idle) → (ln : Option (LaneView B A))
       → HasLane t seat account lane lane_seat j ln → HasLane t seat (put account l b') (put lane l v') lane_seat j ln
-  same_lane t seat account lane lane_seat l b' v' j e still None k = tt
-  same_lane t seat account lane lane_seat l b' v' j e still (Some v) k = (
-    k.0,
-    put_same lane l v' v.number e ∙ k.1,
-    k.2,
-    λ z. k.3 (dite (ℕ_discrete v.number l)
-        (λ h. ap (λ (m : ℕ). (account m).stand) h ∙ still (ap (λ (c : Account K A). c.stand) (sym (put_here account l b') ∙ ap (put account l b') (sym h)) ∙ z))
-        (λ ne. ap (λ (c : Account K A). c.stand) (sym (put_else account l b' v.number ne)) ∙ z)),
-  )
+  same_lane t seat account lane lane_seat l b' v' j e still ln k = grind (arith, put_same, put_here, put_else)
 
   -- what the rule says of the writer in a view, and of one lane
   pub record WriterOk (s : St B K A) (r : Ruled key s) (id l : ℕ) (q : WriterView B K A) (b : Account K A) : Type 0 where
@@ -201,14 +169,7 @@ module _ {B K A : Type 0} (key : B → ℕ → K) where
 
   -- the writer with one account changed
   pub sets_account : (s : St B K A) (r : Ruled key s) (id l : ℕ) (q : WriterView B K A) (b b' : Account K A) (v' : LaneView B A) → WriterOk s r id l q b → HasWriter r.tail r.seat (put r.account l b') (put r.lane l v') r.lane_seat id (Some (with_account l b' q))
-  sets_account s r id l q b b' v' o = let small = o.small in let all = o.all in (
-    o.tail,
-    length-set q.accounts l b' ∙ o.all,
-    (λ m a. dite (ℕ_discrete m l)
-        (λ e. ap (get_elem? (set q.accounts l b')) e ∙ set_here q.accounts l b' (omega arith) ∙ ap some (sym (put_here r.account l b') ∙ ap (put r.account l b') (sym e)))
-        (λ ne. set_else q.accounts l m b' ne ∙ o.each m a ∙ ap some (sym (put_else r.account l b' m ne)))),
-    o.mine,
-  )
+  sets_account s r id l q b b' v' o = grind (arith, length-set, set_here, put_here, set_else, put_else)
 
   -- a step of the writer that touches one lane alone
   unfoldable pub writer_step : (s : St B K A) (r : Ruled key s) (id : ℕ) (u : View B K A) (l : ℕ) (q : WriterView B K A) (b b' : Account K A) (words' : List ℕ) (homes' : Homes K) → get_elem? s.views id ≡ some u → WriterOk s r id l q b

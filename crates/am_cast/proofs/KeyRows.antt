@@ -5,6 +5,7 @@ use Rattle.std.proofs.Math.Nat.{mod-lt}
 use native.Mathlib.Decide.{ℕ_discrete, dec_lt}
 use Rattle.am_segment.specs.Segments.{KeyView, AreAllKeys, MayJoin}
 use Rattle.am_cast.specs.inside.KeyRows.{RowView, BucketView, find_row, HasNoRow, AreApart, HaveRemainder, IsRowOf, MayTake, row_with, no_bucket, row_at, AreSorted}
+use Rattle.std.proofs.lemmas.Grind.{common_steps}
 
 ne-eqb : (a b : ℕ) → a ≢ b → nat_eq a b ≡ false
 ne-eqb a b ne = grind (arith)
@@ -18,24 +19,6 @@ module _ {X : Type 0} where
 
   pub find_tail : (place : ℕ) (r : RowView X) (rs : List (RowView X)) → r.place ≢ place → find_row place (r ∷ rs) ≡ find_row place rs
   find_tail place r rs ne = ap (λ (b : Bool). cond b (Some r.keys) (find_row place rs)) (ne-eqb r.place place ne)
-
-  -- none of the rows before the index was the place's
-  pub find_on : (place : ℕ) (rows : List (RowView X)) (k : ℕ) (r : RowView X) → k < length rows → r ≡ get_or rows k r → r.place ≢ place → find_row place rows ≡ find_row place (drop k rows) → find_row place rows ≡ find_row place (drop (suc k) rows)
-  find_on place rows k r h is ne e = e ∙ go rows k h is
-    where
-      go : (rows : List (RowView X)) (k : ℕ) → k < length rows → r ≡ get_or rows k r → find_row place (drop k rows) ≡ find_row place (drop (suc k) rows)
-      go [] k h is = absurd (omega arith)
-      go (x ∷ xs) zero h is = find_tail place x xs (λ z. ne (ap (λ (r : RowView X). r.place) is ∙ z))
-      go (x ∷ xs) (suc k) h is = go xs k (omega arith) is
-
-  pub find_none : (place : ℕ) (rows : List (RowView X)) (n : ℕ) → length rows ≤ n → find_row place rows ≡ find_row place (drop n rows) → find_row place rows ≡ None
-  find_none place rows n h e = e ∙ go rows n h
-    where
-      go : (rows : List (RowView X)) (n : ℕ) → length rows ≤ n → find_row place (drop n rows) ≡ None
-      go [] zero h = refl
-      go [] (suc n) h = refl
-      go (x ∷ xs) zero h = absurd (omega arith)
-      go (x ∷ xs) (suc n) h = go xs n (omega arith)
 
   no_row : (place : ℕ) (rows : List (RowView X)) → HasNoRow place rows → find_row place rows ≡ None
   no_row place [] h = refl
@@ -62,8 +45,8 @@ module _ {X : Type 0} where
 
   pub set_else : (place p : ℕ) (rows : List (RowView X)) (k : ℕ) (r new : RowView X) → k < length rows → r ≡ get_or rows k r → r.place ≡ place → new.place ≡ place → p ≢ place → find_row p (set rows k new) ≡ find_row p rows
   set_else place p [] k r new h is e f ne = refl
-  set_else place p (x ∷ xs) zero r new h is e f ne = find_tail p new xs (λ z. ne (sym z ∙ f)) ∙ sym (find_tail p x xs (λ z. ne (sym z ∙ ap (λ (r : RowView X). r.place) (sym is) ∙ e)))
-  set_else place p (x ∷ xs) (suc k) r new h is e f ne = ap (λ (o : Option (List (KeyView X))). cond (nat_eq x.place p) (Some x.keys) o) (set_else place p xs k r new (omega arith) is e f ne)
+  set_else place p (x ∷ xs) zero r new h is e f ne = grind (arith, find_tail)
+  set_else place p (x ∷ xs) (suc k) r new h is e f ne = grind (arith, (set_else place p xs k r new (omega arith) is e f ne))
 
   set_no_row : (p : ℕ) (rows : List (RowView X)) (k : ℕ) (r new : RowView X) → r ≡ get_or rows k r → new.place ≡ r.place → HasNoRow p rows → HasNoRow p (set rows k new)
   set_no_row p [] k r new is e none_of = tt
@@ -114,7 +97,7 @@ module _ {X : Type 0} where
   pub remove_else : (place p : ℕ) (rows : List (RowView X)) (k : ℕ) (r : RowView X) → k < length rows → r ≡ get_or rows k r → r.place ≡ place → p ≢ place → find_row p (take k rows ++ drop (suc k) rows) ≡ find_row p rows
   remove_else place p [] k r h is e ne = absurd (omega arith)
   remove_else place p (x ∷ xs) zero r h is e ne = sym (find_tail p x xs (λ z. ne (sym z ∙ ap (λ (r : RowView X). r.place) (sym is) ∙ e)))
-  remove_else place p (x ∷ xs) (suc k) r h is e ne = ap (λ (o : Option (List (KeyView X))). cond (nat_eq x.place p) (Some x.keys) o) (remove_else place p xs k r (omega arith) is e ne)
+  remove_else place p (x ∷ xs) (suc k) r h is e ne = grind (arith, (remove_else place p xs k r (omega arith) is e ne))
 
   pub add_here : (rows : List (RowView X)) (r : RowView X) → find_row r.place rows ≡ None → find_row r.place (rows ++ r ∷ []) ≡ Some r.keys
   add_here [] r none_of = find_head r.place r [] refl
@@ -146,7 +129,7 @@ module _ {X : Type 0} where
 
   pub find_here : (place : ℕ) (rows : List (RowView X)) (k : ℕ) (r : RowView X) → k < length rows → AreApart rows → r ≡ get_or rows k r → r.place ≡ place → find_row place rows ≡ Some r.keys
   find_here place [] k r h a is e = absurd (omega arith)
-  find_here place (x ∷ xs) zero r h a is e = find_head place x xs (ap (λ (r : RowView X). r.place) (sym is) ∙ e) ∙ ap (λ (r : RowView X). let o : Option (List (KeyView X)) = Some r.keys in o) (sym is)
+  find_here place (x ∷ xs) zero r h a is e = grind (arith, find_head)
   find_here place (x ∷ xs) (suc k) r h a is e = find_tail place x xs (λ z. apart xs k (omega arith) is a.0 (e ∙ sym z)) ∙ find_here place xs k r (omega arith) a.1 is e
     where
       apart : (xs : List (RowView X)) (k : ℕ) → k < length xs → r ≡ get_or xs k r → HasNoRow x.place xs → r.place ≡ x.place → ⊥
@@ -164,7 +147,7 @@ module _ {X : Type 0} where
 
   pub taking : (place : ℕ) (rows : List (RowView X)) (k : ℕ) (row : RowView X) (key : KeyView X) → AreApart rows → IsRowOf place rows k → row ≡ get_or rows k row
       → ((keys : List (KeyView X)) × (find_row place rows ≡ Some keys) × MayTake keys key) → MayTake row.keys key
-  taking place rows k row key a h is t = subst (λ (keys : List (KeyView X)). MayTake keys key) (some_is t.0 row.keys (sym t.1 ∙ find_here place rows k row h.0 a is (row_is place rows k row h is))) t.2
+  taking place rows k row key a h is t = grind (arith, common_steps, some_is, find_here, row_is)
 
   pub keys_are : (place : ℕ) (rows : List (RowView X)) (k : ℕ) (row : RowView X) (keys : List (KeyView X)) → AreApart rows → IsRowOf place rows k → row ≡ get_or rows k row
       → find_row place rows ≡ Some keys → keys ≡ row.keys
@@ -173,18 +156,10 @@ module _ {X : Type 0} where
   -- the row that stands there is the one that is found
   pub row_found : (place : ℕ) (rows inside : List (RowView X)) (k : ℕ) (row : RowView X) (keys : List (KeyView X)) → inside ≡ rows → AreApart rows → IsRowOf place rows k → row ≡ get_or inside k row → keys ≡ row.keys
       → Some keys ≡ find_row place rows
-  row_found place rows inside k row keys same a h is e =
-      let at : row ≡ get_or rows k row = is ∙ ap (λ (l : List (RowView X)). get_or l k row) same in
-      ap Some e ∙ sym (find_here place rows k row h.0 a at (row_is place rows k row h at))
+  row_found place rows inside k row keys same a h is e = grind (arith, common_steps, find_here, row_is)
 
   pub not_last : (keys : List (KeyView X)) (key : KeyView X) → nat_eq (length (keys ++ key ∷ [])) 8 ≡ false → row_with keys key ≡ Some (keys ++ key ∷ [])
-  not_last keys key e = ap (λ (b : Bool). cond b None (Some (keys ++ key ∷ []))) (ne-eqb (length keys) 7 (λ z. sevens z))
-    where
-      sevens : length keys ≡ 7 → ⊥
-      sevens z = let n = length-append keys (key ∷ []) in bad (sym e ∙ eq-eqb (length (keys ++ key ∷ [])) 8 (n ∙ ap (λ n. n + 1) z))
-        where
-          bad : false ≡ true → ⊥
-          bad e = cc
+  not_last keys key e = grind (arith, ne-eqb, length-append, eq-eqb)
 
   pub is_last : (keys : List (KeyView X)) (key : KeyView X) → nat_eq (length (keys ++ key ∷ [])) 8 ≡ true → length keys ≡ 7
   is_last keys key e = let n = length-append keys (key ∷ []) in let m = eqb-true (length (keys ++ key ∷ [])) 8 e in omega arith
@@ -270,24 +245,10 @@ module _ {X : Type 0} where
 
   -- one bucket has changed
   pub sorted_set : (bs : List (BucketView X)) (n : ℕ) (new : BucketView X) → AreSorted bs → n < length bs → HaveRemainder (length bs) n new.rows → AreApart new.rows → AreSorted (set bs n new)
-  sorted_set bs n new s h r a = let long = length-set bs n new in record {
-    some = let some = s.some in omega arith;
-    each = λ m small. subst (λ (k : ℕ). HaveRemainder k m (get_or (set bs n new) m no_bucket).rows × AreApart (get_or (set bs n new) m no_bucket).rows) (sym long) (dite (ℕ_discrete m n)
-        (λ e. subst (λ (z : ℕ × BucketView X). HaveRemainder (length bs) z.0 z.1.rows × AreApart z.1.rows) (λ i. (sym e i, sym (ap (λ (m : ℕ). get_or (set bs n new) m no_bucket) e ∙ get_or-set_same bs n new no_bucket h) i)) (r, a))
-        (λ ne. subst (λ (b : BucketView X). HaveRemainder (length bs) m b.rows × AreApart b.rows) (sym (get_or-set_other bs n m new no_bucket ne)) (s.each m (omega arith))));
-  }
+  sorted_set bs n new s h r a = grind (arith, length-set, get_or-set_same, get_or-set_other)
 
   pub insert_sorted : (bs : List (BucketView X)) (n : ℕ) (row : RowView X) (old new : BucketView X) → AreSorted bs → n ≡ row.place % length bs → n < length bs → old ≡ get_or bs n old → new.rows ≡ old.rows ++ row ∷ [] → row_at bs row.place ≡ None → AreSorted (set bs n new)
-  insert_sorted bs n row old new s is h at e none_of =
-      let was : old ≡ get_or bs n no_bucket = at ∙ any_bucket bs n h in let each = s.each n h in
-      let free : HasNoRow row.place (get_or bs n no_bucket).rows = no_row_of row.place (get_or bs n no_bucket).rows (ap (λ (k : ℕ). find_row row.place (get_or bs k no_bucket).rows) is ∙ none_of) in
-      let now : new.rows ≡ (get_or bs n no_bucket).rows ++ row ∷ [] = e ∙ ap (λ (b : BucketView X). b.rows ++ row ∷ []) was in
-      sorted_set bs n new s h (subst (λ (l : List (RowView X)). HaveRemainder (length bs) n l) (sym now) (add_remainder (length bs) n (get_or bs n no_bucket).rows row (sym is) each.0)) (subst (λ (l : List (RowView X)). AreApart l) (sym now) (add_apart (get_or bs n no_bucket).rows row free each.1))
-    where
-      any_bucket : (bs : List (BucketView X)) (n : ℕ) → n < length bs → get_or bs n old ≡ get_or bs n no_bucket
-      any_bucket [] n h = absurd (omega arith)
-      any_bucket (b ∷ bs) zero h = refl
-      any_bucket (b ∷ bs) (suc n) h = any_bucket bs n (omega arith)
+  insert_sorted bs n row old new s is h at e none_of = grind (arith, common_steps, no_row_of, sorted_set, add_remainder, add_apart)
 
   pub bucket_is : (bs : List (BucketView X)) (n : ℕ) (old : BucketView X) → n < length bs → old ≡ get_or bs n old → old ≡ get_or bs n no_bucket
   bucket_is [] n old h e = absurd (omega arith)
@@ -296,19 +257,16 @@ module _ {X : Type 0} where
 
   -- a bucket's change shows at the places of its remainder alone
   pub row_in_set : (bs : List (BucketView X)) (n p : ℕ) (new : BucketView X) → n < length bs → p % length bs ≡ n → row_at (set bs n new) p ≡ find_row p new.rows
-  row_in_set bs n p new h e = ap (λ (k : ℕ). find_row p (get_or (set bs n new) (p % k) no_bucket).rows) (length-set bs n new) ∙ ap (λ (k : ℕ). find_row p (get_or (set bs n new) k no_bucket).rows) e ∙ ap (λ (b : BucketView X). find_row p b.rows) (get_or-set_same bs n new no_bucket h)
+  row_in_set bs n p new h e = grind (arith, length-set, get_or-set_same)
 
   pub row_off_set : (bs : List (BucketView X)) (n p : ℕ) (new : BucketView X) → p % length bs ≢ n → row_at (set bs n new) p ≡ row_at bs p
-  row_off_set bs n p new ne = ap (λ (k : ℕ). find_row p (get_or (set bs n new) (p % k) no_bucket).rows) (length-set bs n new) ∙ ap (λ (b : BucketView X). find_row p b.rows) (get_or-set_other bs n (p % length bs) new no_bucket ne)
+  row_off_set bs n p new ne = grind (arith, length-set, get_or-set_other)
 
   pub insert_here : (bs : List (BucketView X)) (n : ℕ) (row : RowView X) (old new : BucketView X) → n ≡ row.place % length bs → n < length bs → old ≡ get_or bs n old → new.rows ≡ old.rows ++ row ∷ [] → row_at bs row.place ≡ None → row_at (set bs n new) row.place ≡ Some row.keys
-  insert_here bs n row old new is h at e none_of = row_in_set bs n row.place new h (sym is) ∙ ap (λ (l : List (RowView X)). find_row row.place l) e
-      ∙ add_here old.rows row (ap (λ (b : BucketView X). find_row row.place b.rows) (bucket_is bs n old h at) ∙ ap (λ (k : ℕ). find_row row.place (get_or bs k no_bucket).rows) is ∙ none_of)
+  insert_here bs n row old new is h at e none_of = grind (arith, row_in_set, add_here, bucket_is)
 
   pub insert_others : (bs : List (BucketView X)) (n p : ℕ) (row : RowView X) (old new : BucketView X) → n ≡ row.place % length bs → n < length bs → old ≡ get_or bs n old → new.rows ≡ old.rows ++ row ∷ [] → p ≢ row.place → row_at (set bs n new) p ≡ row_at bs p
-  insert_others bs n p row old new is h at e ne = dite (ℕ_discrete (p % length bs) n)
-      (λ same. row_in_set bs n p new h same ∙ ap (λ (l : List (RowView X)). find_row p l) e ∙ add_else p old.rows row ne ∙ ap (λ (b : BucketView X). find_row p b.rows) (bucket_is bs n old h at) ∙ ap (λ (k : ℕ). find_row p (get_or bs k no_bucket).rows) (sym same))
-      (λ off. row_off_set bs n p new off)
+  insert_others bs n p row old new is h at e ne = grind (arith, row_in_set, add_else, bucket_is, row_off_set)
 
   -- where no place has a row, each bucket is empty
   pub all_empty : (bs : List (BucketView X)) → AreSorted bs → ((p : ℕ) → row_at bs p ≡ None) → (n : ℕ) → (get_or bs n no_bucket).rows ≡ []
@@ -321,24 +279,6 @@ module _ {X : Type 0} where
       elsewhere p (x ∷ xs) r h = dite (ℕ_discrete x.place p)
           (λ e. h (ap (λ (p : ℕ). p % length bs) (sym e) ∙ r.0))
           (λ ne. find_tail p x xs ne ∙ elsewhere p xs r.1 (λ e. sym (find_tail p x xs ne) ∙ h e))
-
-  pub empty_sorted : (bs : List (BucketView X)) → 0 < length bs → ((n : ℕ) → (get_or bs n no_bucket).rows ≡ []) → AreSorted bs
-  empty_sorted bs some h = record { some = some; each = λ n small. (subst (λ (l : List (RowView X)). HaveRemainder (length bs) n l) (sym (h n)) tt, subst (λ (l : List (RowView X)). AreApart l) (sym (h n)) tt) }
-
-  pub empty_at : (bs : List (BucketView X)) (p : ℕ) → ((n : ℕ) → (get_or bs n no_bucket).rows ≡ []) → row_at bs p ≡ None
-  empty_at bs p h = ap (λ (l : List (RowView X)). find_row p l) (h (p % length bs))
-
-  pub empty_more : (bs : List (BucketView X)) (b : BucketView X) → b.rows ≡ [] → ((n : ℕ) → (get_or bs n no_bucket).rows ≡ []) → (n : ℕ) → (get_or (bs ++ b ∷ []) n no_bucket).rows ≡ []
-  empty_more [] b e h zero = e
-  empty_more [] b e h (suc n) = h (suc n)
-  empty_more (x ∷ xs) b e h zero = h 0
-  empty_more (x ∷ xs) b e h (suc n) = empty_more xs b e (λ n. h (suc n)) n
-
-  pub empty_less : (bs : List (BucketView X)) (k : ℕ) → ((n : ℕ) → (get_or bs n no_bucket).rows ≡ []) → (n : ℕ) → (get_or (take k bs) n no_bucket).rows ≡ []
-  empty_less bs zero h n = refl
-  empty_less [] (suc k) h n = refl
-  empty_less (x ∷ xs) (suc k) h zero = h 0
-  empty_less (x ∷ xs) (suc k) h (suc n) = empty_less xs k (λ n. h (suc n)) n
 
   pub changed_sorted : (bs : List (BucketView X)) (n : ℕ) (old new : BucketView X) → AreSorted bs → n < length bs → old ≡ get_or bs n old
       → ((places m : ℕ) → HaveRemainder places m old.rows → HaveRemainder places m new.rows) → AreApart new.rows → AreSorted (set bs n new)

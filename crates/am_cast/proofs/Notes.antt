@@ -3,7 +3,7 @@ use Rattle.std.proofs.Common.{◌≡◌, ◌≢◌, ℕ, zero, suc, ◌<◌, Lis
 use Rattle.std.specs.List.{Contains}
 use mathlib.Core.Logic.{dite}
 use mathlib.Core.Option as maybe
-use mathlib.Core.Option.{none, some, some-injective}
+use mathlib.Core.Option.{none, some}
 use native.Mathlib.Decide.{ℕ_discrete}
 use lib.ListN.{get_elem?}
 use Rattle.atomic_table.specs.Table.{step}
@@ -12,7 +12,7 @@ use Rattle.am_steps.specs.declared.poster.Poster.{Poster}
 use Rattle.am_steps.specs.declared.event.Event.TheVariants as does
 use Rattle.am_steps.specs.States.{Core}
 use Rattle.am_steps.specs.Steps as steps
-use Rattle.am_steps.specs.Steps.{Step, SameLog, MayOwn, OnlyPoster}
+use Rattle.am_steps.specs.Steps.{Step, MayOwn, OnlyPoster}
 use Rattle.am_steps.specs.Runs.{LeadsTo, then as leads}
 use Rattle.am_steps.specs.Runs as runs
 use Rattle.am_cast.specs.declared.views.Tail.{Tail}

@@ -64,12 +64,10 @@ module _ {B K A : Type 0} (key : B → ℕ → K) where
       splits_to s r id v (copied v) r.lane_seat r.owner r.spare (r.each_seat id v at) record { writer = tt; lane_is = tt; noted = prefix_nil r.tail.log; counts = omega arith; counted = λ k o _ a. absurd (omega arith); heard = h.0; whole = h.1; owns = owns_nothing r.tail.log r.owner (length s.views) } (λ j u ne e. r.each_seat j u e)
 
   pub dealt_else : (t : Tail B) (seat : ℕ) (account : ℕ → Account K A) (lane : ℕ → LaneView B A) (lane_seat : ℕ → ℕ) (l new id j : ℕ) → lane_seat l ≡ id → j ≢ id → (ln : Option (LaneView B A)) → HasLane t seat account lane lane_seat j ln → HasLane t seat account lane (put lane_seat l new) j ln
-  dealt_else t seat account lane lane_seat l new id j mine ne None k = tt
-  dealt_else t seat account lane lane_seat l new id j mine ne (Some v) k = (k.0, k.1, put_else lane_seat l new v.number (λ e. ne (sym k.2 ∙ ap lane_seat e ∙ mine)) ∙ k.2, k.3)
+  dealt_else t seat account lane lane_seat l new id j mine ne ln k = grind (arith, put_else)
 
   pub any_writer : (t : Tail B) (seat : ℕ) (account : ℕ → Account K A) (lane : ℕ → LaneView B A) (lane_seat lane_seat' : ℕ → ℕ) (j : ℕ) (dk : Option (WriterView B K A)) → HasWriter t seat account lane lane_seat j dk → HasWriter t seat account lane lane_seat' j dk
-  any_writer t seat account lane lane_seat lane_seat' j None k = tt
-  any_writer t seat account lane lane_seat lane_seat' j (Some q) k = k
+  any_writer t seat account lane lane_seat lane_seat' j dk k = grind arith
 
   -- the lane gets a seat of its own
   unfoldable pub deals : (id : ℕ) (w : View B K A) (v : LaneView B A) → w.lane ≡ Some v → Splits (Ruled key) id w (without_lane w) (only_lane w)
@@ -110,28 +108,22 @@ module _ {B K A : Type 0} (key : B → ℕ → K) where
 
   module _ (t : Tail B) (seat : ℕ) (account : ℕ → Account K A) (lane : ℕ → LaneView B A) (lane_seat : ℕ → ℕ) (to from : ℕ) where
     pub writer_else : (j : ℕ) → j ≢ from → (dk : Option (WriterView B K A)) → HasWriter t seat account lane lane_seat j dk → HasWriter t (becomes to from seat) account lane (λ l. becomes to from (lane_seat l)) j dk
-    writer_else j ne None k = tt
-    writer_else j ne (Some q) k = (k.0, k.1, k.2, k.3 ∙ sym (becomes_else to from seat (λ e. ne (k.3 ∙ e))))
+    writer_else j ne dk k = grind (arith, becomes_else)
 
     pub writer_came : (dk : Option (WriterView B K A)) → HasWriter t seat account lane lane_seat from dk → HasWriter t (becomes to from seat) account lane (λ l. becomes to from (lane_seat l)) to dk
-    writer_came None k = tt
-    writer_came (Some q) k = (k.0, k.1, k.2, sym (becomes_here to from seat (sym k.3)))
+    writer_came dk k = grind (arith, becomes_here)
 
     pub lane_else : (j : ℕ) → j ≢ from → (ln : Option (LaneView B A)) → HasLane t seat account lane lane_seat j ln → HasLane t (becomes to from seat) account lane (λ l. becomes to from (lane_seat l)) j ln
-    lane_else j ne None k = tt
-    lane_else j ne (Some v) k = (k.0, k.1, becomes_else to from (lane_seat v.number) (λ e. ne (sym k.2 ∙ e)) ∙ k.2, k.3)
+    lane_else j ne ln k = grind (arith, becomes_else)
 
     pub lane_came : (ln : Option (LaneView B A)) → HasLane t seat account lane lane_seat from ln → HasLane t (becomes to from seat) account lane (λ l. becomes to from (lane_seat l)) to ln
-    lane_came None k = tt
-    lane_came (Some v) k = (k.0, k.1, becomes_here to from (lane_seat v.number) k.2, k.3)
+    lane_came ln k = grind (arith, becomes_here)
 
     pub writer_both : to ≢ from → (a b : Option (WriterView B K A)) → HasWriter t seat account lane lane_seat to a → HasWriter t seat account lane lane_seat from b → HasWriter t (becomes to from seat) account lane (λ l. becomes to from (lane_seat l)) to (either_one a b)
-    writer_both ne (Some q) b j k = writer_else to ne (Some q) j
-    writer_both ne None b j k = writer_came b k
+    writer_both ne a b j k = grind (arith, writer_else, writer_came)
 
     pub lane_both : to ≢ from → (a b : Option (LaneView B A)) → HasLane t seat account lane lane_seat to a → HasLane t seat account lane lane_seat from b → HasLane t (becomes to from seat) account lane (λ l. becomes to from (lane_seat l)) to (either_one a b)
-    lane_both ne (Some v) b j k = lane_else to ne (Some v) j
-    lane_both ne None b j k = lane_came b k
+    lane_both ne a b j k = grind (arith, lane_else, lane_came)
 
   -- a seat takes in all of another's
   unfoldable pub hears : (id other : ℕ) (v w : View B K A) → Joins (Ruled key) id v other w (both_of v w) blank

@@ -5,7 +5,7 @@ use Rattle.std.proofs.lemmas.Bool.{eq-eqb, ne_eqb, le-ltb, cases_lt}
 use Rattle.std.proofs.lemmas.Option.{none-some}
 use mathlib.Core.Logic.{dite}
 use mathlib.Core.Option as maybe
-use mathlib.Core.Option.{some, some-injective}
+use mathlib.Core.Option.{some}
 use native.Mathlib.Decide.{ℕ_discrete}
 use lib.ListN.{get_elem?}
 use Rattle.am_steps.specs.declared.lane_record.LaneRecord.{LaneRecord}
@@ -22,7 +22,7 @@ use Rattle.am_cast.specs.declared.views.WriterView.{WriterView}
 use Rattle.am_cast.specs.declared.views.View.{View}
 use Rattle.am_cast.specs.Rule.{idle, live, cut, vacated, Sound, HasWriter, Ruled}
 use Rattle.am_cast.specs.Core.{record_behind, cursor_behind, used_lane, lane_standing, lane_behind, post_of, poster_behind, view_or_blank, state_of}
-use Rattle.am_cast.specs.Freed.{only_used, record_kept, IsOut, IsGathered, IsFreedFor}
+use Rattle.am_cast.specs.Freed.{record_kept, IsOut, IsGathered, IsFreedFor}
 use Rattle.am_cast.specs.Seats.{account_of}
 use Rattle.am_cast.proofs.Kept.{St, same_some}
 use Rattle.am_cast.proofs.Slots.{at_length, prefix_length}
@@ -64,19 +64,10 @@ module _ {B K A : Type 0} where
 
   -- which lanes have a record, and which
   record_tells : (b : Account K A) (v : LaneView B A) (m : LaneRecord) → record_of (lane_behind b v) ≡ Some m → IsUsed b.stand × (record_behind b ≡ m)
-  record_tells b v m e =
-      let st = standing_record b.stand (used_lane v.here v.begun (record_behind b) (cursor_behind v)) m e in
-      (st.0, same_some (record_behind b) m (Some (record_behind b)) refl (sym (used_record v.here v.begun (record_behind b) (cursor_behind v)) ∙ st.1))
+  record_tells b v m e = grind (arith, standing_record, same_some, used_record)
 
   behind_at_most : (t : Tail B) (b : Account K A) (v : LaneView B A) (l : ℕ) (m : LaneRecord) → Sound t b v l → record_of (lane_behind b v) ≡ Some m → m.cut ≡ false → length t.log - m.known ≤ t.places
-  behind_at_most t b v l m sd e uncut =
-      let r = record_tells b v m e in let known : b.known ≡ m.known = ap (λ (m : LaneRecord). m.known) r.1 in
-      let alive : b.stand ≡ live = live_by b r.0 (ap (λ (m : LaneRecord). m.cut) r.1 ∙ uncut) in
-      let lives = sd.counts.lives alive in let stop = lives.0 in let cleared = lives.1 in let room = sd.counts.room in omega arith
-    where
-      live_by : (b : Account K A) → IsUsed b.stand → (b.stand == cut) ≡ false → b.stand ≡ live
-      live_by b (inl e) f = e
-      live_by b (inr e) f = absurd (true≢false (sym (cut_flag b e) ∙ f))
+  behind_at_most t b v l m sd e uncut = grind (arith, record_tells, true≢false, cut_flag)
 
 module _ {B : Type 0} where
   -- own posts by their places
@@ -94,7 +85,7 @@ module _ {B : Type 0} where
 
 module _ {B K A : Type 0} (key : B → ℕ → K) where
   poster_sound : (s : St B K A) (r : Ruled key s) (j : ℕ) (o : maybe.Option (View B K A)) → get_elem? s.views j ≡ o → IsPosterSound r.tail.log (poster_behind (view_or_blank o))
-  poster_sound s r j maybe.none e = record { places_known = omega arith; own = posts_sound r.tail.log 0 [] (λ k o f. absurd (let h = at_length {A = Own B} [] k o f in omega arith)) }
+  poster_sound s r j maybe.none e = grind (arith, posts_sound, at_length)
   poster_sound s r j (some w) e = let ok = r.each_seat j w e in record {
     places_known = prefix_length w.noted r.tail.log ok.noted;
     own = posts_sound r.tail.log (length w.noted) (take w.counted w.own) (λ k o f. let t = taken_at w.own w.counted k o f in ((ok.owns.each k o t.0).0, ok.counted k o t.0 t.1));
@@ -102,31 +93,14 @@ module _ {B K A : Type 0} (key : B → ℕ → K) where
 
   -- what a table shows is a sound state of the core
   pub is_sound : (s : St B K A) (r : Ruled key s) (posters : ℕ) (seat_of : ℕ → ℕ) → IsSound (state_of posters seat_of r)
-  is_sound s r posters seat_of = record {
-    lane = λ l. elim (cases_lt l 8) [
-      | inl small ↦ subst (IsLaneSound r.tail.log r.tail.closed) (sym (inside l (lane_behind (r.account l) (r.lane l)) small)) (lane_sound r.tail (r.account l) (r.lane l) l (r.each_lane l small).sound)
-      | inr big ↦ subst (λ (b : Bool). IsLaneSound r.tail.log r.tail.closed (if b then lane_behind (r.account l) (r.lane l) else Idle)) (sym (le-ltb l 8 big)) tt
-    ];
-    behind = λ l m is uncut. elim (cases_lt l 8) [
-      | inl small ↦ behind_at_most r.tail (r.account l) (r.lane l) l m (r.each_lane l small).sound (ap (λ (x : Lane B). record_of x) (sym (inside l (lane_behind (r.account l) (r.lane l)) small)) ∙ is) uncut
-      | inr big ↦ absurd (none-some m (ap (λ (b : Bool). record_of (if b then lane_behind (r.account l) (r.lane l) else Idle)) (sym (le-ltb l 8 big)) ∙ is))
-    ];
-    poster = λ p. poster_sound s r (seat_of p) (get_elem? s.views (seat_of p)) refl;
-  }
+  is_sound s r posters seat_of = grind (arith, cases_lt, inside, lane_sound, le-ltb, behind_at_most, none-some, poster_sound)
 
 module _ {K A : Type 0} where
   kept_is : (b : Account K A) → IsUsed b.stand → record_kept b ≡ Some (record_behind b)
-  kept_is b (inl e) = ap (λ (n : ℕ). only_used n (record_behind b)) e
-  kept_is b (inr e) = ap (λ (n : ℕ). only_used n (record_behind b)) e
+  kept_is b y = grind arith
 
   kept_tells : (b : Account K A) (m : LaneRecord) → record_kept b ≡ Some m → IsUsed b.stand × (record_behind b ≡ m)
-  kept_tells b m e = by b.stand m (record_behind b) e
-    where
-      by : (n : ℕ) (m m' : LaneRecord) → only_used n m' ≡ Some m → IsUsed n × (m' ≡ m)
-      by zero m m' e = absurd (none-some m e)
-      by (suc zero) m m' e = (inl refl, same_some m' m (Some m') refl e)
-      by (suc (suc zero)) m m' e = (inr refl, same_some m' m (Some m') refl e)
-      by (suc (suc (suc n))) m m' e = absurd (none-some m e)
+  kept_tells b m e = grind (arith, none-some, same_some)
 
   -- where a key is out, the core's writer keeps it
   pub out_is_kept : (b : Account K A) (i : ℕ) → IsGathered b → IsOut b i → (m : LaneRecord) × (record_kept b ≡ Some m) × KeepsKey m i
@@ -139,21 +113,11 @@ module _ {K A : Type 0} where
 
   -- and a key that it keeps is out
   pub kept_is_out : (b : Account K A) (i : ℕ) (m : LaneRecord) → IsGathered b → (b.stand ≡ live → i < b.stop) → record_kept b ≡ Some m → KeepsKey m i → IsOut b i
-  kept_is_out b i m g inside e keeps = let k = kept_tells b m e in by k.0 (subst (λ (m : LaneRecord). KeepsKey m i) (sym k.1) keeps)
-    where
-      by : IsUsed b.stand → KeepsKey (record_behind b) i → IsOut b i
-      by (inl e) keeps = let h = subst (λ (f : Bool). cond f ((record_behind b).key_out ≡ true × (i ≡ b.known)) ((b.start ≤ i) × (b.known ≤ i))) (ne_eqb b.stand cut (λ z. omega arith)) keeps in let h₁ = h.1 in let at = g.live_is e in inl (omega arith, inside e)
-      by (inr e) keeps = let is = cut_flag b e in inr (subst (λ (f : Bool). cond f (((if f then b.away else (b.half % 2 == 1)) ≡ true) × (i ≡ b.known)) ((b.start ≤ i) × (b.known ≤ i))) is keeps)
+  kept_is_out b i m g inside e keeps = grind (arith, kept_tells, ne_eqb, inside, cut_flag)
 
 module _ {B K A : Type 0} where
   record_of_behind : (b : Account K A) (v : LaneView B A) → record_of (lane_behind b v) ≡ record_kept b
-  record_of_behind b v = by b.stand (used_lane v.here v.begun (record_behind b) (cursor_behind v)) (record_behind b) (used_record v.here v.begun (record_behind b) (cursor_behind v))
-    where
-      by : (n : ℕ) (x : Lane B) (m : LaneRecord) → record_of x ≡ Some m → record_of (lane_standing n x) ≡ only_used n m
-      by zero x m e = refl
-      by (suc zero) x m e = e
-      by (suc (suc zero)) x m e = e
-      by (suc (suc (suc n))) x m e = refl
+  record_of_behind b v = grind (arith, used_record)
 
 module _ {B K A : Type 0} (key : B → ℕ → K) where
   account_is : (s : St B K A) (r : Ruled key s) (id : ℕ) (u : View B K A) (q : WriterView B K A) → get_elem? s.views id ≡ some u → u.writer ≡ Some q → (q.tail ≡ r.tail) × ((l : ℕ) → l < 8 → account_of q l ≡ r.account l)
@@ -181,4 +145,4 @@ module _ {B K A : Type 0} (key : B → ℕ → K) where
   freed_is_home q i l small g f out = let k = out_is_kept (account_of q l) i g out in f.1 l k.0 small k.1 k.2
 
   pub home_is_freed : (q : WriterView B K A) (i : ℕ) → i < length q.tail.log → ((l : ℕ) → l < 8 → IsGathered (account_of q l) × ((account_of q l).stand ≡ live → (account_of q l).stop ≡ length q.tail.log) × (IsOut (account_of q l) i → ⊥)) → IsFreedFor q i
-  home_is_freed q i inside all = (inside, λ l m small e keeps. let a = all l small in a.2 (kept_is_out (account_of q l) i m a.0 (λ alive. let stop = a.1 alive in omega arith) e keeps))
+  home_is_freed q i inside all = grind (arith, inside, kept_is_out)

@@ -1,5 +1,5 @@
 -- Slots of a lane, beginnings of the log, functions changed at one number, and own places.
-use Rattle.std.proofs.Common.{Option, Bool, true, false, nat_eq, None, ◌/◌, ◌≡◌, ◌≢◌, ℕ, zero, suc, ◌+◌, ◌-◌, ◌*◌, ◌%◌, ◌<◌, ◌≤◌, List, [], ◌∷◌, ◌++◌, length, sym, refl, ap, ◌∙◌, subst, ⊎_elim, ◌⊎◌, inl, inr, arith, length-append, append_assoc, mod-lt, div-add-mod', mul_comm}
+use Rattle.std.proofs.Common.{Option, Bool, None, ◌/◌, ◌≡◌, ◌≢◌, ℕ, zero, suc, ◌+◌, ◌-◌, ◌*◌, ◌%◌, ◌<◌, ◌≤◌, List, [], ◌∷◌, ◌++◌, length, sym, refl, ap, ◌∙◌, subst, ⊎_elim, ◌⊎◌, inl, inr, arith, length-append, append_assoc, mod-lt, div-add-mod', mul_comm}
 use Rattle.std.proofs.Math.Nat.{add-mul-mod_self_left}
 use mathlib.Core.Logic.{dite}
 use mathlib.Core.Option.{some, some-ne-none, some-injective}
@@ -8,7 +8,7 @@ use native.Mathlib.Decide.{ℕ_discrete, dec_le}
 use lib.ListN.{get_elem?}
 use Rattle.atomic_table.proofs.Lists.{one_turn}
 use Rattle.am_cast.specs.declared.views.Own.{Own}
-use Rattle.am_cast.specs.Rule.{slot, bit, tail_word, IsApart, Once, Owns}
+use Rattle.am_cast.specs.Rule.{slot, bit, IsApart, Once, Owns}
 
 abbrev pick : {P A : Type 0} → Dec P → A → A → A
 pick (yes _) a b = a
@@ -19,19 +19,11 @@ put f i c j = pick (ℕ_discrete j i) c (f j)
 
 pub put_here : {A : Type 0} (f : ℕ → A) (i : ℕ) (c : A) → put f i c i ≡ c
 unfolding put
-put_here {A} f i c = go (ℕ_discrete i i)
-  where
-    go : (d : Dec (i ≡ i)) → pick d c (f i) ≡ c
-    go (yes _) = refl
-    go (no n) = absurd (n refl)
+put_here {A} f i c = grind arith
 
 pub put_else : {A : Type 0} (f : ℕ → A) (i : ℕ) (c : A) (j : ℕ) → j ≢ i → put f i c j ≡ f j
 unfolding put
-put_else {A} f i c j other = go (ℕ_discrete j i)
-  where
-    go : (d : Dec (j ≡ i)) → pick d c (f j) ≡ f j
-    go (yes e) = absurd (other e)
-    go (no _) = refl
+put_else {A} f i c j other = grind arith
 
 -- what was there is put there again
 pub put_same : {A : Type 0} (f : ℕ → A) (i : ℕ) (c : A) (j : ℕ) → c ≡ f i → put f i c j ≡ f j
@@ -43,25 +35,15 @@ becomes to from n = pick (ℕ_discrete n from) to n
 
 pub becomes_here : (to from n : ℕ) → n ≡ from → becomes to from n ≡ to
 unfolding becomes
-becomes_here to from n e = go (ℕ_discrete n from)
-  where
-    go : (d : Dec (n ≡ from)) → pick d to n ≡ to
-    go (yes _) = refl
-    go (no ne) = absurd (ne e)
+becomes_here to from n e = grind arith
 
 pub becomes_else : (to from n : ℕ) → n ≢ from → becomes to from n ≡ n
 unfolding becomes
-becomes_else to from n ne = go (ℕ_discrete n from)
-  where
-    go : (d : Dec (n ≡ from)) → pick d to n ≡ n
-    go (yes e) = absurd (ne e)
-    go (no _) = refl
+becomes_else to from n ne = grind arith
 
 -- two places in one turn of the ring have slots of their own
 pub apart : (p l k i j : ℕ) → k ≤ i → i < k + p → k ≤ j → j < k + p → i ≢ j → slot p l i ≢ slot p l j
-apart p l k i j a b c d ne e =
-    let same : i % p ≡ j % p = omega (arith, e) in
-    dite (dec_le i j) (λ le. ne (one_turn i j p le (omega arith) same)) (λ gt. ne (sym (one_turn j i p (omega arith) (omega arith) (sym same))))
+apart p l k i j a b c d ne e = grind (arith, dec_le, one_turn)
 
 -- two lanes have slots of their own
 pub other_lane : (p l m i j : ℕ) → l < 8 → m < 8 → l ≢ m → slot p l i ≢ slot p m j
@@ -125,17 +107,8 @@ module _ {A : Type 0} where
   pub prefix_back : (xs ys : List A) (i : ℕ) (a : A) → IsPrefix xs ys → i < length xs → get_elem? ys i ≡ some a → get_elem? xs i ≡ some a
   prefix_back xs ys i a p h e = let x = at_below xs i h in x.1 ∙ sym (prefix_at xs ys i x.0 p x.1) ∙ e
 
-pub tail_length : (n k : ℕ) (b : Bool) → n ≡ tail_word k b → n / 2 ≡ k
-tail_length n k true e = omega arith
-tail_length n k false e = omega arith
-
-pub tail_closed : (n k : ℕ) (b : Bool) → n ≡ tail_word k b → nat_eq (n % 2) 1 ≡ b
-tail_closed n k true e = let h : n % 2 ≡ 1 = omega arith in ap (λ (m : ℕ). nat_eq m 1) h
-tail_closed n k false e = let h : n % 2 ≡ 0 = omega arith in ap (λ (m : ℕ). nat_eq m 1) h
-
 pub bit_small : (b : Bool) → bit b < 2
-bit_small true = omega arith
-bit_small false = omega arith
+bit_small b = grind arith
 
 module _ {B : Type 0} where
   pub owns_nothing : (log : List B) (owner : ℕ → ℕ) (j : ℕ) → Owns log owner j []

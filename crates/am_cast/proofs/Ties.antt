@@ -1,5 +1,5 @@
 -- Each kind of step is these events of the core.
-use Rattle.std.proofs.Common.{◌≡◌, ◌≢◌, ℕ, zero, suc, ◌+◌, ◌*◌, ◌/◌, ◌%◌, ◌<◌, ◌≤◌, ◌⊎◌, inl, inr, List, [], ◌∷◌, ◌++◌, length, take, drop, set, get_or, sym, refl, ap, ◌∙◌, subst, arith, Some, Bool, true, false, true≢false, ◌||◌, ◌==◌, nat_lt, if◌then◌else◌, slice_get}
+use Rattle.std.proofs.Common.{◌≡◌, ◌≢◌, ℕ, zero, suc, ◌+◌, ◌*◌, ◌/◌, ◌%◌, ◌<◌, ◌≤◌, ◌⊎◌, inl, inr, List, [], ◌∷◌, ◌++◌, length, take, drop, set, get_or, sym, refl, ap, ◌∙◌, subst, arith, Some, Bool, true, false, true≢false, ◌||◌, ◌==◌, nat_lt, if◌then◌else◌, slice_get, rules}
 use Rattle.std.proofs.lemmas.Bool.{eq-eqb, ne_eqb, lt-ltb, le-ltb, cases_lt}
 use Rattle.std.proofs.lemmas.Option.{none-some}
 use mathlib.Core.Logic.{dite}
@@ -8,6 +8,8 @@ use mathlib.Core.Option as maybe
 use mathlib.Core.Option.{some, some-injective}
 use native.Mathlib.Decide.{ℕ_discrete}
 use lib.ListN.{get_elem?}
+use Rattle.std.proofs.lemmas.List.{drop_all, length-take-le, drop-append-le}
+use Rattle.am_steps.proofs.Common.{take_more_at, slice_get_append}
 use lib.Seq.{take-append-le}
 use Rattle.atomic_table.proofs.Lists.{set_here, set_else}
 use Rattle.am_steps.specs.declared.lane_record.LaneRecord.{LaneRecord}
@@ -19,7 +21,7 @@ use Rattle.am_steps.specs.declared.event.Event as event
 use Rattle.am_steps.specs.declared.event.Event.TheVariants as does
 use Rattle.am_steps.specs.States.{Core, record_of, with_record, word_of, new_record}
 use Rattle.am_steps.specs.Steps as steps
-use Rattle.am_steps.specs.Steps.{Step, SameLog, OnlyLane, OnlyLog, MayGrow, one_further}
+use Rattle.am_steps.specs.Steps.{Step, SameLog, OnlyLane, MayGrow}
 use Rattle.am_steps.specs.Runs.{LeadsTo, none, then as leads}
 use Rattle.am_cast.specs.declared.views.Tail.{Tail}
 use Rattle.am_cast.specs.declared.views.Account.{Account}
@@ -36,42 +38,13 @@ use Rattle.am_cast.proofs.Slots.{at_length, at_below}
 
 module _ {X : Type 0} where
   pub get_at : (xs : List X) (i : ℕ) (x : X) → get_elem? xs i ≡ some x → slice_get xs i ≡ Some x
-  get_at [] i x e = absurd (no_none e)
-    where
-      no_none : get_elem? {A = X} [] i ≡ some x → ⊥
-      no_none e = let h = at_length {A = X} [] i x e in omega arith
+  get_at [] i x e = grind (arith, at_length)
   get_at (y ∷ ys) zero x e = ap (λ z. Some z) (some-injective y x e)
   get_at (y ∷ ys) (suc i) x e = get_at ys i x e
-
-  more_at : (xs : List X) (n : ℕ) (x : X) → slice_get xs n ≡ Some x → take (suc n) xs ≡ take n xs ++ x ∷ []
-  more_at [] n x e = absurd (none-some x e)
-  more_at (y ∷ ys) zero x e = ap (λ z. z ∷ []) (same_some y x (Some y) refl e)
-  more_at (y ∷ ys) (suc n) x e = ap (λ (zs : List X). y ∷ zs) (more_at ys n x e)
-
-  taken_length : (xs : List X) (n : ℕ) → n ≤ length xs → length (take n xs) ≡ n
-  taken_length xs zero h = refl
-  taken_length [] (suc n) h = absurd (omega arith)
-  taken_length (x ∷ xs) (suc n) h = ap suc (taken_length xs n (omega arith))
-
-  dropped_end : (xs : List X) (n : ℕ) (x : X) → n ≤ length xs → drop n (xs ++ x ∷ []) ≡ drop n xs ++ x ∷ []
-  dropped_end xs zero x h = refl
-  dropped_end [] (suc n) x h = absurd (omega arith)
-  dropped_end (y ∷ ys) (suc n) x h = dropped_end ys n x (omega arith)
-
-  all_dropped : (xs : List X) (n : ℕ) → length xs ≡ n → drop n xs ≡ []
-  all_dropped [] zero e = refl
-  all_dropped [] (suc n) e = refl
-  all_dropped (x ∷ xs) zero e = absurd (omega arith)
-  all_dropped (x ∷ xs) (suc n) e = all_dropped xs n (omega arith)
 
   -- the first so many of a longer list
   pub first_of : (xs ys : List X) (n : ℕ) → IsPrefix xs ys → n ≤ length xs → take n ys ≡ take n xs
   first_of xs ys n p h = ap (λ (l : List X). take n l) (sym p.1) ∙ take-append-le n xs p.0 h
-
-  prefix_get : (xs ys : List X) (i : ℕ) (x : X) → slice_get xs i ≡ Some x → slice_get (xs ++ ys) i ≡ Some x
-  prefix_get [] ys i x e = absurd (none-some x e)
-  prefix_get (y ∷ xs) ys zero x e = e
-  prefix_get (y ∷ xs) ys (suc i) x e = prefix_get xs ys i x e
 
 -- a lane that isn't idle, and not found vacated
 abbrev pub IsUsed : ℕ → Type 0
@@ -82,15 +55,11 @@ used_by n a b c = dite (ℕ_discrete n live) (λ e. inl e) (λ ne. inr (omega ar
 
 module _ {B : Type 0} where
   standing : (n : ℕ) (v : Lane B) → IsUsed n → lane_standing n v ≡ v
-  standing n v (inl e) = ap (λ (n : ℕ). lane_standing n v) e
-  standing n v (inr e) = ap (λ (n : ℕ). lane_standing n v) e
+  standing n v z = grind arith
 
   -- only a used lane has a record
   pub standing_record : (n : ℕ) (v : Lane B) (m : LaneRecord) → record_of (lane_standing n v) ≡ Some m → IsUsed n × (record_of v ≡ Some m)
-  standing_record zero v m e = absurd (none-some m e)
-  standing_record (suc zero) v m e = (inl refl, e)
-  standing_record (suc (suc zero)) v m e = (inr refl, e)
-  standing_record (suc (suc (suc n))) v m e = absurd (none-some m e)
+  standing_record n v m e = grind (arith, none-some)
 
   pub inside : (l : ℕ) (v : Lane B) → l < 8 → (if nat_lt l 8 then v else Idle) ≡ v
   inside l v small = ap (λ (b : Bool). if b then v else Idle) (lt-ltb l 8 small)
@@ -99,14 +68,10 @@ module _ {B : Type 0} where
   one c d e s = leads c d d e [] s (none d)
 
   pub used_record : (here begun : Bool) (m : LaneRecord) (r : Cursor B) → record_of (used_lane here begun m r) ≡ Some m
-  used_record true true m r = refl
-  used_record true false m r = refl
-  used_record false begun m r = refl
+  used_record here begun m r = grind arith
 
   used_with : (here begun : Bool) (m n : LaneRecord) (r : Cursor B) → used_lane here begun n r ≡ with_record n (used_lane here begun m r)
-  used_with true true m n r = refl
-  used_with true false m n r = refl
-  used_with false begun m n r = refl
+  used_with here begun m n r = grind arith
 
 module _ {B : Type 0} where
   found_gone : (l n : ℕ) → n ≡ gone → found_events {B = B} l n ≡ does.Retire l ∷ []
@@ -134,12 +99,10 @@ module _ {B : Type 0} where
   home_used l stand ne = ap (λ (b : Bool). if b then [] else (does.Retire l ∷ [])) (ne_eqb stand vacated ne)
 
 bit_tells : (h : Bool) (n : ℕ) → n ≡ bit h → (n == 1) ≡ h
-bit_tells true n e = ap (λ (n : ℕ). n == 1) e
-bit_tells false n e = ap (λ (n : ℕ). n == 1) e
+bit_tells h n e = grind arith
 
 or_true : (b : Bool) → (b || true) ≡ true
-or_true true = refl
-or_true false = refl
+or_true b = grind arith
 
 pub by_bool : (b : Bool) {P : Type 0} → (b ≡ true → P) → (b ≡ false → P) → P
 by_bool true f g = f refl
@@ -147,7 +110,7 @@ by_bool false f g = g refl
 
 module _ {K A : Type 0} where
   live_flags : (b : Account K A) → b.stand ≡ live → (n : ℕ) (h : Bool) → b.half % 2 ≡ bit h → (is_key_out b ≡ h) × ((b.stand == cut) ≡ false)
-  live_flags b e n h f = let uncut : (b.stand == cut) ≡ false = ne_eqb b.stand cut (λ z. omega arith) in (ap (λ (c : Bool). if c then b.away else (b.half % 2 == 1)) uncut ∙ bit_tells h (b.half % 2) f, uncut)
+  live_flags b e n h f = grind (arith, ne_eqb, bit_tells)
 
   pub cut_flag : (b : Account K A) → b.stand ≡ cut → (b.stand == cut) ≡ true
   cut_flag b e = eq-eqb b.stand cut e
@@ -171,18 +134,14 @@ module _ {B K A : Type 0} where
 
   -- the word that it shows
   word_is : (t : Tail B) (b : Account K A) (v : LaneView B A) (l : ℕ) → Sound t b v l → IsUsed b.stand → v.here ≡ true → word_of (lane_behind b v) ≡ Some (record { passed = v.passed; held = v.held })
-  word_is t b v l sd used here = by_bool v.begun
-      (λ (begun : v.begun ≡ true). ap (λ (x : Lane B). word_of x) (open_is b v used here begun))
-      (λ (fresh : v.begun ≡ false). let u = sd.seen.unbegun here fresh in ap (λ (x : Lane B). word_of x) (admitted_is b v used here fresh) ∙ (λ i. Some (record { passed = (sym sd.start ∙ sym u.passed) i; held = sym u.held i })))
+  word_is t b v l sd used here = grind (arith, by_bool, open_is, admitted_is)
 
   -- another record
   with_is : (b b' : Account K A) (v : LaneView B A) (m : LaneRecord) → IsUsed b.stand → IsUsed b'.stand → record_behind b' ≡ m → lane_behind b' v ≡ with_record m (lane_behind b v)
-  with_is b b' v m used used' e = used_is b' v used' ∙ used_with v.here v.begun (record_behind b) (record_behind b') (cursor_behind v) ∙ (λ i. with_record (e i) (sym (used_is b v used) i))
+  with_is b b' v m used used' e = grind (arith, used_is, used_with)
 
   grown_is : (n : ℕ) (b : Account K A) (v : LaneView B A) → lane_behind (grown_as n b) v ≡ lane_behind b v
-  grown_is zero b v = refl
-  grown_is (suc zero) b v = refl
-  grown_is (suc (suc n)) b v = refl
+  grown_is n b v = grind arith
 
   module _ (posters : ℕ) (poster poster' : ℕ → Poster B) (still : (p : ℕ) → poster' p ≡ poster p) where
     abbrev before : Behind B K A → Core B
@@ -201,15 +160,10 @@ module _ {B K A : Type 0} where
     lane_same c d k e = ap (λ (v : Lane B). if nat_lt k 8 then v else Idle) e
 
     same_log : (c d : Behind B K A) → d.tail ≡ c.tail → SameLog (before c) (after d)
-    same_log c d e = record { places = ap (λ (t : Tail B). t.places) e; log = ap (λ (t : Tail B). t.log) e; closed = ap (λ (t : Tail B). t.closed) e; lanes = refl; posters = refl }
+    same_log c d e = grind arith
 
     only : (c d : Behind B K A) (l : ℕ) (v : Lane B) → l < 8 → d.tail ≡ c.tail → ((m : ℕ) → m ≢ l → d.account m ≡ c.account m) → ((m : ℕ) → m ≢ l → d.lane m ≡ c.lane m) → lane_behind (d.account l) (d.lane l) ≡ v → OnlyLane (before c) l v (after d)
-    only c d l v small t accounts lanes e = record {
-      same = same_log c d t;
-      here = lane_now d l v small e;
-      other = λ k ne. lane_same c d k (λ i. lane_behind (accounts k ne i) (lanes k ne i));
-      poster = still;
-    }
+    only c d l v small t accounts lanes e = grind (arith, same_log, lane_now, lane_same)
 
     -- one lane is now v
     lane_only : (c d : Behind B K A) (l : ℕ) (w : LaneView B A) (v : Lane B) → l < 8 → LaneTo c d l w → lane_behind (c.account l) w ≡ v → OnlyLane (before c) l v (after d)
@@ -221,10 +175,7 @@ module _ {B K A : Type 0} where
 
     -- nothing that the core sees has changed
     silent : (c d : Behind B K A) → d.tail ≡ c.tail → ((l : ℕ) → lane_behind (d.account l) (d.lane l) ≡ lane_behind (c.account l) (c.lane l)) → before c ≡ after d
-    silent c d t lanes = λ i. core_as (sym t i) (λ l. sym (lanes l) i) (λ p. sym (still p) i)
-      where
-        core_as : Tail B → (ℕ → Lane B) → (ℕ → Poster B) → Core B
-        core_as t lane poster = record { places = t.places; log = t.log; closed = t.closed; lanes = 8; lane = λ l. if nat_lt l 8 then lane l else Idle; posters = posters; poster = poster }
+    silent c d t lanes = grind arith
 
     quiet : (c d : Behind B K A) → d.tail ≡ c.tail → ((l : ℕ) → lane_behind (d.account l) (d.lane l) ≡ lane_behind (c.account l) (c.lane l)) → LeadsTo (before c) [] (after d)
     quiet c d t lanes = subst (LeadsTo (before c) []) (silent c d t lanes) (none (before c))
@@ -243,7 +194,8 @@ module _ {B K A : Type 0} where
     opens_step : (c d : Behind B K A) (l : ℕ) → IsSoundBehind c → l < 8 → (c.lane l).here ≡ true → (c.lane l).begun ≡ false → LaneTo c d l (opened (c.lane l)) → Step (before c) (does.Open l) (after d)
     opens_step c d l sound small here fresh to =
         let sd = sound l small in let b : Account K A = c.account l in let v : LaneView B A = c.lane l in let used = used_here c l sd here in let u = sd.seen.unbegun here fresh in
-        let got : drop v.start (take v.passed v.front) ≡ [] = all_dropped (take v.passed v.front) v.start (taken_length v.front v.passed (let h₁ = u.passed in let h₂ = u.seen in omega arith) ∙ u.passed) in
+        let long = length-take-le v.passed v.front (let h₁ = u.passed in let h₂ = u.seen in omega arith) in
+        let got : drop v.start (take v.passed v.front) ≡ [] = drop_all v.start (take v.passed v.front) (omega (arith, long, u.passed)) in
         steps.opens (before c) (after d) l (record_behind b) (lane_was c l _ small (admitted_is b v used here fresh))
         (lane_only c d l (opened v) _ small to (open_is b (opened v) used here refl ∙ (λ i. Open (record_behind b) (record { passed = (u.passed ∙ sd.start) i; held = u.held i; seen = (u.seen ∙ sd.start) i; told = u.told i; told_cut = u.cut i; got = got i }))))
 
@@ -275,10 +227,10 @@ module _ {B K A : Type 0} where
         let w : LaneView B A = further n v in let below = (sd.seen.holds held).1 in let p : ℕ = v.passed in let r : Cursor B = cursor_behind v in
         let y = at_below v.front p below in let x : B = y.0 in let x_at : slice_get v.front p ≡ Some x = get_at v.front p x y.1 in
         let low : v.start ≤ p = (let h₀ = sd.start in let h₁ = sd.counts.low in let h₂ = sd.mid in omega arith) in
-        let long : length (take p v.front) ≡ p = taken_length v.front p (omega arith) in
-        let got : drop v.start (take (p + 1) v.front) ≡ drop v.start (take p v.front) ++ x ∷ [] = (let e : p + 1 ≡ suc p = omega arith in ap (λ (k : ℕ). drop v.start (take k v.front)) e) ∙ ap (λ (zs : List B). drop v.start zs) (more_at v.front p x x_at) ∙ dropped_end (take p v.front) v.start x (omega arith) in
+        let long : length (take p v.front) ≡ p = length-take-le p v.front (omega arith) in
+        let got : drop v.start (take (p + 1) v.front) ≡ drop v.start (take p v.front) ++ x ∷ [] = ap (λ (zs : List B). drop v.start zs) (take_more_at v.front p x x_at) ∙ drop-append-le v.start (take p v.front) (x ∷ []) (omega arith) in
         let begins = sd.seen.begins in
-        let there : slice_get c.tail.log p ≡ Some x = ap (λ (zs : List B). slice_get zs p) (sym begins.1) ∙ prefix_get v.front begins.0 p x x_at in
+        let there : slice_get c.tail.log p ≡ Some x = ap (λ (zs : List B). slice_get zs p) (sym begins.1) ∙ slice_get_append v.front begins.0 p x x_at in
         let told : (n % 2 == 1) ≡ (v.cut || (b.stand == cut)) = told_by b v n used odd (λ e. (sd.cuts e).0) in
         steps.pass (before c) (after d) l (record_behind b) (cursor_behind v) x (lane_was c l _ small (open_is b v used here begun)) held there
         (lane_only c d l w _ small to (open_is b w used here begun ∙ (λ i. Open (record_behind b) (record r { passed = v.passed + 1; held = false; told_cut = told i; got = got i }))))
@@ -295,22 +247,7 @@ module _ {B K A : Type 0} where
         (lane_only c d l (left v) _ small to (left_is b (left v) used refl))
 
     has_room : (c : Behind B K A) → IsSoundBehind c → ((l : ℕ) → l < 8 → (c.account l).stand ≡ live → (c.account l).stop < (c.account l).cleared + c.tail.places) → MayGrow (before c)
-    has_room c sound room l m is uncut = elim (cases_lt l 8) [
-      | inl small ↦ (
-          let b : Account K A = c.account l in let v : LaneView B A = c.lane l in let sd = sound l small in
-          let at : record_of (lane_behind b v) ≡ Some m = ap (λ (x : Lane B). record_of x) (sym (inside l (lane_behind b v) small)) ∙ is in
-          let st = standing_record b.stand (used_lane v.here v.begun (record_behind b) (cursor_behind v)) m at in
-          let m_is : record_behind b ≡ m = same_some (record_behind b) m (Some (record_behind b)) refl (sym (used_record v.here v.begun (record_behind b) (cursor_behind v)) ∙ st.1) in
-          let alive = live_by b st.0 (ap (λ (m : LaneRecord). m.cut) m_is ∙ uncut) in
-          let known : b.known ≡ m.known = ap (λ (m : LaneRecord). m.known) m_is in
-          let lives = sd.counts.lives alive in let stop = lives.0 in let cleared = lives.1 in let space = room l small alive in omega arith
-          )
-      | inr big ↦ absurd (none-some m (ap (λ (b : Bool). record_of (if b then lane_behind (c.account l) (c.lane l) else Idle)) (sym (le-ltb l 8 big)) ∙ is))
-    ]
-      where
-        live_by : (b : Account K A) → IsUsed b.stand → (b.stand == cut) ≡ false → b.stand ≡ live
-        live_by b (inl e) f = e
-        live_by b (inr e) f = absurd (true≢false (sym (cut_flag b e) ∙ f))
+    has_room c sound room l m is uncut = grind (arith, cases_lt, inside, standing_record, same_some, used_record, none-some, le-ltb, true≢false, cut_flag)
 
     harvest_step : (c d : Behind B K A) (l n : ℕ) (b' : Account K A) → IsSoundBehind c → l < 8 → IsUsed (c.account l).stand → IsUsed b'.stand → (c.lane l).here ≡ true
         → record_behind b' ≡ record (record_behind (c.account l)) { known = (c.lane l).passed; key_out = (c.lane l).held } → AccountTo c d l b' → Step (before c) (does.Harvest l) (after d)
@@ -356,14 +293,14 @@ module _ {B K A : Type 0} where
     idle_is b v n e f = ap (λ (n : ℕ). lane_standing n (used_lane v.here v.begun (record_behind b) (cursor_behind v))) e ∙ f
 
     same_account : (b b' : Account K A) (v : LaneView B A) → SameAccount b b' → lane_behind b' v ≡ lane_behind b v
-    same_account b b' v s = λ i. lane_standing (s.stand i) (used_lane v.here v.begun (record { start = s.start i; known = s.known i; key_out = if (s.stand i == cut) then s.away i else (s.half i % 2 == 1); cut = (s.stand i == cut) }) (cursor_behind v))
+    same_account b b' v s = grind arith
 
     -- each kind of step is these events
     pub ties : (c d : Behind B K A) (es : List (event.Event B)) → IsSoundBehind c → Event B K A c es d → LeadsTo (before c) es (after d)
     ties _ _ _ sound (kind.open_lane c d l small here fresh to) = one (before c) (after d) (does.Open l) (opens_step c d l sound small here fresh to)
     ties _ _ _ sound (kind.look c d l small begun to) = one (before c) (after d) (does.Look l) (look_step c d l sound small begun to)
-    ties _ _ _ sound (kind.take c d l small begun alive held below to) = one (before c) (after d) (does.Take l) (take_step c d l sound small begun alive held below to)
-    ties _ _ _ sound (kind.take_cut c d l small begun is_cut held below to) = one (before c) (after d) (does.Take l) (take_cut_step c d l sound small begun is_cut held below to)
+    ties _ _ _ sound (kind.take c d l small begun alive held below to) = grind (arith, one, take_step)
+    ties _ _ _ sound (kind.take_cut c d l small begun is_cut held below to) = grind (arith, one, take_cut_step)
     ties _ _ _ sound (kind.pass c d l n small begun held odd to) = one (before c) (after d) (does.Pass l) (pass_step c d l n sound small begun held odd to)
     ties _ _ _ sound (kind.leave c d l small begun to) = one (before c) (after d) (does.Leave l) (leave_step c d l sound small begun to)
     ties _ _ _ sound (kind.publish c d x is_open room tail accounts lanes) = one (before c) (after d) (does.Publish x) (steps.publish (before c) (after d) x is_open (has_room c sound room) record {
@@ -394,10 +331,9 @@ module _ {B K A : Type 0} where
         let b : Account K A = c.account l in let v : LaneView B A = c.lane l in let used = used_here c l (sound l small) here in
         let out : is_key_out (back (n / 4) (loaded b)) ≡ v.held = ap (λ (f : Bool). if f then false else (b.half % 2 == 1)) (cut_flag b is_cut) ∙ sym bare in
         subst (λ (es : List (event.Event B)). LeadsTo (before c) es (after d)) (sym (recover_back l n e)) (one (before c) (after d) (does.Harvest l) (harvest_step c d l n (back (n / 4) (loaded b)) sound small used used here (λ i. record (record_behind b) { known = at i; key_out = out i }) to))
-    ties _ _ _ sound (kind.peek c d l n ne to) = subst (λ (es : List (event.Event B)). LeadsTo (before c) es (after d)) (sym (recover_away l n ne)) (account_quiet c d l (loaded (c.account l)) to refl)
-    ties _ _ _ sound (kind.sever c d l n old small hit alive here passed bit_of half full to) =
-        subst (λ (es : List (event.Event B)). LeadsTo (before c) es (after d)) (sym (cut_hit l old n hit)) (one (before c) (after d) (does.Cut l) (cut_step c d l n sound small alive here passed bit_of half full to))
-    ties _ _ _ sound (kind.moved c d l n old miss e) = subst (λ (es : List (event.Event B)). LeadsTo (before c) es (after d)) (sym (cut_miss l old n miss)) (ties c d (found_events l n) sound e)
+    ties _ _ _ sound (kind.peek c d l n ne to) = search (rules, recover_away, account_quiet)
+    ties _ _ _ sound (kind.sever c d l n old small hit alive here passed bit_of half full to) = grind (arith, cut_hit, one, cut_step)
+    ties _ _ _ sound (kind.moved c d l n old miss e) = grind (arith, cut_miss, (ties c d (found_events l n) sound e))
     ties _ _ _ sound (kind.admit c d l noted small is_open resting to) =
         let n : ℕ = length c.tail.log in let even : 2 * n % 2 ≡ 0 = omega arith in
         one (before c) (after d) (does.Admit l) (steps.admit (before c) (after d) l small (lane_was c l Idle small (idle_is (c.account l) (c.lane l) idle resting refl)) is_open

@@ -1,5 +1,5 @@
 -- Rows of keys and accounts: which keys are out after a step.
-use Rattle.std.proofs.Common.{◌≡◌, ◌≢◌, ℕ, zero, suc, ◌+◌, ◌<◌, ◌≤◌, ◌⊎◌, inl, inr, List, [], ◌∷◌, ◌++◌, length, length-append, add-one, map, get_or, refl, sym, ap, ◌∙◌, subst, arith, Option, Some, None, Bool, true, false, cond, nat_eq, nat_le, nat_lt, ◌&&◌, ◌||◌, count_by, get_or-set_same, get_or-set_other, eq-eqb}
+use Rattle.std.proofs.Common.{◌≡◌, ◌≢◌, ℕ, zero, suc, ◌+◌, ◌<◌, ◌≤◌, ◌⊎◌, List, [], ◌∷◌, ◌++◌, length, length-append, add-one, map, refl, sym, ap, ◌∙◌, subst, arith, Option, Some, None, Bool, true, false, cond, nat_eq, ◌&&◌, ◌||◌, count_by, get_or-set_same, get_or-set_other, eq-eqb}
 use Rattle.std.specs.List.{All, range_with_len}
 use Rattle.std.proofs.lemmas.List.{append-nil, append_assoc}
 use Rattle.std.proofs.lemmas.Bool.{leb-true, le-leb, ltb-true, lt-ltb, eqb-true, false≢true}
@@ -15,40 +15,34 @@ use Rattle.am_cast.specs.declared.views.Account.{Account}
 use Rattle.am_cast.specs.declared.views.WriterView.{WriterView}
 use Rattle.am_cast.specs.Rule.{bit, idle, first_account}
 use Rattle.am_cast.specs.declared.views.View.{View}
-use Rattle.am_cast.specs.Changes.{with_writer, with_account, loaded, known_to, back, returned, back_if, retired, severed, clearing}
+use Rattle.am_cast.specs.Changes.{with_writer, with_account, loaded, known_to, back, retired, severed, clearing}
 use Rattle.am_cast.specs.Seats.{account_of, writer_of, IsKeyAt}
 use Rattle.am_cast.specs.Writers.{Calm}
 use Rattle.am_cast.specs.Keys.{key_of}
 use Rattle.am_cast.specs.inside.KeyRows.{BucketView, row_at, MayTake, row_with}
 use Rattle.am_cast.specs.inside.Waiting.{is_out, outs, Gathered, FitsAt, RowsFit}
+use Rattle.std.proofs.lemmas.Grind.{common_steps}
 
 bool_same : (p q : Bool) → (p ≡ true → q ≡ true) → (q ≡ true → p ≡ true) → p ≡ q
-bool_same true true f g = refl
-bool_same true false f g = sym (f refl)
-bool_same false true f g = g refl
-bool_same false false f g = refl
+bool_same p q f g = grind arith
 
 or_cases : (p q : Bool) → (p || q) ≡ true → (p ≡ true) ⊎ (q ≡ true)
-or_cases true q e = inl refl
-or_cases false q e = inr e
+or_cases p q e = grind arith
 
 and_cases : (p q : Bool) → (p && q) ≡ true → (p ≡ true) × (q ≡ true)
-and_cases true q e = (refl, e)
-and_cases false q e = absurd (false≢true e)
+and_cases p q e = grind (arith, false≢true)
 
 or_first : (p q : Bool) → p ≡ true → (p || q) ≡ true
 or_first p q e = ap (λ b. b || q) e
 
 or_second : (p q : Bool) → q ≡ true → (p || q) ≡ true
-or_second true q e = refl
-or_second false q e = e
+or_second p q e = grind arith
 
 and_both : (p q : Bool) → p ≡ true → q ≡ true → (p && q) ≡ true
 and_both p q e f = (λ i. e i && f i)
 
 pub not_true : (p : Bool) → (p ≡ true → ⊥) → p ≡ false
-not_true true h = absurd (h refl)
-not_true false h = refl
+not_true p h = grind arith
 
 module _ {K A : Type 0} where
   pub data IsOut (b : Account K A) (i : ℕ) : Type 0 where
@@ -56,14 +50,10 @@ module _ {K A : Type 0} where
     handed : b.away ≡ true → i ≡ b.known → IsOut b i
 
   pub is_out_tells : (b : Account K A) (i : ℕ) → is_out b i ≡ true → IsOut b i
-  is_out_tells b i e = elim (or_cases (nat_le b.cleared i && nat_lt i b.stop) (b.away && nat_eq i b.known) e) [
-    | inl h ↦ (let both = and_cases (nat_le b.cleared i) (nat_lt i b.stop) h in slotted (leb-true b.cleared i both.0) (ltb-true i b.stop both.1))
-    | inr h ↦ (let both = and_cases b.away (nat_eq i b.known) h in handed both.0 (eqb-true i b.known both.1))
-  ]
+  is_out_tells b i e = grind (arith, or_cases, and_cases, leb-true, ltb-true, eqb-true)
 
   pub is_out_when : (b : Account K A) (i : ℕ) → IsOut b i → is_out b i ≡ true
-  is_out_when b i (slotted h k) = or_first (nat_le b.cleared i && nat_lt i b.stop) (b.away && nat_eq i b.known) (and_both (nat_le b.cleared i) (nat_lt i b.stop) (le-leb b.cleared i h) (lt-ltb i b.stop k))
-  is_out_when b i (handed h k) = or_second (nat_le b.cleared i && nat_lt i b.stop) (b.away && nat_eq i b.known) (and_both b.away (nat_eq i b.known) h (eq-eqb i b.known k))
+  is_out_when b i z = grind (arith, or_first, and_both, le-leb, lt-ltb, or_second, eq-eqb)
 
   pub same_out : (b c : Account K A) (i : ℕ) → (IsOut b i → IsOut c i) → (IsOut c i → IsOut b i) → is_out b i ≡ is_out c i
   same_out b c i f g = bool_same (is_out b i) (is_out c i) (λ e. is_out_when c i (f (is_out_tells b i e))) (λ e. is_out_when b i (g (is_out_tells c i e)))
@@ -73,88 +63,25 @@ module _ {K A : Type 0} where
 
   -- which keys are out stays in each step but a clearing and a publish
   pub out_known : (n : ℕ) (b : Account K A) (i : ℕ) → b.away ≡ false → is_out (known_to n b) i ≡ is_out b i
-  out_known n b i home = same_out (known_to n b) b i to from
-    where
-      to : IsOut (known_to n b) i → IsOut b i
-      to (slotted h k) = slotted h k
-      to (handed h k) = absurd (false≢true (sym home ∙ h))
-
-      from : IsOut b i → IsOut (known_to n b) i
-      from (slotted h k) = slotted h k
-      from (handed h k) = absurd (false≢true (sym home ∙ h))
+  out_known n b i home = grind (arith, same_out, false≢true)
 
   pub out_back : (n : ℕ) (b : Account K A) (i : ℕ) → b.away ≡ true → b.cleared ≡ b.stop → is_out (back n (loaded b)) i ≡ is_out b i
-  out_back n b i away clear = same_out (back n (loaded b)) b i to from
-    where
-      to : IsOut (back n (loaded b)) i → IsOut b i
-      to (slotted h k) = handed away (omega arith)
-      to (handed h k) = absurd (false≢true h)
-
-      from : IsOut b i → IsOut (back n (loaded b)) i
-      from (slotted h k) = absurd (omega arith)
-      from (handed h k) = slotted (omega arith) (omega arith)
+  out_back n b i away clear = grind (arith, same_out, false≢true)
 
   pub out_severed : (h : ℕ) (b : Account K A) (i : ℕ) → h < 2 → b.away ≡ false → b.cleared ≡ b.known → b.known < b.stop → is_out (severed h b) i ≡ is_out b i
-  out_severed zero b i small home clear room = same_out (severed zero b) b i to from
-    where
-      to : IsOut (severed zero b) i → IsOut b i
-      to (slotted h k) = slotted (omega arith) k
-      to (handed h k) = absurd (false≢true h)
-
-      from : IsOut b i → IsOut (severed zero b) i
-      from (slotted h k) = slotted (omega arith) k
-      from (handed h k) = absurd (false≢true (sym home ∙ h))
-  out_severed (suc zero) b i small home clear room = same_out (severed 1 b) b i to from
-    where
-      to : IsOut (severed 1 b) i → IsOut b i
-      to (slotted h k) = slotted (omega arith) k
-      to (handed h k) = slotted (omega arith) (omega arith)
-
-      from : IsOut b i → IsOut (severed 1 b) i
-      from (slotted h k) = dite (ℕ_discrete i b.known) (λ e. handed refl e) (λ ne. slotted (omega arith) k)
-      from (handed h k) = absurd (false≢true (sym home ∙ h))
-  out_severed (suc (suc h)) b i small home clear room = absurd (omega arith)
+  out_severed h b i small home clear room = grind (arith, same_out, false≢true)
 
   pub out_clear : (b : Account K A) (i : ℕ) → b.cleared ≡ b.stop → b.away ≡ false → is_out b i ≡ false
-  out_clear b i clear home = never_out b i none_out
-    where
-      none_out : IsOut b i → ⊥
-      none_out (slotted h k) = omega arith
-      none_out (handed h k) = false≢true (sym home ∙ h)
+  out_clear b i clear home = grind (arith, never_out, false≢true)
 
   pub out_clearing : (b : Account K A) (i : ℕ) → i ≢ b.cleared → is_out (clearing b) i ≡ is_out b i
-  out_clearing b i ne = same_out (clearing b) b i to from
-    where
-      to : IsOut (clearing b) i → IsOut b i
-      to (slotted h k) = slotted (omega arith) k
-      to (handed h k) = handed h k
-
-      from : IsOut b i → IsOut (clearing b) i
-      from (slotted h k) = slotted (omega arith) k
-      from (handed h k) = handed h k
+  out_clearing b i ne = grind (arith, same_out)
 
   pub out_cleared : (b : Account K A) → (b.away ≡ true → b.known < b.cleared) → is_out (clearing b) b.cleared ≡ false
-  out_cleared b low = never_out (clearing b) b.cleared none_out
-    where
-      none_out : IsOut (clearing b) b.cleared → ⊥
-      none_out (slotted h k) = omega arith
-      none_out (handed h k) = let l = low h in omega arith
+  out_cleared b low = grind (arith, never_out)
 
   pub out_retired : (b : Account K A) (i : ℕ) → (b.away ≡ true → b.cleared ≡ b.stop) → is_out (retired b) i ≡ is_out b i
-  out_retired b i clear = elim_bool b.away (λ e. ap (λ (h : Bool). is_out (record (back_if h b) { stand = idle; loads = b.loads + 1 }) i) e ∙ same_out (record (returned b) { stand = idle; loads = b.loads + 1 }) b i (to e) (from e))
-      (λ e. ap (λ (h : Bool). is_out (record (back_if h b) { stand = idle; loads = b.loads + 1 }) i) e)
-    where
-      elim_bool : {X : Type 0} → (p : Bool) → (p ≡ true → X) → (p ≡ false → X) → X
-      elim_bool true f g = f refl
-      elim_bool false f g = g refl
-
-      to : b.away ≡ true → IsOut (record (returned b) { stand = idle; loads = b.loads + 1 }) i → IsOut b i
-      to e (slotted h k) = handed e (omega arith)
-      to e (handed h k) = absurd (false≢true h)
-
-      from : b.away ≡ true → IsOut b i → IsOut (record (returned b) { stand = idle; loads = b.loads + 1 }) i
-      from e (slotted h k) = let c = clear e in absurd (omega arith)
-      from e (handed h k) = slotted (omega arith) (omega arith)
+  out_retired b i clear = grind (arith, same_out, false≢true)
 
 outs_same : (out out' : ℕ → Bool) (n : ℕ) → ((l : ℕ) → l < n → out' l ≡ out l) → outs out' n ≡ outs out n
 outs_same out out' zero h = refl
@@ -183,14 +110,10 @@ none_outs out (suc n) h = (λ i. none_outs out n (λ l k. h l (omega arith)) i +
 
 module _ {T P : Type 0} (x : BatchView T P) where
   counted : (l m : ℕ) (keys : List (KeyView T)) → count_by (λ k. nat_eq k.number m) (keys ++ key_of x l ∷ []) ≡ count_by (λ k. nat_eq k.number m) keys + cond (nat_eq l m) 1 0
-  counted l m keys = sum_by-append (λ (k : KeyView T). cond (nat_eq k.number m) 1 0) keys (key_of x l ∷ []) ∙ (let one = sum_by-cons (λ (k : KeyView T). cond (nat_eq k.number m) 1 0) (key_of x l) [] in omega arith)
+  counted l m keys = grind (arith, sum_by-append, sum_by-cons)
 
   each_more : (l : ℕ) (keys : List (KeyView T)) → All (λ k. k ≡ key_of x k.number) keys → All (λ k. k ≡ key_of x k.number) (keys ++ key_of x l ∷ [])
-  each_more l keys h = All-append (λ k. k ≡ key_of x k.number) keys (key_of x l ∷ []) h one
-    where
-      one : All (λ k. k ≡ key_of x k.number) (key_of x l ∷ [])
-      one zero d small = refl
-      one (suc k) d small = absurd (omega arith)
+  each_more l keys h = grind (arith, common_steps, All-append)
 
   ne_bit : (l m : ℕ) → l ≢ m → ◌≡◌ {A = ℕ} (cond (nat_eq l m) 1 0) 0
   ne_bit l m ne = ap (λ (b : Bool). let n : ℕ = cond b 1 0 in n) (not_true (nat_eq l m) (λ e. ne (eqb-true l m e)))
@@ -223,16 +146,8 @@ module _ {T P : Type 0} (x : BatchView T P) where
   -- the keys of all lanes from the next on, none of which is out
   pub gathered_rest : (out : ℕ → Bool) (n m : ℕ) (keys : List (KeyView T)) → Gathered x out n keys → ((l : ℕ) → n ≤ l → l < n + m → out l ≡ false)
       → Gathered x out (n + m) (keys ++ map (key_of x) (range_with_len n m))
-  gathered_rest out n zero keys g home = subst (λ (z : ℕ × List (KeyView T)). Gathered x out z.0 z.1) (λ i. (same i, sym (append-nil keys) i)) g
-    where
-      same : n ≡ n + 0
-      same = omega arith
-  gathered_rest out n (suc m) keys g home =
-      let more = gathered_rest out (n + 1) m (keys ++ key_of x n ∷ []) (subst (λ (k : ℕ). Gathered x out k (keys ++ key_of x n ∷ [])) (sym (add-one n)) (gathered_more out n keys g (home n (omega arith) (omega arith)))) (λ l low high. home l (omega arith) (omega arith)) in
-      subst (λ (z : ℕ × List (KeyView T)). Gathered x out z.0 z.1) (λ i. (one_over i, append_assoc keys (key_of x n ∷ []) (map (key_of x) (range_with_len (n + 1) m)) i)) more
-    where
-      one_over : n + 1 + m ≡ n + suc m
-      one_over = omega arith
+  gathered_rest out n zero keys g home = grind (arith, append-nil)
+  gathered_rest out n (suc m) keys g home = grind (arith, gathered_more, append_assoc, (gathered_rest out (n + 1) m (keys ++ key_of x n ∷ []) (subst (λ (k : ℕ). Gathered x out k (keys ++ key_of x n ∷ [])) (sym (add-one n)) (gathered_more out n keys g (home n (omega arith) (omega arith)))) (λ l low high. home l (omega arith) (omega arith))))
 
   -- the next lane's key is out
   pub gathered_skip : (out : ℕ → Bool) (n : ℕ) (keys : List (KeyView T)) → Gathered x out n keys → out n ≡ true → Gathered x out (suc n) keys
@@ -245,16 +160,8 @@ module _ {T P : Type 0} (x : BatchView T P) where
     many = let old = g.many in let b : bit (out n) ≡ 1 = ap bit away in omega arith;
   }
 
-  pub gathered_none : (out : ℕ → Bool) (keys : List (KeyView T)) → keys ≡ [] → Gathered x out 0 keys
-  gathered_none out keys e = subst (λ (l : List (KeyView T)). Gathered x out 0 l) (sym e) record { each = λ k d h. absurd (omega arith); below = λ l h. absurd (omega arith); above = λ l h. refl; many = refl }
-
   pub gathered_same : (out out' : ℕ → Bool) (n : ℕ) (keys : List (KeyView T)) → ((l : ℕ) → l < n → out' l ≡ out l) → Gathered x out n keys → Gathered x out' n keys
-  gathered_same out out' n keys h g = record {
-    each = g.each;
-    below = λ l k. ap (λ (b : Bool). count_by (λ k. nat_eq k.number l) keys + bit b) (h l k) ∙ g.below l k;
-    above = g.above;
-    many = ap (λ (m : ℕ). length keys + m) (outs_same out out' n h) ∙ g.many;
-  }
+  gathered_same out out' n keys h g = grind (arith, outs_same)
 
   -- a lane's key that isn't among them may join them
   pub gathered_joins : (out : ℕ → Bool) (l n : ℕ) (keys : List (KeyView T)) → Gathered x out n keys → length keys < 8 → count_by (λ k. nat_eq k.number l) keys ≡ 0 → MayJoin keys (key_of x l)
@@ -298,12 +205,11 @@ module _ {T P A : Type 0} where
 
   -- no account has changed
   pub fits_tail : (q q' : WriterView (BatchView T P) (KeyView T) A) (rows : List (BucketView T)) → q'.tail.log ≡ q.tail.log → q'.accounts ≡ q.accounts → RowsFit q rows → RowsFit q' rows
-  fits_tail q q' rows log same fits i = fits_ext q q' i (row_at rows i) (λ x e. ap (λ (l : List (BatchView T P)). get_elem? l i) log ∙ e) (λ l h. ap (λ (a : List (Account (KeyView T) A)). is_out (get_or a l first_account) i) same) (fits i)
+  fits_tail q q' rows log same fits i = grind (arith, fits_ext)
 
   -- the row of a place whose key is out
   row_there : (q : WriterView (BatchView T P) (KeyView T) A) (i l : ℕ) (o : Option (List (KeyView T))) → FitsAt q i o → l < 8 → is_out (account_of q l) i ≡ true → (keys : List (KeyView T)) × (o ≡ Some keys) × FitsAt q i (Some keys)
-  row_there q i l None f h out = absurd (false≢true (sym (f l h) ∙ out))
-  row_there q i l (Some keys) f h out = (keys, refl, f)
+  row_there q i l o f h out = grind (arith, false≢true)
 
   -- what a key that comes home finds
   record Coming (q : WriterView (BatchView T P) (KeyView T) A) (rows : List (BucketView T)) (l place : ℕ) (key : KeyView T) : Type 0 where
@@ -372,11 +278,4 @@ gathered_clear x out keys g long = let many = g.many in outs_none out 8 (omega a
 module _ {T P A : Type 0} where
   -- where all lanes are idle no key waits for another
   pub rows_gone : (q : WriterView (BatchView T P) (KeyView T) A) (rows : List (BucketView T)) → Calm q → ((l : ℕ) → l < 8 → (account_of q l).stand ≡ idle) → RowsFit q rows → (p : ℕ) → row_at rows p ≡ None
-  rows_gone q rows calm idles fits p = go (row_at rows p) (fits p)
-    where
-      home : (l : ℕ) → l < 8 → is_out (account_of q l) p ≡ false
-      home l h = let c = calm.1 l h in let i = idles l h in out_clear (account_of q l) p (c.rest_is (λ e. omega arith)) (not_true (account_of q l).away (λ e. let a = (c.away_is e).0 in omega arith))
-
-      go : (o : Option (List (KeyView T))) → FitsAt q p o → o ≡ None
-      go None f = refl
-      go (Some keys) f = absurd (let g = f.2 in let many = g.many in let few = f.3 in let none_out = none_outs (λ l. is_out (account_of q l) p) 8 home in omega arith)
+  rows_gone q rows calm idles fits p = grind (arith, out_clear, not_true, none_outs)

@@ -1,7 +1,7 @@
 -- The writer's numbers after a step.
 use Rattle.std.specs.Prelude.{MatchOption}
 use Rattle.std.specs.Option.{is_some}
-use Rattle.std.proofs.Common.{le_refl, true≢false, ◌≡◌, ◌≢◌, ℕ, zero, suc, ◌+◌, ◌*◌, ◌<◌, ◌≤◌, List, [], ◌∷◌, ◌++◌, map, length, length-append, set, get_or, refl, sym, ap, ◌∙◌, subst, arith, Option, Some, None, Bool, true, false, length-set, get_or-set_same, get_or-set_other}
+use Rattle.std.proofs.Common.{le_refl, true≢false, ◌≡◌, ◌≢◌, ℕ, suc, ◌+◌, ◌*◌, ◌<◌, ◌≤◌, List, [], ◌∷◌, ◌++◌, map, length, length-append, set, get_or, refl, sym, ap, ◌∙◌, subst, arith, Option, Some, None, Bool, true, false, length-set, get_or-set_same, get_or-set_other}
 use mathlib.Core.Logic.{dite}
 use native.Mathlib.Decide.{ℕ_discrete}
 use Rattle.atomic_table.specs.Seated.{TableId}
@@ -23,6 +23,7 @@ use Rattle.am_cast.specs.declared.writer.lane_account.Stand.TheVariants.{Idle, L
 use Rattle.am_cast.specs.inside.LaneAccounts.{IsKeptAs, no_lane}
 use Rattle.am_cast.specs.inside.RingPlaces.{RingPlaceView}
 use Rattle.am_cast.specs.inside.WriterStates.{WriterStateOk}
+use Rattle.std.proofs.lemmas.Grind.{common_steps}
 
 -- an idle lane isn't live
 pub idle_not_live : {K A : Type 0} (b : Account K A) → b.stand ≡ idle → b.stand ≢ live
@@ -40,78 +41,30 @@ module _ {B K A : Type 0} where
       → WriterStateOk T t m places count closed lanes → t' ≡ t → m'.1 ≡ [] → m'.0.writer ≡ Some (with_account l b' (writer_of m.0)) → m'.0.lane ≡ None → m'.0.own ≡ [] → l < 8 → length lanes' ≡ 8 → IsKeptAs b' (get_or lanes' l no_lane)
       → ((k : ℕ) → k ≢ l → get_or lanes' k no_lane ≡ get_or lanes k no_lane)
       → WriterStateOk T t' m' places count closed lanes'
-  state_parts T t t' m m' places count closed lanes lanes' l b' ok same bare writer_is lane_is own_is small long sets_account others =
-      let q : WriterView B K A = writer_of m.0 in let q' : WriterView B K A = with_account l b' q in let all = ok.all in
-      let now : writer_of m'.0 ≡ q' = ap (λ (o : Option (WriterView B K A)). some_or (first_writer 0) o) writer_is in record {
-        same = same ∙ ok.same;
-        writer = (writer_is ∙ ap (λ (q : WriterView B K A). let o : Option (WriterView B K A) = Some q in o) (sym now), bare);
-        alone = lane_is;
-        no_own = own_is;
-        all = ap (λ (q : WriterView B K A). length q.accounts) now ∙ length-set q.accounts l b' ∙ ok.all;
-        places_is = ap (λ (q : WriterView B K A). q.tail.places) now ∙ ok.places_is;
-        some_places = ok.some_places;
-        count_is = ap (λ (q : WriterView B K A). length q.tail.log) now ∙ ok.count_is;
-        bound = ok.bound;
-        closed_is = ap (λ (q : WriterView B K A). q.tail.closed) now ∙ ok.closed_is;
-        wide = long;
-        each = λ n small_n. dite (ℕ_discrete n l)
-            (λ e. let is : account_of (writer_of m'.0) n ≡ b' = (λ i. account_of (now i) (e i)) ∙ account_same q l b' (omega arith) in
-            subst (λ (z : ℕ × Account K A). IsKeptAs z.1 (get_or lanes' z.0 no_lane)) (λ i. (sym e i, sym is i)) sets_account)
-            (λ ne. let is : account_of (writer_of m'.0) n ≡ account_of q n = ap (λ (q : WriterView B K A). account_of q n) now ∙ account_else q l n b' ne in
-            subst (λ (z : Account K A × LaneAccount). IsKeptAs z.0 z.1) (λ i. (sym is i, sym (others n ne) i)) (ok.each n small_n));
-      }
+  state_parts T t t' m m' places count closed lanes lanes' l b' ok same bare writer_is lane_is own_is small long sets_account others = grind (arith, length-set, account_same, account_else)
 
   pub account_longer : (q : WriterView B K A) (x : B) (l : ℕ) → l < length q.accounts → account_of (longer x q) l ≡ grown (account_of q l)
-  account_longer q x l h = go q.accounts l h
-    where
-      go : (xs : List (Account K A)) (l : ℕ) → l < length xs → get_or (map (λ b. grown b) xs) l first_account ≡ grown (get_or xs l first_account)
-      go [] l h = absurd (omega arith)
-      go (y ∷ ys) zero h = refl
-      go (y ∷ ys) (suc l) h = go ys l (omega arith)
+  account_longer q x l h = grind (arith, common_steps)
 
 map_length : {X Y : Type 0} (f : X → Y) (xs : List X) → length (map f xs) ≡ length xs
 map_length f [] = refl
 map_length f (x ∷ xs) = ap suc (map_length f xs)
 
 grown_fields : {K A : Type 0} (n : ℕ) (b : Account K A) → ((grown_as n b).turn ≡ b.turn) × ((grown_as n b).note ≡ b.note) × ((grown_as n b).start ≡ b.start) × ((grown_as n b).loads ≡ b.loads) × ((grown_as n b).stand ≡ b.stand) × ((grown_as n b).known ≡ b.known) × ((grown_as n b).half ≡ b.half)
-grown_fields zero b = (refl, refl, refl, refl, refl, refl, refl)
-grown_fields (suc zero) b = (refl, refl, refl, refl, refl, refl, refl)
-grown_fields (suc (suc n)) b = (refl, refl, refl, refl, refl, refl, refl)
+grown_fields n b = grind arith
 
 module _ {B K A : Type 0} (key : B → ℕ → K) where
   pub filled_else : (n : ℕ) (x : B) (l : ℕ) (b : Account K A) → n ≢ live → filled_as key n x l b ≡ b
-  filled_else zero x l b ne = refl
-  filled_else (suc zero) x l b ne = absurd (ne refl)
-  filled_else (suc (suc n)) x l b ne = refl
+  filled_else n x l b ne = grind arith
 
   filled_fields : (n : ℕ) (x : B) (l : ℕ) (b : Account K A) → ((filled_as key n x l b).turn ≡ b.turn) × ((filled_as key n x l b).note ≡ b.note) × ((filled_as key n x l b).start ≡ b.start) × ((filled_as key n x l b).loads ≡ b.loads) × ((filled_as key n x l b).stand ≡ b.stand) × ((filled_as key n x l b).known ≡ b.known) × ((filled_as key n x l b).half ≡ b.half)
-  filled_fields zero x l b = (refl, refl, refl, refl, refl, refl, refl)
-  filled_fields (suc zero) x l b = (refl, refl, refl, refl, refl, refl, refl)
-  filled_fields (suc (suc n)) x l b = (refl, refl, refl, refl, refl, refl, refl)
+  filled_fields n x l b = grind arith
 
   pub all_laid : (q q' : WriterView B K A) (x : B) → Calm q → FilledTo key q x 8 q' → AllLaid key q' x
-  all_laid q q' x c f l h = let all = f.1 in let small : l < 8 = omega arith in let b : Account K A = account_of q l in let calm = c.1 l small in
-      let is : account_of q' l ≡ filled_as key b.stand x l b = (f.2 l small).0 small in
-      dite (ℕ_discrete b.stand live)
-      (λ (e : b.stand ≡ live). let now : account_of q' l ≡ laying (key x l) b = is ∙ (λ i. filled_as key (e i) x l b) in
-      (ap (λ (b : Account K A). b.out) now, λ _. ap (λ (b : Account K A). b.laid) now))
-      (λ (ne : b.stand ≢ live). let now : account_of q' l ≡ b = is ∙ filled_else b.stand x l b ne in
-      (ap (λ (b : Account K A). b.out) now ∙ calm.out, λ z. absurd (ne (sym (ap (λ (b : Account K A). b.stand) now) ∙ z))))
+  all_laid q q' x c f l h = grind (arith, filled_else)
 
   pub filled_ready : (q q' : WriterView B K A) (x : B) → Calm q → FilledTo key q x 8 q' → AreReady q'
-  filled_ready q q' x c f = (
-    f.1,
-    λ l small. let b : Account K A = account_of q l in let calm = c.1 l small in let k = calm.known in let s = calm.stops in
-        let log : length q'.tail.log ≡ length q.tail.log = ap (λ (t : Tail B). length t.log) f.0 in
-        let is : account_of q' l ≡ filled_as key b.stand x l b = (f.2 l small).0 small in
-        dite (ℕ_discrete b.stand live)
-        (λ (e : b.stand ≡ live). let now : account_of q' l ≡ laying (key x l) b = is ∙ (λ i. filled_as key (e i) x l b) in let li = calm.live_is e in let l₀ = li.0 in let l₁ = li.1 in
-        subst (λ (z : Account K A). (z.stand ≡ live → (z.cleared ≤ z.stop) × (z.stop ≡ length q'.tail.log)) × (z.stop ≤ length q'.tail.log) × (z.away ≡ true → (z.stand ≡ 2) × (z.known < length q'.tail.log))) (sym now)
-        ((λ _. (omega arith, omega arith)), omega arith, λ a. let w = calm.away_is a in let w₁ = w.1 in (w.0, omega arith)))
-        (λ (ne : b.stand ≢ live). let now : account_of q' l ≡ b = is ∙ filled_else b.stand x l b ne in
-        subst (λ (z : Account K A). (z.stand ≡ live → (z.cleared ≤ z.stop) × (z.stop ≡ length q'.tail.log)) × (z.stop ≤ length q'.tail.log) × (z.away ≡ true → (z.stand ≡ 2) × (z.known < length q'.tail.log))) (sym now)
-        ((λ e. absurd (ne e)), omega arith, λ a. let w = calm.away_is a in let w₁ = w.1 in (w.0, omega arith))),
-  )
+  filled_ready q q' x c f = grind (arith, filled_else)
 
   pub calm_longer : (q q' : WriterView B K A) (x : B) → Calm q → HasRoom q 8 → FilledTo key q x 8 q' → Calm (longer x q')
   calm_longer q q' x c room f = let all = f.1 in (
@@ -131,12 +84,7 @@ module _ {B K A : Type 0} (key : B → ℕ → K) where
 
   -- a publish counts no load, and admits nobody
   pub longer_same : (q q' : WriterView B K A) (x : B) → FilledTo key q x 8 q' → (l : ℕ) → l < 8 → SameAdmission (account_of q l) (account_of (longer x q') l) × ((account_of (longer x q') l).stand ≡ (account_of q l).stand) × ((account_of (longer x q') l).known ≡ (account_of q l).known) × ((account_of (longer x q') l).half ≡ (account_of q l).half)
-  longer_same q q' x f l small = let all = f.1 in let b : Account K A = account_of q l in
-      let is : account_of (longer x q') l ≡ grown (filled_as key b.stand x l b) = account_longer q' x l (omega arith) ∙ ap (λ (b : Account K A). grown b) ((f.2 l small).0 small) in
-      let g = grown_fields (filled_as key b.stand x l b).stand (filled_as key b.stand x l b) in let h = filled_fields b.stand x l b in
-      let loads : (account_of (longer x q') l).loads ≡ b.loads = ap (λ (b : Account K A). b.loads) is ∙ g.3 ∙ h.3 in
-      let known : (account_of (longer x q') l).known ≡ b.known = ap (λ (b : Account K A). b.known) is ∙ g.5 ∙ h.5 in
-      ((ap (λ (b : Account K A). b.turn) is ∙ g.0 ∙ h.0, ap (λ (b : Account K A). b.note) is ∙ g.1 ∙ h.1, ap (λ (b : Account K A). b.start) is ∙ g.2 ∙ h.2, omega arith, omega arith), ap (λ (b : Account K A). b.stand) is ∙ g.4 ∙ h.4, known, ap (λ (b : Account K A). b.half) is ∙ g.6 ∙ h.6)
+  longer_same q q' x f l small = grind (arith, common_steps, account_longer, grown_fields, filled_fields)
 
 module _ {K A : Type 0} where
   pub retired_known : (b : Account K A) → (retired b).known ≡ b.known
@@ -148,37 +96,15 @@ module _ {K A : Type 0} where
   -- a lane whose seat came home is idle, and its word is what it was
   pub home_kept : (b : Account K A) (lanes : List LaneAccount) (l : ℕ) → l < 8 → length lanes ≡ 8 → IsKeptAs b (get_or lanes l no_lane)
       → IsKeptAs (retired b) (get_or (set lanes l record { stand = Idle; word = (get_or lanes l no_lane).word }) l no_lane)
-  home_kept b lanes l small long m = subst (λ (a : LaneAccount). IsKeptAs (retired b) a) (sym (get_or-set_same lanes l record { stand = Idle; word = (get_or lanes l no_lane).word } no_lane (omega arith))) record {
-    stand_is = refl;
-    known_is = retired_known b ∙ m.known_is;
-    live_is = λ e. absurd (omega arith);
-    cut_is = λ e. absurd (omega arith);
-    rest_is = λ _. retired_away b;
-    bound = m.bound;
-  }
+  home_kept b lanes l small long m = grind (arith, get_or-set_same, retired_known, retired_away)
 
   -- a lane that was given out has the log's length as its word
-  pub given_kept : (note : Option A) (n count : ℕ) (b : Account K A) (lanes : List LaneAccount) (l : ℕ) → l < 8 → length lanes ≡ 8 → count ≡ n → n ≤ LONGEST_LOG
-      → IsKeptAs (given_out note n b) (get_or (set lanes l record { stand = Live; word = 4 * count }) l no_lane)
-  given_kept note n count b lanes l small long is few = subst (λ (a : LaneAccount). IsKeptAs (given_out note n b) a) (sym (get_or-set_same lanes l record { stand = Live; word = 4 * count } no_lane (omega arith))) record {
-    stand_is = refl;
-    known_is = omega arith;
-    live_is = λ _. omega arith;
-    cut_is = λ e. absurd (omega arith);
-    rest_is = λ _. refl;
-    bound = omega arith;
-  }
-
-  pub retired_live : (b : Account K A) → b.away ≡ false → retired b ≡ record b { stand = 0; loads = b.loads + 1 }
-  retired_live b e = λ i. record (back_if (e i) b) { stand = 0; loads = b.loads + 1 }
-
-  pub retired_back : (b : Account K A) → b.away ≡ true → retired b ≡ record b { away = false; cleared = b.known; stop = suc b.known; stand = 0; loads = b.loads + 1 }
-  retired_back b e = λ i. record (back_if (e i) b) { stand = 0; loads = b.loads + 1 }
+  pub given_kept : (noted : Option A) (n count : ℕ) (b : Account K A) (lanes : List LaneAccount) (l : ℕ) → l < 8 → length lanes ≡ 8 → count ≡ n → n ≤ LONGEST_LOG
+      → IsKeptAs (given_out noted n b) (get_or (set lanes l record { stand = Live; word = 4 * count }) l no_lane)
+  given_kept noted n count b lanes l small long is few = grind (arith, get_or-set_same)
 
 grown_numbers : {K A : Type 0} (n : ℕ) (b : Account K A) → ((grown_as n b).stand ≡ b.stand) × ((grown_as n b).known ≡ b.known) × ((grown_as n b).half ≡ b.half) × ((grown_as n b).away ≡ b.away)
-grown_numbers zero b = (refl, refl, refl, refl)
-grown_numbers (suc zero) b = (refl, refl, refl, refl)
-grown_numbers (suc (suc n)) b = (refl, refl, refl, refl)
+grown_numbers n b = grind arith
 
 module _ {B K A : Type 0} where
   -- the log has grown, and its place went to another seat
@@ -214,18 +140,14 @@ module _ {B K A : Type 0} where
 module _ {B K A : Type 0} (q q' : WriterView B K A) (k : ℕ) (tail : q'.tail ≡ q.tail) (others : (m : ℕ) → m ≢ k → account_of q' m ≡ account_of q m) where
   -- a lane below k is as full as before
   pub still_room : (n : ℕ) → n ≤ k → HasRoom q n → HasRoom q' n
-  still_room n few room l below alive = let same = others l (λ e. omega (arith, e, below, few)) in
-      subst (λ (z : Account K A × Tail B). length z.1.log < z.0.known + z.1.places) (λ i. (sym same i, sym tail i)) (room l below (ap (λ (b : Account K A). b.stand) (sym same) ∙ alive))
+  still_room n few room l below alive = grind arith
 
   pub still_behind : (m : ℕ) → m < k → IsBehind q m → IsBehind q' m
-  still_behind m below behind = let same = others m (λ e. omega (arith, e, below)) in
-      subst (λ (z : Account K A × Tail B). (z.0.stand ≡ live) × (length z.1.log ≡ z.0.known + z.1.places)) (λ i. (sym same i, sym tail i)) behind
+  still_behind m below behind = grind arith
 
   -- one lane more that has room
   pub more_room : HasRoom q k → ((account_of q' k).stand ≡ live → length q'.tail.log < (account_of q' k).known + q'.tail.places) → HasRoom q' (k + 1)
-  more_room room here l below alive = dite (ℕ_discrete l k)
-      (λ e. subst (λ (l : ℕ). (account_of q' l).stand ≡ live → length q'.tail.log < (account_of q' l).known + q'.tail.places) (sym e) here alive)
-      (λ ne. still_room k (le_refl k) room l (omega (arith, ne, below)) alive)
+  more_room room here l below alive = grind (arith, still_room, le_refl)
 
   -- one lane more was looked at
   pub harvest_step : (q₀ : WriterView B K A) → k < 8 → Calm q → Harvested q₀ q k → length q'.accounts ≡ length q.accounts → IsCalm (length q.tail.log) q.tail.places (account_of q' k)
@@ -259,13 +181,10 @@ module _ {B K A : Type 0} (q q' : WriterView B K A) (k : ℕ) (tail : q'.tail �
   Lowest p n o = MatchOption o (HasRoom p n) (λ m. (m < n) × IsBehind p m × HasRoom p m)
 
   pub none_lowest : (o : Option ℕ) → is_some o ≡ false → Lowest q k o → HasRoom q k
-  none_lowest None e room = room
-  none_lowest (Some m) e room = absurd (true≢false e)
+  none_lowest o e room = grind (arith, true≢false)
 
   pub none_more : (o : Option ℕ) → is_some o ≡ false → HasRoom q' (k + 1) → Lowest q' (k + 1) o
-  none_more None e room = room
-  none_more (Some m) e room = absurd (true≢false e)
+  none_more o e room = grind (arith, true≢false)
 
   pub lowest_stays : (o : Option ℕ) → is_some o ≡ true → Lowest q k o → Lowest q' (k + 1) o
-  lowest_stays None e low = absurd (true≢false (sym e))
-  lowest_stays (Some m) e low = let below = low.0 in (omega (arith, below), still_behind m below low.1, still_room m (omega (arith, below)) low.2)
+  lowest_stays o e low = grind (arith, true≢false, still_behind, still_room)

@@ -2,7 +2,6 @@ use Rattle.std.proofs.Common.{arith, ◌≡◌, Some, sym, subst}
 use Rattle.am_cast.specs.declared.views.Account.{Account}
 use Rattle.am_cast.specs.declared.views.WriterView.{WriterView}
 use Rattle.am_cast.specs.Seats.{writer_of}
-use Rattle.am_cast.proofs.Slots.{at_below, head_key}
 use Rattle.am_cast.proofs.Accounts.{is_account_of}
 use Rattle.am_cast.proofs.steps.Publish.{publishes_chosen}
 use Rattle.am_cast.proofs.board.publish.publish_batch.Goals as goal

@@ -3,12 +3,11 @@ use Rattle.am_cast.specs.declared.views.WriterView.{WriterView}
 use Rattle.am_cast.specs.declared.views.LaneView.{LaneView}
 use Rattle.am_cast.specs.declared.views.View.{View}
 use Rattle.am_cast.specs.Rule.{Sound}
-use Rattle.am_cast.specs.Changes.{with_account, retired}
+use Rattle.am_cast.specs.Changes.{with_account, retired, either_one}
 use Rattle.am_cast.specs.Seats.{writer_of, lane_of, account_of}
 use Rattle.am_cast.proofs.Accounts.{knows_of}
 use Rattle.am_cast.proofs.steps.Retire.{retires}
 use Rattle.am_cast.proofs.Seats.{hears}
-use Rattle.am_cast.specs.Changes.{either_one}
 use Rattle.am_cast.specs.Steps.{KnowsOf}
 use Rattle.am_cast.proofs.board.retire.retire_lane.Goals as goal
 

@@ -1,4 +1,4 @@
-use Rattle.std.proofs.Common.{ℕ, ◌<◌, List, length, length-set, sym, ap, ◌∙◌, subst}
+use Rattle.std.proofs.Common.{ℕ, ◌<◌, length, length-set, sym, ap, ◌∙◌, subst}
 use Rattle.am_cast.specs.inside.KeyRows.{BucketView}
 use Rattle.am_cast.proofs.KeyRows.{Brought, may_add, may_end, one_more, last_more}
 use Rattle.am_cast.proofs.key_rows.bucket.Bucket.bring.Given as given

@@ -4,12 +4,11 @@ use Rattle.am_cast.specs.declared.batch_view.BatchView.{BatchView}
 use Rattle.am_cast.specs.declared.views.View.{View}
 use Rattle.am_cast.specs.declared.views.WriterView.{WriterView}
 use Rattle.am_cast.specs.inside.WriterStates.{WriterStateView}
-use Rattle.am_cast.specs.Seats.{account_of, writer_of}
+use Rattle.am_cast.specs.Seats.{account_of, writer_of, IsKeyAt}
 use Rattle.am_cast.specs.Changes.{clearing}
 use Rattle.am_cast.proofs.Waiting.{may_bring, brought}
 use Rattle.am_cast.proofs.Writers.{state_parts}
 use Rattle.am_cast.specs.Keys.{key_of}
-use Rattle.am_cast.specs.Seats.{IsKeyAt}
 use Rattle.am_cast.proofs.writer.state.WriterState.bring_one.Goals as goal
 
 pub bring-requires-clause-row : goal.bring-requires-clause-row

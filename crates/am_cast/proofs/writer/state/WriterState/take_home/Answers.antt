@@ -1,15 +1,13 @@
-use Rattle.std.proofs.Common.{arith, sym, ap, ◌∙◌, subst, Option}
+use Rattle.std.proofs.Common.{arith, sym, ap, ◌∙◌, subst, Option, ◌++◌, length-set, get_or, get_or-set_other, slice_set}
 use Rattle.am_segment.specs.Segments.{KeyView}
 use Rattle.am_cast.specs.declared.batch_view.BatchView.{BatchView}
 use Rattle.am_cast.specs.declared.views.WriterView.{WriterView}
 use Rattle.am_cast.specs.inside.WriterStates.{WriterStateView}
 use Rattle.am_cast.specs.Changes.{retired}
-use Rattle.am_cast.specs.Seats.{account_of, writer_of}
+use Rattle.am_cast.specs.Seats.{account_of, writer_of, some_or}
 use Rattle.am_cast.specs.Writers.{Calm}
 use Rattle.am_cast.proofs.Waiting.{fits_one, out_retired}
-use Rattle.std.proofs.Common.{◌++◌, length-set, get_or, get_or-set_other, slice_set}
 use Rattle.am_cast.specs.Rule.{first_writer}
-use Rattle.am_cast.specs.Seats.{some_or}
 use Rattle.am_cast.specs.declared.writer.lane_account.Stand.TheVariants.{Idle}
 use Rattle.am_cast.specs.inside.LaneAccounts.{no_lane}
 use Rattle.am_cast.proofs.Writers.{state_parts, home_kept}
