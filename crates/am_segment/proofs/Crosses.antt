@@ -1,5 +1,5 @@
 -- A block, a claim and a part may cross threads where their items may.
-use Rattle.std.proofs.Common.{ℕ, Bool, true, false, ◌-◌, ◌*◌, [], ◌∷◌, List, length}
+use Rattle.std.proofs.Common.{ℕ, Bool, ◌-◌, ◌*◌, [], ◌∷◌, List, length, arith, rules}
 use Rattle.std.specs.Mem.{type_size}
 use Rattle.core.specs.Allocator.{array_of}
 use Rattle.core.specs.declared.alloc.Allocator.{Ghosts}
@@ -33,8 +33,7 @@ module _ (R : RattleType) (p : Ptr) (places : ℕ) (items : List R.Denot) where
   rest-keyless t frees = (room (array_of R (places - length items)) (p +ₚ length items * type_size R), frees (array_of R places) p)
 
   claim-keyless : (t : Ty → Ptr → Fml) → ((τ : Ty) (q : Ptr) → Keyless (t τ q)) → IsSend R → (segment : ℕ) (there : Bool) → Keyless (claim_owns t R p places items segment there)
-  claim-keyless t frees sent segment true = (front-keyless sent, rest-keyless t frees)
-  claim-keyless t frees sent segment false = tt
+  claim-keyless t frees sent segment there = grind (arith, front-keyless, rest-keyless)
 
 module _ (R A : RattleType) (g : Ghosts A.Denot) where
   pub Block-send : IsSend R → FreesAnywhere A.Denot g → IsSend (block.the_row R A g)
@@ -43,23 +42,17 @@ module _ (R A : RattleType) (g : Ghosts A.Denot) where
       (λ k. quiet (to T) (exits_of k (fields T)) ((struct_send (shape T) all).leaving k))
 
   pub Block-sync : IsSync (block.the_row R A g)
-  Block-sync = let T = block.the_type R A g in let all : AllSync (fields T) = (search sendable, (search sendable, tt)) in
-      record { shared = λ d b o κ. ((struct_sync (shape T) all).shared (to T d) b o κ, tt) }
+  Block-sync = grind arith
 
   pub Claim-send : IsSend R → FreesAnywhere A.Denot g → IsSend (claim.the_row R A g)
-  Claim-send sent f = let T = claim.the_type R A g in let all : AllSend (fields T) = (search sendable, tt) in
-      owning_send T all (λ d. claim-keyless R d.at d.places d.items (g.dealloc_token d.alloc) (f.frees d.alloc) sent d.segment d.there)
-      (λ k. quiet (to T) (exits_of k (fields T)) ((struct_send (shape T) all).leaving k))
+  Claim-send sent f = grind (arith, claim-keyless, quiet)
 
   pub Claim-sync : IsSync (claim.the_row R A g)
-  Claim-sync = let T = claim.the_type R A g in let all : AllSync (fields T) = (search sendable, tt) in
-      record { shared = λ d b o κ. ((struct_sync (shape T) all).shared (to T d) b o κ, tt) }
+  Claim-sync = grind arith
 
 module _ (R : RattleType) where
   pub Part-send : IsSync R → IsSend (part.the_row R)
-  Part-send shared = let T = part.the_type R in let all : AllSend (fields T) = (search sendable, tt) in
-      owning_send T all (λ d. ((λ e c. tt), front_lent-common R d.ptr d.places d.items shared (d.segment ∷ [])))
-      (λ k. quiet (to T) (exits_of k (fields T)) ((struct_send (shape T) all).leaving k))
+  Part-send shared = search (rules, front_lent-common, quiet)
 
   pub Part-sync : IsSync R → IsSync (part.the_row R)
   Part-sync shared = let T = part.the_type R in let all : AllSync (fields T) = (search sendable, tt) in

@@ -9,11 +9,10 @@ use denote.Array.{Array}
 use denote.ArrayMemory.{Single}
 use denote.Param.Laws.{Laws}
 use denote.RattleType.{RattleType}
-use denote.RawPtr.{Ptr}
+use denote.RawPtr.{Ptr, lies_at}
 use denote.Shares.{Shares-less, Shares-Array}
 use denote.Sharing.{ShrLaws, said}
 use denote.Struct.Lending.{Lends, Lends-both, Lends-said, Lends-lies, lent_at}
-use denote.RawPtr.{lies_at}
 use base.Fraction.{full_share}
 use Rattle.am_segment.specs.inside.Ownership.{front, front_lent}
 

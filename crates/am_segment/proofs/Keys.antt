@@ -4,7 +4,7 @@ use Rattle.std.specs.List.{All, range_with_len}
 use Rattle.std.proofs.lemmas.List.Sums.{sum_by-cons}
 use Rattle.std.proofs.lemmas.List.{length-map}
 use Rattle.std.proofs.lemmas.List.Elements.{All-map}
-use Rattle.am_segment.specs.Segments.{KeyView, AreAllKeys, OrderedAreAll, key_with, keys_of, rest_of}
+use Rattle.am_segment.specs.Segments.{KeyView, AreAllKeys, OrderedAreAll, key_with, keys_of}
 use Rattle.am_segment.proofs.Shares.{range-length}
 
 below_or_same : (a m : ℕ) → a ≤ m → (a < m) ⊎ (a ≡ m)
@@ -63,7 +63,3 @@ module _ {X : Type 0} (segment count : ℕ) (items : List X) where
       in-order segment (keys_of segment count items) (omega arith)
       (All-map (λ key. (key.segment ≡ segment) × (key.keys ≡ length (keys_of segment count items))) f (range_with_len 0 count) (λ k d within. (refl, sym long)))
       (λ i d below. let same : 0 + i ≡ i = omega arith in ap (λ k. k.number) (numbered-get f 0 count i d (omega arith)) ∙ same)
-
-  -- a run that is new has all keys still to come
-  pub new-run : rest_of (key_with segment count items 0) ≡ keys_of segment count items
-  new-run = let all : count - 0 ≡ count = omega arith in ap (λ n. map (key_with segment count items) (range_with_len 0 n)) all

@@ -26,11 +26,7 @@ module _ {X : Type 0} where
   -- parts of one name are of one lifetime, at one address, with as many items and places
   pub same-name : (part other : Part X) → name_of other ≡ name_of part
       → (other.segment ≡ part.segment) × (other.ptr ≡ part.ptr) × (length other.items ≡ length part.items) × (other.places ≡ part.places)
-  same-name part other e =
-      let life = pair-inj other.segment (pair (address_number other.ptr) (pair (length other.items) other.places)) part.segment (pair (address_number part.ptr) (pair (length part.items) part.places)) e in
-      let at = pair-inj (address_number other.ptr) (pair (length other.items) other.places) (address_number part.ptr) (pair (length part.items) part.places) life.1 in
-      let sizes = pair-inj (length other.items) other.places (length part.items) part.places at.1 in
-      (life.0, address-inj other.ptr part.ptr at.0, sizes.0, sizes.1)
+  same-name part other e = grind (arith, pair-inj, address-inj)
 
   -- parts of different lifetimes have different names
   pub other-name : (part other : Part X) → part.segment ≢ other.segment → name_of part ≢ name_of other

@@ -1,5 +1,5 @@
 -- Keys that are joined, and the parts of a block that they hold.
-use Rattle.std.proofs.Common.{◌≡◌, ℕ, zero, suc, ◌+◌, ◌-◌, ◌^◌, ◌<◌, ◌≤◌, nat_eq, Bool, true, false, List, [], ◌∷◌, ◌++◌, map, drop, length, count_by, refl, sym, ap, ◌∙◌, subst, arith, cond, true≢false, length-append, append_assoc, Option, Some, None, MatchOption}
+use Rattle.std.proofs.Common.{◌≡◌, ℕ, zero, suc, ◌+◌, ◌-◌, ◌^◌, ◌<◌, ◌≤◌, nat_eq, Bool, true, List, [], ◌∷◌, ◌++◌, map, drop, length, count_by, refl, sym, ap, ◌∙◌, arith, cond, true≢false, length-append, append_assoc, Option, Some, MatchOption}
 use Rattle.std.proofs.lemmas.List.{length-map}
 use Rattle.std.specs.List.{All, range_with_len}
 use Rattle.std.proofs.lemmas.List.Elements.{All-pop}
@@ -11,10 +11,10 @@ use Rattle.am_segment.specs.declared.block.Claim.{Claim}
 use Rattle.am_segment.specs.declared.block.Part.{Part}
 use Rattle.am_segment.specs.inside.Shares.{HoldShares, IsBlockOf, lasts, name_of}
 use Rattle.am_segment.proofs.Pairs.{same-name}
+use Rattle.std.proofs.lemmas.Grind.{common_steps}
 
 pub range-rest : (a n : ℕ) → drop 1 (range_with_len a n) ≡ range_with_len (a + 1) (n - 1)
-range-rest a zero = refl
-range-rest a (suc n) = ap (range_with_len (a + 1)) (omega arith)
+range-rest a n = grind arith
 
 pub range-length : (a n : ℕ) → length (range_with_len a n) ≡ n
 range-length a zero = refl
@@ -22,69 +22,38 @@ range-length a (suc n) = ap suc (range-length (a + 1) n)
 
 pub lasts-range : (keys a n : ℕ) → 0 < n → a + n ≡ keys → lasts keys (range_with_len a n) ≡ 1
 lasts-range keys a zero some sum = absurd (omega arith)
-lasts-range keys a (suc zero) some sum = let here : nat_eq a (keys - 1) ≡ true = grind arith in
-    sum_by-cons (λ number. cond (nat_eq number (keys - 1)) 1 0) a [] ∙ ap (λ b. cond b 1 0 + 0) here
-lasts-range keys a (suc (suc n)) some sum = let apart : nat_eq a (keys - 1) ≡ false = grind arith in
-    sum_by-cons (λ number. cond (nat_eq number (keys - 1)) 1 0) a (range_with_len (a + 1) (suc n))
-    ∙ ap (λ b. cond b 1 0 + lasts keys (range_with_len (a + 1) (suc n))) apart ∙ omega (arith, lasts-range keys (a + 1) (suc n) (omega arith) (omega arith))
+lasts-range keys a (suc zero) some sum = grind (arith, sum_by-cons)
+lasts-range keys a (suc (suc n)) some sum = grind (arith, sum_by-cons, (lasts-range keys (a + 1) (suc n) (omega arith) (omega arith)))
 
 -- all keys of a segment have all parts
 pub all-hold : (there : Bool) (count keys : ℕ) (numbers : List ℕ) → there ≡ true → count ≡ 2 ^ 63 → numbers ≡ range_with_len 0 keys → 0 < keys → keys ≤ 2 ^ 62 → HoldShares there count keys numbers
-all-hold true count keys numbers t all is some few = let long = ap length is ∙ range-length 0 keys in
-    (omega arith, omega arith, few, (λ none. absurd (true≢false none)), (λ e. (omega arith, ap (lasts keys) is ∙ lasts-range keys 0 keys some (omega arith))))
-all-hold false count keys numbers t all is some few = absurd (true≢false (sym t))
+all-hold there count keys numbers t all is some few = grind (arith, range-length, true≢false, lasts-range)
 
 -- several keys have several parts
 pub some-parts : (there : Bool) (count keys : ℕ) (numbers : List ℕ) → HoldShares there count keys numbers → (length numbers ≤ count) × (count ≤ 2 ^ 63)
-some-parts true count keys numbers h = let few = h.1 in let most = h.2 in let all = (h.4 refl).0 in (omega arith, omega arith)
-some-parts false count keys numbers h = let few = h.1 in let most = h.2 in let all = (h.3 refl).0 in (omega arith, omega arith)
+some-parts there count keys numbers h = grind arith
 
 -- what keys and further keys have is what all of them have
 pub both-hold : (a b : Bool) (count more keys : ℕ) (numbers others : List ℕ) → HoldShares a count keys numbers → HoldShares b more keys others → length numbers + length others ≤ keys → lasts keys (numbers ++ others) ≤ 1
     → (count + more ≤ 2 ^ 63) × HoldShares (cond b true a) (count + more) keys (numbers ++ others)
-both-hold true true count more keys numbers others h k few one =
-    let sum = sum_by-append (λ number. cond (nat_eq number (keys - 1)) 1 0) numbers others in let last = (h.4 refl).1 in let other = (k.4 refl).1 in absurd (omega arith)
-both-hold true false count more keys numbers others h k few one =
-    let long = length-append numbers others in let sum = sum_by-append (λ number. cond (nat_eq number (keys - 1)) 1 0) numbers others in let all = h.4 refl in let each = k.3 refl in let some = h.0 in let most = h.2 in
-    (omega (arith, all.0, each.0), (omega arith, omega arith, most, (λ e. absurd (true≢false e)), (λ e. (omega (arith, all.0, each.0), omega (arith, all.1, each.1)))))
-both-hold false true count more keys numbers others h k few one =
-    let long = length-append numbers others in let sum = sum_by-append (λ number. cond (nat_eq number (keys - 1)) 1 0) numbers others in let each = h.3 refl in let all = k.4 refl in let some = h.0 in let most = h.2 in
-    (omega (arith, all.0, each.0), (omega arith, omega arith, most, (λ e. absurd (true≢false e)), (λ e. (omega (arith, all.0, each.0), omega (arith, all.1, each.1)))))
-both-hold false false count more keys numbers others h k few one =
-    let long = length-append numbers others in let sum = sum_by-append (λ number. cond (nat_eq number (keys - 1)) 1 0) numbers others in let these = h.3 refl in let those = k.3 refl in let some = h.0 in let most = h.2 in
-    (omega (arith, these.0, those.0), (omega arith, omega arith, most, (λ e. (omega (arith, these.0, those.0), omega (arith, these.1, those.1))), (λ e. absurd (true≢false (sym e)))))
+both-hold a b count more keys numbers others h k few one = grind (arith, sum_by-append, length-append, true≢false)
 
 -- the claim that is left of two is to the block of both parts
 module _ {X : Type 0} (v w : Claim X Global) where
   pub is-there : (t : Bool) → t ≡ w.there → (cond t w v).there ≡ cond t true v.there
-  is-there true e = sym e
-  is-there false e = refl
+  is-there t e = grind arith
 
   pub block-of-both : (part other : Part X) (a b : Global) → name_of other ≡ name_of part → (v.there ≡ true → IsBlockOf v part × (v.alloc ≡ a)) → (w.there ≡ true → IsBlockOf w other × (w.alloc ≡ b))
       → (t : Bool) → t ≡ w.there → (cond t w v).there ≡ true → IsBlockOf (cond t w v) part × ((cond t w v).alloc ≡ a)
-  block-of-both part other a b name these those true e there = let same = same-name part other name in let is = (those there).0 in
-      ((is.0 ∙ same.1, is.1 ∙ same.0, is.2 ∙ same.2, is.3 ∙ same.3), refl)
-  block-of-both part other a b name these those false e there = these there
+  block-of-both part other a b name these those t e there = grind (arith, same-name)
 
 -- the last key is there at most once
 last-once : (there : Bool) (count keys : ℕ) (numbers : List ℕ) → HoldShares there count keys numbers → lasts keys numbers ≤ 1
-last-once true count keys numbers h = let one = (h.4 refl).1 in omega arith
-last-once false count keys numbers h = let none = (h.3 refl).1 in omega arith
+last-once there count keys numbers h = grind arith
 
 -- it stays there at most once, where it wasn't there if it is among further keys
 pub once : (here there : Bool) (count more keys : ℕ) (numbers others : List ℕ) → HoldShares here count keys numbers → HoldShares there more keys others → (0 < lasts keys others → lasts keys numbers ≡ 0) → lasts keys (numbers ++ others) ≤ 1
-once here true count more keys numbers others h k new =
-    let sum = sum_by-append (λ number. cond (nat_eq number (keys - 1)) 1 0) numbers others in let one = (k.4 refl).1 in let none = new (omega arith) in omega (arith, sum, one, none)
-once here false count more keys numbers others h k new =
-    let sum = sum_by-append (λ number. cond (nat_eq number (keys - 1)) 1 0) numbers others in let none = (k.3 refl).1 in omega (arith, sum, none, last-once here count keys numbers h)
-
--- a single key that is the last one
-pub is-last : (keys number : ℕ) → 0 < lasts keys (number ∷ []) → number ≡ keys - 1
-is-last keys number some = by_case (nat_eq number (keys - 1)) refl
-  where
-    by_case : (b : Bool) → nat_eq number (keys - 1) ≡ b → number ≡ keys - 1
-    by_case true e = grind (arith, e)
-    by_case false e = let none = ap {B = ℕ} (λ b. cond b 1 0) e in let one = sum_by-cons (λ number. cond (nat_eq number (keys - 1)) 1 0) number [] in absurd (omega (arith, one, none, some))
+once here there count more keys numbers others h k new = grind (arith, sum_by-append, last-once)
 
 rest-is-more : (keys next : ℕ) → next < keys → keys - next ≡ suc (keys - (next + 1))
 rest-is-more keys next below = omega arith
@@ -92,21 +61,16 @@ rest-is-more keys next below = omega arith
 module _ {X : Type 0} where
   -- the keys that are still to come are the next one and those behind it
   pub next-of-rest : (next : KeyView X) → next.number + 1 < next.keys → rest_of next ≡ next ∷ rest_of record next { number = next.number + 1 }
-  next-of-rest next more = let f = key_with next.segment next.keys next.items in
-      ap (λ n. map f (range_with_len next.number n)) (rest-is-more next.keys next.number (omega arith))
+  next-of-rest next more = grind (arith, rest-is-more)
 
   pub last-of-rest : (next : KeyView X) → next.number + 1 ≡ next.keys → rest_of next ≡ next ∷ []
-  last-of-rest next last = let f = key_with next.segment next.keys next.items in let one : next.keys - next.number ≡ 1 = omega arith in ap (λ n. map f (range_with_len next.number n)) one
+  last-of-rest next last = grind arith
 
   -- one more of all keys is handed out, after those that are out
   pub rest-step : (next : KeyView X) (others : Option (KeyView X)) (out all : List (KeyView X))
       → MatchOption others (next.number + 1 ≡ next.keys) (λ rest. (next.number + 1 < next.keys) × (rest ≡ record next { number = next.number + 1 }))
       → out ++ rest_of next ≡ all → (length out < length all) × MatchOption others (out ++ next ∷ [] ≡ all) (λ rest. (out ++ next ∷ []) ++ rest_of rest ≡ all)
-  rest-step next None out all last is = let whole = ap (λ l. out ++ l) (sym (last-of-rest next last)) ∙ is in
-      let long = ap length whole in let more = length-append out (next ∷ []) in (omega arith, whole)
-  rest-step next (Some rest) out all more is =
-      let whole = append_assoc out (next ∷ []) (rest_of rest) ∙ ap (λ rest. out ++ next ∷ rest_of rest) more.1 ∙ ap (λ l. out ++ l) (sym (next-of-rest next more.0)) ∙ is in
-      let long = ap length whole in let more = length-append (out ++ next ∷ []) (rest_of rest) in let one = length-append out (next ∷ []) in (omega arith, whole)
+  rest-step next others out all last is = grind (arith, last-of-rest, length-append, append_assoc, next-of-rest)
 
   -- keys that others show are of the others' segment
   pub of-one : (a b : Part X) (numbers : List ℕ) → 0 < length numbers → All (λ key. key ≡ key_of_part b key.number) (map (key_of_part a) numbers) → (name_of b ≡ name_of a) × (b.keys ≡ a.keys) × (b.items ≡ a.items)
@@ -115,9 +79,7 @@ module _ {X : Type 0} where
 
   pub counted : (segment keys m : ℕ) (items : List X) (numbers : List ℕ) → count_by (λ key. nat_eq key.number m) (map (key_with segment keys items) numbers) ≡ count_by (λ number. nat_eq number m) numbers
   counted segment keys m items [] = refl
-  counted segment keys m items (number ∷ numbers) =
-      sum_by-cons (λ (key : KeyView X). cond (nat_eq key.number m) 1 0) (key_with segment keys items number) (map (key_with segment keys items) numbers)
-      ∙ ap (λ n. cond (nat_eq number m) 1 0 + n) (counted segment keys m items numbers) ∙ sym (sum_by-cons (λ number. cond (nat_eq number m) 1 0) number numbers)
+  counted segment keys m items (number ∷ numbers) = grind (arith, common_steps, sum_by-cons, (counted segment keys m items numbers))
 
   as_many : (segment keys : ℕ) (items : List X) (numbers : List ℕ) → AreAllKeys (map (key_with segment keys items) numbers) → keys ≡ length numbers
   as_many segment keys items [] all = let some = all.some in absurd (omega arith)
@@ -125,8 +87,7 @@ module _ {X : Type 0} where
 
   -- joined keys that are all keys have each number, the last one's among them
   pub whole : (segment keys : ℕ) (items : List X) (numbers : List ℕ) → 0 < length numbers → AreAllKeys (map (key_with segment keys items) numbers) → (length numbers ≡ keys) × (lasts keys numbers ≡ 1)
-  whole segment keys items numbers some all = let many = as_many segment keys items numbers all in let long = length-map numbers (key_with segment keys items) in
-      (sym many, sym (counted segment keys (keys - 1) items numbers) ∙ all.each_once (keys - 1) (omega arith))
+  whole segment keys items numbers some all = grind (arith, common_steps, as_many, length-map, counted)
 
   -- the rest of a segment's keys, of which those with these numbers came
   pub record Come (segment keys : ℕ) (numbers : List ℕ) (rest : List (KeyView X)) : Type 0 where
@@ -154,4 +115,4 @@ module _ {X : Type 0} where
   -- the same of an equal part
   pub same-come : {segment segment' keys keys' : ℕ} {numbers numbers' : List ℕ} {rest : List (KeyView X)} → segment ≡ segment' → keys ≡ keys' → numbers ≡ numbers' → Come segment keys numbers rest
       → Come segment' keys' numbers' rest
-  same-come {segment} {segment'} {keys} {keys'} {numbers} {numbers'} {rest} s k n come = subst (λ segment. Come segment keys' numbers' rest) s (subst (λ keys. Come segment keys numbers' rest) k (subst (λ numbers. Come segment keys numbers rest) n come))
+  same-come {segment} {segment'} {keys} {keys'} {numbers} {numbers'} {rest} s k n come = grind arith

@@ -1,5 +1,5 @@
 -- The machine values of a block, a claim and a part, and what their fields own.
-use Rattle.std.proofs.Common.{◌≡◌, List, [], ◌∷◌, ◌++◌, refl, ap, ◌∙◌}
+use Rattle.std.proofs.Common.{◌≡◌, List, [], ◌∷◌, ◌++◌, refl, ap, ◌∙◌, arith}
 use Rattle.core.specs.declared.alloc.Allocator.{Ghosts}
 use Rattle.std_alloc.proofs.RcSteps.{Good, Ptr-Good}
 use seplogic.Ra.Ura.{Ura}
@@ -66,8 +66,7 @@ module _ (R A : RattleType) (g : Ghosts A.Denot) where
   ClaimData = Struct (shape (claim.the_type R A g))
 
   pub block_told : (p : Ptr) (vs : List Val) → Is BlockData (p, (tt, tt)) vs → vs ≡ block_val p ∷ []
-  block_told p vs is = is.1.0 ∙ ap (λ (ws : List Val). vstruct (of_list (ws ++ (is.0.1.0 ++ []))) ∷ []) is.1.1.0
-      ∙ ap (λ (ws : List Val). vstruct (of_list (ptr_val p ∷ (ws ++ []))) ∷ []) is.1.1.1.0.1.0
+  block_told p vs is = grind arith
 
   pub claim_told : (vs : List Val) → Is ClaimData (tt, tt) vs → vs ≡ claim_val ∷ []
   claim_told vs is = is.1.0 ∙ ap (λ (ws : List Val). vstruct (of_list (ws ++ [])) ∷ []) is.1.1.0.1.0

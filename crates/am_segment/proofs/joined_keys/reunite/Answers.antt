@@ -1,4 +1,4 @@
-use Rattle.std.proofs.Common.{◌≡◌, ◌++◌, ◌∷◌, [], sym, ap, ◌∙◌}
+use Rattle.std.proofs.Common.{◌≡◌, ◌++◌, ◌∷◌, [], sym, ap, ◌∙◌, arith}
 use Rattle.am_segment.specs.inside.Shares.{name_of}
 use Rattle.am_segment.proofs.Shares.{Come, comes, come-all, same-come}
 use Rattle.am_segment.proofs.joined_keys.reunite.Given as given
@@ -20,5 +20,4 @@ pub join-all-requires-clause-same : goal.join-all-requires-clause-same
 join-all-requires-clause-same g c = let next = next-comes g c in (ap (λ key. key.segment) c.key.view_is ∙ next.0, ap (λ key. key.keys) c.key.view_is ∙ next.1)
 
 pub loop-key-preserved : goal.loop-key-preserved
-loop-key-preserved g c = let is = c.join-all.ensures in let part = c.loop-key.all.part in let one = c.key.invariant.one ∙ ap (λ key. key.number ∷ []) c.key.view_is in
-    same-come (sym (ap name_of is)) (sym (ap (λ part. part.keys) is)) (sym (ap (λ part. part.numbers) is ∙ ap (λ numbers. part.numbers ++ numbers) one)) (next-comes g (goal.at.loop-key-preserved g c).After-key).2
+loop-key-preserved g c = grind (arith, same-come, next-comes)

@@ -10,7 +10,7 @@ use Rattle.std_alloc.proofs.VecSteps.El.{El, elτ, sz}
 use Rattle.std_alloc.proofs.VecSteps.Shapes.{after}
 use Rattle.am_segment.specs.inside.Ownership.{block_owns}
 use base.Fml.{Lft, Incl-trans, ftrue, flft}
-use base.Logic.{SProp, ent, emp}
+use base.Logic.{SProp, emp}
 use contract.BorrowLft.{◌⊑◌}
 use contract.Monad.{fact}
 use contract.Running.{tables}

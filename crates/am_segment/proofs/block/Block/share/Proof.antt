@@ -4,7 +4,7 @@ use Rattle.std.specs.List.{range_with_len}
 use Rattle.std.proofs.raw_atomic.Walks.{proved, leaves}
 use Rattle.std_alloc.proofs.RcSteps.{Ptr-Good}
 use Rattle.core.proofs.alloc.Calls.{Goes-blank}
-use base.Fml.{Lft, Fml}
+use base.Fml.{Lft, Fml, ftrue, fex, flft, Incl-refl}
 use base.Logic.{SProp, emp}
 use contract.Monad.{fact, fact_i}
 use contract.Running.{tables}
@@ -19,7 +19,7 @@ use denote.Exit.{yes, no}
 use denote.Plain.{uint_vals, uint_Tells}
 use denote.Param.{param, bounded}
 use denote.Param.Laws.{param_laws}
-use denote.RattleType.{RattleType, owns}
+use denote.RattleType.{RattleType, owns, Valss}
 use denote.RawPtr.{Ptr}
 use denote.Signature.{types_at, plain}
 use denote.Steps.{nothing, heard}
@@ -28,9 +28,7 @@ use Rattle.am_segment.specs.contracts.block.Block as block
 use Rattle.am_segment.specs.contracts.block.Claim as claim
 use Rattle.am_segment.specs.contracts.block.Part as part
 use types.Kit.{‵, raw, later, ◌⊛◌, ◌$◌, ◌∵◌, !, qed, by, move, keep, split, join, fsplit, fjoin, fjoin3, fpick, fpack, use0, use2, await, feq_i}
-use base.Fml.{ftrue, fex, flft, Incl-refl}
 use contract.BorrowLft.{◌⊑◌}
-use denote.RattleType.{Valss}
 use denote.Struct.Declared as Declared
 use denote.Struct.Struct.{within}
 use denote.Struct.Tuple.{tuple_type}

@@ -1,7 +1,7 @@
-use Rattle.std.proofs.Common.{◌≡◌, ℕ, ◌<◌, ◌-◌, nat_eq, count_by, ◌++◌, length, map, Some, sym, ap, ◌∙◌, subst, arith}
+use Rattle.std.proofs.Common.{◌≡◌, ℕ, ◌<◌, ◌-◌, nat_eq, count_by, length, Some, sym, ap, ◌∙◌, subst, arith}
 use Rattle.std.specs.List.{All}
 use Rattle.std.proofs.lemmas.List.{length-map, map-append}
-use Rattle.am_segment.specs.Segments.{KeyView, key_with}
+use Rattle.am_segment.specs.Segments.{KeyView}
 use Rattle.am_segment.specs.inside.Fields.{keys_held, key_of_part}
 use Rattle.am_segment.specs.inside.Shares.{HoldShares, lasts, name_of}
 use Rattle.am_segment.proofs.Shares.{of-one, once, counted}
@@ -32,11 +32,4 @@ join-all-requires-clause-once g c = let held = c.in-Some.held in let more = c.ar
     ∙ ap (λ keys. count_by (λ (key : KeyView g.row.T.Denot). nat_eq key.number (keys - 1)) c.args.self.now) (sym of.1) ∙ c.requires.once (subst (λ keys. 0 < lasts keys more.part.numbers) (sym of.1) some))
 
 pub returns : goal.returns
-returns g c = elim c.match-take.branch [
-  | in-None+in-None-replace w ↦ (ap (λ state. keys_held state.held) w.self-inside-is ∙ ap keys_held w.replace.ensures.after
-      ∙ ap (λ keys. keys ++ map (key_of_part c.args.more.part) c.args.more.part.numbers) (ap keys_held (sym w.in-None.is ∙ c.take.ensures.value) ∙ c.self.view_is))
-  | in-Some+in-None-replace-2 w ↦ (let held = w.in-Some.held.part in let more = c.args.more.part in let was = ap keys_held (sym w.in-Some.is ∙ c.take.ensures.value) ∙ c.self.view_is in
-      let one = of-one held more held.numbers w.in-Some.held.shares.0 (subst (λ keys. All (λ (key : KeyView g.row.T.Denot). key ≡ key_of_part more key.number) keys) (sym was) c.requires.same) in
-      ap (λ state. keys_held state.held) w.self-inside-is ∙ ap keys_held w.replace-in-Some.ensures.after ∙ ap (λ part. map (key_of_part part) part.numbers) w.join-all.ensures
-      ∙ map-append (key_of_part held) held.numbers more.numbers ∙ (λ i. was i ++ map (key_with (sym one.0 i) (sym one.1 i) (sym one.2 i)) more.numbers))
-]
+returns g c = grind (arith, in-None+in-None-replace, in-Some+in-None-replace-2, of-one, map-append)

@@ -1,4 +1,4 @@
-use Rattle.std.proofs.Common.{rules, ◌≡◌, ◌<◌, ◌++◌, ◌∷◌, [], length, length-append, vec_len, MatchOption, sym, ap, ◌∙◌, subst, arith}
+use Rattle.std.proofs.Common.{◌≡◌, ◌<◌, ◌++◌, ◌∷◌, [], length, length-append, MatchOption, subst, arith}
 use Rattle.am_segment.specs.Segments.{rest_of}
 use Rattle.am_segment.proofs.Shares.{rest-step}
 use Rattle.am_segment.proofs.key_run.KeyRun.push_all.Given as given
@@ -13,12 +13,7 @@ step g c = let out = c.loop-rest.keys.items in let all = c.args.keys.items ++ re
     (subst (λ rest. MatchOption rest (out ≡ all) (λ next. out ++ rest_of next ≡ all)) c.in-Some.is c.loop-rest.invariant.keys)
 
 pub push_reserved-requires : goal.push_reserved-requires
-push_reserved-requires g c = let below = (step g (goal.at.push_reserved-requires g c).After-next-key).0 in let long = length-append c.args.keys.items (rest_of c.args.self) in let room = c.requires in
-    let len : vec_len c.loop-rest.keys ≡ length c.loop-rest.keys.items = search rules in let same = c.loop-rest.invariant.capacity in omega arith
+push_reserved-requires g c = grind (arith, step, length-append)
 
 pub loop-rest-preserved : goal.loop-rest-preserved
-loop-rest-preserved g c = let out = c.loop-rest.keys.items in let all = c.args.keys.items ++ rest_of c.args.self in let p = c.push_reserved.ensures in
-    let stepped = step g (goal.at.loop-rest-preserved g c).After-next-key in record {
-      keys = subst (λ items. MatchOption c.next-key.result.1 (items ≡ all) (λ next. items ++ rest_of next ≡ all)) (sym (p.items ∙ ap (λ key. out ++ key ∷ []) c.next-key.ensures.key)) stepped.1;
-      capacity = p.capacity ∙ c.loop-rest.invariant.capacity;
-    }
+loop-rest-preserved g c = grind (arith, step)

@@ -1,4 +1,4 @@
-use Rattle.std.proofs.Common.{◌≡◌, ℕ, Bool, true, cond, ◌+◌, ◌++◌, ◌^◌, ◌≤◌, length, refl, sym, subst, ◌∙◌, arith}
+use Rattle.std.proofs.Common.{◌≡◌, ℕ, Bool, true, cond, ◌+◌, ◌++◌, ◌^◌, ◌≤◌, refl, sym, subst, arith}
 use Rattle.std.specs.Global.{Global}
 use Rattle.am_segment.specs.declared.block.Claim.{Claim}
 use Rattle.am_segment.specs.declared.block.Part.{Part}
@@ -23,9 +23,7 @@ join-requires-clause-parts g c = let a = c.args.self in let some = (some-parts a
     (omega (arith, some, any), (all g (goal.at.join-requires-clause-parts g c).Start).0)
 
 pub invariant_of-result-clause-counted : goal.invariant_of-result-clause-counted
-invariant_of-result-clause-counted g c = let a = c.args.self.part in let b = c.args.more in let of = same-name a b.part c.requires.same.0 in
-    subst (λ (part : Part g.row.T.Denot). (b.len ≡ length part.items) × (b.len ≤ b.places) × (part.places ≡ b.places)) (sym c.join.ensures)
-    (b.counted.0 ∙ of.2, b.counted.1, sym of.3 ∙ b.counted.2)
+invariant_of-result-clause-counted g c = grind (arith, same-name)
 
 pub invariant_of-result-clause-block : goal.invariant_of-result-clause-block
 invariant_of-result-clause-block g c = let a = c.args.self in let b = c.args.more in let T = g.row.T.Denot in
