@@ -1,5 +1,5 @@
 -- What the writer's seat knows of one lane, before and after a step.
-use Rattle.std.proofs.Common.{◌≡◌, ℕ, zero, suc, ◌<◌, List, [], ◌∷◌, length, set, get_or, refl, sym, ap, ◌∙◌, arith, Some}
+use Rattle.std.proofs.Common.{◌≡◌, ℕ, zero, suc, ◌<◌, List, [], ◌∷◌, length, set, get_or, refl, sym, ap, arith, Some}
 use mathlib.Core.Option.{some, some-ne-none, some-injective}
 use lib.ListN.{get_elem?}
 use Rattle.atomic_table.proofs.Lists.{set_here}
@@ -37,4 +37,4 @@ module _ {B K A : Type 0} where
   knows_after w w' q l b is small = (ap (λ (v : View B K A). v.writer) is, set_here q.accounts l b small)
 
   pub twice : (w w₁ w₂ : View B K A) (q : WriterView B K A) (l : ℕ) (b₁ b₂ : Account K A) → w₁ ≡ with_writer (with_account l b₁ q) w → w₂ ≡ with_writer (with_account l b₂ (with_account l b₁ q)) w₁ → w₂ ≡ with_writer (with_account l b₂ q) w
-  twice w w₁ w₂ q l b₁ b₂ e f = f ∙ ap (λ (v : View B K A). with_writer (with_account l b₂ (with_account l b₁ q)) v) e ∙ ap (λ (bs : List (Account K A)). with_writer (record q { accounts = bs }) w) (set_set q.accounts l b₁ b₂)
+  twice w w₁ w₂ q l b₁ b₂ e f = grind (arith, set_set)

@@ -1,5 +1,5 @@
 -- A new table shows the core's first state.
-use Rattle.std.proofs.Common.{◌≡◌, ℕ, zero, suc, ◌*◌, ◌<◌, List, [], ◌∷◌, length, get_or, refl, Option, None, Bool, true, false, nat_lt, if◌then◌else◌}
+use Rattle.std.proofs.Common.{◌≡◌, ℕ, zero, suc, ◌*◌, ◌<◌, List, [], ◌∷◌, length, get_or, refl, Option, None, Bool, false, nat_lt, if◌then◌else◌, arith}
 use mathlib.Core.Option.{some}
 use lib.ListN.{get_elem?}
 use Rattle.atomic_table.specs.Table.{opening}
@@ -11,8 +11,7 @@ use Rattle.am_cast.specs.Core.{poster_behind, view_or_blank, state_of}
 use Rattle.am_cast.proofs.Seats.{begins}
 
 either_way : {X : Type 0} (b : Bool) (x : X) → (if b then x else x) ≡ x
-either_way true x = refl
-either_way false x = refl
+either_way b x = grind arith
 
 module _ {B K A : Type 0} (key : B → ℕ → K) where
   pub begins_as : (words : List ℕ) (slots : List (Option K)) (places : ℕ) → length words ≡ 152 → get_or words 0 0 ≡ 0 → ((l : ℕ) → l < 8 → get_or words (lane_word l) 0 ≡ gone) → length slots ≡ 8 * places → ((i : ℕ) → i < length slots → get_elem? slots i ≡ some None) → 0 < places

@@ -1,5 +1,5 @@
 -- What a cursor has taken.
-use Rattle.std.proofs.Common.{◌≡◌, ℕ, zero, suc, ◌+◌, ◌-◌, ◌<◌, ◌≤◌, ◌⊎◌, List, [], ◌∷◌, ◌++◌, length, take, drop, sym, refl, ap, ◌∙◌, subst, arith, Bool, true, false, add-one, append_assoc, Option, Some, None, is_some, slice_get}
+use Rattle.std.proofs.Common.{◌≡◌, ℕ, zero, suc, ◌+◌, ◌-◌, ◌<◌, ◌≤◌, List, [], ◌∷◌, ◌++◌, length, take, drop, sym, refl, ap, ◌∙◌, subst, arith, Bool, true, false, add-one, append_assoc, Option, Some, None, is_some, slice_get}
 use Rattle.std.proofs.lemmas.Bool.{false≢true}
 use mathlib.Core.Option.{some, some-ne-none, some-injective}
 use mathlib.Core.List.{IsPrefix}
@@ -21,7 +21,7 @@ use Rattle.atomic_table.specs.Seated.{TableId}
 use Rattle.am_cast.specs.declared.views.View.{View}
 use Rattle.am_cast.specs.Cursors.{CursorView, items_at, shown_items, HasEnded}
 use Rattle.am_cast.specs.inside.Cursors.{CursorOk, HasHand}
-use Rattle.am_cast.specs.Lent.{IsItem, IsInHand, HasNews, Moves}
+use Rattle.am_cast.specs.Lent.{IsItem, IsInHand, Moves}
 use Rattle.am_cast.specs.inside.Moving.{NeedsLook, AfterLook}
 use Rattle.atomic_table.specs.Table.{rest}
 use Rattle.am_cast.proofs.Slots.{at_below, at_length}
@@ -120,8 +120,7 @@ module _ {T P A : Type 0} where
   pub taken_next : (c d : CursorView T P A) (x : T) → d ≡ record c { shown = c.shown + 1 } → IsInHand d x → shown_items d ≡ shown_items c ++ x ∷ []
   taken_next c d x e at = let items : List T = items_at c.lane.front c.lane.passed in let before : List T = all_items (drop c.lane.start (take c.lane.passed c.lane.front)) in
       let back : c.shown + 1 - 1 ≡ c.shown = omega arith in
-      let next : slice_get items c.shown ≡ Some x = ap (λ (n : ℕ). slice_get items n) (sym back) ∙ subst (λ (d : CursorView T P A). IsInHand d x) e at in
-      ap (λ (d : CursorView T P A). shown_items d) e ∙ ap (λ (n : ℕ). before ++ take n items) (add-one c.shown) ∙ ap (λ (l : List T). before ++ l) (take_get items c.shown x next) ∙ sym (append_assoc before (take c.shown items) (x ∷ []))
+      grind (arith, take_get, append_assoc)
 
   pub shows_next : (c d : CursorView T P A) → c.lane.held ≡ true → c.shown < length (items_at c.lane.front c.lane.passed) → d ≡ record c { shown = c.shown + 1 } → IsItem c d
   shows_next c d held low e = record {
@@ -143,7 +142,7 @@ module _ {T P A : Type 0} where
       go One t = record { held = t.held; there = t.there; taken = λ x at. t.taken x at ∙ ap (λ (l : List T). l ++ x ∷ []) same; was_open = needs.was_open; was_uncut = needs.was_uncut }
       go Pending t = record {
         taken = ap (λ (c : CursorView T P A). shown_items c) t.0 ∙ same;
-        looks = ap (λ (c : CursorView T P A). c.lane.looks) t.0 ∙ ap (λ (v : LaneView (BatchView T P) A). v.looks) lane ∙ ap (λ (n : ℕ). n + 1) needs.looks;
+        looks = grind arith;
         told = ap (λ (c : CursorView T P A). c.lane.told) t.0 ∙ t.1;
         all = ap (λ (c : CursorView T P A). c.lane.passed) t.0 ∙ t.2 ∙ ap (λ (c : CursorView T P A). length c.lane.front) (sym t.0);
         held = ap (λ (c : CursorView T P A). c.lane.held) t.0 ∙ ap (λ (v : LaneView (BatchView T P) A). v.held) lane ∙ needs.held;
@@ -153,10 +152,6 @@ module _ {T P A : Type 0} where
       }
       go Closed t = record { taken = ap (λ (c : CursorView T P A). shown_items c) t.0 ∙ same; ended = subst (λ (c : CursorView T P A). HasEnded c) (sym t.0) t.1; was_uncut = needs.was_uncut }
       go Cut t = record { taken = t.taken ∙ same; cut = t.cut; was_open = needs.was_open }
-
-  -- what a look finds, after all that was seen is passed
-  pub found_news : (c s m : CursorView T P A) → NeedsLook c s → m.lane ≡ seeing m.lane.front m.lane.told s.lane → m.shown ≡ s.shown → IsPrefix s.lane.front m.lane.front → (m.lane.passed < length m.lane.front) ⊎ (m.lane.told ≡ true) → HasNews c m
-  found_news c s m needs lane shown p found = grind (arith, taken_look)
 
   -- a hand is the same by another view of its lane's seat
   same_hand : (m m' : SeatState (BatchView T P) (KeyView T) A) (v : LaneView (BatchView T P) A) (shown : ℕ) (hand : Option ℕ) → m'.1 ≡ m.1 → HasHand m v shown hand → HasHand m' v shown hand
@@ -186,7 +181,7 @@ module _ {T P A : Type 0} where
         cut_is = ap (λ (l : LaneView (BatchView T P) A). l.cut) v ∙ ok.cut_is;
         hand_is = subst (λ (l : LaneView (BatchView T P) A). HasHand m' l shown hand) (sym v) (same_hand m m' (lane_of m.0) shown hand hands ok.hand_is);
         below = λ held. ok.below (sym (ap (λ (l : LaneView (BatchView T P) A). l.held) v) ∙ held);
-        uncut = λ held. ap (λ (l : LaneView (BatchView T P) A). l.cut) v ∙ ok.uncut (sym (ap (λ (l : LaneView (BatchView T P) A). l.held) v) ∙ held);
+        uncut = grind arith;
       }
 
   -- a place in hand has its key there
@@ -214,8 +209,8 @@ module _ {T P A : Type 0} where
   cursor_took table t t' m m' number places passed seen shown closed cut hand count ok same uncut some_more took count_is = let v : LaneView (BatchView T P) A = lane_of m.0 in
       let is : lane_of m'.0 ≡ holding v = ap (λ (w : View (BatchView T P) (KeyView T) A). lane_of w) took.0 in let f = ok.seen_is in let p = ok.passed_is in record {
         same = same ∙ ok.same;
-        lane = ap (λ (w : View (BatchView T P) (KeyView T) A). w.lane) took.0 ∙ ap (λ (v : LaneView (BatchView T P) A). let o : Option (LaneView (BatchView T P) A) = Some v in o) (sym is);
-        alone = (ap (λ (w : View (BatchView T P) (KeyView T) A). w.writer) took.0 ∙ ok.alone.0, ap (λ (w : View (BatchView T P) (KeyView T) A). w.own) took.0 ∙ ok.alone.1);
+        lane = grind arith;
+        alone = grind arith;
         here = ap (λ (v : LaneView (BatchView T P) A). v.here) is ∙ ok.here;
         begun = ap (λ (v : LaneView (BatchView T P) A). v.begun) is ∙ ok.begun;
         number_is = ap (λ (v : LaneView (BatchView T P) A). v.number) is ∙ ok.number_is;
@@ -270,7 +265,7 @@ module _ {T P A : Type 0} where
       let a = take_prefix here c.shown in let b = first_place (drop at front) in (
         a.0 ++ (b.0 ++ all_items p.0),
         append_assoc before (take c.shown here) (a.0 ++ (b.0 ++ all_items p.0))
-            ∙ ap (λ (l : List T). before ++ l) (sym (append_assoc (take c.shown here) a.0 (b.0 ++ all_items p.0)) ∙ ap (λ (l : List T). l ++ (b.0 ++ all_items p.0)) a.1 ∙ sym (append_assoc here b.0 (all_items p.0)) ∙ ap (λ (l : List T). l ++ all_items p.0) b.1)
+            ∙ ap (λ (l : List T). before ++ l) (grind (arith, append_assoc))
             ∙ sym (append_assoc before (all_items (drop at front)) (all_items p.0)) ∙ ap (λ (l : List T). l ++ all_items p.0) (sym (items_append (drop start (take at front)) (drop at front)) ∙ ap (λ (l : List (BatchView T P)). all_items l) (sym (drop_parts front start at low high)))
             ∙ sym (items_append (drop start front) p.0) ∙ ap (λ (l : List (BatchView T P)). all_items l) (sym (drop_front front p.0 start (omega arith)) ∙ ap (λ (l : List (BatchView T P)). drop start l) p.1),
       )

@@ -12,7 +12,7 @@ use Rattle.am_cast.specs.Rule.{live}
 use Rattle.am_cast.specs.Changes.{with_account, laying, grown, longer}
 use Rattle.am_cast.specs.Seats.{account_of}
 use Rattle.am_cast.specs.Keys.{key_of}
-use Rattle.am_cast.specs.inside.Filling.{FilledTo, AreReady, filled_as}
+use Rattle.am_cast.specs.inside.Filling.{FilledTo, AreReady}
 use Rattle.am_cast.specs.inside.KeyRows.{BucketView, row_at}
 use Rattle.am_cast.specs.inside.Waiting.{is_out, is_live, Gathered, FitsAt, RowsFit}
 use Rattle.am_cast.proofs.Slots.{at_length, prefix_at}
@@ -39,27 +39,12 @@ module _ {T P A : Type 0} (x : BatchView T P) where
         (
           ap (λ (q : WriterView (BatchView T P) (KeyView T) A). q.tail) is ∙ f.0,
           ap (λ (q : WriterView (BatchView T P) (KeyView T) A). length q.accounts) is ∙ Rattle.std.proofs.Common.length-set q.accounts k (laying (key_of x k) (account_of q k)) ∙ f.1,
-          λ l h. (
-            λ below. dite (ℕ_discrete l k)
-                (λ z. ap (λ (q : WriterView (BatchView T P) (KeyView T) A). account_of q l) is ∙ ap (λ (l : ℕ). account_of (with_account k (laying (key_of x k) (account_of q k)) q) l) z ∙ account_same q k (laying (key_of x k) (account_of q k)) (omega arith) ∙ ap (λ (b : Account (KeyView T) A). laying (key_of x k) b) was
-                ∙ (λ i. filled_as key_of (sym e i) x k b) ∙ ap (λ (l : ℕ). filled_as key_of (account_of q₀ l).stand x l (account_of q₀ l)) (sym z))
-                (λ ne. ap (λ (q : WriterView (BatchView T P) (KeyView T) A). account_of q l) is ∙ account_else q k l (laying (key_of x k) (account_of q k)) ne ∙ (f.2 l h).0 (omega arith)),
-            λ above. ap (λ (q : WriterView (BatchView T P) (KeyView T) A). account_of q l) is ∙ account_else q k l (laying (key_of x k) (account_of q k)) (λ z. omega arith) ∙ (f.2 l h).1 (omega arith),
-          ),
+          grind (arith, account_same, account_else),
         ),
         subst (λ (z : ℕ × List (KeyView T)). Gathered x (λ l. is_live (account_of q₀ l)) z.0 z.1) (λ i. (sym (add-one k) i, sym r.1 i)) (gathered_skip x (λ l. is_live (account_of q₀ l)) k keys g (live_is b e)),
       ))
       (λ (ne₀ : b.stand ≢ live). let r = rests (λ e. ne₀ (ap (λ (b : Account (KeyView T) A). b.stand) (sym was) ∙ e)) in let is = r.0 in (
-        (
-          ap (λ (q : WriterView (BatchView T P) (KeyView T) A). q.tail) is ∙ f.0,
-          ap (λ (q : WriterView (BatchView T P) (KeyView T) A). length q.accounts) is ∙ f.1,
-          λ l h. (
-            λ below. ap (λ (q : WriterView (BatchView T P) (KeyView T) A). account_of q l) is ∙ dite (ℕ_discrete l k)
-                (λ z. ap (λ (l : ℕ). account_of q l) z ∙ was ∙ sym (filled_else key_of b.stand x k b ne₀) ∙ ap (λ (l : ℕ). filled_as key_of (account_of q₀ l).stand x l (account_of q₀ l)) (sym z))
-                (λ ne. (f.2 l h).0 (omega arith)),
-            λ above. ap (λ (q : WriterView (BatchView T P) (KeyView T) A). account_of q l) is ∙ (f.2 l h).1 (omega arith),
-          ),
-        ),
+        grind (arith, filled_else),
         subst (λ (z : ℕ × List (KeyView T)). Gathered x (λ l. is_live (account_of q₀ l)) z.0 z.1) (λ i. (sym (add-one k) i, sym r.1 i)) (gathered_more x (λ l. is_live (account_of q₀ l)) k keys g (else_is b ne₀)),
       ))
 
@@ -99,8 +84,7 @@ module _ {T P A : Type 0} (x : BatchView T P) where
   pub fits_ended : (q q' : WriterView (BatchView T P) (KeyView T) A) (rows : List (BucketView T)) (n : ℕ) (keys : List (KeyView T)) → q' ≡ longer x q → n ≡ length q.tail.log → AreReady q → RowsFit q rows
       → Gathered x (λ l. is_live (account_of q l)) 8 keys → nat_eq (length keys) 8 ≡ true → RowsFit q' rows
   fits_ended q q' rows n keys is long ready fits g full = subst (λ (q : WriterView (BatchView T P) (KeyView T) A). RowsFit q rows) (sym is) (fits_longer q rows rows n long ready fits (λ p ne. refl)
-      (subst (λ (o : Option (List (KeyView T))). FitsAt (longer x q) n o) (sym (no_row_yet q rows n long fits))
-      (λ l h. now_out q n long ready l h ∙ gathered_clear x (λ l. is_live (account_of q l)) keys g (eqb-true (length keys) 8 full) l h)))
+      (grind (arith, no_row_yet, now_out, gathered_clear, eqb-true)))
 
 -- the first item, and the others
 pub first_rest : {X : Type 0} → (xs : List X) (y : X) → slice_get xs 0 ≡ Some y → y ∷ drop 1 xs ≡ xs

@@ -31,21 +31,15 @@ module _ {K A : Type 0} where
   gathered n places b c = record { low = c.low; live_is = λ e. (c.live_is e).0; rest_is = c.rest_is; away_is = λ e. (c.away_is e).0 }
 
   out_is : (b : Account K A) (i : ℕ) → IsOut b i → is_out b i ≡ true
-  out_is b i (inl t) = is_out_when b i (slotted t.0 t.1)
-  out_is b i (inr t) = is_out_when b i (handed t.0 t.1)
+  out_is b i z = grind (arith, is_out_when, slotted)
 
   is_out_of : (b : Account K A) (i : ℕ) → is_out b i ≡ true → IsOut b i
-  is_out_of b i e = go (is_out_tells b i e)
-    where
-      go : waiting.IsOut b i → IsOut b i
-      go (slotted h k) = inl (h, k)
-      go (handed h k) = inr (h, k)
+  is_out_of b i e = grind (arith, is_out_tells, slotted)
 
 module _ {T P A : Type 0} where
   -- a place of the log with no row is freed
   pub no_row_is_freed : (q : WriterView (BatchView T P) (KeyView T) A) (rows : List (BucketView T)) (i : ℕ) → Calm q → RowsFit q rows → i < length q.tail.log → row_at rows i ≡ None → IsFreedFor q i
-  no_row_is_freed q rows i calm fit inside none_there = let home = subst (FitsAt q i) none_there (fit i) in
-      home_is_freed key_of q i inside (λ l small. let c = calm.1 l small in (gathered (length q.tail.log) q.tail.places (account_of q l) c, (λ e. (c.live_is e).1), λ out. false≢true (sym (home l small) ∙ out_is (account_of q l) i out)))
+  no_row_is_freed q rows i calm fit inside none_there = grind (arith, home_is_freed, false≢true, out_is)
 
   -- and one with a row is not
   pub row_is_kept : (q : WriterView (BatchView T P) (KeyView T) A) (rows : List (BucketView T)) (i : ℕ) → Calm q → RowsFit q rows → row_at rows i ≢ None → IsFreedFor q i → ⊥
@@ -73,8 +67,4 @@ module _ {T P A : Type 0} where
       of (handed h k) = inr (h, k)
 
   pub rows_keep : (q q' : WriterView (BatchView T P) (KeyView T) A) (rows : List (BucketView T)) (i : ℕ) (kept : Option (List (KeyView T))) → q ≡ q' → Calm q' → RowsFit q rows → kept ≡ row_at rows i → Keeps q' i kept
-  rows_keep q q' rows i kept same calm fit is = subst (λ (z : WriterView (BatchView T P) (KeyView T) A). Calm z → Keeps z i kept) same (λ calm. by kept is calm) calm
-    where
-      by : (o : Option (List (KeyView T))) → o ≡ row_at rows i → Calm q → Keeps q i o
-      by None e calm = λ inside. no_row_is_freed q rows i calm fit inside (sym e)
-      by (Some keys) e calm = row_is_home q rows i keys calm fit (sym e)
+  rows_keep q q' rows i kept same calm fit is = grind (arith, no_row_is_freed, row_is_home)

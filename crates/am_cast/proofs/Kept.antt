@@ -63,10 +63,10 @@ module _ {B K A : Type 0} (key : B → ℕ → K) where
     few = r.few;
     word = tail ∙ r.word;
     spare = λ m a e. dite (ℕ_discrete m l)
-        (λ h. ap r.lane_seat h ∙ spare (ap (λ (c : Account K A). c.stand) (sym (put_here r.account l b') ∙ ap (put r.account l b') (sym h)) ∙ e))
+        (grind (arith, put_here))
         (λ ne. r.spare m a (ap (λ (c : Account K A). c.stand) (sym (put_else r.account l b' m ne)) ∙ e));
     each_lane = λ m a. dite (ℕ_discrete m l)
-        (λ e. subst (λ (z : ℕ × Account K A × LaneView B A). LaneOk key r.tail z.1 z.2 words' homes' z.0) (λ i. (sym e i, (sym (put_here r.account l b') ∙ ap (put r.account l b') (sym e)) i, (sym (put_here r.lane l v') ∙ ap (put r.lane l v') (sym e)) i)) here)
+        (grind (arith, put_here))
         (λ ne. subst (λ (z : Account K A × LaneView B A). LaneOk key r.tail z.0 z.1 words' homes' m) (λ i. (sym (put_else r.account l b' m ne) i, sym (put_else r.lane l v' m ne) i))
         (stays r.tail (r.account m) (r.lane m) s.words words' s.homes homes' m (word m ne) (λ i. slots m i a ne) (r.each_lane m a)));
     each_seat = λ j w e. let mine = r.each_seat id u at in let account' = put r.account l b' in let lane' = put r.lane l v' in let w' : View B K A = record u { writer = dk; lane = ln } in ⊎_elim
@@ -102,7 +102,7 @@ module _ {B K A : Type 0} (key : B → ℕ → K) where
       → (v.number < 8) × (r.lane_seat v.number ≡ id) × ((r.account v.number).stand ≢ idle) × (v ≡ r.lane v.number) × LaneOk key r.tail (r.account v.number) v s.words s.homes v.number
   lane_ok s r id u v at is =
       let k = subst (HasLane r.tail r.seat r.account r.lane r.lane_seat id) is (r.each_seat id u at).lane_is in
-      (k.0, k.2, k.3, sym k.1, subst (λ (z : LaneView B A). LaneOk key r.tail (r.account v.number) z s.words s.homes v.number) k.1 (r.each_lane v.number k.0))
+      grind arith
 
   -- a step of the lane in a view
   unfoldable pub lane_step : (s : St B K A) (r : Ruled key s) (id : ℕ) (u : View B K A) (v v' : LaneView B A) (words' : List ℕ) (homes' : Homes K) → get_elem? s.views id ≡ some u → u.lane ≡ Some v → v'.number ≡ v.number
@@ -114,12 +114,7 @@ module _ {B K A : Type 0} (key : B → ℕ → K) where
   lane_step s r id u v v' words' homes' at is number wide deep tail word slots here =
       let o = lane_ok s r id u v at is in let l : ℕ = v.number in let b : Account K A = r.account l in
       one_lane s r l b v' id u u.writer (Some v') words' homes' o.0 at wide deep tail word slots (inr refl) (inl o.1) (λ e. absurd (o.2 e))
-      (same_writer r.tail r.seat r.account r.lane r.lane_seat l b v' id refl u.writer (r.each_seat id u at).writer) (
-        subst (λ (n : ℕ). n < 8) (sym number) o.0,
-        ap (put r.lane l v') number ∙ put_here r.lane l v',
-        ap r.lane_seat number ∙ o.1,
-        λ z. o.2 (ap (λ (c : Account K A). c.stand) (sym (put_same r.account l b v'.number refl ∙ ap r.account number)) ∙ z),
-      )
+      (same_writer r.tail r.seat r.account r.lane r.lane_seat l b v' id refl u.writer (r.each_seat id u at).writer) (grind (arith, put_here, put_same))
       here
 
   pub lane_stepped : (s : St B K A) (r : Ruled key s) (id : ℕ) (u : View B K A) (v v' : LaneView B A) (words' : List ℕ) (homes' : Homes K) → get_elem? s.views id ≡ some u → u.lane ≡ Some v → v'.number ≡ v.number
@@ -131,12 +126,7 @@ module _ {B K A : Type 0} (key : B → ℕ → K) where
   unfolding lane_step one_lane
   lane_stepped s r id u v v' words' homes' at is number wide deep tail word slots here = (
     lane_step s r id u v v' words' homes' at is number wide deep tail word slots here,
-    record {
-      tail = refl;
-      accounts = λ m. put_same r.account v.number (r.account v.number) m refl;
-      others = λ m ne. put_else r.lane v.number v' m ne;
-      lane = put_here r.lane v.number v';
-    },
+    grind (arith, put_same, put_else, put_here),
   )
 
   pub same_lane : (t : Tail B) (seat : ℕ) (account : ℕ → Account K A) (lane : ℕ → LaneView B A) (lane_seat : ℕ → ℕ) (l : ℕ) (b' : Account K A) (v' : LaneView B A) (j : ℕ) → v' ≡ lane l → (b'.stand ≡ idle → (account l).stand ≡ idle) → (ln : Option (LaneView B A))
@@ -156,16 +146,7 @@ module _ {B K A : Type 0} (key : B → ℕ → K) where
   pub writer_ok : (s : St B K A) (r : Ruled key s) (id : ℕ) (u : View B K A) (l : ℕ) (q : WriterView B K A) (b : Account K A) → get_elem? s.views id ≡ some u → KnowsOf u l q b → WriterOk s r id l q b
   writer_ok s r id u l q b at has =
       let k = subst (HasWriter r.tail r.seat r.account r.lane r.lane_seat id) has.0 (r.each_seat id u at).writer in
-      let inside = at_length q.accounts l b has.1 in let all = k.1 in let small : l < 8 = omega arith in
-      let is : r.account l ≡ b = some-injective _ _ (sym (k.2 l small) ∙ has.1) in record {
-        small = small;
-        tail = k.0;
-        all = k.1;
-        each = k.2;
-        mine = k.3;
-        account = is;
-        ok = subst (λ (c : Account K A). LaneOk key r.tail c (r.lane l) s.words s.homes l) is (r.each_lane l small);
-      }
+      let inside = at_length q.accounts l b has.1 in grind (arith, some-injective)
 
   -- the writer with one account changed
   pub sets_account : (s : St B K A) (r : Ruled key s) (id l : ℕ) (q : WriterView B K A) (b b' : Account K A) (v' : LaneView B A) → WriterOk s r id l q b → HasWriter r.tail r.seat (put r.account l b') (put r.lane l v') r.lane_seat id (Some (with_account l b' q))
@@ -196,12 +177,7 @@ module _ {B K A : Type 0} (key : B → ℕ → K) where
   unfolding writer_step one_lane
   writer_stepped s r id u l q b b' words' homes' at o wide deep tail word slots still here = (
     writer_step s r id u l q b b' words' homes' at o wide deep tail word slots still here,
-    record {
-      tail = refl;
-      lanes = λ m. put_same r.lane l (r.lane l) m refl;
-      others = λ m ne. put_else r.account l b' m ne;
-      account = put_here r.account l b';
-    },
+    grind (arith, put_same, put_else, put_here),
   )
 
   pub one_laned : (s : St B K A) (r : Ruled key s) (l : ℕ) (b' : Account K A) (v' : LaneView B A) (id : ℕ) (u : View B K A) (dk : Option (WriterView B K A)) (ln : Option (LaneView B A)) (words' : List ℕ) (homes' : Homes K)
@@ -218,11 +194,5 @@ module _ {B K A : Type 0} (key : B → ℕ → K) where
   unfolding one_lane
   one_laned s r l b' v' id u dk ln words' homes' small at wide deep tail word slots why_account why_lane spare writer_is lane_is here = (
     one_lane s r l b' v' id u dk ln words' homes' small at wide deep tail word slots why_account why_lane spare writer_is lane_is here,
-    record {
-      tail = refl;
-      lanes = λ m ne. put_else r.lane l v' m ne;
-      accounts = λ m ne. put_else r.account l b' m ne;
-      lane = put_here r.lane l v';
-      account = put_here r.account l b';
-    },
+    grind (arith, put_else, put_here),
   )

@@ -178,13 +178,7 @@ module _ {X : Type 0} where
   pub brought_one : (place : ℕ) (rows : List (RowView X)) (k : ℕ) (row new : RowView X) (key : KeyView X) → AreApart rows → IsRowOf place rows k → row ≡ get_or rows k row
       → new ≡ record row { keys = row.keys ++ key ∷ [] } → nat_eq (length new.keys) 8 ≡ false → Brought place rows (set rows k new) key
   brought_one place rows k row new key a h is e more =
-      let at = row_is place rows k row h is in let to : new.place ≡ place = ap (λ (r : RowView X). r.place) e ∙ at in
-      let keys_is : new.keys ≡ row.keys ++ key ∷ [] = ap (λ (r : RowView X). r.keys) e in record {
-        here = λ keys f. let was = keys_are place rows k row keys a h is f in set_here place rows k row new h.0 a is at to ∙ ap (λ (l : List (KeyView X)). let o : Option (List (KeyView X)) = Some l in o) keys_is ∙ sym (not_last row.keys key (ap (λ (l : List (KeyView X)). nat_eq (length l) 8) (sym keys_is) ∙ more)) ∙ ap (λ (l : List (KeyView X)). row_with l key) (sym was);
-        others = λ p ne. set_else place p rows k row new h.0 is at to ne;
-        apart = set_apart rows k row new is (to ∙ sym at) a;
-        remainder = λ places n r. set_remainder places n rows k row new is (to ∙ sym at) r;
-      }
+      let at = row_is place rows k row h is in grind (arith, keys_are, set_here, not_last, set_else, set_apart, set_remainder)
 
   get_set : (rows : List (RowView X)) (k : ℕ) (new d : RowView X) → k < length rows → get_or (set rows k new) k d ≡ new
   get_set [] k new d h = absurd (omega arith)

@@ -62,12 +62,7 @@ module _ {B K A : Type 0} (key : B → ℕ → K) where
     pub away : b.away ≡ true → (x : B) → get_elem? t.log b.known ≡ some x → Has homes t.places l b.known (Some (key x l))
 
   pub at_home : (t : Tail B) (b : Account K A) (v : LaneView B A) (words : List ℕ) (homes : Homes K) (l : ℕ) → LaneOk key t b v words homes l → v.held ≡ false → AllHome t b homes l
-  at_home t b v words homes l ok held = record {
-    keys = λ i x a c d e. ok.keys i x a c d e (λ h. absurd (true≢false (sym h ∙ held)));
-    empty = ok.empty;
-    laid = ok.laid;
-    away = λ e x f. ok.away e x f held;
-  }
+  at_home t b v words homes l ok held = grind (arith, true≢false)
 
   -- the key in hand goes home
   pub comes_home : (t : Tail B) (b : Account K A) (v : LaneView B A) (words : List ℕ) (homes : Homes K) (l : ℕ) (x : B) → l < 8 → 0 < t.places → length homes ≡ 8 * t.places → LaneOk key t b v words homes l → b.stand ≢ idle → v.held ≡ true → get_elem? v.front v.passed ≡ some x

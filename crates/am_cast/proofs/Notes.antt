@@ -1,10 +1,8 @@
 -- A seat's Note is a Note of its poster for each place that became its own since the last, or one for none.
 use Rattle.std.proofs.Common.{◌≡◌, ◌≢◌, ℕ, zero, suc, ◌<◌, List, [], ◌∷◌, ◌++◌, length, map, take, drop, set, get_or, sym, refl, ap, ◌∙◌, subst, arith, Some, None, append_assoc}
 use Rattle.std.specs.List.{Contains}
-use mathlib.Core.Logic.{dite}
 use mathlib.Core.Option as maybe
 use mathlib.Core.Option.{none, some}
-use native.Mathlib.Decide.{ℕ_discrete}
 use lib.ListN.{get_elem?}
 use Rattle.atomic_table.specs.Table.{step}
 use Rattle.atomic_table.proofs.Lists.{set_here, set_else}
@@ -67,13 +65,11 @@ module _ {B K A : Type 0} (posters : ℕ) (t : Tail B) (account : ℕ → Accoun
   same_posters P Q e = let now : core_with P ≡ core_with Q = (λ i. core_with (λ k. sym (e k) i)) in subst (LeadsTo (core_with P) []) now (runs.none (core_with P))
 
   only_poster : (P Q : ℕ → Poster B) (p : ℕ) (v : Poster B) → Q p ≡ v → ((k : ℕ) → k ≢ p → Q k ≡ P k) → OnlyPoster (core_with P) p v (core_with Q)
-  only_poster P Q p v here other = record { same = record { places = refl; log = refl; closed = refl; lanes = refl; posters = refl }; lane = λ l. refl; here = here; other = other }
+  only_poster P Q p v here other = grind arith
 
   posts_lead : (P Q : ℕ → Poster B) (p known : ℕ) (own os : List (Own B)) → p < posters → ((k : ℕ) (o : Own B) → get_elem? (own ++ os) k ≡ some o → get_elem? t.log o.place ≡ some o.batch) → Once (own ++ os)
       → P p ≡ poster_of known own → Q p ≡ poster_of (length t.log) (own ++ os) → ((k : ℕ) → k ≢ p → Q k ≡ P k) → (os ≡ [] → known ≡ length t.log) → LeadsTo (core_with P) (note_posts p os) (core_with Q)
-  posts_lead P Q p known own [] inside stand once was now other full = same_posters P Q (λ k. dite (ℕ_discrete k p)
-      (λ (e : k ≡ p). ap Q e ∙ now ∙ (λ i. poster_of (sym (full refl) i) (nothing_more own i)) ∙ sym was ∙ ap P (sym e))
-      (λ ne. other k ne))
+  posts_lead P Q p known own [] inside stand once was now other full = grind (arith, same_posters, nothing_more)
   posts_lead P Q p known own (o ∷ os) inside stand once was now other full =
       let next : Poster B = poster_of (length t.log) (own ++ o ∷ []) in let P' : ℕ → Poster B = put P p next in
       let own_is : (P p).own ≡ map post_of own = ap (λ (v : Poster B). v.own) was in

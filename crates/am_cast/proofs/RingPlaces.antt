@@ -1,5 +1,5 @@
 -- The index of a place that is a little before another.
-use Rattle.std.proofs.Common.{◌≡◌, ℕ, zero, suc, ◌+◌, ◌-◌, ◌*◌, ◌/◌, ◌%◌, ◌<◌, ◌≤◌, arith, ap, sym, ◌∙◌}
+use Rattle.std.proofs.Common.{◌≡◌, ℕ, ◌+◌, ◌-◌, ◌*◌, ◌/◌, ◌%◌, ◌<◌, ◌≤◌, arith, ap, sym, ◌∙◌}
 use Rattle.std.proofs.Math.Nat.{mod-lt}
 use Rattle.std.proofs.lemmas.Nat.{mod-mul-add, div-add-mod'}
 use Rattle.am_cast.specs.inside.RingPlaces.{IsRingPlace}
@@ -21,9 +21,4 @@ module _ (number index places place : ℕ) (is : IsRingPlace number index places
 
   -- in the turn before
   pub index_before : place ≤ number → index < number - place → number - place ≤ places → index + places - (number - place) ≡ place % places
-  index_before before far near = go (number / places) (div-add-mod' number places)
-    where
-      go : (turns : ℕ) → turns * places + number % places ≡ number → index + places - (number - place) ≡ place % places
-      go zero parts = let at = is.at in absurd (omega arith)
-      go (suc n) parts = let at = is.at in let small = below in let turn : suc n * places ≡ n * places + places = suc_times n places in
-          of_turns n (index + places - (number - place)) (omega arith) (omega arith)
+  index_before before far near = grind (arith, div-add-mod', below, suc_times, of_turns)

@@ -1,10 +1,9 @@
 -- Steps from a new table are a run of the core from its first state.
-use Rattle.std.proofs.Common.{ℕ, List, [], ◌++◌, sym, refl, subst}
+use Rattle.std.proofs.Common.{ℕ, List, [], ◌++◌, sym, subst, arith}
 use Rattle.am_steps.specs.declared.event.Event as event
 use Rattle.am_steps.specs.States.{Core, first_state}
 use Rattle.am_steps.specs.Runs.{LeadsTo}
 use Rattle.am_steps.specs.Runs as runs
-use Rattle.am_cast.specs.Core.{state_of}
 use Rattle.am_cast.specs.Runs.{RunsOfTheCore}
 use Rattle.am_cast.specs.Runs as comes
 
@@ -19,14 +18,7 @@ module _ {X : Type 0} where
 module _ (B K A : Type 0) (key : B → ℕ → K) where
   pub runs_as : RunsOfTheCore B K A key
   runs_as places posters seat_of _ _ _ (comes.begins words slots r first) = subst (LeadsTo (first_state places 8 posters) []) (sym first) (runs.none (first_state places 8 posters))
-  runs_as places posters seat_of _ _ _ (comes.steps es s r so_far slots id me i f found allowed deep at fits) =
-      let it = allowed s r deep at fits in
-      then_also (first_state places 8 posters) (state_of posters seat_of r) (state_of posters seat_of it.3.0) es _ (runs_as places posters seat_of es s r so_far) (it.3.1 posters seat_of)
-  runs_as places posters seat_of _ _ _ (comes.notes es s r so_far slots id me allowed deep at fits p small seat only) =
-      let it = allowed s r deep at fits in
-      then_also (first_state places 8 posters) (state_of posters seat_of r) (state_of posters seat_of it.3.0) es _ (runs_as places posters seat_of es s r so_far) (it.3.1 posters seat_of p small seat only)
-  runs_as places posters seat_of _ _ _ (comes.hears es s r so_far slots id me allowed deep at fits other) =
-      let it = allowed s r deep at fits in
-      then_none (first_state places 8 posters) (state_of posters seat_of r) (state_of posters seat_of it.3.0) es (runs_as places posters seat_of es s r so_far) (it.3.2 posters seat_of other)
-  runs_as places posters seat_of _ _ _ (comes.seats es s r so_far views stays) =
-      then_none (first_state places 8 posters) (state_of posters seat_of r) (state_of posters seat_of stays.0) es (runs_as places posters seat_of es s r so_far) (stays.1 posters seat_of (λ k. (k, refl)))
+  runs_as places posters seat_of _ _ _ (comes.steps es s r so_far slots id me i f found allowed deep at fits) = grind (arith, then_also, (runs_as places posters seat_of es s r so_far))
+  runs_as places posters seat_of _ _ _ (comes.notes es s r so_far slots id me allowed deep at fits p small seat only) = grind (arith, then_also, (runs_as places posters seat_of es s r so_far))
+  runs_as places posters seat_of _ _ _ (comes.hears es s r so_far slots id me allowed deep at fits other) = grind (arith, then_none, (runs_as places posters seat_of es s r so_far))
+  runs_as places posters seat_of _ _ _ (comes.seats es s r so_far views stays) = grind (arith, then_none, (runs_as places posters seat_of es s r so_far))

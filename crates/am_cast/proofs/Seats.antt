@@ -43,7 +43,7 @@ module _ {B K A : Type 0} (key : B → ℕ → K) where
         (λ (z : (j ≡ id) × (left ≡ u)). subst (λ (z : ℕ × View B K A). K' z.0 z.1) (λ i. (sym z.0 i, z.1 i)) first)
         (λ (z : (j ≢ id) × (get_elem? s.views j ≡ some u)). others j u z.0 z.1)
         (at_set s.views id j left u old))
-        (λ (z : (j ≡ length (set s.views id left)) × (right ≡ u)). subst (λ (z : ℕ × View B K A). K' z.0 z.1) (λ i. (sym (z.0 ∙ length-set s.views id left) i, z.1 i)) second)
+        (grind (arith, length-set))
         (at_end (set s.views id left) right u j e);
   }
 

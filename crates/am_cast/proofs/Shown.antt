@@ -1,5 +1,5 @@
 -- What the rule says of the core's state behind a table: it is sound, and the writer knows which places are freed.
-use Rattle.std.proofs.Common.{◌≡◌, ◌≢◌, ℕ, zero, suc, ◌-◌, ◌%◌, ◌<◌, ◌≤◌, inl, inr, List, [], ◌∷◌, length, map, take, drop, sym, refl, ap, ◌∙◌, subst, arith, Some, Bool, true, false, true≢false, cond, if◌then◌else◌, slice_get, ◌==◌}
+use Rattle.std.proofs.Common.{◌≡◌, ◌≢◌, ℕ, zero, suc, ◌-◌, ◌<◌, ◌≤◌, inl, inr, List, [], ◌∷◌, length, map, take, drop, sym, refl, ap, ◌∙◌, subst, arith, Some, true, false, true≢false, slice_get, ◌==◌}
 use Rattle.std.specs.List.{All}
 use Rattle.std.proofs.lemmas.Bool.{eq-eqb, ne_eqb, le-ltb, cases_lt}
 use Rattle.std.proofs.lemmas.Option.{none-some}
@@ -9,8 +9,6 @@ use mathlib.Core.Option.{some}
 use native.Mathlib.Decide.{ℕ_discrete}
 use lib.ListN.{get_elem?}
 use Rattle.am_steps.specs.declared.lane_record.LaneRecord.{LaneRecord}
-use Rattle.am_steps.specs.declared.lane.Lane.{Lane}
-use Rattle.am_steps.specs.declared.lane.Lane.TheVariants.{Idle}
 use Rattle.am_steps.specs.States.{record_of}
 use Rattle.am_steps.specs.Soundness.{IsLaneSound, IsPosterSound, IsSound}
 use Rattle.am_steps.specs.Needed.{KeepsKey, IsFreed}
@@ -21,7 +19,7 @@ use Rattle.am_cast.specs.declared.views.Own.{Own}
 use Rattle.am_cast.specs.declared.views.WriterView.{WriterView}
 use Rattle.am_cast.specs.declared.views.View.{View}
 use Rattle.am_cast.specs.Rule.{idle, live, cut, vacated, Sound, HasWriter, Ruled}
-use Rattle.am_cast.specs.Core.{record_behind, cursor_behind, used_lane, lane_standing, lane_behind, post_of, poster_behind, view_or_blank, state_of}
+use Rattle.am_cast.specs.Core.{record_behind, lane_behind, post_of, poster_behind, view_or_blank, state_of}
 use Rattle.am_cast.specs.Freed.{record_kept, IsOut, IsGathered, IsFreedFor}
 use Rattle.am_cast.specs.Seats.{account_of}
 use Rattle.am_cast.proofs.Kept.{St, same_some}
@@ -32,9 +30,9 @@ use Rattle.am_cast.proofs.Accounts.{is_account_of}
 module _ {B K A : Type 0} where
   lane_sound : (t : Tail B) (b : Account K A) (v : LaneView B A) (l : ℕ) → Sound t b v l → IsLaneSound t.log t.closed (lane_behind b v)
   lane_sound t b v l sd = dite (ℕ_discrete b.stand idle)
-      (λ (e : b.stand ≡ idle). subst (λ (n : ℕ). IsLaneSound t.log t.closed (lane_standing n (used_lane v.here v.begun (record_behind b) (cursor_behind v)))) (sym e) tt)
+      (grind arith)
       (λ (used₀ : b.stand ≢ idle). dite (ℕ_discrete b.stand vacated)
-      (λ (e : b.stand ≡ vacated). subst (λ (n : ℕ). IsLaneSound t.log t.closed (lane_standing n (used_lane v.here v.begun (record_behind b) (cursor_behind v)))) (sym e) tt)
+      (grind arith)
       (λ (used₁ : b.stand ≢ vacated).
       let used = used_by b.stand sd.counts.stands used₀ used₁ in
       let long = prefix_length v.front t.log sd.seen.begins in let low = sd.counts.low in let mid = sd.mid in let high = sd.seen.high in let start = sd.start in
@@ -49,9 +47,9 @@ module _ {B K A : Type 0} where
         held = λ h. (sd.seen.holds h).1;
         told = λ h. let e = sd.seen.told h in (e.0, ap (λ (xs : List B). length xs) e.1);
         told_cut = λ h. let dead = (sd.cuts h).0 in eq-eqb b.stand cut (cut_by b.stand used dead);
-        in_hand = λ c h. let is : b.stand ≡ cut = cut_from b.stand used c in let k = sd.keeps is h in (ap (λ (f : Bool). if f then b.away else (b.half % 2 == 1)) c ∙ k.0, sym k.1);
+        in_hand = grind arith;
       })
-      (λ (fresh : v.begun ≡ false). let u = sd.seen.unbegun here fresh in let at = u.passed in let seen = u.seen in subst (IsLaneSound t.log t.closed) (sym (admitted_is b v used here fresh)) (omega arith, omega arith)))
+      (grind (arith, admitted_is)))
       (λ (gone_from : v.here ≡ false). subst (IsLaneSound t.log t.closed) (sym (left_is b v used gone_from)) (low, omega arith))))
     where
       cut_by : (n : ℕ) → IsUsed n → n ≢ live → n ≡ cut
@@ -106,10 +104,10 @@ module _ {K A : Type 0} where
   pub out_is_kept : (b : Account K A) (i : ℕ) → IsGathered b → IsOut b i → (m : LaneRecord) × (record_kept b ≡ Some m) × KeepsKey m i
   out_is_kept b i g (inl t) = dite (ℕ_discrete b.stand live)
       (λ (e : b.stand ≡ live). let low = g.low in let at = g.live_is e in let t₀ = t.0 in let h₁ : b.start ≤ i = omega arith in let h₂ : b.known ≤ i = omega arith in
-      (record_behind b, kept_is b (inl e), subst (λ (f : Bool). cond f ((record_behind b).key_out ≡ true × (i ≡ b.known)) ((b.start ≤ i) × (b.known ≤ i))) (sym (ne_eqb b.stand cut (λ z. omega arith))) (h₁, h₂)))
+      (record_behind b, kept_is b (inl e), grind (arith, ne_eqb)))
       (λ ne. absurd (let at = g.rest_is ne in let t₀ = t.0 in let t₁ = t.1 in omega arith))
   out_is_kept b i g (inr t) = let e = g.away_is t.0 in let is = cut_flag b e in
-      (record_behind b, kept_is b (inr e), subst (λ (f : Bool). cond f (((if f then b.away else (b.half % 2 == 1)) ≡ true) × (i ≡ b.known)) ((b.start ≤ i) × (b.known ≤ i))) (sym is) (t.0, t.1))
+      (record_behind b, kept_is b (inr e), grind arith)
 
   -- and a key that it keeps is out
   pub kept_is_out : (b : Account K A) (i : ℕ) (m : LaneRecord) → IsGathered b → (b.stand ≡ live → i < b.stop) → record_kept b ≡ Some m → KeepsKey m i → IsOut b i
@@ -129,16 +127,7 @@ module _ {B K A : Type 0} (key : B → ℕ → K) where
       → (IsFreed (state_of posters seat_of r) i → IsFreedFor q i) × (IsFreedFor q i → IsFreed (state_of posters seat_of r) i)
   freed_for s r id u q posters seat_of i at is =
       let k = account_is s r id u q at is in let long : length q.tail.log ≡ length r.tail.log = ap (λ (t : Tail B). length t.log) k.0 in
-      let record_at : (l : ℕ) → l < 8 → record_of ((state_of posters seat_of r).lane l) ≡ record_kept (account_of q l) = λ l small. ap (λ (x : Lane B). record_of x) (inside l (lane_behind (r.account l) (r.lane l)) small) ∙ record_of_behind (r.account l) (r.lane l) ∙ ap (λ (b : Account K A). record_kept b) (sym (k.1 l small)) in (
-        (λ (f : IsFreed (state_of posters seat_of r) i). let f₀ = f.0 in (omega arith, λ l m small e keeps. f.1 l m (record_at l small ∙ e) keeps)),
-        (λ (f : IsFreedFor q i). let f₀ = f.0 in (
-          omega arith,
-          λ l m e keeps. elim (cases_lt l 8) [
-            | inl small ↦ f.1 l m small (sym (record_at l small) ∙ e) keeps
-            | inr big ↦ absurd (none-some m (ap (λ (b : Bool). record_of (if b then lane_behind (r.account l) (r.lane l) else Idle)) (sym (le-ltb l 8 big)) ∙ e))
-          ],
-        )),
-      )
+      let record_at : (l : ℕ) → l < 8 → record_of ((state_of posters seat_of r).lane l) ≡ record_kept (account_of q l) = grind (arith, inside, record_of_behind) in grind (arith, cases_lt, none-some, le-ltb)
 
   -- of a freed place no key is out, and where none is out the place is freed
   pub freed_is_home : (q : WriterView B K A) (i l : ℕ) → l < 8 → IsGathered (account_of q l) → IsFreedFor q i → IsOut (account_of q l) i → ⊥

@@ -1,5 +1,5 @@
 -- Slots of a lane, beginnings of the log, functions changed at one number, and own places.
-use Rattle.std.proofs.Common.{Option, Bool, None, ◌/◌, ◌≡◌, ◌≢◌, ℕ, zero, suc, ◌+◌, ◌-◌, ◌*◌, ◌%◌, ◌<◌, ◌≤◌, List, [], ◌∷◌, ◌++◌, length, sym, refl, ap, ◌∙◌, subst, ⊎_elim, ◌⊎◌, inl, inr, arith, length-append, append_assoc, mod-lt, div-add-mod', mul_comm}
+use Rattle.std.proofs.Common.{Option, Bool, None, ◌/◌, ◌≡◌, ◌≢◌, ℕ, zero, suc, ◌+◌, ◌-◌, ◌*◌, ◌%◌, ◌<◌, ◌≤◌, List, [], ◌∷◌, ◌++◌, length, sym, refl, ap, ◌∙◌, ⊎_elim, ◌⊎◌, inl, inr, arith, length-append, append_assoc, mod-lt, div-add-mod', mul_comm}
 use Rattle.std.proofs.Math.Nat.{add-mul-mod_self_left}
 use mathlib.Core.Logic.{dite}
 use mathlib.Core.Option.{some, some-ne-none, some-injective}
@@ -162,8 +162,8 @@ module _ {B : Type 0} where
   pub owns_one_more : (log log' : List B) (owner owner' : ℕ → ℕ) (j : ℕ) (own : List (Own B)) (o : Own B) → IsPrefix log log' → ((p : ℕ) → p < length log → owner' p ≡ owner p) → length log ≤ o.place → get_elem? log' o.place ≡ some o.batch → owner' o.place ≡ j
       → Owns log owner j own → Owns log' owner' j (own ++ o ∷ [])
   owns_one_more log log' owner owner' j own o p same new there mine a = record {
-    each = λ k x e. ⊎_elim (λ h. (owns_still log log' owner owner' j own p same a).each k x h) (λ (h : (k ≡ length own) × (o ≡ x)). subst (λ (z : Own B). (get_elem? log' z.place ≡ some z.batch) × (owner' z.place ≡ j)) h.1 (there, mine)) (at_end own o x k e);
-    once = once_append own (o ∷ []) a.once (tt, tt) (λ k m x y e f h. let inside = at_length log x.place x.batch (a.each k x e).0 in let far : length log ≤ y.place = ⊎_elim (λ (z : get_elem? [] m ≡ some y). absurd (some-ne-none y (sym z))) (λ (z : (m ≡ 0) × (o ≡ y)). subst (λ (u : Own B). length log ≤ u.place) z.1 new) (at_end [] o y m f) in omega arith);
+    each = λ k x e. ⊎_elim (λ h. (owns_still log log' owner owner' j own p same a).each k x h) (grind arith) (at_end own o x k e);
+    once = once_append own (o ∷ []) a.once (tt, tt) (λ k m x y e f h. let inside = at_length log x.place x.batch (a.each k x e).0 in let far : length log ≤ y.place = grind (arith, some-ne-none, at_end) in omega arith);
   }
 
 -- the value of the slot that was taken last

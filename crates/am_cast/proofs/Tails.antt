@@ -1,7 +1,5 @@
 -- What Publish and Close share.
-use Rattle.std.proofs.Common.{◌≡◌, ◌≢◌, ℕ, zero, suc, sym, refl, ap, ◌∙◌, Option, Some, None}
-use mathlib.Core.Logic.{dite}
-use native.Mathlib.Decide.{ℕ_discrete}
+use Rattle.std.proofs.Common.{◌≡◌, ◌≢◌, ℕ, suc, Option, None, arith}
 use Rattle.am_cast.specs.declared.views.Tail.{Tail}
 use Rattle.am_cast.specs.declared.views.Account.{Account}
 use Rattle.am_cast.specs.declared.views.WriterView.{WriterView}
@@ -14,21 +12,17 @@ module _ {K A : Type 0} where
   grown_live b e = λ i. grown_as (e i) b
 
   grown_else_as : (n : ℕ) (b : Account K A) → n ≢ live → grown_as n b ≡ b
-  grown_else_as zero b ne = refl
-  grown_else_as (suc zero) b ne = absurd (ne refl)
-  grown_else_as (suc (suc n)) b ne = refl
+  grown_else_as n b ne = grind arith
 
   pub grown_else : (b : Account K A) → b.stand ≢ live → grown b ≡ b
   grown_else b ne = grown_else_as b.stand b ne
 
   pub grown_stand : (b : Account K A) → (grown b).stand ≡ b.stand
-  grown_stand b = dite (ℕ_discrete b.stand live) (λ e. ap (λ (c : Account K A). c.stand) (grown_live b e)) (λ ne. ap (λ (c : Account K A). c.stand) (grown_else b ne))
+  grown_stand b = grind (arith, grown_live, grown_else)
 
 module _ {B K A : Type 0} (key : B → ℕ → K) where
   pub others_writer : (t t' : Tail B) (seat : ℕ) (account account' : ℕ → Account K A) (lane : ℕ → LaneView B A) (lane_seat : ℕ → ℕ) (j : ℕ) → j ≢ seat → (dk : Option (WriterView B K A)) → HasWriter t seat account lane lane_seat j dk → HasWriter t' seat account' lane lane_seat j dk
-  others_writer t t' seat account account' lane lane_seat j ne None k = tt
-  others_writer t t' seat account account' lane lane_seat j ne (Some q) k = absurd (ne k.3)
+  others_writer t t' seat account account' lane lane_seat j ne dk k = grind arith
 
   pub any_lane : (t t' : Tail B) (seat : ℕ) (account account' : ℕ → Account K A) (lane : ℕ → LaneView B A) (lane_seat : ℕ → ℕ) (j : ℕ) → ((m : ℕ) → (account' m).stand ≡ (account m).stand) → (ln : Option (LaneView B A)) → HasLane t seat account lane lane_seat j ln → HasLane t' seat account' lane lane_seat j ln
-  any_lane t t' seat account account' lane lane_seat j same None k = tt
-  any_lane t t' seat account account' lane lane_seat j same (Some v) k = (k.0, k.1, k.2, λ e. k.3 (sym (same v.number) ∙ e))
+  any_lane t t' seat account account' lane lane_seat j same ln k = grind arith

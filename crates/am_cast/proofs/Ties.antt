@@ -19,7 +19,7 @@ use Rattle.am_steps.specs.declared.lane.Lane.TheVariants.{Idle, Admitted, Open, 
 use Rattle.am_steps.specs.declared.poster.Poster.{Poster}
 use Rattle.am_steps.specs.declared.event.Event as event
 use Rattle.am_steps.specs.declared.event.Event.TheVariants as does
-use Rattle.am_steps.specs.States.{Core, record_of, with_record, word_of, new_record}
+use Rattle.am_steps.specs.States.{Core, record_of, with_record, word_of}
 use Rattle.am_steps.specs.Steps as steps
 use Rattle.am_steps.specs.Steps.{Step, SameLog, OnlyLane, MayGrow}
 use Rattle.am_steps.specs.Runs.{LeadsTo, none, then as leads}
@@ -182,7 +182,7 @@ module _ {B K A : Type 0} where
 
     account_quiet : (c d : Behind B K A) (l : ℕ) (b : Account K A) → AccountTo c d l b → lane_behind b (c.lane l) ≡ lane_behind (c.account l) (c.lane l) → LeadsTo (before c) [] (after d)
     account_quiet c d l b to e = quiet c d to.tail (λ m. dite (ℕ_discrete m l)
-        (λ (is : m ≡ l). (λ i. lane_behind (d.account (is i)) (d.lane (is i))) ∙ (λ i. lane_behind (to.account i) (to.lanes l i)) ∙ e ∙ (λ i. lane_behind (c.account (sym is i)) (c.lane (sym is i))))
+        (grind arith)
         (λ ne. λ i. lane_behind (to.others m ne i) (to.lanes m i)))
 
     abbrev IsSoundBehind : Behind B K A → Type 0
@@ -197,7 +197,7 @@ module _ {B K A : Type 0} where
         let long = length-take-le v.passed v.front (let h₁ = u.passed in let h₂ = u.seen in omega arith) in
         let got : drop v.start (take v.passed v.front) ≡ [] = drop_all v.start (take v.passed v.front) (omega (arith, long, u.passed)) in
         steps.opens (before c) (after d) l (record_behind b) (lane_was c l _ small (admitted_is b v used here fresh))
-        (lane_only c d l (opened v) _ small to (open_is b (opened v) used here refl ∙ (λ i. Open (record_behind b) (record { passed = (u.passed ∙ sd.start) i; held = u.held i; seen = (u.seen ∙ sd.start) i; told = u.told i; told_cut = u.cut i; got = got i }))))
+        (grind (arith, lane_only, open_is))
 
     look_step : (c d : Behind B K A) (l : ℕ) → IsSoundBehind c → l < 8 → (c.lane l).begun ≡ true → LaneTo c d l (seeing c.tail.log c.tail.closed (c.lane l)) → Step (before c) (does.Look l) (after d)
     look_step c d l sound small begun to =
@@ -212,14 +212,14 @@ module _ {B K A : Type 0} where
         let w : LaneView B A = holding v in let uncut : (b.stand == cut) ≡ false = ne_eqb b.stand cut (λ z. omega arith) in
         let r : Cursor B = cursor_behind v in
         steps.take (before c) (after d) l (record_behind b) (cursor_behind v) (lane_was c l _ small (open_is b v used here begun)) held below
-        (lane_only c d l w _ small to (open_is b w used here begun ∙ (λ i. Open (record_behind b) (if (sym uncut i) then (record r { told_cut = true }) else (record r { held = true })))))
+        (grind (arith, lane_only, open_is))
 
     take_cut_step : (c d : Behind B K A) (l : ℕ) → IsSoundBehind c → l < 8 → (c.lane l).begun ≡ true → (c.account l).stand ≡ cut → (c.lane l).held ≡ false → (c.lane l).passed < length (c.lane l).front → LaneTo c d l (cut_off (c.lane l)) → Step (before c) (does.Take l) (after d)
     take_cut_step c d l sound small begun is_cut held below to =
         let sd = sound l small in let b : Account K A = c.account l in let v : LaneView B A = c.lane l in let here = sd.seen.begun begun in let used = used_here c l sd here in
         let w : LaneView B A = cut_off v in let r : Cursor B = cursor_behind v in
         steps.take (before c) (after d) l (record_behind b) (cursor_behind v) (lane_was c l _ small (open_is b v used here begun)) held below
-        (lane_only c d l w _ small to (open_is b w used here begun ∙ (λ i. Open (record_behind b) (if (sym (cut_flag b is_cut) i) then (record r { told_cut = true }) else (record r { held = true })))))
+        (grind (arith, lane_only, open_is, cut_flag))
 
     pass_step : (c d : Behind B K A) (l n : ℕ) → IsSoundBehind c → l < 8 → (c.lane l).begun ≡ true → (c.lane l).held ≡ true → n % 2 ≡ (c.account l).stand / 2 → LaneTo c d l (further n (c.lane l)) → Step (before c) (does.Pass l) (after d)
     pass_step c d l n sound small begun held odd to =
@@ -233,7 +233,7 @@ module _ {B K A : Type 0} where
         let there : slice_get c.tail.log p ≡ Some x = ap (λ (zs : List B). slice_get zs p) (sym begins.1) ∙ slice_get_append v.front begins.0 p x x_at in
         let told : (n % 2 == 1) ≡ (v.cut || (b.stand == cut)) = told_by b v n used odd (λ e. (sd.cuts e).0) in
         steps.pass (before c) (after d) l (record_behind b) (cursor_behind v) x (lane_was c l _ small (open_is b v used here begun)) held there
-        (lane_only c d l w _ small to (open_is b w used here begun ∙ (λ i. Open (record_behind b) (record r { passed = v.passed + 1; held = false; told_cut = told i; got = got i }))))
+        (grind (arith, lane_only, open_is))
       where
         told_by : (b : Account K A) (v : LaneView B A) (n : ℕ) → IsUsed b.stand → n % 2 ≡ b.stand / 2 → (v.cut ≡ true → b.stand ≢ live) → (n % 2 == 1) ≡ (v.cut || (b.stand == cut))
         told_by b v n (inl e) odd cuts = let even : n % 2 ≡ 0 = omega arith in let not_told : v.cut ≡ false = by_bool v.cut (λ z. absurd (cuts z e)) (λ z. z) in
@@ -256,7 +256,7 @@ module _ {B K A : Type 0} where
         steps.harvest (before c) (after d) l (record_behind b) (record { passed = v.passed; held = v.held })
         (ap (λ (x : Lane B). record_of x) (inside l (lane_behind b v) small) ∙ record_is b v used)
         (ap (λ (x : Lane B). word_of x) (inside l (lane_behind b v) small) ∙ word_is c.tail b v l sd used here)
-        (account_only c d l b' _ small to (with_is b b' v _ used used' e ∙ ap (with_record (record (record_behind b) { known = v.passed; key_out = v.held })) (sym (inside l (lane_behind b v) small))))
+        (grind (arith, account_only, with_is, inside))
 
     retire_step : (c d : Behind B K A) (l : ℕ) (b' : Account K A) (w : LaneView B A) → l < 8 → IsUsed (c.account l).stand → (c.lane l).here ≡ false → lane_behind b' w ≡ Idle → BothTo c d l w b' → Step (before c) (does.Retire l) (after d)
     retire_step c d l b' w small used gone_from e to =
@@ -274,9 +274,9 @@ module _ {B K A : Type 0} where
         let m : LaneRecord = record_behind b in
         steps.cut (before c) (after d) l (record_behind b)
         (ap (λ (x : Lane B). record_of x) (inside l (lane_behind b v) small) ∙ record_is b v used)
-        (ap (λ (x : Lane B). word_of x) (inside l (lane_behind b v) small) ∙ word_is c.tail b v l sd used here ∙ (λ i. Some (record { passed = passed i; held = sym flags.0 i })))
+        (grind (arith, inside, word_is))
         flags.1 (sym full)
-        (account_only c d l b' _ small to (with_is b b' v (record m { cut = true }) used (used_cut b'.stand refl) (λ i. record m { key_out = key i; cut = true }) ∙ ap (with_record (record m { cut = true })) (sym (inside l (lane_behind b v) small))))
+        (grind (arith, account_only, with_is, inside))
       where
         used_live : (n : ℕ) → n ≡ live → IsUsed n
         used_live n e = inl e
@@ -286,7 +286,7 @@ module _ {B K A : Type 0} where
 
     both_quiet : (c d : Behind B K A) (l : ℕ) (w : LaneView B A) (b : Account K A) → BothTo c d l w b → lane_behind b w ≡ lane_behind (c.account l) (c.lane l) → LeadsTo (before c) [] (after d)
     both_quiet c d l w b to e = quiet c d to.tail (λ m. dite (ℕ_discrete m l)
-        (λ (is : m ≡ l). (λ i. lane_behind (d.account (is i)) (d.lane (is i))) ∙ (λ i. lane_behind (to.account i) (to.lane i)) ∙ e ∙ (λ i. lane_behind (c.account (sym is i)) (c.lane (sym is i))))
+        (grind arith)
         (λ ne. λ i. lane_behind (to.accounts m ne i) (to.lanes m ne i)))
 
     idle_is : (b : Account K A) (v : LaneView B A) (n : ℕ) → b.stand ≡ n → lane_standing n (used_lane v.here v.begun (record_behind b) (cursor_behind v)) ≡ Idle → lane_behind b v ≡ Idle
@@ -337,7 +337,7 @@ module _ {B K A : Type 0} where
     ties _ _ _ sound (kind.admit c d l noted small is_open resting to) =
         let n : ℕ = length c.tail.log in let even : 2 * n % 2 ≡ 0 = omega arith in
         one (before c) (after d) (does.Admit l) (steps.admit (before c) (after d) l small (lane_was c l Idle small (idle_is (c.account l) (c.lane l) idle resting refl)) is_open
-        (only c d l (Admitted (new_record n)) small to.tail to.accounts to.lanes ((λ i. lane_behind (to.account i) (to.lane i)) ∙ (λ i. Admitted (record { start = n; known = n; key_out = ap (λ (k : ℕ). k == 1) even i; cut = false })))))
+        (grind (arith, only)))
     ties _ _ _ sound (kind.retire c d l small used gone_from to) = let b : Account K A = c.account l in dite (ℕ_discrete b.stand vacated)
         (λ (e : b.stand ≡ vacated). subst (λ (es : List (event.Event B)). LeadsTo (before c) es (after d)) (sym (home_vacated l b.stand e)) (both_quiet c d l (c.lane l) (retired b) to (sym (idle_is b (c.lane l) vacated e refl))))
         (λ (ne : b.stand ≢ vacated). subst (λ (es : List (event.Event B)). LeadsTo (before c) es (after d)) (sym (home_used l b.stand ne)) (one (before c) (after d) (does.Retire l) (retire_step c d l (retired b) (c.lane l) small (used_by b.stand (sound l small).counts.stands used ne) gone_from refl to)))
@@ -361,6 +361,5 @@ module _ {B K A : Type 0} (key : B → ℕ → K) where
     where
       still : (views : List (View B K A)) (id : ℕ) (u w : View B K A) (j : ℕ) → get_elem? views id ≡ some u → poster_behind w ≡ poster_behind u → poster_behind (view_or_blank (get_elem? (set views id w) j)) ≡ poster_behind (view_or_blank (get_elem? views j))
       still views id u w j at e = dite (ℕ_discrete j id)
-          (λ (is : j ≡ id). (λ i. poster_behind (view_or_blank (get_elem? (set views id w) (is i)))) ∙ ap (λ (o : maybe.Option (View B K A)). poster_behind (view_or_blank o)) (set_here views id w (at_length views id u at)) ∙ e
-          ∙ ap (λ (o : maybe.Option (View B K A)). poster_behind (view_or_blank o)) (sym at) ∙ (λ i. poster_behind (view_or_blank (get_elem? views (sym is i)))))
+          (grind (arith, set_here, at_length))
           (λ ne. ap (λ (o : maybe.Option (View B K A)). poster_behind (view_or_blank o)) (set_else views id j w ne))

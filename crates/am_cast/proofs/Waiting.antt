@@ -91,7 +91,7 @@ outs_same out out' (suc n) h = (λ i. outs_same out out' n (λ l k. h l (omega a
 outs_less : (out out' : ℕ → Bool) (l n : ℕ) → l < n → out l ≡ true → out' l ≡ false → ((m : ℕ) → m ≢ l → out' m ≡ out m) → outs out' n + 1 ≡ outs out n
 outs_less out out' l zero h was now same = absurd (omega arith)
 outs_less out out' l (suc n) h was now same = dite (ℕ_discrete n l)
-    (λ e. let rest = outs_same out out' n (λ m k. same m (λ z. omega arith)) in let a : bit (out n) ≡ 1 = ap (λ m. bit (out m)) e ∙ ap bit was in let b : bit (out' n) ≡ 0 = ap (λ m. bit (out' m)) e ∙ ap bit now in omega arith)
+    (grind (arith, outs_same))
     (λ ne. let rest = outs_less out out' l n (omega arith) was now same in let a : bit (out' n) ≡ bit (out n) = ap bit (same n ne) in omega arith)
 
 outs_none : (out : ℕ → Bool) (n : ℕ) → outs out n ≡ 0 → (l : ℕ) → l < n → out l ≡ false
@@ -126,7 +126,7 @@ module _ {T P : Type 0} (x : BatchView T P) where
   gathered_one out out' l n keys g h was now same = record {
     each = each_more l keys g.each;
     below = λ m k. let c = counted l m keys in let old = g.below m k in dite (ℕ_discrete l m)
-        (λ e. let one = eq_bit l m e in let a : bit (out m) ≡ 1 = ap (λ m. bit (out m)) (sym e) ∙ ap bit was in let b : bit (out' m) ≡ 0 = ap (λ m. bit (out' m)) (sym e) ∙ ap bit now in omega arith)
+        (grind (arith, eq_bit))
         (λ ne. let none_more = ne_bit l m ne in let a : bit (out' m) ≡ bit (out m) = ap bit (same m (λ z. ne (sym z))) in omega arith);
     above = λ m k. let c = counted l m keys in let old = g.above m k in let none_more = ne_bit l m (λ e. omega arith) in omega arith;
     many = let less = outs_less out out' l n h was now same in let long = length-append keys (key_of x l ∷ []) in let old = g.many in omega arith;
@@ -137,7 +137,7 @@ module _ {T P : Type 0} (x : BatchView T P) where
   gathered_more out n keys g home = record {
     each = each_more n keys g.each;
     below = λ m k. let c = counted n m keys in dite (ℕ_discrete n m)
-        (λ e. let one = eq_bit n m e in let none_old = g.above m (omega arith) in let b : bit (out m) ≡ 0 = ap (λ m. bit (out m)) (sym e) ∙ ap bit home in omega arith)
+        (grind (arith, eq_bit))
         (λ ne. let none_more = ne_bit n m ne in let old = g.below m (omega arith) in omega arith);
     above = λ m k. let c = counted n m keys in let old = g.above m (omega arith) in let none_more = ne_bit n m (λ e. omega arith) in omega arith;
     many = let long = length-append keys (key_of x n ∷ []) in let old = g.many in let b : bit (out n) ≡ 0 = ap bit home in omega arith;
@@ -153,9 +153,7 @@ module _ {T P : Type 0} (x : BatchView T P) where
   pub gathered_skip : (out : ℕ → Bool) (n : ℕ) (keys : List (KeyView T)) → Gathered x out n keys → out n ≡ true → Gathered x out (suc n) keys
   gathered_skip out n keys g away = record {
     each = g.each;
-    below = λ m k. dite (ℕ_discrete n m)
-        (λ e. let none_old = g.above m (omega arith) in let b : bit (out m) ≡ 1 = ap (λ m. bit (out m)) (sym e) ∙ ap bit away in omega arith)
-        (λ ne. g.below m (omega arith));
+    below = grind arith;
     above = λ m k. g.above m (omega arith);
     many = let old = g.many in let b : bit (out n) ≡ 1 = ap bit away in omega arith;
   }
@@ -200,7 +198,7 @@ module _ {T P A : Type 0} where
       → ((i : ℕ) → is_out b i ≡ is_out (account_of q l) i) → RowsFit q rows → RowsFit q' rows
   fits_one q q' rows l b is small same fits = subst (λ (q : WriterView (BatchView T P) (KeyView T) A). RowsFit q rows) (sym is) (λ i. fits_ext q (with_account l b q) i (row_at rows i) (λ x e. e)
       (λ m h. dite (ℕ_discrete m l)
-      (λ e. ap (λ (m : ℕ). is_out (account_of (with_account l b q) m) i) e ∙ ap (λ (b : Account (KeyView T) A). is_out b i) (account_here q l b small) ∙ same i ∙ ap (λ (m : ℕ). is_out (account_of q m) i) (sym e))
+      (grind (arith, account_here))
       (λ ne. ap (λ (b : Account (KeyView T) A). is_out b i) (account_else q l m b ne))) (fits i))
 
   -- no account has changed
@@ -240,15 +238,15 @@ module _ {T P A : Type 0} where
       → ((account_of q l).away ≡ true → (account_of q l).known < (account_of q l).cleared) → q' ≡ with_account l (clearing (account_of q l)) q → (c : Coming q rows l place key) → Gathered c.x (λ l. is_out (account_of q' l) place) 8 (c.keys ++ key ∷ [])
   came q rows l place key q' _ inside small at low is c = subst (λ (k : KeyView T). Gathered c.x (λ l. is_out (account_of q' l) place) 8 (c.keys ++ k ∷ [])) (sym c.key_is)
       (gathered_one c.x (λ l. is_out (account_of q l) place) (λ l. is_out (account_of q' l) place) l 8 c.keys c.gathered small c.out
-      (ap (λ (q : WriterView (BatchView T P) (KeyView T) A). is_out (account_of q l) place) is ∙ ap (λ (b : Account (KeyView T) A). is_out b place) (account_here q l (clearing (account_of q l)) inside) ∙ ap (λ (i : ℕ). is_out (clearing (account_of q l)) i) at ∙ out_cleared (account_of q l) low)
-      (λ m ne. ap (λ (q : WriterView (BatchView T P) (KeyView T) A). is_out (account_of q m) place) is ∙ ap (λ (b : Account (KeyView T) A). is_out b place) (account_else q l m (clearing (account_of q l)) ne)))
+      (grind (arith, account_here, out_cleared))
+      (grind (arith, account_else)))
 
   pub may_bring : (q q' : WriterView (BatchView T P) (KeyView T) A) (rows : List (BucketView T)) (l place : ℕ) (key : KeyView T) → l < length q.accounts → l < 8 → place ≡ (account_of q l).cleared → place < (account_of q l).stop
       → ((account_of q l).away ≡ true → (account_of q l).known < (account_of q l).cleared) → q' ≡ with_account l (clearing (account_of q l)) q
       → IsKeyAt key_of q.tail.log place l key → RowsFit q rows → (keys : List (KeyView T)) × (row_at rows place ≡ Some keys) × MayTake keys key
   may_bring q q' rows l place key inside small at in_slot low is k fits = let c = coming q rows l place key small at in_slot k fits in
       let gone : count_by (λ k. nat_eq k.number l) c.keys ≡ 0 = (let one = c.gathered.below l small in let b : bit (is_out (account_of q l) place) ≡ 1 = ap bit c.out in omega arith) in
-      (c.keys, c.row, (subst (λ (k : KeyView T). MayJoin c.keys k) (sym c.key_is) (gathered_joins c.x (λ m. is_out (account_of q m) place) l 8 c.keys c.gathered c.few gone), c.few, λ e. gathered_all c.x (λ l. is_out (account_of q' l) place) (c.keys ++ key ∷ []) (came q rows l place key q' c inside small at low is c) (length-append c.keys (key ∷ []) ∙ ap (λ (n : ℕ). n + 1) e)))
+      (c.keys, c.row, (grind (arith, gathered_joins), c.few, λ e. gathered_all c.x (λ l. is_out (account_of q' l) place) (c.keys ++ key ∷ []) (came q rows l place key q' c inside small at low is c) (length-append c.keys (key ∷ []) ∙ ap (λ (n : ℕ). n + 1) e)))
 
   pub brought : (q q' : WriterView (BatchView T P) (KeyView T) A) (rows rows' : List (BucketView T)) (l place : ℕ) (key : KeyView T) → l < length q.accounts → l < 8 → place ≡ (account_of q l).cleared → place < (account_of q l).stop
       → ((account_of q l).away ≡ true → (account_of q l).known < (account_of q l).cleared) → q' ≡ with_account l (clearing (account_of q l)) q
@@ -258,9 +256,7 @@ module _ {T P A : Type 0} where
       (λ e. let c = coming q rows l place key small at in_slot k fits in let g = came q rows l place key q' c inside small at low is c in
       subst (λ (j : ℕ). FitsAt q' j (row_at rows' j)) (sym e) (subst (λ (o : Option (List (KeyView T))). FitsAt q' place o) (sym (here c.keys c.row)) (now c.keys c.x (nat_eq (length c.keys) 7) refl (ap (λ (q : WriterView (BatchView T P) (KeyView T) A). get_elem? q.tail.log place) is ∙ c.batch) g c.few)))
       (λ ne. subst (λ (o : Option (List (KeyView T))). FitsAt q' i o) (sym (others i ne)) (fits_ext q q' i (row_at rows i) (λ x e. ap (λ (q : WriterView (BatchView T P) (KeyView T) A). get_elem? q.tail.log i) is ∙ e)
-      (λ m h. ap (λ (q : WriterView (BatchView T P) (KeyView T) A). is_out (account_of q m) i) is ∙ dite (ℕ_discrete m l)
-      (λ e. ap (λ (m : ℕ). is_out (account_of (with_account l (clearing (account_of q l)) q) m) i) e ∙ ap (λ (b : Account (KeyView T) A). is_out b i) (account_here q l (clearing (account_of q l)) inside) ∙ out_clearing (account_of q l) i (λ z. ne (z ∙ sym at)) ∙ ap (λ (m : ℕ). is_out (account_of q m) i) (sym e))
-      (λ off. ap (λ (b : Account (KeyView T) A). is_out b i) (account_else q l m (clearing (account_of q l)) off))) (fits i)))
+      (grind (arith, account_here, out_clearing, account_else)) (fits i)))
     where
       now : (keys : List (KeyView T)) (x : BatchView T P) (b : Bool) → nat_eq (length keys) 7 ≡ b → get_elem? q'.tail.log place ≡ some x → Gathered x (λ l. is_out (account_of q' l) place) 8 (keys ++ key ∷ []) → length keys < 8 → FitsAt q' place (cond b None (Some (keys ++ key ∷ [])))
       now keys x true e there g few = let seven = eqb-true (length keys) 7 e in let long = length-append keys (key ∷ []) in let many = g.many in outs_none (λ l. is_out (account_of q' l) place) 8 (omega arith)

@@ -1,5 +1,5 @@
 -- What the writer's steps share.
-use Rattle.std.proofs.Common.{[], ◌≡◌, ◌≢◌, ℕ, List, length, get_or, set, sym, refl, ap, ◌∙◌, subst, Option, Some, None, Bool, true, false, length-set}
+use Rattle.std.proofs.Common.{[], ◌≡◌, ◌≢◌, ℕ, List, length, get_or, set, sym, refl, ap, ◌∙◌, subst, Option, Some, None, Bool, true, false, length-set, arith}
 use mathlib.Core.Option.{some, some-injective}
 use mathlib.Core.Option as maybe
 use lib.ListN.{get_elem?}
@@ -21,16 +21,11 @@ use Rattle.am_cast.proofs.Slots.{other_lane}
 use Rattle.am_cast.proofs.Kept.{St, same_some, WriterOk, writer_stepped}
 
 pub none_some : {X : Type 0} (x : X) → None ≡ Some x → ⊥
-none_some {X} x e = subst is_none e tt
-  where
-    is_none : Option X → Type 0
-    is_none None = Unit {0}
-    is_none (Some y) = ⊥
+none_some {X} x e = grind arith
 
 -- a word other than the greatest is a lane's that is here
 pub here_of : (h : Bool) (n m : ℕ) → n ≡ shown h m → n ≢ gone → (h ≡ true) × (n ≡ m)
-here_of true n m e ne = (refl, e)
-here_of false n m e ne = absurd (ne e)
+here_of h n m e ne = grind arith
 
 pub either_bool' : (h : Bool) {X : Type 0} → (h ≡ true → X) → (h ≡ false → X) → X
 either_bool' true f g = f refl
@@ -39,26 +34,18 @@ either_bool' false f g = g refl
 module _ {B K A : Type 0} where
   -- what is said of one account is said of the same under another name
   pub retell : (P : ℕ → WriterView B K A → Account K A → Type 0) (w : View B K A) (l l' : ℕ) (q q' : WriterView B K A) (b b' : Account K A) → KnowsOf w l q b → KnowsOf w l' q' b' → l ≡ l' → P l q b → P l' q' b'
-  retell P w l l' q q' b b' k k' e p = let one : q ≡ q' = same_some q q' w.writer k.0 k'.0 in
-      let account : b ≡ b' = some-injective b b' (sym k.1 ∙ (λ i. get_elem? (one i).accounts (e i)) ∙ k'.1) in subst (λ (z : ℕ × WriterView B K A × Account K A). P z.0 z.1 z.2) (λ i. (e i, one i, account i)) p
+  retell P w l l' q q' b b' k k' e p = grind (arith, same_some, some-injective)
 
   -- what a account becomes, by what it was
   pub to_account : {c d : Behind B K A} {l : ℕ} {b : Account K A} (f : Account K A → Account K A) → b ≡ c.account l → AccountTo c d l (f b) → AccountTo c d l (f (c.account l))
   to_account f e t = record { tail = t.tail; lanes = t.lanes; others = t.others; account = t.account ∙ ap f e }
 
   pub counts_loaded : (t : Tail B) (b : Account K A) → Numbers t b → Numbers t (loaded b)
-  counts_loaded t b c = record { stands = c.stands; low = c.low; clear = c.clear; room = c.room; stops = c.stops; lives = c.lives; lays = c.lays; aways = c.aways }
+  counts_loaded t b c = grind arith
 
 module _ {B K A : Type 0} (key : B → ℕ → K) where
   pub lane_loaded : (t : Tail B) (b : Account K A) (v : LaneView B A) (words words' : List ℕ) (homes : Homes K) (l : ℕ) → get_or words' (lane_word l) 0 ≡ get_or words (lane_word l) 0 → LaneOk key t b v words homes l → LaneOk key t (loaded b) v words' homes l
-  lane_loaded t b v words words' homes l same ok = let sd = ok.sound in record {
-    sound = record { seen = sd.seen; counts = counts_loaded t b sd.counts; turn = sd.turn; note = sd.note; start = sd.start; idles = sd.idles; vacates = sd.vacates; mid = sd.mid; halves = sd.halves; cuts = sd.cuts; keeps = sd.keeps; lags = sd.lags };
-    word = same ∙ ok.word;
-    keys = ok.keys;
-    empty = ok.empty;
-    laid = ok.laid;
-    away = ok.away;
-  }
+  lane_loaded t b v words words' homes l same ok = grind (arith, counts_loaded)
 
   -- a lane's word is found, and stays
   pub record Found (s : St B K A) (r : Ruled key s) (id : ℕ) (me : SeatState B K A) (l : ℕ) (es : ℕ → List (event.Event B)) (P : View B K A → Type 0) : Type 0 where

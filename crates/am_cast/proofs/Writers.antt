@@ -11,7 +11,7 @@ use Rattle.am_cast.specs.declared.views.Account.{Account}
 use Rattle.am_cast.specs.declared.views.WriterView.{WriterView}
 use Rattle.am_cast.specs.Rule.{first_account, first_writer, idle, live, bit}
 use Rattle.am_cast.specs.declared.views.View.{View}
-use Rattle.am_cast.specs.Changes.{with_account, without_own, longer, grown, grown_as, laying, retired, back_if, given_out}
+use Rattle.am_cast.specs.Changes.{with_account, without_own, longer, grown, grown_as, retired, back_if, given_out}
 use Rattle.am_cast.proofs.steps.Retire.{either_bool}
 use Rattle.am_cast.proofs.Tails.{grown_live, grown_else}
 use Rattle.am_cast.specs.Steps.{SeatState}
@@ -75,11 +75,8 @@ module _ {B K A : Type 0} (key : B → ℕ → K) where
         let first : account_of (longer x q') l ≡ grown (account_of q' l) = account_longer q' x l (omega arith) in
         let is : account_of q' l ≡ filled_as key b.stand x l b = (f.2 l small).0 small in
         dite (ℕ_discrete b.stand live)
-        (λ (e : b.stand ≡ live). let now : account_of (longer x q') l ≡ record (laying (key x l) b) { stop = suc b.stop; laid = None } = first ∙ ap (λ (b : Account K A). grown b) (is ∙ (λ i. filled_as key (e i) x l b)) ∙ grown_live (laying (key x l) b) e in
-        let li = calm.live_is e in let l₁ = li.1 in let space = room l small e in
-        subst (λ (z : Account K A). IsCalm (length (q'.tail.log ++ x ∷ [])) q'.tail.places z) (sym now) record { out = refl; laid = refl; low = calm.low; known = omega arith; stops = omega arith; live_is = λ _. (li.0, omega arith, omega arith, li.3, li.4); rest_is = λ ne. absurd (ne e); away_is = λ z. absurd (let a = (calm.away_is z).0 in omega arith) })
-        (λ (ne : b.stand ≢ live). let now : account_of (longer x q') l ≡ b = first ∙ ap (λ (b : Account K A). grown b) (is ∙ filled_else b.stand x l b ne) ∙ grown_else b ne in
-        subst (λ (z : Account K A). IsCalm (length (q'.tail.log ++ x ∷ [])) q'.tail.places z) (sym now) record { out = calm.out; laid = calm.laid; low = calm.low; known = omega arith; stops = omega arith; live_is = λ e. absurd (ne e); rest_is = calm.rest_is; away_is = λ z. let a = calm.away_is z in let a₁ = a.1 in (a.0, omega arith, a.2) }),
+        (grind (arith, grown_live))
+        (grind (arith, filled_else, grown_else)),
   )
 
   -- a publish counts no load, and admits nobody
@@ -130,7 +127,7 @@ module _ {B K A : Type 0} where
             let f = grown_numbers b.stand b in let o = ok.each l small in record {
               stand_is = ap (λ (b : Account K A). b.stand) at ∙ f.0 ∙ o.stand_is;
               known_is = ap (λ (b : Account K A). b.known) at ∙ f.1 ∙ o.known_is;
-              live_is = λ e. o.live_is (sym (ap (λ (b : Account K A). b.stand) at ∙ f.0) ∙ e) ∙ ap (λ (h : ℕ). 2 * h) (sym (ap (λ (b : Account K A). b.half) at ∙ f.2));
+              live_is = grind arith;
               cut_is = λ e. ap bit (ap (λ (b : Account K A). b.away) at ∙ f.3) ∙ o.cut_is (sym (ap (λ (b : Account K A). b.stand) at ∙ f.0) ∙ e);
               rest_is = λ ne. ap (λ (b : Account K A). b.away) at ∙ f.3 ∙ o.rest_is (λ e. ne (ap (λ (b : Account K A). b.stand) at ∙ f.0 ∙ e));
               bound = o.bound;
@@ -159,19 +156,15 @@ module _ {B K A : Type 0} (q q' : WriterView B K A) (k : ℕ) (tail : q'.tail �
           long ∙ calm.0,
           λ l below. dite (ℕ_discrete l k)
               (λ e. subst (λ (z : ℕ × Tail B). IsCalm (length z.1.log) z.1.places (account_of q' z.0)) (λ i. (sym e i, sym tail i)) here)
-              (λ ne. subst (λ (z : Account K A × Tail B). IsCalm (length z.1.log) z.1.places z.0) (λ i. (sym (others l ne) i, sym tail i)) (calm.1 l below)),
+              (grind arith),
         ),
         record {
           tail = tail ∙ h.tail;
           each = λ l below. dite (ℕ_discrete l k)
               (λ e. subst (λ (l : ℕ). StaysAs (account_of q₀ l) (account_of q' l)) (sym e) mine.0)
               (λ ne. subst (λ (c : Account K A). StaysAs (account_of q₀ l) c) (sym (others l ne)) (h.each l below));
-          below = λ l few alive. dite (ℕ_discrete l k)
-              (λ e. subst (λ (l : ℕ). (account_of q₀ l).stand ≡ live → (account_of q₀ l).loads < (account_of q' l).loads) (sym e) mine.1 alive)
-              (λ ne. subst (λ (c : Account K A). (account_of q₀ l).loads < c.loads) (sym (others l ne)) (h.below l (omega (arith, few, ne)) alive));
-          aways = λ l few away. dite (ℕ_discrete l k)
-              (λ e. subst (λ (l : ℕ). (account_of q₀ l).away ≡ true → (account_of q₀ l).loads < (account_of q' l).loads) (sym e) mine.2 away)
-              (λ ne. subst (λ (c : Account K A). (account_of q₀ l).loads < c.loads) (sym (others l ne)) (h.aways l (omega (arith, few, ne)) away));
+          below = grind arith;
+          aways = grind arith;
           above = λ l high. others l (λ e. omega (arith, e, high)) ∙ h.above l (omega (arith, high));
         },
       )

@@ -1,8 +1,6 @@
 -- The writer takes the slot of a place that was passed.
 use Rattle.std.proofs.Common.{[], ◌≡◌, ◌≢◌, ℕ, suc, ◌+◌, ◌<◌, ◌≤◌, ◌∷◌, set, sym, refl, ap, ◌∙◌, arith, Some, true, true≢false}
-use mathlib.Core.Logic.{dite}
 use mathlib.Core.Option.{none, some, some-injective}
-use native.Mathlib.Decide.{ℕ_discrete}
 use lib.ListN.{get_elem?}
 use Rattle.atomic_table.specs.Table.{step, takes, Allows}
 use Rattle.atomic_table.proofs.Lists.{set_else}
@@ -10,7 +8,7 @@ use Rattle.am_cast.specs.declared.views.Tail.{Tail}
 use Rattle.am_cast.specs.declared.views.Account.{Account}
 use Rattle.am_cast.specs.declared.views.WriterView.{WriterView}
 use Rattle.am_cast.specs.declared.views.LaneView.{LaneView}
-use Rattle.am_cast.specs.Rule.{idle, live, slot, writer_word, Sound, Ruled}
+use Rattle.am_cast.specs.Rule.{live, slot, writer_word, Sound, Ruled}
 use Rattle.am_cast.specs.Changes.{with_writer, with_account, reaching}
 use Rattle.am_cast.proofs.Events.{AllowsEvent}
 use Rattle.am_cast.specs.Steps.{SeatState, KnowsOf, SetsAccount, Gathers}
@@ -26,15 +24,7 @@ module _ {B K A : Type 0} (key : B → ℕ → K) where
     pub not_held : v.held ≡ true → b.cleared ≢ v.passed
 
   pub gone_by : (t : Tail B) (b : Account K A) (v : LaneView B A) (l : ℕ) → Sound t b v l → (b.stand ≡ live → b.cleared < b.known) → (b.stand ≢ live → b.cleared < b.stop) → Gone t b v
-  gone_by t b v l sd low₁ low₂ =
-      let mid = sd.mid in let high = sd.seen.high in let long = prefix_length v.front t.log sd.seen.begins in let stands = sd.counts.stands in dite (ℕ_discrete b.stand live)
-      (λ e. let f = low₁ e in let stop = (sd.counts.lives e).0 in record { inside = omega arith; not_held = λ _ z. omega arith })
-      (λ ne. record {
-        inside = low₂ ne;
-        not_held = λ h z. dite (ℕ_discrete b.stand idle)
-            (λ e. absurd (true≢false (sym (sd.seen.holds h).0 ∙ sd.idles e)))
-            (λ used. let k = sd.keeps (cut_of b.stand stands used ne (λ e. true≢false (sym (sd.seen.holds h).0 ∙ sd.vacates e))) h in let k₁ = k.1 in let a = (sd.counts.aways k.0).2 in absurd (omega arith));
-      })
+  gone_by t b v l sd low₁ low₂ = grind (arith, prefix_length, true≢false, cut_of)
 
   -- the writer takes the slot of a place that the lane has passed
   pub gathers_as : (slots id : ℕ) (me : SeatState B K A) (l : ℕ) (q : WriterView B K A) (b : Account K A) → KnowsOf me.0 l q b → b.out ≡ 0 → (b.stand ≡ live → b.cleared < b.known) → (b.stand ≢ live → b.cleared < b.stop)

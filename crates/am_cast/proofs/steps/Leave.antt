@@ -2,7 +2,7 @@
 use Rattle.std.proofs.Common.{[], ◌≡◌, ℕ, ◌+◌, ◌/◌, ◌%◌, ◌≤◌, List, ◌∷◌, set, sym, refl, ap, ◌∙◌, subst, arith, Option, Some, Bool, true, false, true≢false, length-set, get_or-set_other, get_or-set_same}
 use mathlib.Core.Option.{none, some}
 use lib.ListN.{get_elem?}
-use Rattle.atomic_table.specs.Table.{step, Act, keeps, gives, rest, stepped, carried_after, Valid, Allows}
+use Rattle.atomic_table.specs.Table.{step, Act, keeps, gives, stepped, carried_after, Valid, Allows}
 use Rattle.atomic_table.proofs.Lists.{set_else}
 use Rattle.am_cast.specs.declared.views.Tail.{Tail}
 use Rattle.am_cast.specs.declared.views.Account.{Account}
@@ -112,5 +112,4 @@ module _ {B K A : Type 0} (key : B → ℕ → K) where
 
   -- no slot is in hand then
   pub none_left : (me : SeatState B K A) (v : LaneView B A) (held : Bool) → HoldsIf key held me v → laid_down held me.1 ≡ []
-  none_left me v true has = ap (λ (c : List (ℕ × Option K)). rest c) has.2
-  none_left me v false none_there = none_there
+  none_left me v held has = grind arith

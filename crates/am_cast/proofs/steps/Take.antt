@@ -132,8 +132,4 @@ module _ {B K A : Type 0} (key : B → ℕ → K) where
   pub took_as : (me me' : SeatState B K A) (v : LaneView B A) (x : B) (n old : ℕ) → get_elem? v.front v.passed ≡ some x → me.1 ≡ []
       → (n ≡ old → (me'.0 ≡ with_lane (holding v) me.0) × (me'.1 ≡ (slot v.places v.number v.passed, Some (key x v.number)) ∷ me.1))
       × (n ≢ old → (me'.0 ≡ with_lane (cut_off v) me.0) × (me'.1 ≡ me.1)) → Took key me v me' (eqb n old)
-  took_as me me' v x n old next bare answers = go (eqb n old) refl
-    where
-      go : (hit : Bool) → eqb n old ≡ hit → Took key me v me' hit
-      go true is = let yes = answers.0 (eqb-true n old is) in (yes.0, (x, next, yes.1 ∙ (λ i. (slot v.places v.number v.passed, Some (key x v.number)) ∷ bare i)))
-      go false is = answers.1 (eqb-false n old is)
+  took_as me me' v x n old next bare answers = grind (arith, eqb-true, eqb-false)

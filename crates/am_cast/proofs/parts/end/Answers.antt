@@ -16,10 +16,7 @@ use Rattle.am_cast.proofs.Ends.{no_keys_left}
 use Rattle.am_cast.proofs.parts.end.Goals as goal
 
 pub end-requires : goal.end-requires
-end-requires g c = let known : writer_of c.state.inside.seat.me.0 ≡ c.writer.inside.state.known = ap (λ (v : WriterStateView g.row.T.Denot g.row.P.Denot g.row.A.Denot). v.known) c.state.view_is in
-    let idles = subst (λ (q : WriterView (BatchView g.row.T.Denot g.row.P.Denot) (KeyView g.row.T.Denot) g.row.A.Denot). (l : ℕ) → l < 8 → (account_of q l).stand ≡ idle) (sym c.writer.view_is) c.requires in
-    let calm = subst (λ (q : WriterView (BatchView g.row.T.Denot g.row.P.Denot) (KeyView g.row.T.Denot) g.row.A.Denot). Calm q × ((l : ℕ) → l < 8 → (account_of q l).stand ≡ idle)) (sym known) (c.writer.invariant, idles) in
-    rows_gone (writer_of c.state.inside.seat.me.0) c.state.inside.rows calm.0 calm.1 c.state.invariant.1
+end-requires g c = grind (arith, rows_gone)
 
 pub loop-index-init : goal.loop-index-init
 loop-index-init g c = let known : writer_of c.state.inside.seat.me.0 ≡ c.writer.inside.state.known = ap (λ (v : WriterStateView g.row.T.Denot g.row.P.Denot g.row.A.Denot). v.known) c.state.view_is in

@@ -1,4 +1,4 @@
-use Rattle.std.proofs.Common.{◌≡◌, ◌∙◌, List, sym, ap, subst}
+use Rattle.std.proofs.Common.{◌≡◌, ◌∙◌, List, sym, ap, subst, arith}
 use mathlib.Core.List.{IsPrefix}
 use Rattle.am_segment.specs.Segments.{KeyView}
 use Rattle.am_cast.specs.declared.batch_view.BatchView.{BatchView}
@@ -28,10 +28,4 @@ returns-clause-stand g c =
     (stand_further c.pass.inside.seat.me.0.own c.pass.inside.seat.me.0.noted c.hear.new.self.known.tail.log (subst (IsPrefix c.pass.inside.seat.me.0.noted) (sym log) c.hear.ensures.begins) here)
 
 pub returns-clause-known : goal.returns-clause-known
-returns-clause-known g c =
-    let N = BatchView g.row.T.Denot g.row.P.Denot in
-    let K = KeyView g.row.T.Denot in
-    let log : c.hear.new.self.known.tail.log ≡ c.self.inside.state.known.tail.log = ap (λ (b : WriterStateView g.row.T.Denot g.row.P.Denot g.row.A.Denot). b.known.tail.log) c.hear.ensures.same in
-    let other : c.hear.new.other.me.0.noted ≡ c.pass.inside.seat.me.0.noted = ap (λ (m : SeatState N K g.row.A.Denot). m.0.noted) c.hear.ensures.other.1 in
-    subst (λ o. IsPrefix o c.hear.new.self.known.tail.log) (sym other)
-    (subst (IsPrefix c.pass.inside.seat.me.0.noted) (sym log) c.hear.ensures.begins)
+returns-clause-known g c = grind arith

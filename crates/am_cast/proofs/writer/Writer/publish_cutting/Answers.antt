@@ -1,4 +1,4 @@
-use Rattle.std.proofs.Common.{arith, ◌≡◌, ◌≢◌, ◌+◌, ◌/◌, ◌<◌, ◌++◌, ◌∷◌, [], ℕ, List, length, sym, ap, ◌∙◌, subst, false, true, Bool}
+use Rattle.std.proofs.Common.{arith, ◌≡◌, ◌+◌, ◌<◌, ◌++◌, ◌∷◌, [], ℕ, List, length, sym, ap, ◌∙◌, subst, false, Bool}
 use Rattle.am_segment.specs.Segments.{KeyView}
 use Rattle.am_cast.specs.declared.limits.TheConstants.{LONGEST_LOG}
 use Rattle.am_cast.specs.declared.batch_view.BatchView.{BatchView}
@@ -8,11 +8,8 @@ use Rattle.am_cast.specs.declared.views.View.{View}
 use Rattle.am_cast.specs.declared.views.WriterView.{WriterView}
 use Rattle.am_cast.specs.Changes.{longer_tail, own_at}
 use Rattle.am_cast.specs.Posters.{PassView}
-use Rattle.am_cast.specs.Rule.{live, cut}
+use Rattle.am_cast.specs.Rule.{cut}
 use Rattle.am_cast.specs.declared.views.Account.{Account}
-use mathlib.Core.Logic.{dite}
-use native.Mathlib.Decide.{ℕ_discrete}
-use Rattle.am_cast.specs.Seats.{account_of}
 use Rattle.am_cast.specs.Writers.{StandsOn, IsCutAs}
 use Rattle.am_cast.proofs.writer.Writer.publish_cutting.Goals as goal
 
@@ -38,30 +35,7 @@ returns-clause-ok g c = let p = c.post.ensures.place in let tail : c.make_all_ro
 -- a lane that was cut between two moments, as it stands later and was called before
 cut_later : {K A : Type 0} (n m places size : ℕ) (b c d e : Account K A) (bit : Bool) → StandsOn b c → IsCutAs n places c d bit → e.stand ≡ d.stand → e.known ≡ d.known → e.half ≡ d.half
     → n ≡ m → places ≡ size → IsCutAs m size b e bit
-cut_later n m places size b c d e true on is stand known half log same =
-    let was : b.stand ≡ live = dite (ℕ_discrete c.stand b.stand) (λ (same_as : c.stand ≡ b.stand). sym same_as ∙ is.0) (λ (other : c.stand ≢ b.stand). (on.0 other).0) in
-    (was, stand ∙ is.1, sym log ∙ (is.2 ∙ (ap (λ (k : ℕ). k + places) (sym known) ∙ ap (λ (p : ℕ). e.known + p) same)), ap (λ (k : ℕ). k / 2) half ∙ (is.3 ∙ sym known))
-cut_later n m places size b c d e false on is stand known half log same = (
-  λ other.
-      dite (ℕ_discrete c.stand b.stand)
-      (λ (same_as : c.stand ≡ b.stand). let moved = is.0 (λ (still : d.stand ≡ c.stand). other (stand ∙ (still ∙ same_as))) in (sym same_as ∙ moved.0, stand ∙ moved.1))
-      (λ (no : c.stand ≢ b.stand).
-      dite (ℕ_discrete d.stand c.stand)
-      (λ (still : d.stand ≡ c.stand). ((on.0 no).0, stand ∙ (still ∙ (on.0 no).1)))
-      (λ (moved : d.stand ≢ c.stand). ((on.0 no).0, stand ∙ (is.0 moved).1))),
-  λ severed. half ∙ (is.1 (still_cut severed) ∙ on.1 severed),
-)
-  where
-    still_cut : b.stand ≡ cut → c.stand ≡ cut
-    still_cut severed = dite (ℕ_discrete c.stand b.stand) (λ (same_as : c.stand ≡ b.stand). same_as ∙ severed) (λ (no : c.stand ≢ b.stand). let was = (on.0 no).0 in absurd (omega arith))
+cut_later n m places size b c d e bit on is stand known half log same = grind arith
 
 pub returns-clause-cut : goal.returns-clause-cut
-returns-clause-cut g c l small =
-    let found : c.harvest.new.self.known.tail ≡ c.args.self.now.tail = c.harvest.ensures.same.tail ∙ ap (λ (q : WriterView (BatchView g.row.T.Denot g.row.P.Denot) (KeyView g.row.T.Denot) g.row.A.Denot). q.tail) c.self.view_is in
-    let tail : c.reserve.new.self.known.tail ≡ c.args.self.now.tail = ap (λ (q : WriterView (BatchView g.row.T.Denot g.row.P.Denot) (KeyView g.row.T.Denot) g.row.A.Denot). q.tail) c.reserve.ensures.known ∙ found in
-    let W = WriterView (BatchView g.row.T.Denot g.row.P.Denot) (KeyView g.row.T.Denot) g.row.A.Denot in
-    let on : StandsOn (account_of c.args.self.now l) (account_of c.reserve.new.self.known l) =
-    subst (λ (q : W). StandsOn (account_of q l) (account_of c.reserve.new.self.known l)) c.self.view_is
-    (subst (λ (q : W). StandsOn (account_of c.self.inside.state.known l) (account_of q l)) (sym c.reserve.ensures.known) (c.harvest.ensures.same.each l small).1) in
-    cut_later _ _ _ _ (account_of c.args.self.now l) (account_of c.reserve.new.self.known l) (account_of c.make_all_room-cut.new.self.known l) (account_of c.post.new.self.known l) _ on (c.make_all_room-cut.ensures.cut l small) (c.post.ensures.same l small).1 (c.post.ensures.same l small).2 (c.post.ensures.same l small).3
-    (ap (λ (t : Tail (BatchView g.row.T.Denot g.row.P.Denot)). length t.log) tail) (ap (λ (t : Tail (BatchView g.row.T.Denot g.row.P.Denot)). t.places) tail)
+returns-clause-cut g c l small = grind (arith, cut_later)

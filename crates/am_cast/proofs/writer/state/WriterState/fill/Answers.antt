@@ -18,9 +18,7 @@ use Rattle.am_cast.proofs.writer.state.WriterState.fill.Goals as goal
 use Rattle.am_cast.proofs.writer.state.WriterState.fill.Goals.{then-end-eq-LANES, else-end-eq-LANES}
 
 pub put_key-requires-in-loop-lane-clause-row : goal.put_key-requires-in-loop-lane-clause-row
-put_key-requires-in-loop-lane-clause-row g c = let i = c.loop-lane.invariant in let x = batch_of_tag c.args.tag.now in let lane = c.loop-lane.lane in let many = i.gathered.many in let small = i.run.0 in
-    subst (λ (k : KeyView g.row.T.Denot). MayJoin c.loop-lane.row.keys k) (sym (c.split_first-key.ensures.0 ∙ i.run.1))
-    (gathered_joins x (λ m. is_live (account_of c.args.self.now.known m)) lane lane c.loop-lane.row.keys i.gathered (omega arith) (i.gathered.above lane (omega arith)))
+put_key-requires-in-loop-lane-clause-row g c = grind (arith, gathered_joins)
 
 pub loop-lane-preserved : goal.loop-lane-preserved
 loop-lane-preserved g c = let i = c.loop-lane.invariant in let x = batch_of_tag c.args.tag.now in let lane = c.loop-lane.lane in
