@@ -1,9 +1,8 @@
 -- A new table shows the core's first state.
-use Rattle.std.proofs.Common.{◌≡◌, ℕ, zero, suc, ◌*◌, ◌<◌, List, [], ◌∷◌, length, get_or, refl, Option, None, Bool, false, nat_lt, if◌then◌else◌, arith}
+use Rattle.std.proofs.Common.{◌≡◌, ℕ, zero, suc, ◌*◌, ◌<◌, List, [], ◌∷◌, length, get_or, refl, Option, None, Bool, if◌then◌else◌, arith}
 use mathlib.Core.Option.{some}
 use lib.ListN.{get_elem?}
 use Rattle.atomic_table.specs.Table.{opening}
-use Rattle.am_steps.specs.declared.lane.Lane.TheVariants.{Idle}
 use Rattle.am_steps.specs.States.{first_state, unaware_poster}
 use Rattle.am_cast.specs.declared.views.View.{View}
 use Rattle.am_cast.specs.Rule.{gone, lane_word, first_view, Ruled}
@@ -19,15 +18,7 @@ module _ {B K A : Type 0} (key : B → ℕ → K) where
   unfolding begins
   begins_as words slots places wide zero_first all_gone deep vacant pos = (
     begins key words slots places wide zero_first all_gone deep vacant pos,
-    λ posters seat_of. λ i. record {
-      places = places;
-      log = [];
-      closed = false;
-      lanes = 8;
-      lane = λ l. either_way (nat_lt l 8) Idle i;
-      posters = posters;
-      poster = λ p. unaware (seat_of p) i;
-    },
+    grind (arith, either_way),
   )
     where
       first : View B K A

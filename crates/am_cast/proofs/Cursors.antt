@@ -112,14 +112,13 @@ module _ {T P A : Type 0} where
     held = ap (λ (d : CursorView T P A). d.lane.held) e;
     there = subst (λ (d : CursorView T P A). (x : T) × IsInHand d x) (sym e) (get_there (items_at c.lane.front c.lane.passed) 0 (some_there c.lane.front c.lane.passed at.0 at.1));
     taken = λ x is. taken_first c d x e none_shown is;
-    was_open = λ h. (let all = h.1 in absurd (omega arith));
+    was_open = λ h. (absurd (omega arith));
     was_uncut = λ h. false≢true (sym uncut ∙ h.0);
   }
 
   -- the next item of a place
   pub taken_next : (c d : CursorView T P A) (x : T) → d ≡ record c { shown = c.shown + 1 } → IsInHand d x → shown_items d ≡ shown_items c ++ x ∷ []
-  taken_next c d x e at = let items : List T = items_at c.lane.front c.lane.passed in let before : List T = all_items (drop c.lane.start (take c.lane.passed c.lane.front)) in
-      let back : c.shown + 1 - 1 ≡ c.shown = omega arith in
+  taken_next c d x e at = let back : c.shown + 1 - 1 ≡ c.shown = omega arith in
       grind (arith, take_get, append_assoc)
 
   pub shows_next : (c d : CursorView T P A) → c.lane.held ≡ true → c.shown < length (items_at c.lane.front c.lane.passed) → d ≡ record c { shown = c.shown + 1 } → IsItem c d
@@ -207,7 +206,7 @@ module _ {T P A : Type 0} where
       → CursorOk table t m number places passed seen shown closed cut hand → t' ≡ t → (lane_of m.0).cut ≡ false → (lane_of m.0).passed < length (lane_of m.0).front
       → Took key_of m (lane_of m.0) m' true → count ≡ length (items_at (lane_of m.0).front (lane_of m.0).passed) → CursorOk table t' m' number places passed seen 1 closed cut (Some count)
   cursor_took table t t' m m' number places passed seen shown closed cut hand count ok same uncut some_more took count_is = let v : LaneView (BatchView T P) A = lane_of m.0 in
-      let is : lane_of m'.0 ≡ holding v = ap (λ (w : View (BatchView T P) (KeyView T) A). lane_of w) took.0 in let f = ok.seen_is in let p = ok.passed_is in record {
+      let is : lane_of m'.0 ≡ holding v = ap (λ (w : View (BatchView T P) (KeyView T) A). lane_of w) took.0 in record {
         same = same ∙ ok.same;
         lane = grind arith;
         alone = grind arith;

@@ -38,9 +38,7 @@ module _ {B K A : Type 0} (key : B → ℕ → K) where
       let c = subst (λ (b : Account K A). Rattle.am_cast.specs.Writers.IsCalm (length q.tail.log) q.tail.places b) (sym same) (calm.1 l small) in let stand = ap (λ (b : Account K A). b.stand) same ∙ idles l small in
       let clear = c.rest_is (λ e. omega arith) in let out = c.out in
       let p = place_with (ruled.account l).stop places r ruled.some_places below in
-      let here = (ruled.each_lane l small).empty p.0 p.1 (omega arith) (λ e. omega arith) (λ a. let z = (c.away_is a).0 in absurd (omega arith)) (λ _. c.laid) in
-      let right : 8 * (p.0 % places) + l ≡ k = ap (λ (n : ℕ). 8 * n + l) p.3 ∙ parts in
-      subst (λ (n : ℕ). get_elem? s.homes n ≡ some (some None)) right here
+      grind arith
 
   pub no_keys_left : (q : WriterView B K A) (id : ℕ) (w : View B K A) (words : List ℕ) (xs : List (Option K)) → w.writer ≡ Some q → Calm q → ((l : ℕ) → l < 8 → (account_of q l).stand ≡ idle) → Final (Seen (Ruled key) id w) words xs
       → (k : ℕ) (y : Option K) → get_elem? xs k ≡ some y → y ≡ None

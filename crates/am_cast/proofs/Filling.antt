@@ -33,7 +33,7 @@ module _ {T P A : Type 0} (x : BatchView T P) where
       → ((account_of q k).stand ≡ live → (q' ≡ with_account k (laying (key_of x k) (account_of q k)) q) × (keys' ≡ keys))
       → ((account_of q k).stand ≢ live → (q' ≡ q) × (keys' ≡ keys ++ key_of x k ∷ []))
       → FilledTo key_of q₀ x (k + 1) q' × Gathered x (λ l. is_live (account_of q₀ l)) (k + 1) keys'
-  fill_step q₀ q q' k keys keys' small f g lives rests = let all = f.1 in let b : Account (KeyView T) A = account_of q₀ k in let was : account_of q k ≡ b = (f.2 k small).1 (omega arith) in
+  fill_step q₀ q q' k keys keys' small f g lives rests = let b : Account (KeyView T) A = account_of q₀ k in let was : account_of q k ≡ b = (f.2 k small).1 (omega arith) in
       dite (ℕ_discrete b.stand live)
       (λ (e : b.stand ≡ live). let r = lives (ap (λ (b : Account (KeyView T) A). b.stand) was ∙ e) in let is = r.0 in (
         (
@@ -43,7 +43,7 @@ module _ {T P A : Type 0} (x : BatchView T P) where
         ),
         subst (λ (z : ℕ × List (KeyView T)). Gathered x (λ l. is_live (account_of q₀ l)) z.0 z.1) (λ i. (sym (add-one k) i, sym r.1 i)) (gathered_skip x (λ l. is_live (account_of q₀ l)) k keys g (live_is b e)),
       ))
-      (λ (ne₀ : b.stand ≢ live). let r = rests (λ e. ne₀ (ap (λ (b : Account (KeyView T) A). b.stand) (sym was) ∙ e)) in let is = r.0 in (
+      (λ (ne₀ : b.stand ≢ live). let r = rests (λ e. ne₀ (ap (λ (b : Account (KeyView T) A). b.stand) (sym was) ∙ e)) in (
         grind (arith, filled_else),
         subst (λ (z : ℕ × List (KeyView T)). Gathered x (λ l. is_live (account_of q₀ l)) z.0 z.1) (λ i. (sym (add-one k) i, sym r.1 i)) (gathered_more x (λ l. is_live (account_of q₀ l)) k keys g (else_is b ne₀)),
       ))
@@ -61,7 +61,7 @@ module _ {T P A : Type 0} (x : BatchView T P) where
 
   fits_longer : (q : WriterView (BatchView T P) (KeyView T) A) (rows rows' : List (BucketView T)) (n : ℕ) → n ≡ length q.tail.log → AreReady q → RowsFit q rows → ((p : ℕ) → p ≢ n → row_at rows' p ≡ row_at rows p)
       → FitsAt (longer x q) n (row_at rows' n) → RowsFit (longer x q) rows'
-  fits_longer q rows rows' n long ready fits others at_n i = let all = ready.0 in dite (ℕ_discrete i n)
+  fits_longer q rows rows' n long ready fits others at_n i = dite (ℕ_discrete i n)
       (λ e. subst (λ (j : ℕ). FitsAt (longer x q) j (row_at rows' j)) (sym e) at_n)
       (λ ne. subst (λ (o : Option (List (KeyView T))). FitsAt (longer x q) i o) (sym (others i ne)) (fits_ext q (longer x q) i (row_at rows i) (λ y e. prefix_at q.tail.log (q.tail.log ++ x ∷ []) i y (x ∷ [], refl) e)
       (λ l h. ap (λ (b : Account (KeyView T) A). is_out b i) (account_longer q x l (omega arith)) ∙ grown_off (account_of q l) (length q.tail.log) i (ready.1 l h).0 (λ z. ne (z ∙ sym long))) (fits i)))
@@ -77,7 +77,7 @@ module _ {T P A : Type 0} (x : BatchView T P) where
         x,
         at_last q.tail.log x n (sym long),
         gathered_same x (λ l. is_live (account_of q l)) (λ l. is_out (account_of (longer x q) l) n) 8 keys (now_out q n long ready) g,
-        (let many = g.many in let ne : length keys ≢ 8 = (λ z. false≢true (sym few ∙ eq-eqb (length keys) 8 z)) in omega arith),
+        (let ne : length keys ≢ 8 = (λ z. false≢true (sym few ∙ eq-eqb (length keys) 8 z)) in omega arith),
       )))
 
   -- no lane is live, and the segment has ended

@@ -58,7 +58,7 @@ module _ {T P A : Type 0} where
     there = f.1;
     each = g.each;
     home = λ l small no. let e = g.below l small in let z : bit (is_out (account_of q l) i) ≡ 0 = ap bit (waiting.never_out (account_of q l) i (λ o. no (of o))) in omega arith;
-    out = λ l small o. let e = g.below l small in let z : bit (is_out (account_of q l) i) ≡ 1 = ap bit (out_is (account_of q l) i o) in omega arith;
+    out = grind (arith, out_is);
     waits = row_is_kept q rows i calm fit (λ none_there. none_some keys (sym none_there ∙ there));
   }
     where

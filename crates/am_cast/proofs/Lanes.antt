@@ -73,12 +73,11 @@ module _ {B K A : Type 0} (key : B → ℕ → K) where
       let there : get_elem? t.log v.passed ≡ some x = prefix_at v.front t.log v.passed x sd.seen.begins next in
       let homes' : Homes K = set homes k (some (Some (key x l))) in
       let here : (i : ℕ) (y : B) → i ≡ v.passed → get_elem? t.log i ≡ some y → Has homes' p l i (Some (key y l)) =
-      λ i y e f. let name : x ≡ y = some-injective x y (sym there ∙ ap (get_elem? t.log) (sym e) ∙ f) in
-      ap (λ (j : ℕ). get_elem? homes' (slot p l j)) e ∙ set_here homes k (some (Some (key x l))) (slot_inside p l v.passed (length homes) small pos deep) ∙ ap (λ (z : B). some (some (Some (key z l)))) name in
+      grind (arith, some-injective, set_here, slot_inside) in
       let beside : (i : ℕ) → b.cleared ≤ i → i < b.cleared + p → i ≢ h.at → get_elem? homes' (slot p l i) ≡ get_elem? homes (slot p l i) =
       λ i a c ne. set_else homes k (slot p l i) (some (Some (key x l))) (λ e. apart p l b.cleared i h.at a c h.from h.to ne (e ∙ h.same)) in record {
-        keys = λ i y a c d e. dite (ℕ_discrete i v.passed) (λ z. here i y z d) (λ ne. beside i a (omega arith) (h.old i c ne) ∙ ok.keys i y a c d e (λ _. ne));
+        keys = grind arith;
         empty = λ i a c d e f. beside i (omega arith) c (h.new i a e) ∙ ok.empty i a c d e f;
-        laid = λ y e. let q = sd.counts.lays y e in let q₁ = q.1 in beside b.stop (omega arith) q.1 (h.new b.stop (omega arith) (λ z. absurd (let c = (sd.counts.aways z).0 in let d = q.0 in omega arith))) ∙ ok.laid y e;
+        laid = grind arith;
         away = λ e y f. let c = (sd.counts.aways e).0 in here b.known y (sym (sd.keeps c held).1) f;
       }

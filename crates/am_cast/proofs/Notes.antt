@@ -75,7 +75,7 @@ module _ {B K A : Type 0} (posters : ℕ) (t : Tail B) (account : ℕ → Accoun
       let own_is : (P p).own ≡ map post_of own = ap (λ (v : Poster B). v.own) was in
       let may : MayOwn t.log (P p) (Some (post_of o)) = (get_at t.log o.place o.batch (stand (length own) o (middle own o os)), subst (λ (posts : List (ℕ × B)). Contains posts (post_of o) → ⊥) (sym own_is) (λ c. not_before own o os once c.0 c.1 c.2)) in
       let first : Step (core_with P) (does.Note p (Some (post_of o))) (core_with P') = steps.note (core_with P) (core_with P') p (Some (post_of o)) inside may
-      (only_poster P P' p (record { places_known = length t.log; own = (P p).own ++ post_of o ∷ [] }) (put_here P p next ∙ (λ i. record { places_known = length t.log; own = (posts_end own o ∙ ap (λ (posts : List (ℕ × B)). posts ++ post_of o ∷ []) (sym own_is)) i })) (λ k ne. put_else P p next k ne)) in
+      (grind (arith, only_poster, put_here, posts_end, put_else)) in
       let moved : (own ++ o ∷ []) ++ os ≡ own ++ o ∷ os = append_assoc own (o ∷ []) os in
       leads (core_with P) (core_with P') (core_with Q) (does.Note p (Some (post_of o))) (note_posts p os) first
       (posts_lead P' Q p (length t.log) (own ++ o ∷ []) os inside (λ k y e. stand k y (ap (λ (ys : List (Own B)). get_elem? ys k) (sym moved) ∙ e)) (subst (λ (ys : List (Own B)). Once ys) (sym moved) once) (put_here P p next) (now ∙ ap (poster_of (length t.log)) (sym moved)) (λ k ne. other k ne ∙ sym (put_else P p next k ne)) (λ _. refl))
@@ -83,7 +83,7 @@ module _ {B K A : Type 0} (posters : ℕ) (t : Tail B) (account : ℕ → Accoun
   notes_lead : (P Q : ℕ → Poster B) (p known : ℕ) (own os : List (Own B)) → p < posters → ((k : ℕ) (o : Own B) → get_elem? (own ++ os) k ≡ some o → get_elem? t.log o.place ≡ some o.batch) → Once (own ++ os)
       → P p ≡ poster_of known own → Q p ≡ poster_of (length t.log) (own ++ os) → ((k : ℕ) → k ≢ p → Q k ≡ P k) → LeadsTo (core_with P) (note_events p os) (core_with Q)
   notes_lead P Q p known own [] inside stand once was now other =
-      leads (core_with P) (core_with Q) (core_with Q) (does.Note p None) [] (steps.note (core_with P) (core_with Q) p None inside tt (only_poster P Q p (record { places_known = length t.log; own = (P p).own }) (now ∙ ap (poster_of (length t.log)) (nothing_more own) ∙ (λ i. record { places_known = length t.log; own = (sym was i).own })) other)) (runs.none (core_with Q))
+      leads (core_with P) (core_with Q) (core_with Q) (does.Note p None) [] (steps.note (core_with P) (core_with Q) p None inside tt (grind (arith, only_poster, nothing_more))) (runs.none (core_with Q))
   notes_lead P Q p known own (o ∷ os) inside stand once was now other = posts_lead P Q p known own (o ∷ os) inside stand once was now other (λ e. absurd (cons_nil e))
     where
       cons_nil : {o : Own B} {os : List (Own B)} → o ∷ os ≡ [] → ⊥
@@ -107,10 +107,10 @@ module _ {B K A : Type 0} (key : B → ℕ → K) where
           (λ posters seat_of p inside is others. notes_lead posters t r.account r.lane (P seat_of) (Q seat_of) p (length me.0.noted) before new inside
               (λ k o e. (mine.owns.each k o (ap (λ (ys : List (Own B)). get_elem? ys k) (sym all) ∙ e)).0)
               (subst (λ (ys : List (Own B)). Once ys) (sym all) mine.owns.once)
-              ((λ i. poster_behind (view_or_blank (get_elem? s.views (is i)))) ∙ ap (λ (o : maybe.Option (View B K A)). poster_behind (view_or_blank o)) at)
-              ((λ i. poster_behind (view_or_blank (get_elem? (set s.views id w) (is i)))) ∙ ap (λ (o : maybe.Option (View B K A)). poster_behind (view_or_blank o)) (set_here s.views id w (at_length s.views id me.0 at)) ∙ ap (poster_of (length t.log)) (all_of me.0.own ∙ sym all))
+              (grind arith)
+              (grind (arith, set_here, at_length, all_of))
               (λ k ne. same seat_of k (others k ne))),
-          (λ posters seat_of none_here. same_posters posters t r.account r.lane (P seat_of) (Q seat_of) (λ k. same seat_of k (none_here k))),
+          grind (arith, same_posters),
         ),
         x.4,
       )

@@ -1,5 +1,5 @@
 -- What a cursor has taken once the rest of a place is shown at once.
-use Rattle.std.proofs.Common.{◌≡◌, ℕ, ◌+◌, ◌-◌, ◌<◌, List, [], ◌∷◌, ◌++◌, length, take, drop, sym, refl, ap, ◌∙◌, subst, arith, add-one, append_assoc, Some, slice_get}
+use Rattle.std.proofs.Common.{◌≡◌, ℕ, ◌+◌, ◌-◌, ◌<◌, List, [], ◌∷◌, ◌++◌, length, take, drop, sym, ap, ◌∙◌, subst, arith, add-one, append_assoc, Some, slice_get}
 use Rattle.std.proofs.lemmas.List.{append_cancel_right, length-drop, take-append-drop}
 use Rattle.am_cast.specs.Cursors.{CursorView, items_at, shown_items}
 use Rattle.am_cast.specs.Keys.{all_items}
@@ -20,17 +20,7 @@ module _ {T P A : Type 0} where
       let upto : take m.shown items ≡ take last items ++ x ∷ [] = ap (λ (n : ℕ). take n items) (sym shown ∙ add-one last) ∙ take_get items last x there.1 in
       let had : before ++ take last items ≡ shown_items c =
       append_cancel_right (before ++ take last items) (shown_items c) (x ∷ []) (append_assoc before (take last items) (x ∷ []) ∙ (ap (λ (l : List T). before ++ l) (sym upto) ∙ one.taken x in_hand)) in
-      let long : length (drop last items) ≡ length items - last = length-drop last items in
-      record {
-        some = omega arith;
-        of_one = omega arith;
-        all = refl;
-        held = one.held;
-        taken = ap (λ (l : List T). before ++ l) (take_all items (length items) refl ∙ sym (take-append-drop last items))
-            ∙ (sym (append_assoc before (take last items) (drop last items)) ∙ ap (λ (l : List T). l ++ drop last items) had);
-        was_open = one.was_open;
-        was_uncut = one.was_uncut;
-      }
+      grind (arith, length-drop, take_all, take-append-drop, append_assoc)
 
   -- an item was shown, and then the rest of its place
   pub shows_rest : (c m d : CursorView T P A) (last : ℕ) → IsItem c m → last + 1 ≡ m.shown → last < length (items_at m.lane.front m.lane.passed)

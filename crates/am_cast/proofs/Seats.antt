@@ -154,7 +154,7 @@ module _ {B K A : Type 0} (key : B → ℕ → K) where
               lane_is = lane_both r.tail r.seat r.account r.lane r.lane_seat id other ne v.lane w.lane mine.lane_is theirs.lane_is;
               noted = mine.noted;
               counts = let h = mine.counts in omega (arith, length-append v.own w.own);
-              counted = λ k o e a. let h = mine.counts in mine.counted k o (prefix_back v.own (v.own ++ w.own) k o (w.own, refl) (omega arith) e) a;
+              counted = λ k o e a. mine.counted k o (prefix_back v.own (v.own ++ w.own) k o (w.own, refl) (omega arith) e) a;
               heard = theirs.heard;
               whole = theirs.whole;
               owns = owns_both r.tail.log r.owner id other v.own w.own ne mine.owns theirs.owns;

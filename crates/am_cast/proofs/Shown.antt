@@ -79,7 +79,7 @@ module _ {B : Type 0} where
   taken_at own zero k o e = absurd (let h = at_length {A = Own B} [] k o e in omega arith)
   taken_at [] (suc n) k o e = absurd (let h = at_length {A = Own B} [] k o e in omega arith)
   taken_at (x ∷ xs) (suc n) zero o e = (e, omega arith)
-  taken_at (x ∷ xs) (suc n) (suc k) o e = let t = taken_at xs n k o e in let small = t.1 in (t.0, omega arith)
+  taken_at (x ∷ xs) (suc n) (suc k) o e = let t = taken_at xs n k o e in (t.0, omega arith)
 
 module _ {B K A : Type 0} (key : B → ℕ → K) where
   poster_sound : (s : St B K A) (r : Ruled key s) (j : ℕ) (o : maybe.Option (View B K A)) → get_elem? s.views j ≡ o → IsPosterSound r.tail.log (poster_behind (view_or_blank o))
@@ -103,11 +103,9 @@ module _ {K A : Type 0} where
   -- where a key is out, the core's writer keeps it
   pub out_is_kept : (b : Account K A) (i : ℕ) → IsGathered b → IsOut b i → (m : LaneRecord) × (record_kept b ≡ Some m) × KeepsKey m i
   out_is_kept b i g (inl t) = dite (ℕ_discrete b.stand live)
-      (λ (e : b.stand ≡ live). let low = g.low in let at = g.live_is e in let t₀ = t.0 in let h₁ : b.start ≤ i = omega arith in let h₂ : b.known ≤ i = omega arith in
-      (record_behind b, kept_is b (inl e), grind (arith, ne_eqb)))
-      (λ ne. absurd (let at = g.rest_is ne in let t₀ = t.0 in let t₁ = t.1 in omega arith))
-  out_is_kept b i g (inr t) = let e = g.away_is t.0 in let is = cut_flag b e in
-      (record_behind b, kept_is b (inr e), grind arith)
+      (λ (e : b.stand ≡ live). let at = g.live_is e in let t₀ = t.0 in (record_behind b, kept_is b (inl e), grind (arith, ne_eqb)))
+      (λ ne. absurd (omega arith))
+  out_is_kept b i g (inr t) = let e = g.away_is t.0 in (record_behind b, kept_is b (inr e), grind arith)
 
   -- and a key that it keeps is out
   pub kept_is_out : (b : Account K A) (i : ℕ) (m : LaneRecord) → IsGathered b → (b.stand ≡ live → i < b.stop) → record_kept b ≡ Some m → KeepsKey m i → IsOut b i
@@ -126,8 +124,7 @@ module _ {B K A : Type 0} (key : B → ℕ → K) where
   pub freed_for : (s : St B K A) (r : Ruled key s) (id : ℕ) (u : View B K A) (q : WriterView B K A) (posters : ℕ) (seat_of : ℕ → ℕ) (i : ℕ) → get_elem? s.views id ≡ some u → u.writer ≡ Some q
       → (IsFreed (state_of posters seat_of r) i → IsFreedFor q i) × (IsFreedFor q i → IsFreed (state_of posters seat_of r) i)
   freed_for s r id u q posters seat_of i at is =
-      let k = account_is s r id u q at is in let long : length q.tail.log ≡ length r.tail.log = ap (λ (t : Tail B). length t.log) k.0 in
-      let record_at : (l : ℕ) → l < 8 → record_of ((state_of posters seat_of r).lane l) ≡ record_kept (account_of q l) = grind (arith, inside, record_of_behind) in grind (arith, cases_lt, none-some, le-ltb)
+      let k = account_is s r id u q at is in let record_at : (l : ℕ) → l < 8 → record_of ((state_of posters seat_of r).lane l) ≡ record_kept (account_of q l) = grind (arith, inside, record_of_behind) in grind (arith, cases_lt, none-some, le-ltb)
 
   -- of a freed place no key is out, and where none is out the place is freed
   pub freed_is_home : (q : WriterView B K A) (i l : ℕ) → l < 8 → IsGathered (account_of q l) → IsFreedFor q i → IsOut (account_of q l) i → ⊥

@@ -47,7 +47,7 @@ apart p l k i j a b c d ne e = grind (arith, dec_le, one_turn)
 
 -- two lanes have slots of their own
 pub other_lane : (p l m i j : ℕ) → l < 8 → m < 8 → l ≢ m → slot p l i ≢ slot p m j
-other_lane p l m i j a b ne e = let x : ℕ = i % p in let y : ℕ = j % p in ne (omega (arith, a, b, e))
+other_lane p l m i j a b ne e = ne (omega (arith, a, b, e))
 
 -- a place and the one a turn later share a slot
 pub one_turn_on : (p l i : ℕ) → slot p l (i + p) ≡ slot p l i
@@ -56,9 +56,8 @@ one_turn_on p l i = let on : i + p ≡ i + p * 1 = omega arith in ap (λ (x : �
 -- a place in the turn from n on that shares the slot of i
 pub same_slot : (p l n i : ℕ) → 0 < p → n ≤ i → (j : ℕ) × (n ≤ j) × (j < n + p) × (slot p l i ≡ slot p l j)
 same_slot p l n i pos le =
-    let r : ℕ = (i - n) % p in let k : ℕ = (i - n) / p in let small : r < p = mod-lt (i - n) pos in
-    let parts = div-add-mod' (i - n) p in
-    let is : i ≡ (n + r) + p * k = let m : ℕ = k * p in let e : m + r ≡ i - n = parts in omega (arith, mul_comm k p) in
+    let r : ℕ = (i - n) % p in let k : ℕ = (i - n) / p in let parts = div-add-mod' (i - n) p in
+    let is : i ≡ (n + r) + p * k = let m : ℕ = k * p in omega (arith, mul_comm k p) in
     (n + r, omega arith, omega arith, ap (λ (x : ℕ). 8 * x + l) (ap (λ (x : ℕ). x % p) is ∙ add-mul-mod_self_left (n + r) p k))
 
 pub slot_inside : (p l i n : ℕ) → l < 8 → 0 < p → n ≡ 8 * p → slot p l i < n

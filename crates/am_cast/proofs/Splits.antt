@@ -1,5 +1,5 @@
 -- A seat that is cut in two, or takes in another's, leaves the core's state, and so does a look at what it knows.
-use Rattle.std.proofs.Common.{◌≡◌, ◌≢◌, ℕ, zero, suc, List, [], ◌∷◌, ◌++◌, length, set, sym, refl, ap, ◌∙◌, Some}
+use Rattle.std.proofs.Common.{◌≡◌, ◌≢◌, ℕ, zero, suc, List, [], ◌∷◌, ◌++◌, length, set, refl, ap, ◌∙◌, Some, arith}
 use mathlib.Core.Logic.{dite}
 use mathlib.Core.Option as maybe
 use mathlib.Core.Option.{none, some}
@@ -34,21 +34,21 @@ module _ {B K A : Type 0} where
   -- the posters' seats where a seat was cut in two
   cut_in_two : (views : List (View B K A)) (id : ℕ) (v left right : View B K A) (j : ℕ) → get_elem? views id ≡ some v → (j ≡ id → poster_behind left ≡ poster_behind v) → poster_behind right ≡ poster_of 0 [] → poster_at (set views id left ++ right ∷ []) j ≡ poster_at views j
   cut_in_two views id v left right j at same new = one_more (set views id left) right j new ∙ dite (ℕ_discrete j id)
-      (λ (e : j ≡ id). ap (poster_at (set views id left)) e ∙ ap (λ (o : maybe.Option (View B K A)). poster_behind (view_or_blank o)) (set_here views id left (at_length views id v at)) ∙ same e ∙ ap (λ (o : maybe.Option (View B K A)). poster_behind (view_or_blank o)) (sym at) ∙ ap (poster_at views) (sym e))
+      (grind (arith, set_here, at_length))
       (λ ne. ap (λ (o : maybe.Option (View B K A)). poster_behind (view_or_blank o)) (set_else views id j left ne))
 
 module _ {B K A : Type 0} (key : B → ℕ → K) where
   pub tells_as : (s : St B K A) (r : Ruled key s) (id : ℕ) (v : View B K A) → get_elem? s.views id ≡ some v → StateStays s r (set s.views id v ++ copied v ∷ []) (λ _. Unit {0})
   unfolding tells splits_to
-  tells_as s r id v at = (tells key id v s r at, λ posters seat_of fits. same_posters posters r.tail r.account r.lane (λ k. poster_at s.views (seat_of k)) (λ k. poster_at (set s.views id v ++ copied v ∷ []) (seat_of k)) (λ k. cut_in_two s.views id v v (copied v) (seat_of k) at (λ _. refl) refl))
+  tells_as s r id v at = (tells key id v s r at, grind (arith, same_posters, cut_in_two))
 
   pub deals_as : (s : St B K A) (r : Ruled key s) (id : ℕ) (w : View B K A) (v : LaneView B A) → w.lane ≡ Some v → get_elem? s.views id ≡ some w → StateStays s r (set s.views id (without_lane w) ++ only_lane w ∷ []) (λ _. Unit {0})
   unfolding deals splits_to
-  deals_as s r id w v is at = (deals key id w v is s r at, λ posters seat_of fits. same_posters posters r.tail r.account r.lane (λ k. poster_at s.views (seat_of k)) (λ k. poster_at (set s.views id (without_lane w) ++ only_lane w ∷ []) (seat_of k)) (λ k. cut_in_two s.views id w (without_lane w) (only_lane w) (seat_of k) at (λ _. refl) refl))
+  deals_as s r id w v is at = (deals key id w v is s r at, grind (arith, same_posters, cut_in_two))
 
   pub hands_as : (s : St B K A) (r : Ruled key s) (id : ℕ) (w : View B K A) → get_elem? s.views id ≡ some w → StateStays s r (set s.views id (without_own w) ++ only_own w ∷ []) (λ seat. seat ≢ id)
   unfolding hands splits_to
-  hands_as s r id w at = (hands key id w s r at, λ posters seat_of fits. same_posters posters r.tail r.account r.lane (λ k. poster_at s.views (seat_of k)) (λ k. poster_at (set s.views id (without_own w) ++ only_own w ∷ []) (seat_of k)) (λ k. cut_in_two s.views id w (without_own w) (only_own w) (seat_of k) at (λ e. absurd (fits k e)) refl))
+  hands_as s r id w at = (hands key id w s r at, grind (arith, same_posters, cut_in_two))
 
   pub hears_as : (s : St B K A) (r : Ruled key s) (id other : ℕ) (v w : View B K A) → get_elem? s.views id ≡ some v → other ≢ id → get_elem? s.views other ≡ some w → StateStays s r (set (set s.views id (both_of v w)) other blank) (λ seat. seat ≢ other)
   unfolding hears
@@ -58,12 +58,10 @@ module _ {B K A : Type 0} (key : B → ℕ → K) where
       let there' : get_elem? (set s.views id b) other ≡ some w = set_else s.views id other b apart ∙ there in (
         hears key id other v w s r at apart there',
         λ posters seat_of fits. same_posters posters r.tail r.account r.lane (λ k. poster_at s.views (seat_of k)) (λ k. poster_at (set (set s.views id b) other blank) (seat_of k))
-            (λ k. ap (λ (o : maybe.Option (View B K A)). poster_behind (view_or_blank o)) (set_else (set s.views id b) other (seat_of k) blank (fits k)) ∙ dite (ℕ_discrete (seat_of k) id)
-            (λ (e : seat_of k ≡ id). ap (poster_at (set s.views id b)) e ∙ ap (λ (o : maybe.Option (View B K A)). poster_behind (view_or_blank o)) (set_here s.views id b (at_length s.views id v at)) ∙ counted ∙ ap (λ (o : maybe.Option (View B K A)). poster_behind (view_or_blank o)) (sym at) ∙ ap (poster_at s.views) (sym e))
-            (λ ne. ap (λ (o : maybe.Option (View B K A)). poster_behind (view_or_blank o)) (set_else s.views id (seat_of k) b ne))),
+            (grind (arith, set_else, set_here, at_length)),
       )
 
   pub weighs_as : (slots id : ℕ) (me : SeatState B K A) → AllowsAs key slots id me 0 (λ n. n) (λ _. []) (Weighs (step slots 0 0 0 none) me)
   unfolding weighs
   weighs_as slots id me s r deep at fits = let x = weighs key slots id me s r deep at fits in
-      (x.0, x.1, x.2, (x.3, λ posters seat_of. same_posters posters r.tail r.account r.lane (λ k. poster_at s.views (seat_of k)) (λ k. poster_at (set s.views id me.0) (seat_of k)) (λ k. ap (λ (vs : List (View B K A)). poster_at vs (seat_of k)) (set_again s.views id me.0 at))), x.4)
+      (x.0, x.1, x.2, (x.3, grind (arith, same_posters, set_again)), x.4)

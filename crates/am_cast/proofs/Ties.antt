@@ -1,5 +1,5 @@
 -- Each kind of step is these events of the core.
-use Rattle.std.proofs.Common.{◌≡◌, ◌≢◌, ℕ, zero, suc, ◌+◌, ◌*◌, ◌/◌, ◌%◌, ◌<◌, ◌≤◌, ◌⊎◌, inl, inr, List, [], ◌∷◌, ◌++◌, length, take, drop, set, get_or, sym, refl, ap, ◌∙◌, subst, arith, Some, Bool, true, false, true≢false, ◌||◌, ◌==◌, nat_lt, if◌then◌else◌, slice_get, rules}
+use Rattle.std.proofs.Common.{◌≡◌, ◌≢◌, ℕ, zero, suc, ◌+◌, ◌/◌, ◌%◌, ◌<◌, ◌≤◌, ◌⊎◌, inl, inr, List, [], ◌∷◌, ◌++◌, length, take, drop, set, get_or, sym, refl, ap, ◌∙◌, subst, arith, Some, Bool, true, false, true≢false, ◌||◌, ◌==◌, nat_lt, if◌then◌else◌, slice_get, rules}
 use Rattle.std.proofs.lemmas.Bool.{eq-eqb, ne_eqb, lt-ltb, le-ltb, cases_lt}
 use Rattle.std.proofs.lemmas.Option.{none-some}
 use mathlib.Core.Logic.{dite}
@@ -194,7 +194,7 @@ module _ {B K A : Type 0} where
     opens_step : (c d : Behind B K A) (l : ℕ) → IsSoundBehind c → l < 8 → (c.lane l).here ≡ true → (c.lane l).begun ≡ false → LaneTo c d l (opened (c.lane l)) → Step (before c) (does.Open l) (after d)
     opens_step c d l sound small here fresh to =
         let sd = sound l small in let b : Account K A = c.account l in let v : LaneView B A = c.lane l in let used = used_here c l sd here in let u = sd.seen.unbegun here fresh in
-        let long = length-take-le v.passed v.front (let h₁ = u.passed in let h₂ = u.seen in omega arith) in
+        let long = length-take-le v.passed v.front (omega arith) in
         let got : drop v.start (take v.passed v.front) ≡ [] = drop_all v.start (take v.passed v.front) (omega (arith, long, u.passed)) in
         steps.opens (before c) (after d) l (record_behind b) (lane_was c l _ small (admitted_is b v used here fresh))
         (grind (arith, lane_only, open_is))
@@ -209,29 +209,23 @@ module _ {B K A : Type 0} where
     take_step : (c d : Behind B K A) (l : ℕ) → IsSoundBehind c → l < 8 → (c.lane l).begun ≡ true → (c.account l).stand ≡ live → (c.lane l).held ≡ false → (c.lane l).passed < length (c.lane l).front → LaneTo c d l (holding (c.lane l)) → Step (before c) (does.Take l) (after d)
     take_step c d l sound small begun alive held below to =
         let sd = sound l small in let b : Account K A = c.account l in let v : LaneView B A = c.lane l in let here = sd.seen.begun begun in let used = used_here c l sd here in
-        let w : LaneView B A = holding v in let uncut : (b.stand == cut) ≡ false = ne_eqb b.stand cut (λ z. omega arith) in
-        let r : Cursor B = cursor_behind v in
         steps.take (before c) (after d) l (record_behind b) (cursor_behind v) (lane_was c l _ small (open_is b v used here begun)) held below
         (grind (arith, lane_only, open_is))
 
     take_cut_step : (c d : Behind B K A) (l : ℕ) → IsSoundBehind c → l < 8 → (c.lane l).begun ≡ true → (c.account l).stand ≡ cut → (c.lane l).held ≡ false → (c.lane l).passed < length (c.lane l).front → LaneTo c d l (cut_off (c.lane l)) → Step (before c) (does.Take l) (after d)
     take_cut_step c d l sound small begun is_cut held below to =
         let sd = sound l small in let b : Account K A = c.account l in let v : LaneView B A = c.lane l in let here = sd.seen.begun begun in let used = used_here c l sd here in
-        let w : LaneView B A = cut_off v in let r : Cursor B = cursor_behind v in
         steps.take (before c) (after d) l (record_behind b) (cursor_behind v) (lane_was c l _ small (open_is b v used here begun)) held below
         (grind (arith, lane_only, open_is, cut_flag))
 
     pass_step : (c d : Behind B K A) (l n : ℕ) → IsSoundBehind c → l < 8 → (c.lane l).begun ≡ true → (c.lane l).held ≡ true → n % 2 ≡ (c.account l).stand / 2 → LaneTo c d l (further n (c.lane l)) → Step (before c) (does.Pass l) (after d)
     pass_step c d l n sound small begun held odd to =
         let sd = sound l small in let b : Account K A = c.account l in let v : LaneView B A = c.lane l in let here = sd.seen.begun begun in let used = used_here c l sd here in
-        let w : LaneView B A = further n v in let below = (sd.seen.holds held).1 in let p : ℕ = v.passed in let r : Cursor B = cursor_behind v in
-        let y = at_below v.front p below in let x : B = y.0 in let x_at : slice_get v.front p ≡ Some x = get_at v.front p x y.1 in
-        let low : v.start ≤ p = (let h₀ = sd.start in let h₁ = sd.counts.low in let h₂ = sd.mid in omega arith) in
+        let below = (sd.seen.holds held).1 in let p : ℕ = v.passed in let y = at_below v.front p below in let x : B = y.0 in let x_at : slice_get v.front p ≡ Some x = get_at v.front p x y.1 in
         let long : length (take p v.front) ≡ p = length-take-le p v.front (omega arith) in
         let got : drop v.start (take (p + 1) v.front) ≡ drop v.start (take p v.front) ++ x ∷ [] = ap (λ (zs : List B). drop v.start zs) (take_more_at v.front p x x_at) ∙ drop-append-le v.start (take p v.front) (x ∷ []) (omega arith) in
         let begins = sd.seen.begins in
         let there : slice_get c.tail.log p ≡ Some x = ap (λ (zs : List B). slice_get zs p) (sym begins.1) ∙ slice_get_append v.front begins.0 p x x_at in
-        let told : (n % 2 == 1) ≡ (v.cut || (b.stand == cut)) = told_by b v n used odd (λ e. (sd.cuts e).0) in
         steps.pass (before c) (after d) l (record_behind b) (cursor_behind v) x (lane_was c l _ small (open_is b v used here begun)) held there
         (grind (arith, lane_only, open_is))
       where
@@ -266,12 +260,9 @@ module _ {B K A : Type 0} where
     cut_step : (c d : Behind B K A) (l n : ℕ) → IsSoundBehind c → l < 8 → (c.account l).stand ≡ live → (c.lane l).here ≡ true → (c.lane l).passed ≡ (c.account l).known → n / 2 % 2 ≡ bit (c.lane l).held → n / 2 ≡ (c.account l).half
         → length c.tail.log ≡ (c.account l).known + c.tail.places → AccountTo c d l (severed (n / 2 % 2) (c.account l)) → Step (before c) (does.Cut l) (after d)
     cut_step c d l n sound small alive here passed bit_of half full to =
-        let sd = sound l small in let b : Account K A = c.account l in let v : LaneView B A = c.lane l in let used : IsUsed b.stand = used_live b.stand alive in
-        let b' : Account K A = severed (n / 2 % 2) b in
+        let b : Account K A = c.account l in let v : LaneView B A = c.lane l in let used : IsUsed b.stand = used_live b.stand alive in
         let out : b.half % 2 ≡ bit v.held = ap (λ (k : ℕ). k % 2) (sym half) ∙ bit_of in
         let flags = live_flags b alive n v.held out in
-        let key : (n / 2 % 2 == 1) ≡ is_key_out b = bit_tells v.held (n / 2 % 2) bit_of ∙ sym flags.0 in
-        let m : LaneRecord = record_behind b in
         steps.cut (before c) (after d) l (record_behind b)
         (ap (λ (x : Lane B). record_of x) (inside l (lane_behind b v) small) ∙ record_is b v used)
         (grind (arith, inside, word_is))
@@ -335,8 +326,7 @@ module _ {B K A : Type 0} where
     ties _ _ _ sound (kind.sever c d l n old small hit alive here passed bit_of half full to) = grind (arith, cut_hit, one, cut_step)
     ties _ _ _ sound (kind.moved c d l n old miss e) = grind (arith, cut_miss, (ties c d (found_events l n) sound e))
     ties _ _ _ sound (kind.admit c d l noted small is_open resting to) =
-        let n : ℕ = length c.tail.log in let even : 2 * n % 2 ≡ 0 = omega arith in
-        one (before c) (after d) (does.Admit l) (steps.admit (before c) (after d) l small (lane_was c l Idle small (idle_is (c.account l) (c.lane l) idle resting refl)) is_open
+        let n : ℕ = length c.tail.log in one (before c) (after d) (does.Admit l) (steps.admit (before c) (after d) l small (lane_was c l Idle small (idle_is (c.account l) (c.lane l) idle resting refl)) is_open
         (grind (arith, only)))
     ties _ _ _ sound (kind.retire c d l small used gone_from to) = let b : Account K A = c.account l in dite (ℕ_discrete b.stand vacated)
         (λ (e : b.stand ≡ vacated). subst (λ (es : List (event.Event B)). LeadsTo (before c) es (after d)) (sym (home_vacated l b.stand e)) (both_quiet c d l (c.lane l) (retired b) to (sym (idle_is b (c.lane l) vacated e refl))))

@@ -129,7 +129,7 @@ module _ {T P : Type 0} (x : BatchView T P) where
         (grind (arith, eq_bit))
         (λ ne. let none_more = ne_bit l m ne in let a : bit (out' m) ≡ bit (out m) = ap bit (same m (λ z. ne (sym z))) in omega arith);
     above = λ m k. let c = counted l m keys in let old = g.above m k in let none_more = ne_bit l m (λ e. omega arith) in omega arith;
-    many = let less = outs_less out out' l n h was now same in let long = length-append keys (key_of x l ∷ []) in let old = g.many in omega arith;
+    many = let less = outs_less out out' l n h was now same in let long = length-append keys (key_of x l ∷ []) in omega arith;
   }
 
   -- the next lane's key, which isn't out
@@ -140,7 +140,7 @@ module _ {T P : Type 0} (x : BatchView T P) where
         (grind (arith, eq_bit))
         (λ ne. let none_more = ne_bit n m ne in let old = g.below m (omega arith) in omega arith);
     above = λ m k. let c = counted n m keys in let old = g.above m (omega arith) in let none_more = ne_bit n m (λ e. omega arith) in omega arith;
-    many = let long = length-append keys (key_of x n ∷ []) in let old = g.many in let b : bit (out n) ≡ 0 = ap bit home in omega arith;
+    many = let long = length-append keys (key_of x n ∷ []) in let b : bit (out n) ≡ 0 = ap bit home in omega arith;
   }
 
   -- the keys of all lanes from the next on, none of which is out
@@ -155,7 +155,7 @@ module _ {T P : Type 0} (x : BatchView T P) where
     each = g.each;
     below = grind arith;
     above = λ m k. g.above m (omega arith);
-    many = let old = g.many in let b : bit (out n) ≡ 1 = ap bit away in omega arith;
+    many = let b : bit (out n) ≡ 1 = ap bit away in omega arith;
   }
 
   pub gathered_same : (out out' : ℕ → Bool) (n : ℕ) (keys : List (KeyView T)) → ((l : ℕ) → l < n → out' l ≡ out l) → Gathered x out n keys → Gathered x out' n keys
@@ -167,11 +167,11 @@ module _ {T P : Type 0} (x : BatchView T P) where
 
   -- the keys of the lanes from the next on may join them
   pub gathered_joins_rest : (out : ℕ → Bool) (n : ℕ) (keys : List (KeyView T)) → Gathered x out n keys → n < 8 → MayJoinRest keys (key_of x n)
-  gathered_joins_rest out n keys g small = let many = g.many in record { of_one = g.each; new = g.above 7 (omega arith); few = omega arith }
+  gathered_joins_rest out n keys g small = record { of_one = g.each; new = g.above 7 (omega arith); few = omega arith }
 
   -- all eight are all
   pub gathered_all : (out : ℕ → Bool) (keys : List (KeyView T)) → Gathered x out 8 keys → length keys ≡ 8 → AreAllKeys keys
-  gathered_all out keys g long = let many = g.many in let none_out : outs out 8 ≡ 0 = omega arith in record {
+  gathered_all out keys g long = let none_out : outs out 8 ≡ 0 = omega arith in record {
     some = omega arith;
     of_one = λ k d h m e i. ap (λ (k : KeyView T). k.segment) (g.each m e i) ∙ sym (ap (λ (k : KeyView T). k.segment) (g.each k d h));
     as_many = λ k d h. ap (λ (k : KeyView T). k.keys) (g.each k d h) ∙ sym long;
@@ -245,7 +245,6 @@ module _ {T P A : Type 0} where
       → ((account_of q l).away ≡ true → (account_of q l).known < (account_of q l).cleared) → q' ≡ with_account l (clearing (account_of q l)) q
       → IsKeyAt key_of q.tail.log place l key → RowsFit q rows → (keys : List (KeyView T)) × (row_at rows place ≡ Some keys) × MayTake keys key
   may_bring q q' rows l place key inside small at in_slot low is k fits = let c = coming q rows l place key small at in_slot k fits in
-      let gone : count_by (λ k. nat_eq k.number l) c.keys ≡ 0 = (let one = c.gathered.below l small in let b : bit (is_out (account_of q l) place) ≡ 1 = ap bit c.out in omega arith) in
       (c.keys, c.row, (grind (arith, gathered_joins), c.few, λ e. gathered_all c.x (λ l. is_out (account_of q' l) place) (c.keys ++ key ∷ []) (came q rows l place key q' c inside small at low is c) (length-append c.keys (key ∷ []) ∙ ap (λ (n : ℕ). n + 1) e)))
 
   pub brought : (q q' : WriterView (BatchView T P) (KeyView T) A) (rows rows' : List (BucketView T)) (l place : ℕ) (key : KeyView T) → l < length q.accounts → l < 8 → place ≡ (account_of q l).cleared → place < (account_of q l).stop
@@ -259,7 +258,7 @@ module _ {T P A : Type 0} where
       (grind (arith, account_here, out_clearing, account_else)) (fits i)))
     where
       now : (keys : List (KeyView T)) (x : BatchView T P) (b : Bool) → nat_eq (length keys) 7 ≡ b → get_elem? q'.tail.log place ≡ some x → Gathered x (λ l. is_out (account_of q' l) place) 8 (keys ++ key ∷ []) → length keys < 8 → FitsAt q' place (cond b None (Some (keys ++ key ∷ [])))
-      now keys x true e there g few = let seven = eqb-true (length keys) 7 e in let long = length-append keys (key ∷ []) in let many = g.many in outs_none (λ l. is_out (account_of q' l) place) 8 (omega arith)
+      now keys x true e there g few = let seven = eqb-true (length keys) 7 e in let long = length-append keys (key ∷ []) in outs_none (λ l. is_out (account_of q' l) place) 8 (omega arith)
       now keys x false e there g few = let long = length-append keys (key ∷ []) in (x, there, g, (let ne : length keys ≢ 7 = (λ z. false≢true (sym e ∙ eq-eqb (length keys) 7 z)) in omega arith))
 
   -- the same, of the writer's view
@@ -269,7 +268,7 @@ module _ {T P A : Type 0} where
 
 -- where all keys are home, none is out
 pub gathered_clear : {T P : Type 0} (x : BatchView T P) (out : ℕ → Bool) (keys : List (KeyView T)) → Gathered x out 8 keys → length keys ≡ 8 → (l : ℕ) → l < 8 → out l ≡ false
-gathered_clear x out keys g long = let many = g.many in outs_none out 8 (omega arith)
+gathered_clear x out keys g long = outs_none out 8 (omega arith)
 
 module _ {T P A : Type 0} where
   -- where all lanes are idle no key waits for another

@@ -67,13 +67,10 @@ module _ {B K A : Type 0} (key : B → ℕ → K) where
   filled_ready q q' x c f = grind (arith, filled_else)
 
   pub calm_longer : (q q' : WriterView B K A) (x : B) → Calm q → HasRoom q 8 → FilledTo key q x 8 q' → Calm (longer x q')
-  calm_longer q q' x c room f = let all = f.1 in (
+  calm_longer q q' x c room f = (
     map_length (λ (b : Account K A). grown b) q'.accounts ∙ f.1,
     λ l small. let b : Account K A = account_of q l in let calm = c.1 l small in let n : ℕ = length q.tail.log in
-        let more : length (q'.tail.log ++ x ∷ []) ≡ n + 1 = length-append q'.tail.log (x ∷ []) ∙ ap (λ (t : Tail B). length t.log + 1) f.0 in let places : q'.tail.places ≡ q.tail.places = ap (λ (t : Tail B). t.places) f.0 in
-        let k₀ = calm.known in let s₀ = calm.stops in
-        let first : account_of (longer x q') l ≡ grown (account_of q' l) = account_longer q' x l (omega arith) in
-        let is : account_of q' l ≡ filled_as key b.stand x l b = (f.2 l small).0 small in
+        let more : length (q'.tail.log ++ x ∷ []) ≡ n + 1 = length-append q'.tail.log (x ∷ []) ∙ ap (λ (t : Tail B). length t.log + 1) f.0 in let first : account_of (longer x q') l ≡ grown (account_of q' l) = account_longer q' x l (omega arith) in
         dite (ℕ_discrete b.stand live)
         (grind (arith, grown_live))
         (grind (arith, filled_else, grown_else)),

@@ -1,5 +1,5 @@
 -- A lane is given out.
-use Rattle.std.proofs.Common.{[], ◌∷◌, false, ◌≡◌, ℕ, ◌+◌, ◌*◌, ◌≤◌, List, length, set, sym, refl, ap, ◌∙◌, inl, arith, Option, Some, None, true≢false, length-set, get_or-set_other, get_or-set_same}
+use Rattle.std.proofs.Common.{[], ◌∷◌, false, ◌≡◌, ℕ, ◌+◌, ◌*◌, List, length, set, sym, refl, ap, ◌∙◌, inl, arith, Option, Some, None, true≢false, length-set, get_or-set_other, get_or-set_same}
 use mathlib.Core.Option.{none}
 use lib.ListN.{get_elem?}
 use Rattle.atomic_table.specs.Table.{step, keeps, Allows}
@@ -8,7 +8,7 @@ use Rattle.am_cast.specs.declared.views.Account.{Account}
 use Rattle.am_cast.specs.declared.views.WriterView.{WriterView}
 use Rattle.am_cast.specs.declared.views.LaneView.{LaneView}
 use Rattle.am_cast.specs.declared.views.View.{View}
-use Rattle.am_cast.specs.Rule.{idle, live, lane_word, Ruled}
+use Rattle.am_cast.specs.Rule.{idle, lane_word, Ruled}
 use Rattle.am_cast.specs.Changes.{with_account, given_out, new_lane}
 use Rattle.am_steps.specs.declared.event.Event.TheVariants as does
 use Rattle.am_cast.proofs.Events.{behind, admit, AllowsEvent}
@@ -35,22 +35,9 @@ module _ {B K A : Type 0} (key : B → ℕ → K) where
         (let kept = one_laned key s r l b' v' id me.0 (Some (with_account l b' q)) (Some v') words s.homes small at (length-set s.words at_word new) refl (get_or-set_other s.words at_word 0 new 0 (λ e. omega arith))
             (λ m ne. get_or-set_other s.words at_word (lane_word m) new 0 (λ e. ne (omega arith))) (λ m i a ne. refl) (inl o.mine) (inl mine) (λ e. absurd (omega arith))
             (sets_account key s r id l q b b' v' o)
-            (small, put_here r.lane l v', mine, λ e. absurd (let f : live ≡ idle = ap (λ (c : Account K A). c.stand) (sym (put_here r.account l b')) ∙ e in omega arith))
+            (grind (arith, put_here))
             record {
-              sound = record {
-                seen = record { number = refl; places = refl; begins = prefix_self t.log; begun = λ e. absurd (true≢false (sym e)); unbegun = λ _ _. record { passed = refl; held = refl; seen = refl; told = refl; cut = refl }; high = omega arith; holds = λ e. absurd (true≢false (sym e)); told = λ e. absurd (true≢false (sym e)) };
-                counts = record { stands = omega arith; low = omega arith; clear = omega arith; room = omega arith; stops = omega arith; lives = λ _. (refl, omega arith, λ i _ _ z. omega arith); lays = λ k e. absurd (none_some k e); aways = λ e. absurd (true≢false (sym e)) };
-                turn = refl;
-                note = refl;
-                start = refl;
-                idles = λ e. absurd (omega arith);
-                vacates = λ e. absurd (omega arith);
-                mid = omega arith;
-                halves = λ _. (let e : 2 * n ≤ 2 * n + 0 = omega arith in e);
-                cuts = λ e. absurd (true≢false (sym e));
-                keeps = λ e. absurd (omega arith);
-                lags = λ e. absurd (omega arith);
-              };
+              sound = grind (arith, prefix_self, true≢false, none_some);
               word = get_or-set_same s.words at_word new 0 (omega arith) ∙ (let e : new ≡ 4 * n + 2 * 0 + 0 = omega arith in e);
               keys = λ i x a d _ _ _. absurd (omega arith);
               empty = λ i a d _ _ _. let j = same_slot p l b.stop i r.some_places (omega arith) in let j₂ = j.2 in
@@ -58,11 +45,7 @@ module _ {B K A : Type 0} (key : B → ℕ → K) where
               laid = λ k e. absurd (none_some k e);
               away = λ e. absurd (true≢false (sym e));
             } in (kept.0, admit (behind r) (behind kept.0) l note small (ap (λ (t : Tail B). t.closed) (sym o.tail) ∙ open₀) stand_is record { tail = kept.1.tail; lanes = kept.1.lanes; accounts = kept.1.accounts; lane = kept.1.lane ∙ ap (λ (c : Account K A). new_lane note l t c) (sym o.account); account = kept.1.account ∙ ap (λ (c : Account K A). given_out note n c) (sym o.account) }, refl)),
-        (
-          refl,
-          λ l' q' b₁ e has'. retell (λ m d c. w' ≡ record me.0 { writer = Some (with_account m (given_out note (length d.tail.log) c) d); lane = Some (new_lane note m d.tail c) }) me.0 l l' q q' b b₁ has has' (omega arith)
-              (ap (λ (t : Tail B). let z : View B K A = record me.0 { writer = Some (with_account l (given_out note (length t.log) b) q); lane = Some (new_lane note l t b) } in z) (sym o.tail)),
-        ),
+        grind (arith, retell),
       )
 
   pub admits : (note : Option A) (slots id : ℕ) (me : SeatState B K A) (l : ℕ) (q : WriterView B K A) (b : Account K A) (new : ℕ) → KnowsOf me.0 l q b → q.tail.closed ≡ false → b.stand ≡ idle → b.cleared ≡ b.stop → b.out ≡ 0 → b.laid ≡ None → new ≡ 4 * length q.tail.log

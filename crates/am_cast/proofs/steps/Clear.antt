@@ -38,20 +38,7 @@ module _ {B K A : Type 0} (key : B → ℕ → K) where
         gives,
         tt,
         slot_step key s r id l me q b b' b.cleared h at o (λ z. z) (λ ws same. record {
-          sound = record {
-            seen = sd.seen;
-            counts = record { stands = c.stands; low = c.low; clear = omega arith; room = omega arith; stops = c.stops; lives = λ e. let f = c.lives e in let a = low₁ e in (f.0, omega arith, λ i a d z. omega arith); lays = λ y e. let f = c.lays y e in let f₁ = f.1 in (f.0, omega arith); aways = λ e. let f = c.aways e in let f₂ = f.2 in (f.0, f.1, omega arith) };
-            turn = sd.turn;
-            note = sd.note;
-            start = sd.start;
-            idles = sd.idles;
-            vacates = sd.vacates;
-            mid = sd.mid;
-            halves = sd.halves;
-            cuts = sd.cuts;
-            keeps = sd.keeps;
-            lags = sd.lags;
-          };
+          sound = grind arith;
           word = same ∙ ok.word;
           keys = λ i y a d e f z. beside i (omega arith) (omega arith) (λ z. omega arith) ∙ ok.keys i y (omega arith) d e (λ z. omega arith) z;
           empty = λ i a d e f z. dite (ℕ_discrete i (b.cleared + p))

@@ -7,7 +7,7 @@ use Rattle.atomic_table.proofs.Lists.{at_set}
 use Rattle.am_cast.specs.declared.views.Tail.{Tail}
 use Rattle.am_cast.specs.declared.views.WriterView.{WriterView}
 use Rattle.am_cast.specs.declared.views.View.{View}
-use Rattle.am_cast.specs.Rule.{lane_word, tail_word, HasWriter, SeatOk, Ruled}
+use Rattle.am_cast.specs.Rule.{lane_word, tail_word, HasWriter, Ruled}
 use Rattle.am_cast.specs.Changes.{with_writer, shut_tail, shut}
 use Rattle.am_steps.specs.declared.event.Event.TheVariants as does
 use Rattle.am_cast.proofs.Events.{behind, close, AllowsEvent}
@@ -39,20 +39,7 @@ module _ {B K A : Type 0} (key : B → ℕ → K) where
           word = get_or-set_same s.words 0 new 0 (omega arith) ∙ new_is;
           spare = r.spare;
           each_lane = λ m a. let ok = r.each_lane m a in let sd = ok.sound in let c = sd.counts in record {
-            sound = record {
-              seen = record { number = sd.seen.number; places = sd.seen.places; begins = sd.seen.begins; begun = sd.seen.begun; unbegun = sd.seen.unbegun; high = sd.seen.high; holds = sd.seen.holds; told = λ e. (refl, (sd.seen.told e).1) };
-              counts = record { stands = c.stands; low = c.low; clear = c.clear; room = c.room; stops = c.stops; lives = c.lives; lays = c.lays; aways = c.aways };
-              turn = sd.turn;
-              note = sd.note;
-              start = sd.start;
-              idles = sd.idles;
-              vacates = sd.vacates;
-              mid = sd.mid;
-              halves = sd.halves;
-              cuts = sd.cuts;
-              keeps = sd.keeps;
-              lags = sd.lags;
-            };
+            sound = grind arith;
             word = get_or-set_other s.words 0 (lane_word m) new 0 (λ e. omega arith) ∙ ok.word;
             keys = ok.keys;
             empty = ok.empty;
@@ -60,16 +47,7 @@ module _ {B K A : Type 0} (key : B → ℕ → K) where
             away = ok.away;
           };
           each_seat = λ j u e. ⊎_elim
-              (λ (z : (j ≡ id) × (w' ≡ u)). subst (λ (z : ℕ × View B K A). SeatOk t' r.seat r.account r.lane r.lane_seat r.owner z.0 z.1) (λ i. (sym z.0 i, z.1 i)) record {
-                writer = (ap shut_tail k.0, k.1, k.2, k.3);
-                lane_is = any_lane key t t' r.seat r.account r.account r.lane r.lane_seat id (λ m. refl) me.0.lane mine.lane_is;
-                noted = mine.noted;
-                counts = mine.counts;
-                counted = mine.counted;
-                heard = mine.heard;
-                whole = λ h. (refl, (mine.whole h).1);
-                owns = mine.owns;
-              })
+              (grind (arith, any_lane))
               (λ (z : (j ≢ id) × (get_elem? s.views j ≡ some u)). let o = r.each_seat j u z.1 in record {
                 writer = others_writer key t t' r.seat r.account r.account r.lane r.lane_seat j (λ h. z.0 (h ∙ sym k.3)) u.writer o.writer;
                 lane_is = any_lane key t t' r.seat r.account r.account r.lane r.lane_seat j (λ m. refl) u.lane o.lane_is;

@@ -1,5 +1,5 @@
 -- The writer cuts a lane, or finds its word.
-use Rattle.std.proofs.Common.{◌≡◌, ◌≢◌, ℕ, ◌+◌, ◌*◌, ◌/◌, ◌%◌, List, length, get_or, set, sym, refl, ap, ◌∙◌, arith, Option, None, Bool, true, false, true≢false, eqb, length-set, get_or-set_other, get_or-set_same}
+use Rattle.std.proofs.Common.{◌≡◌, ◌≢◌, ℕ, ◌+◌, ◌*◌, ◌/◌, ◌%◌, List, get_or, set, sym, refl, ap, ◌∙◌, arith, Option, None, Bool, true, false, true≢false, eqb, length-set, get_or-set_other, get_or-set_same}
 use mathlib.Core.Option.{none}
 use prog.Atomic.{either}
 use Rattle.atomic_table.specs.Table.{step, Act, keeps, stepped, carried_after, Valid, Allows}
@@ -41,13 +41,12 @@ module _ {B K A : Type 0} (key : B → ℕ → K) where
         tt,
         (
           kept.0,
-          sever (behind r) (behind kept.0) l n old small hit (ap (λ (c : Account K A). c.stand) o.account ∙ alive) h.0 (let bits = bit_small v.held in let k : v.passed ≡ b.known = omega arith in k ∙ ap (λ (c : Account K A). c.known) (sym o.account)) bit_of (let k : n / 2 ≡ b.half = omega arith in k ∙ ap (λ (c : Account K A). c.half) (sym o.account))
-              (let st = (counts.lives alive).0 in let k : length r.tail.log ≡ b.known + p = sym st ∙ full in k ∙ ap (λ (c : Account K A). c.known + p) (sym o.account)) (to_account (λ c. severed (n / 2 % 2) c) (sym o.account) record { tail = kept.1.tail; lanes = kept.1.lanes; others = kept.1.others; account = kept.1.account ∙ sym e }),
+          grind (arith, sever, bit_small, to_account),
           refl,
         ),
-        (refl, λ l' q' b₁ f has'. retell (λ m d c. P m d c (with_writer (with_account l b' q) me.0)) me.0 l l' q q' b b₁ has has' (omega arith) ((λ _. ap (λ (c : Account K A). with_writer (with_account l c q) me.0) (sym e)), (λ ne. absurd (ne hit)))),
+        grind (arith, retell),
       ) in
-      let word_now : (h : Bool) → v.held ≡ h → new ≡ 4 * v.passed + 2 * bit h + 1 → get_or words at_word 0 ≡ shown v.here (4 * v.passed + 2 * bit v.held + 1) = λ hd e f. get_or-set_same s.words at_word new 0 (omega arith) ∙ f ∙ (λ i. shown (sym h.0 i) (4 * v.passed + 2 * bit (sym e i) + 1)) in
+      let word_now : (h : Bool) → v.held ≡ h → new ≡ 4 * v.passed + 2 * bit h + 1 → get_or words at_word 0 ≡ shown v.here (4 * v.passed + 2 * bit v.held + 1) = grind (arith, get_or-set_same) in
       held_or_not v.held
       (λ (e : v.held ≡ true).
       let is : n ≡ 4 * v.passed + 2 * 1 + b.stand / 2 = h.1 ∙ (λ i. 4 * v.passed + 2 * bit (e i) + b.stand / 2) in
@@ -55,20 +54,7 @@ module _ {B K A : Type 0} (key : B → ℕ → K) where
       let bit_is : n / 2 % 2 ≡ 1 = omega arith in
       let same : severed (n / 2 % 2) b ≡ b' = λ i. severed (bit_is i) b in
       one b' same (bit_is ∙ ap bit (sym e)) (λ z. absurd (omega arith)) record {
-        sound = record {
-          seen = sd.seen;
-          counts = record { stands = omega arith; low = counts.low; clear = omega arith; room = omega arith; stops = counts.stops; lives = λ z. absurd (omega arith); lays = λ k z. absurd (none_some k (sym unlaid ∙ z)); aways = λ _. (refl, full, omega arith) };
-          turn = sd.turn;
-          note = sd.note;
-          start = sd.start;
-          idles = λ z. absurd (omega arith);
-          vacates = λ z. absurd (omega arith);
-          mid = sd.mid;
-          halves = sd.halves;
-          cuts = λ _. ((λ z. omega arith), (λ z. omega arith));
-          keeps = λ _ _. (refl, omega arith);
-          lags = λ _. (let h : bit v.held ≡ 1 = ap bit e in omega arith);
-        };
+        sound = grind (arith, none_some);
         word = word_now true e (omega arith);
         keys = λ i x a c d f g. ok.keys i x (omega arith) c d f g;
         empty = λ i a c d f g. absurd (f refl (omega arith));
@@ -81,20 +67,7 @@ module _ {B K A : Type 0} (key : B → ℕ → K) where
       let bit_is : n / 2 % 2 ≡ 0 = omega arith in
       let same : severed (n / 2 % 2) b ≡ b' = λ i. severed (bit_is i) b in
       one b' same (bit_is ∙ ap bit (sym e)) (λ z. absurd (omega arith)) record {
-        sound = record {
-          seen = sd.seen;
-          counts = record { stands = omega arith; low = counts.low; clear = omega arith; room = omega arith; stops = counts.stops; lives = λ z. absurd (omega arith); lays = λ k z. absurd (none_some k (sym unlaid ∙ z)); aways = λ z. absurd (true≢false (sym z)) };
-          turn = sd.turn;
-          note = sd.note;
-          start = sd.start;
-          idles = λ z. absurd (omega arith);
-          vacates = λ z. absurd (omega arith);
-          mid = sd.mid;
-          halves = sd.halves;
-          cuts = λ _. ((λ z. omega arith), (λ z. omega arith));
-          keeps = λ _ z. absurd (true≢false (sym z ∙ e));
-          lags = λ _. (let h : bit v.held ≡ 0 = ap bit e in omega arith);
-        };
+        sound = grind (arith, none_some, true≢false);
         word = word_now false e (omega arith);
         keys = λ i x a c d f g. ok.keys i x (omega arith) c d f g;
         empty = λ i a c d f g. absurd (omega arith);

@@ -39,20 +39,7 @@ module _ {B K A : Type 0} (key : B → ℕ → K) where
         takes k (Some (key x.0 l)),
         ok.keys b.cleared x.0 (omega arith) inside x.1 (λ z. omega arith) g.not_held,
         slot_step key s r id l me q b b' b.cleared none at o (λ z. z) (λ ws same. record {
-          sound = record {
-            seen = sd.seen;
-            counts = record { stands = c.stands; low = c.low; clear = c.clear; room = c.room; stops = c.stops; lives = λ e. let f = c.lives e in let a = low₁ e in (f.0, f.1, λ i a d z. omega arith); lays = c.lays; aways = c.aways };
-            turn = sd.turn;
-            note = sd.note;
-            start = sd.start;
-            idles = sd.idles;
-            vacates = sd.vacates;
-            mid = sd.mid;
-            halves = sd.halves;
-            cuts = sd.cuts;
-            keeps = sd.keeps;
-            lags = sd.lags;
-          };
+          sound = grind arith;
           word = same ∙ ok.word;
           keys = λ i y a d e f h. beside i a (omega arith) (λ z. f (ap suc (sym z))) ∙ ok.keys i y a d e (λ z. omega arith) h;
           empty = λ i a d e f h. beside i (omega arith) d (λ z. omega arith) ∙ ok.empty i a d (λ z. omega arith) f h;
@@ -60,7 +47,7 @@ module _ {B K A : Type 0} (key : B → ℕ → K) where
           away = λ e y f h. let a = c.aways e in let a₁ = a.1 in let a₂ = a.2 in set_else s.homes k (slot p l b.known) none (apart p l b.known b.known b.cleared (omega arith) (omega arith) (omega arith) (omega arith) (λ z. omega arith)) ∙ ok.away e y f h;
         }) record { stand = refl; turn = refl; note = refl; start = refl; known = refl; half = refl; away = refl },
         λ l' q' b₁ y e has' f. retell (λ m d c. (y : B) → get_elem? d.tail.log c.cleared ≡ some y → SetsAccount m d (reaching c.cleared c) me.0 (with_writer (with_account l b' q) me.0) × ((k, Some (key x.0 l)) ∷ me.1 ≡ (slot d.tail.places m c.cleared, Some (key y m)) ∷ me.1)) me.0 l l' q q' b b₁ has has' (omega arith)
-            (λ y f. (refl, (let name : x.0 ≡ y = some-injective x.0 y (sym x.1 ∙ ap (λ (t : Tail B). get_elem? t.log b.cleared) (sym o.tail) ∙ f) in λ i. (slot (sym o.tail i).places l b.cleared, Some (key (name i) l)) ∷ me.1))) y f,
+            (grind (arith, some-injective)) y f,
       )
 
   pub gathers : (slots id : ℕ) (me : SeatState B K A) (l : ℕ) (q : WriterView B K A) (b : Account K A) → KnowsOf me.0 l q b → b.out ≡ 0 → (b.stand ≡ live → b.cleared < b.known) → (b.stand ≢ live → b.cleared < b.stop)

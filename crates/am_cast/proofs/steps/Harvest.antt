@@ -1,18 +1,17 @@
 -- The writer finds a lane's word.
-use Rattle.std.proofs.Common.{◌%◌, ◌≡◌, ◌≢◌, ℕ, ◌+◌, ◌*◌, ◌/◌, ◌≤◌, length, get_or, sym, refl, ap, ◌∙◌, subst, arith, None, true, false, true≢false}
+use Rattle.std.proofs.Common.{◌%◌, ◌≡◌, ◌≢◌, ℕ, ◌+◌, ◌*◌, ◌/◌, get_or, sym, refl, ◌∙◌, arith, None, true, false, true≢false}
 use mathlib.Core.Logic.{dite}
 use mathlib.Core.Option.{none, some}
 use native.Mathlib.Decide.{ℕ_discrete}
 use lib.ListN.{get_elem?}
 use Rattle.atomic_table.specs.Table.{step, keeps, Allows}
-use Rattle.am_cast.specs.declared.views.Tail.{Tail}
 use Rattle.am_cast.specs.declared.views.Account.{Account}
 use Rattle.am_cast.specs.declared.views.WriterView.{WriterView}
 use Rattle.am_cast.specs.declared.views.LaneView.{LaneView}
-use Rattle.am_cast.specs.Rule.{live, gone, lane_word, shown, bit, Ruled}
+use Rattle.am_cast.specs.Rule.{live, gone, lane_word, bit, Ruled}
 use Rattle.am_cast.specs.Changes.{with_writer, with_account, marked, known_to}
 use Rattle.am_cast.specs.Core.{found_events}
-use Rattle.am_cast.proofs.Events.{behind, harvest, mark, AllowsEvent}
+use Rattle.am_cast.proofs.Events.{harvest, mark, AllowsEvent}
 use Rattle.am_cast.specs.Steps.{SeatState, KnowsOf, Finds, Harvests}
 use Rattle.am_cast.proofs.Slots.{prefix_length, bit_small}
 use Rattle.am_cast.proofs.Kept.{St, WriterOk, writer_ok}
@@ -25,32 +24,12 @@ module _ {B K A : Type 0} (key : B → ℕ → K) where
       dite (ℕ_discrete n gone)
       (λ (e : n ≡ gone).
       let c = sd.counts in let few = r.few in let high = sd.seen.high in let long = prefix_length v.front r.tail.log sd.seen.begins in
-      let away_from : v.here ≡ false = either_bool' v.here (λ (h : v.here ≡ true). absurd (let stands = c.stands in let bits = bit_small v.held in let w : n ≡ 4 * v.passed + 2 * bit v.held + b.stand / 2 = ok.word ∙ (λ i. shown (h i) (4 * v.passed + 2 * bit v.held + b.stand / 2)) in omega arith)) (λ h. h) in
+      let away_from : v.here ≡ false = grind (arith, either_bool', bit_small) in
       let bare_hand : v.held ≡ true → ⊥ = (λ h. true≢false (sym (sd.seen.holds h).0 ∙ away_from)) in
-      let kept = same_words key s r id l me q b (marked b) at o (λ z. absurd (omega arith)) (λ ws same. record {
-        sound = record {
-          seen = sd.seen;
-          counts = record { stands = omega arith; low = c.low; clear = c.clear; room = c.room; stops = c.stops; lives = λ z. absurd (omega arith); lays = λ y z. absurd (none_some y (sym unlaid ∙ z)); aways = λ z. absurd (let a = (c.aways z).0 in omega arith) };
-          turn = sd.turn;
-          note = sd.note;
-          start = sd.start;
-          idles = λ z. absurd (omega arith);
-          vacates = λ _. away_from;
-          mid = sd.mid;
-          halves = sd.halves;
-          cuts = λ e. absurd ((sd.cuts e).0 alive);
-          keeps = λ z. absurd (omega arith);
-          lags = λ z. absurd (omega arith);
-        };
-        word = same ∙ ok.word ∙ (λ i. shown (away_from i) (4 * v.passed + 2 * bit v.held + b.stand / 2)) ∙ (λ i. shown (sym away_from i) (4 * v.passed + 2 * bit v.held + 1));
-        keys = ok.keys;
-        empty = λ i a d e _ g. ok.empty i a d e (λ z. absurd (let a = (c.aways z).0 in omega arith)) g;
-        laid = ok.laid;
-        away = λ z. absurd (let a = (c.aways z).0 in omega arith);
-      }) in record {
+      let kept = same_words key s r id l me q b (marked b) at o (λ z. absurd (omega arith)) (grind (arith, none_some)) in record {
         view = with_writer (with_account l (marked b) q) me.0;
         kept = kept.0;
-        event = mark (behind r) (behind kept.0) l n o.small e (ap (λ (c : Account K A). c.stand) o.account ∙ alive) away_from (to_account (λ c. marked c) (sym o.account) kept.1);
+        event = grind (arith, mark, to_account);
         poster = refl;
         tells = ((λ _. refl), (λ ne. absurd (ne e)));
       })
@@ -82,9 +61,9 @@ module _ {B K A : Type 0} (key : B → ℕ → K) where
       }) in record {
         view = with_writer (with_account l b' q) me.0;
         kept = kept.0;
-        event = harvest (behind r) (behind kept.0) l n o.small ne (ap (λ (c : Account K A). c.stand) o.account ∙ alive) h.0 is half_is (to_account (λ c. known_to n c) (sym o.account) kept.1);
+        event = grind (arith, harvest, to_account);
         poster = refl;
-        tells = ((λ e. absurd (ne e)), (λ _. (refl, omega arith, subst (λ (t : Tail B). n / 4 ≤ length t.log) (sym o.tail) (omega arith), (let h₂ = sd.halves h.0 in omega arith), omega arith)));
+        tells = grind arith;
       })
 
   pub harvests_as : (slots id : ℕ) (me : SeatState B K A) (l : ℕ) (q : WriterView B K A) (b : Account K A) → KnowsOf me.0 l q b → b.stand ≡ live → b.laid ≡ None → AllowsEvent key slots id me (lane_word l) (λ n. n) (found_events l) (Harvests (step slots (lane_word l) 0 0 none) me)

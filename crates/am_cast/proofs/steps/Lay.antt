@@ -13,7 +13,7 @@ use Rattle.am_cast.specs.Core.{poster_behind}
 use Rattle.am_cast.specs.Rule.{live, slot, writer_word, Ruled}
 use Rattle.am_cast.specs.Changes.{with_writer, with_account, laying}
 use Rattle.am_cast.proofs.Events.{behind, Event, AllowsEvent}
-use Rattle.am_cast.specs.Steps.{SeatState, KnowsOf, SetsAccount, Lays}
+use Rattle.am_cast.specs.Steps.{SeatState, KnowsOf, Lays}
 use Rattle.am_cast.proofs.Slots.{apart, slot_inside}
 use Rattle.am_cast.proofs.Kept.{same_some, writer_ok}
 use Rattle.am_cast.proofs.WriterSteps.{none_some, retell, slot_step}
@@ -35,32 +35,8 @@ module _ {B K A : Type 0} (key : B → ℕ → K) where
         with_writer (with_account l b' q) me.0,
         gives,
         tt,
-        slot_step key s r id l me q b b' b.stop h at o (λ z. z) (λ ws same. record {
-          sound = record {
-            seen = sd.seen;
-            counts = record { stands = c.stands; low = c.low; clear = c.clear; room = c.room; stops = c.stops; lives = λ e. let f = c.lives e in (f.0, f.1, λ i a d z. omega arith); lays = λ y e. (alive, space); aways = c.aways };
-            turn = sd.turn;
-            note = sd.note;
-            start = sd.start;
-            idles = sd.idles;
-            vacates = sd.vacates;
-            mid = sd.mid;
-            halves = sd.halves;
-            cuts = sd.cuts;
-            keeps = sd.keeps;
-            lags = sd.lags;
-          };
-          word = same ∙ ok.word;
-          keys = λ i y a d e f g. beside i a (omega arith) (λ z. omega arith) ∙ ok.keys i y a d e (λ z. omega arith) g;
-          empty = λ i a d e f g. let ne : i ≢ b.stop = (λ z. none_some x (sym (g z))) in beside i (omega arith) d ne ∙ ok.empty i a d (λ z. ne (omega arith)) f (λ z. absurd (ne z));
-          laid = λ y e. here ∙ ap (λ (z : K). some (some (Some z))) (same_some x y (Some x) refl e);
-          away = λ z. absurd (not_away z);
-        }) record { stand = refl; turn = refl; note = refl; start = refl; known = refl; half = refl; away = refl },
-        (
-          refl,
-          λ l' q' b₁ i y e has' f. let one : x ≡ y = same_some x y (Some x) refl (ap (λ (c : List (ℕ × Option K)). first_or c) f) in
-              retell (λ m d c. SetsAccount m d (laying y c) me.0 (with_writer (with_account l b' q) me.0)) me.0 l l' q q' b b₁ has has' (omega arith) (ap (λ (z : K). with_writer (with_account l (laying z b) q) me.0) one),
-        ),
+        slot_step key s r id l me q b b' b.stop h at o (λ z. z) (grind (arith, none_some, same_some)) record { stand = refl; turn = refl; note = refl; start = refl; known = refl; half = refl; away = refl },
+        grind (arith, same_some, retell),
       )
     where
       first_or : List (ℕ × Option K) → Option K

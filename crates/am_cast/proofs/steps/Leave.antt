@@ -1,5 +1,5 @@
 -- A lane is left, with a key in hand or with none.
-use Rattle.std.proofs.Common.{[], ◌≡◌, ℕ, ◌+◌, ◌/◌, ◌%◌, ◌≤◌, List, ◌∷◌, set, sym, refl, ap, ◌∙◌, subst, arith, Option, Some, Bool, true, false, true≢false, length-set, get_or-set_other, get_or-set_same}
+use Rattle.std.proofs.Common.{[], ◌≡◌, ℕ, List, ◌∷◌, set, sym, refl, ap, ◌∙◌, subst, arith, Option, Some, Bool, true, false, true≢false, length-set, get_or-set_other, get_or-set_same}
 use mathlib.Core.Option.{none, some}
 use lib.ListN.{get_elem?}
 use Rattle.atomic_table.specs.Table.{step, Act, keeps, gives, stepped, carried_after, Valid, Allows}
@@ -9,7 +9,7 @@ use Rattle.am_cast.specs.declared.views.Account.{Account}
 use Rattle.am_cast.specs.declared.views.LaneView.{LaneView}
 use Rattle.am_cast.specs.declared.views.View.{View}
 use Rattle.am_cast.specs.Core.{poster_behind}
-use Rattle.am_cast.specs.Rule.{gone, Homes, slot, lane_word, bit, Ruled}
+use Rattle.am_cast.specs.Rule.{gone, Homes, slot, lane_word, Ruled}
 use Rattle.am_cast.specs.Changes.{with_lane, left, laid_down}
 use Rattle.am_steps.specs.declared.event.Event.TheVariants as does
 use Rattle.am_cast.proofs.Events.{behind, Event, leave, AllowsEvent}
@@ -32,27 +32,14 @@ module _ {B K A : Type 0} (key : B → ℕ → K) where
         keeps,
         tt,
         (let kept = lane_stepped key s r id me.0 v w words s.homes at is refl (length-set s.words at_word new) refl (get_or-set_other s.words at_word 0 new 0 (λ e. omega arith)) (λ m ne. get_or-set_other s.words at_word (lane_word m) new 0 (λ e. ne (omega arith))) (λ m i a ne. refl) record {
-          sound = record {
-            seen = record { number = sd.seen.number; places = sd.seen.places; begins = sd.seen.begins; begun = λ e. absurd (true≢false (sym e)); unbegun = λ e _. absurd (true≢false (sym e)); high = sd.seen.high; holds = λ e. absurd (true≢false (sym e)); told = sd.seen.told };
-            counts = sd.counts;
-            turn = sd.turn;
-            note = sd.note;
-            start = sd.start;
-            idles = λ _. refl;
-            vacates = λ _. refl;
-            mid = sd.mid;
-            halves = λ e. absurd (true≢false (sym e));
-            cuts = sd.cuts;
-            keeps = λ _ e. absurd (true≢false (sym e));
-            lags = λ e. (let h : v.passed + bit v.held ≤ b.half / 2 + b.half % 2 = sd.lags e in omega arith);
-          };
+          sound = grind (arith, true≢false);
           word = get_or-set_same s.words at_word new 0 (omega arith) ∙ new_is;
           keys = λ i y a c d e f. all.keys i y a c d e;
           empty = all.empty;
           laid = all.laid;
           away = λ e y f _. all.away e y f;
-        } in (kept.0, leave (behind r) (behind kept.0) l small (ap (λ (z : LaneView B A). z.begun) (sym o.3) ∙ begun) (to_lane (λ z. left z) o.3 kept.1), refl)),
-        λ u e. let one : v ≡ u = same_some v u me.0.lane is e in (ap (λ (z : LaneView B A). with_lane (left z) me.0) one, (λ i. laid_down (sym (sym (ap (λ (z : LaneView B A). z.held) one) ∙ held) i) me.1)),
+        } in (kept.0, grind (arith, leave, to_lane), refl)),
+        grind (arith, same_some),
       )
 
   pub leaves_bare : (slots id : ℕ) (me : SeatState B K A) (v : LaneView B A) (new : ℕ) → me.0.lane ≡ Some v → v.begun ≡ true → v.held ≡ false → new ≡ gone
@@ -73,28 +60,14 @@ module _ {B K A : Type 0} (key : B → ℕ → K) where
         tt,
         (let kept = lane_stepped key s r id me.0 v w words homes at is refl (length-set s.words at_word new) (length-set s.homes k (some (Some (key x l)))) (get_or-set_other s.words at_word 0 new 0 (λ e. omega arith)) (λ m ne. get_or-set_other s.words at_word (lane_word m) new 0 (λ e. ne (omega arith)))
             (λ m i a ne. set_else s.homes k (slot p m i) (some (Some (key x l))) (other_lane p m l i v.passed a small ne)) record {
-              sound = record {
-                seen = record { number = sd.seen.number; places = sd.seen.places; begins = sd.seen.begins; begun = λ e. absurd (true≢false (sym e)); unbegun = λ e _. absurd (true≢false (sym e)); high = sd.seen.high; holds = λ e. absurd (true≢false (sym e)); told = sd.seen.told };
-                counts = sd.counts;
-                turn = sd.turn;
-                note = sd.note;
-                start = sd.start;
-                idles = λ _. refl;
-                vacates = λ _. refl;
-                mid = sd.mid;
-                halves = λ e. absurd (true≢false (sym e));
-                cuts = sd.cuts;
-                keeps = λ _ e. absurd (true≢false (sym e));
-                lags = λ e. (let h : v.passed + bit v.held ≤ b.half / 2 + b.half % 2 = sd.lags e in omega arith);
-              };
+              sound = grind (arith, true≢false);
               word = get_or-set_same s.words at_word new 0 (omega arith) ∙ new_is;
               keys = λ i y a c d e f. all.keys i y a c d e;
               empty = all.empty;
               laid = all.laid;
               away = λ e y f _. all.away e y f;
-            } in (kept.0, leave (behind r) (behind kept.0) l small (ap (λ (z : LaneView B A). z.begun) (sym o.3) ∙ begun) (to_lane (λ z. left z) o.3 kept.1), refl)),
-        λ u e. let one : v ≡ u = same_some v u me.0.lane is e in let c : List (ℕ × Option K) = (k, Some (key x l)) ∷ cs in
-            (ap (λ (z : LaneView B A). with_lane (left z) me.0) one, (λ i. laid_down (sym (sym (ap (λ (z : LaneView B A). z.held) one) ∙ held) i) c)),
+            } in (kept.0, grind (arith, leave, to_lane), refl)),
+        grind (arith, same_some),
       )
 
   pub leaves_full : (slots id : ℕ) (me : SeatState B K A) (v : LaneView B A) (x : B) (cs : List (ℕ × Option K)) (new : ℕ) → me.0.lane ≡ Some v → v.begun ≡ true → v.held ≡ true → get_elem? v.front v.passed ≡ some x → me.1 ≡ (slot v.places v.number v.passed, Some (key x v.number)) ∷ cs → new ≡ gone

@@ -1,5 +1,5 @@
 -- A lane looks how long the log is.
-use Rattle.std.proofs.Common.{◌≡◌, ℕ, ◌≤◌, List, [], ◌∷◌, length, get_or, set, refl, sym, ap, ◌∙◌, subst, arith, Some, true, true≢false}
+use Rattle.std.proofs.Common.{◌≡◌, ℕ, ◌≤◌, List, [], ◌∷◌, length, get_or, set, refl, ap, ◌∙◌, subst, arith, Some, true, true≢false}
 use mathlib.Core.Option.{none}
 use mathlib.Core.List.{IsPrefix}
 use lib.Seq.{set-get_or}
@@ -9,7 +9,7 @@ use Rattle.am_cast.specs.declared.views.LaneView.{LaneView}
 use Rattle.am_cast.specs.Rule.{lane_word, Ruled}
 use Rattle.am_cast.specs.Changes.{with_lane, seeing}
 use Rattle.am_steps.specs.declared.event.Event.TheVariants as does
-use Rattle.am_cast.proofs.Events.{behind, look, AllowsEvent}
+use Rattle.am_cast.proofs.Events.{look, AllowsEvent}
 use Rattle.am_cast.specs.Steps.{SeatState, Looks}
 use Rattle.am_cast.proofs.Slots.{prefix_self, prefix_length}
 use Rattle.am_cast.proofs.Kept.{same_some, lane_ok, lane_stepped}
@@ -28,26 +28,13 @@ module _ {B K A : Type 0} (key : B → ℕ → K) where
         keeps,
         tt,
         (let kept = lane_stepped key s r id me.0 v w words s.homes at is refl (ap length same) refl (ap (λ (l : List ℕ). get_or l 0 0) same) (λ m _. ap (λ (l : List ℕ). get_or l (lane_word m) 0) same) (λ m i a b. refl) record {
-          sound = record {
-            seen = record { number = sd.seen.number; places = sd.seen.places; begins = prefix_self t.log; begun = sd.seen.begun; unbegun = λ _ e. absurd (true≢false (sym begun ∙ e)); high = omega arith; holds = λ e. let h = sd.seen.holds e in let h₁ = h.1 in (h.0, omega arith); told = λ e. (e, refl) };
-            counts = sd.counts;
-            turn = sd.turn;
-            note = sd.note;
-            start = sd.start;
-            idles = sd.idles;
-            vacates = sd.vacates;
-            mid = sd.mid;
-            halves = sd.halves;
-            cuts = sd.cuts;
-            keeps = sd.keeps;
-            lags = sd.lags;
-          };
+          sound = grind (arith, prefix_self, true≢false);
           word = ap (λ (l : List ℕ). get_or l (lane_word v.number) 0) same ∙ ok.word;
           keys = ok.keys;
           empty = ok.empty;
           laid = ok.laid;
           away = ok.away;
-        } in (kept.0, look (behind r) (behind kept.0) v.number o.0 (ap (λ (z : LaneView B A). z.begun) (sym o.3) ∙ begun) (to_lane (λ z. seeing t.log t.closed z) o.3 kept.1), refl)),
+        } in (kept.0, grind (arith, look, to_lane), refl)),
         (
           refl,
           λ u e. let one : v ≡ u = same_some v u me.0.lane is e in

@@ -7,7 +7,7 @@ use Rattle.atomic_table.specs.Table.{step, keeps, Allows}
 use Rattle.atomic_table.proofs.Lists.{at_set}
 use Rattle.am_cast.specs.declared.views.Tail.{Tail}
 use Rattle.am_cast.specs.declared.views.View.{View}
-use Rattle.am_cast.specs.Rule.{lane_word, SeatOk, Ruled}
+use Rattle.am_cast.specs.Rule.{SeatOk, Ruled}
 use Rattle.am_cast.specs.Steps.{SeatState, Notes}
 use Rattle.am_cast.proofs.Kept.{stays}
 use Rattle.am_cast.proofs.Slots.{at_length, prefix_self}
@@ -34,7 +34,7 @@ module _ {B K A : Type 0} (key : B → ℕ → K) where
           few = r.few;
           word = ap (λ (ws : List ℕ). get_or ws 0 0) same ∙ r.word;
           spare = r.spare;
-          each_lane = λ m a. stays key r.tail (r.account m) (r.lane m) s.words words s.homes s.homes m (ap (λ (ws : List ℕ). get_or ws (lane_word m) 0) same) (λ i. refl) (r.each_lane m a);
+          each_lane = grind (arith, stays);
           each_seat = λ j u e. ⊎_elim
               (λ (z : (j ≡ id) × (w' ≡ u)). subst (λ (z : ℕ × View B K A). SeatOk r.tail r.seat r.account r.lane r.lane_seat r.owner z.0 z.1) (λ i. (sym z.0 i, z.1 i)) record { writer = mine.writer; lane_is = mine.lane_is; noted = prefix_self t.log; counts = omega arith; counted = λ k o e _. at_length t.log o.place o.batch (mine.owns.each k o e).0; heard = mine.heard; whole = mine.whole; owns = mine.owns })
               (λ (z : (j ≢ id) × (get_elem? s.views j ≡ some u)). r.each_seat j u z.1)

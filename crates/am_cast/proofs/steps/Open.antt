@@ -1,5 +1,5 @@
 -- A lane begins: the rule is kept.
-use Rattle.std.proofs.Common.{◌≡◌, ℕ, List, [], ◌∷◌, length, get_or, set, refl, sym, ap, ◌∙◌, Some, true, false, true≢false}
+use Rattle.std.proofs.Common.{◌≡◌, ℕ, List, [], ◌∷◌, length, get_or, set, refl, ap, ◌∙◌, Some, true, false, true≢false, arith}
 use mathlib.Core.Option.{none}
 use lib.Seq.{set-get_or}
 use Rattle.atomic_table.specs.Table.{step, keeps, Allows}
@@ -7,7 +7,7 @@ use Rattle.am_cast.specs.declared.views.LaneView.{LaneView}
 use Rattle.am_cast.specs.Rule.{lane_word, Ruled}
 use Rattle.am_cast.specs.Changes.{with_lane, opened}
 use Rattle.am_steps.specs.declared.event.Event.TheVariants as does
-use Rattle.am_cast.proofs.Events.{behind, open_lane, AllowsEvent}
+use Rattle.am_cast.proofs.Events.{open_lane, AllowsEvent}
 use Rattle.am_cast.specs.Steps.{SeatState, Opens}
 use Rattle.am_cast.proofs.Kept.{same_some, lane_ok, lane_stepped}
 use Rattle.am_cast.proofs.Lanes.{to_lane}
@@ -23,26 +23,13 @@ module _ {B K A : Type 0} (key : B → ℕ → K) where
         keeps,
         tt,
         (let kept = lane_stepped key s r id me.0 v (opened v) words s.homes at is refl (ap length same) refl (ap (λ (l : List ℕ). get_or l 0 0) same) (λ m _. ap (λ (l : List ℕ). get_or l (lane_word m) 0) same) (λ m i a b. refl) record {
-          sound = record {
-            seen = record { number = sd.seen.number; places = sd.seen.places; begins = sd.seen.begins; begun = λ _. here; unbegun = λ _ e. absurd (true≢false e); high = sd.seen.high; holds = sd.seen.holds; told = sd.seen.told };
-            counts = sd.counts;
-            turn = sd.turn;
-            note = sd.note;
-            start = sd.start;
-            idles = sd.idles;
-            vacates = sd.vacates;
-            mid = sd.mid;
-            halves = sd.halves;
-            cuts = sd.cuts;
-            keeps = sd.keeps;
-            lags = sd.lags;
-          };
+          sound = grind (arith, true≢false);
           word = ap (λ (l : List ℕ). get_or l (lane_word v.number) 0) same ∙ ok.word;
           keys = ok.keys;
           empty = ok.empty;
           laid = ok.laid;
           away = ok.away;
-        } in (kept.0, open_lane (behind r) (behind kept.0) v.number o.0 (ap (λ (z : LaneView B A). z.here) (sym o.3) ∙ here) (ap (λ (z : LaneView B A). z.begun) (sym o.3) ∙ fresh) (to_lane (λ z. opened z) o.3 kept.1), refl)),
+        } in (kept.0, grind (arith, open_lane, to_lane), refl)),
         (refl, λ u e. ap (λ (z : LaneView B A). with_lane (opened z) me.0) (same_some v u me.0.lane is e)),
       )
 

@@ -1,5 +1,5 @@
 -- A lane gives its key back, and has passed the place.
-use Rattle.std.proofs.Common.{[], ◌≡◌, ℕ, ◌+◌, ◌*◌, ◌/◌, ◌%◌, ◌^◌, ◌≤◌, List, ◌∷◌, get_or, set, sym, refl, ap, ◌∙◌, subst, arith, Option, Some, Bool, true, true≢false, nat_eq, length-set, get_or-set_other, get_or-set_same, mod-eq_of_lt}
+use Rattle.std.proofs.Common.{[], ◌≡◌, ℕ, ◌+◌, ◌*◌, ◌/◌, ◌%◌, ◌^◌, List, ◌∷◌, get_or, set, sym, refl, ap, ◌∙◌, subst, arith, Option, Some, true, true≢false, length-set, get_or-set_other, get_or-set_same, mod-eq_of_lt}
 use mathlib.Core.Option.{none, some}
 use lib.ListN.{get_elem?}
 use Rattle.atomic_table.specs.Table.{step, Act, gives, stepped, carried_after, Valid, Allows}
@@ -39,26 +39,13 @@ module _ {B K A : Type 0} (key : B → ℕ → K) where
         tt,
         (let kept = lane_stepped key s r id me.0 v w words homes at is refl (length-set s.words at_word new) (length-set s.homes k (some (Some (key x l)))) (get_or-set_other s.words at_word 0 new 0 (λ e. omega arith)) (λ m ne. get_or-set_other s.words at_word (lane_word m) new 0 (λ e. ne (omega arith)))
             (λ m i a ne. set_else s.homes k (slot p m i) (some (Some (key x l))) (other_lane p m l i v.passed a small ne)) record {
-              sound = record {
-                seen = record { number = sd.seen.number; places = sd.seen.places; begins = sd.seen.begins; begun = sd.seen.begun; unbegun = λ _ e. absurd (true≢false (sym begun ∙ e)); high = omega arith; holds = λ e. absurd (true≢false (sym e)); told = sd.seen.told };
-                counts = sd.counts;
-                turn = sd.turn;
-                note = sd.note;
-                start = sd.start;
-                idles = sd.idles;
-                vacates = sd.vacates;
-                mid = omega arith;
-                halves = λ _. (let h : b.half ≤ 2 * v.passed + 1 = subst (λ (x : Bool). b.half ≤ 2 * v.passed + bit x) held (sd.halves here) in omega arith);
-                cuts = λ e. ((λ alive. let even : n % 2 ≡ 0 = omega arith in absurd (true≢false (sym e ∙ ap (λ (m : ℕ). nat_eq m 1) even))), (λ vacant. true≢false (sym here ∙ sd.vacates vacant)));
-                keeps = λ _ e. absurd (true≢false (sym e));
-                lags = λ e. (let h : v.passed + 1 ≤ b.half / 2 + b.half % 2 = subst (λ (x : Bool). v.passed + bit x ≤ b.half / 2 + b.half % 2) held (sd.lags e) in omega arith);
-              };
-              word = get_or-set_same s.words at_word new 0 (omega arith) ∙ (let e : new ≡ 4 * (v.passed + 1) + 2 * 0 + b.stand / 2 = omega arith in e) ∙ (λ i. shown (sym here i) (4 * (v.passed + 1) + 2 * 0 + b.stand / 2));
+              sound = grind (arith, true≢false);
+              word = grind (arith, get_or-set_same);
               keys = λ i y a c d e f. all.keys i y a c d e;
               empty = all.empty;
               laid = all.laid;
               away = λ e y f _. all.away e y f;
-            } in (kept.0, pass (behind r) (behind kept.0) l n small (ap (λ (z : LaneView B A). z.begun) (sym o.3) ∙ begun) (ap (λ (z : LaneView B A). z.held) (sym o.3) ∙ held) odd (to_lane (λ z. further n z) o.3 kept.1), refl)),
+            } in (kept.0, grind (arith, pass, to_lane), refl)),
         (refl, λ u e. ap (λ (z : LaneView B A). with_lane (further n z) me.0) (same_some v u me.0.lane is e)),
       )
 

@@ -15,10 +15,10 @@ use Rattle.am_cast.specs.declared.views.LaneView.{LaneView}
 use Rattle.am_cast.specs.declared.views.View.{View}
 use Rattle.am_cast.specs.declared.views.Own.{Own}
 use Rattle.am_cast.specs.Core.{poster_of}
-use Rattle.am_cast.specs.Rule.{live, Homes, slot, lane_word, tail_word, Seen, LaneOk, HasWriter, SeatOk, Ruled}
+use Rattle.am_cast.specs.Rule.{live, Homes, lane_word, tail_word, Seen, LaneOk, HasWriter, SeatOk, Ruled}
 use Rattle.am_cast.specs.Changes.{grown, longer_tail, longer, own_at}
 use Rattle.am_steps.specs.declared.event.Event.TheVariants as does
-use Rattle.am_cast.proofs.Events.{behind, publish, AllowsEvent}
+use Rattle.am_cast.proofs.Events.{publish, AllowsEvent}
 use Rattle.am_cast.specs.Steps.{SeatState, Publishes}
 use Rattle.am_cast.proofs.Slots.{put, put_here, put_else, at_length, at_end, prefix_more, owns_still, owns_one_more}
 use Rattle.am_cast.proofs.Kept.{same_some}
@@ -42,55 +42,29 @@ module _ {B K A : Type 0} (key : B → ℕ → K) where
   lane_grows t b v words words' homes l x is_open bare laid same ok =
       let sd = ok.sound in let c = sd.counts in let t' : Tail B = longer_tail x t in let n : ℕ = length t.log in let more : length t'.log ≡ n + 1 = length-append t.log (x ∷ []) in
       let not_told : v.told ≡ true → ⊥ = (λ e. true≢false (sym (sd.seen.told e).0 ∙ is_open)) in let stops = c.stops in
-      let seen : Seen t' v l = record { number = sd.seen.number; places = sd.seen.places; begins = prefix_more v.front t.log x sd.seen.begins; begun = sd.seen.begun; unbegun = sd.seen.unbegun; high = sd.seen.high; holds = sd.seen.holds; told = λ e. absurd (not_told e) } in
+      let seen : Seen t' v l = grind (arith, prefix_more) in
       dite (ℕ_discrete b.stand live)
       (λ (alive : b.stand ≡ live).
       let f = c.lives alive in let stop = f.0 in let space = (c.lays (key x l) (laid alive)).1 in let clear = c.clear in
       let not_away : b.away ≡ true → ⊥ = (λ e. let a = (c.aways e).0 in omega arith) in
       let b' : Account K A = record b { stop = suc b.stop; laid = None } in
       subst (λ (b' : Account K A). LaneOk key t' b' v words' homes l) (sym (grown_live b alive)) record {
-        sound = record {
-          seen = seen;
-          counts = record { stands = c.stands; low = c.low; clear = omega arith; room = omega arith; stops = omega arith; lives = λ _. (omega arith, f.1, λ i _ _ z. omega arith); lays = λ k e. absurd (none_some k e); aways = λ e. absurd (not_away e) };
-          turn = sd.turn;
-          note = sd.note;
-          start = sd.start;
-          idles = sd.idles;
-          vacates = sd.vacates;
-          mid = sd.mid;
-          halves = sd.halves;
-          cuts = sd.cuts;
-          keeps = sd.keeps;
-          lags = sd.lags;
-        };
+        sound = grind (arith, none_some);
         word = same ∙ ok.word;
         keys = λ i y a d e g h. ⊎_elim (λ (old : get_elem? t.log i ≡ some y). let inside = at_length t.log i y old in ok.keys i y a (omega arith) old g h)
-            (λ (z : (i ≡ n) × (x ≡ y)). let z₀ = z.0 in let is : i ≡ b.stop = omega arith in ap (λ (i : ℕ). get_elem? homes (slot t.places l i)) is ∙ ok.laid (key x l) (laid alive) ∙ ap (λ (y : B). some (some (Some (key y l)))) z.1)
+            (grind arith)
             (at_end t.log x y i e);
         empty = λ i a d e g h. ok.empty i (omega arith) d e g (λ z. absurd (omega arith));
         laid = λ k e. absurd (none_some k e);
         away = λ e. absurd (not_away e);
       })
       (λ (ne : b.stand ≢ live). subst (λ (b' : Account K A). LaneOk key t' b' v words' homes l) (sym (grown_else b ne)) record {
-        sound = record {
-          seen = seen;
-          counts = record { stands = c.stands; low = c.low; clear = c.clear; room = c.room; stops = omega arith; lives = λ e. absurd (ne e); lays = λ k e. absurd (ne (c.lays k e).0); aways = c.aways };
-          turn = sd.turn;
-          note = sd.note;
-          start = sd.start;
-          idles = sd.idles;
-          vacates = sd.vacates;
-          mid = sd.mid;
-          halves = sd.halves;
-          cuts = sd.cuts;
-          keeps = sd.keeps;
-          lags = sd.lags;
-        };
+        sound = grind arith;
         word = same ∙ ok.word;
         keys = λ i y a d e g h. ⊎_elim (λ (old : get_elem? t.log i ≡ some y). ok.keys i y a d old g h) (λ (z : (i ≡ n) × (x ≡ y)). let z₀ = z.0 in absurd (omega arith)) (at_end t.log x y i e);
         empty = ok.empty;
         laid = ok.laid;
-        away = λ e y g h. ⊎_elim (λ (old : get_elem? t.log b.known ≡ some y). ok.away e y old h) (λ (z : (b.known ≡ n) × (x ≡ y)). let z₀ = z.0 in let a = (c.aways e).2 in let clear = c.clear in absurd (omega arith)) (at_end t.log x y b.known g);
+        away = grind (arith, at_end);
       })
 
   pub publishes_as : (x : B) (slots id : ℕ) (me : SeatState B K A) (q : WriterView B K A) (new : ℕ) → me.0.writer ≡ Some q → q.tail.closed ≡ false → length q.tail.log < LONGEST_LOG
@@ -129,7 +103,7 @@ module _ {B K A : Type 0} (key : B → ℕ → K) where
                 lane_is = any_lane key t t' r.seat r.account account' r.lane r.lane_seat id (λ m. grown_stand (r.account m)) me.0.lane mine.lane_is;
                 noted = prefix_more me.0.noted t.log x mine.noted;
                 counts = let h = mine.counts in omega (arith, length-append me.0.own (own_at n x ∷ []));
-                counted = λ k y f a. ⊎_elim (λ old. mine.counted k y old a) (λ (z : (k ≡ length me.0.own) × (own_at n x ≡ y)). let z₀ = z.0 in let h = mine.counts in absurd (omega arith)) (at_end me.0.own (own_at n x) y k f);
+                counted = grind (arith, at_end);
                 heard = prefix_more me.0.heard t.log x mine.heard;
                 whole = λ h. absurd (true≢false (sym (mine.whole h).0 ∙ is_open));
                 owns = owns_one_more t.log t'.log r.owner owner' id me.0.own (own_at n x) grows same_owner (omega arith) (at_last t.log x n refl) (put_here r.owner n id) mine.owns;
@@ -145,13 +119,8 @@ module _ {B K A : Type 0} (key : B → ℕ → K) where
                 owns = owns_still t.log t'.log r.owner owner' j u.own grows same_owner o.owns;
               })
               (at_set s.views id j w' u e);
-        } in (kept, publish (behind r) (behind kept) x is_open (λ l a alive. ((r.each_lane l a).sound.counts.lays (key x l) ((ready l (r.account l) (k.2 l a)).1 alive)).1) refl (λ _. refl) (λ _. refl), counted_still me.0.counted me.0.own (own_at n x) (length me.0.noted) mine.counts)),
-        (
-          refl,
-          λ z f u e. let one : q ≡ u = same_some q u me.0.writer is e in let name : x ≡ z = same_some x z (Some x) refl f in
-              (λ i. record me.0 { writer = Some (longer x (one i)); own = me.0.own ++ own_at (length (sym k.0 i).log) x ∷ [] }) ∙ (λ i. record me.0 { writer = Some (longer x u); own = me.0.own ++ own_at (length (one i).tail.log) x ∷ [] })
-              ∙ (λ i. record me.0 { writer = Some (longer (name i) u); own = me.0.own ++ own_at (length u.tail.log) (name i) ∷ [] }),
-        ),
+        } in (kept, grind (arith, publish), counted_still me.0.counted me.0.own (own_at n x) (length me.0.noted) mine.counts)),
+        grind (arith, same_some),
       )
 
   pub publishes : (x : B) (slots id : ℕ) (me : SeatState B K A) (q : WriterView B K A) (new : ℕ) → me.0.writer ≡ Some q → q.tail.closed ≡ false → length q.tail.log < LONGEST_LOG

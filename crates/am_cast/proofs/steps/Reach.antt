@@ -1,5 +1,5 @@
 -- The writer takes the slot of the next place.
-use Rattle.std.proofs.Common.{[], ◌≡◌, ◌≢◌, ℕ, suc, ◌+◌, ◌<◌, ◌≤◌, List, ◌∷◌, set, sym, refl, ap, ◌∙◌, subst, arith, Option, None, true}
+use Rattle.std.proofs.Common.{[], ◌≡◌, ◌≢◌, ℕ, ◌+◌, ◌<◌, ◌≤◌, List, ◌∷◌, set, sym, refl, ap, subst, arith, Option, None, true}
 use mathlib.Core.Option.{none}
 use lib.ListN.{get_elem?}
 use Rattle.atomic_table.specs.Table.{step, takes, Allows}
@@ -28,27 +28,7 @@ module _ {B K A : Type 0} (key : B → ℕ → K) where
         with_writer (with_account l b' q) me.0,
         takes k None,
         ok.empty b.stop (omega arith) space (λ z. omega arith) (λ z. absurd (not_away z)) (λ _. unlaid),
-        slot_step key s r id l me q b b' b.stop none at o (λ z. z) (λ ws same. record {
-          sound = record {
-            seen = sd.seen;
-            counts = record { stands = c.stands; low = c.low; clear = c.clear; room = c.room; stops = c.stops; lives = λ e. let f = c.lives e in (f.0, f.1, λ i a d z. omega arith); lays = c.lays; aways = c.aways };
-            turn = sd.turn;
-            note = sd.note;
-            start = sd.start;
-            idles = sd.idles;
-            vacates = sd.vacates;
-            mid = sd.mid;
-            halves = sd.halves;
-            cuts = sd.cuts;
-            keeps = sd.keeps;
-            lags = sd.lags;
-          };
-          word = same ∙ ok.word;
-          keys = λ i x a d e f g. beside i a (omega arith) (λ z. omega arith) ∙ ok.keys i x a d e (λ z. omega arith) g;
-          empty = λ i a d e f g. beside i (omega arith) d (λ z. e (ap suc (sym z))) ∙ ok.empty i a d (λ z. omega arith) f g;
-          laid = λ y z. absurd (none_some y (sym unlaid ∙ z));
-          away = λ z. absurd (not_away z);
-        }) record { stand = refl; turn = refl; note = refl; start = refl; known = refl; half = refl; away = refl },
+        slot_step key s r id l me q b b' b.stop none at o (λ z. z) (grind (arith, none_some)) record { stand = refl; turn = refl; note = refl; start = refl; known = refl; half = refl; away = refl },
         λ l' q' b₁ e has'. retell (λ m d c. SetsAccount m d (reaching c.stop c) me.0 (with_writer (with_account l b' q) me.0) × ((k, None) ∷ me.1 ≡ (slot d.tail.places m c.stop, None) ∷ me.1)) me.0 l l' q q' b b₁ has has' (omega arith)
             (refl, ap (λ (t : Tail B). let c : List (ℕ × Option K) = (slot t.places l b.stop, None) ∷ me.1 in c) (sym o.tail)),
       )

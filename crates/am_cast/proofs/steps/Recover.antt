@@ -10,7 +10,7 @@ use Rattle.am_cast.specs.declared.views.Account.{Account}
 use Rattle.am_cast.specs.declared.views.WriterView.{WriterView}
 use Rattle.am_cast.specs.declared.views.LaneView.{LaneView}
 use Rattle.am_cast.specs.declared.views.View.{View}
-use Rattle.am_cast.specs.Rule.{cut, slot, lane_word, bit, Ruled}
+use Rattle.am_cast.specs.Rule.{cut, lane_word, bit, Ruled}
 use Rattle.am_cast.specs.Changes.{with_writer, with_account, loaded, back}
 use Rattle.am_cast.specs.Core.{recover_events}
 use Rattle.am_cast.proofs.Events.{behind, recover, peek, AllowsEvent}
@@ -34,29 +34,16 @@ module _ {B K A : Type 0} (key : B → ℕ → K) where
       let h₁ = h.1 in let mid = sd.mid in let high = sd.seen.high in let long = prefix_length v.front r.tail.log sd.seen.begins in let low = sd.counts.low in let is_at : n / 4 ≡ v.passed = at_passed v.held v.passed b.stand n h.1 bare_hand dead in let aways = sd.counts.aways is_away in let a₁ = aways.1 in let a₂ = aways.2 in let stops = sd.counts.stops in let pos = r.some_places in let p : ℕ = r.tail.places in
       let b' : Account K A = back (n / 4) (loaded b) in
       let kept = same_words key s r id l me q b b' at o (λ z. z) (λ ws same. record {
-        sound = record {
-          seen = sd.seen;
-          counts = record { stands = sd.counts.stands; low = omega arith; clear = omega arith; room = omega arith; stops = omega arith; lives = λ z. absurd (omega arith); lays = λ k z. absurd (let c = (sd.counts.lays k z).0 in omega arith); aways = λ z. absurd (true≢false (sym z)) };
-          turn = sd.turn;
-          note = sd.note;
-          start = sd.start;
-          idles = sd.idles;
-          vacates = sd.vacates;
-          mid = omega arith;
-          halves = sd.halves;
-          cuts = sd.cuts;
-          keeps = λ _ z. absurd (true≢false (sym z ∙ bare_hand));
-          lags = sd.lags;
-        };
+        sound = grind (arith, true≢false);
         word = same ∙ ok.word;
-        keys = λ i x a c d _ _. let is : i ≡ b.known = omega arith in ap (λ (i : ℕ). get_elem? s.homes (slot p l i)) is ∙ ok.away is_away x (ap (get_elem? r.tail.log) (sym is) ∙ d) bare_hand;
+        keys = grind arith;
         empty = λ i a c _ _ _. ap (get_elem? s.homes) (sym (one_turn_on p l i)) ∙ ok.empty (i + p) (omega arith) (omega arith) (λ z. omega arith) (λ _ z. omega arith) (λ z. absurd (omega arith));
         laid = λ k z. absurd (let c = (sd.counts.lays k z).0 in omega arith);
         away = λ z. absurd (true≢false (sym z));
       }) in record {
         view = with_writer (with_account l b' q) me.0;
         kept = kept.0;
-        event = recover (behind r) (behind kept.0) l n o.small e (ap (λ (c : Account K A). c.stand) o.account ∙ dead) h.0 bare_hand is_at (to_account (λ c. back (n / 4) (loaded c)) (sym o.account) kept.1);
+        event = grind (arith, recover, to_account);
         poster = refl;
         tells = ((λ _. (refl, omega arith, subst (λ (t : Tail B). n / 4 ≤ length t.log) (sym o.tail) (omega arith))), (λ ne. absurd (ne e)));
       })

@@ -10,7 +10,7 @@ use Rattle.am_cast.specs.declared.views.WriterView.{WriterView}
 use Rattle.am_cast.specs.declared.views.LaneView.{LaneView}
 use Rattle.am_cast.specs.declared.views.View.{View}
 use Rattle.am_cast.specs.Core.{poster_behind, retire_events}
-use Rattle.am_cast.specs.Rule.{idle, cut, gone, slot, lane_word, shown, bit, Sound, LaneOk, Ruled}
+use Rattle.am_cast.specs.Rule.{idle, cut, gone, lane_word, shown, bit, LaneOk, Ruled}
 use Rattle.am_cast.specs.Changes.{with_account, retired, back_if}
 use Rattle.am_cast.proofs.Events.{behind, Event, retire, AllowsEvent}
 use Rattle.am_cast.specs.Steps.{SeatState, KnowsOf, Retires}
@@ -40,34 +40,16 @@ module _ {B K A : Type 0} (key : B → ℕ → K) where
         tt,
         (let kept = one_laned key s r l b' v id me.0 (Some (with_account l b' q)) None words s.homes o.small at (ap length same) refl (ap (λ (ws : List ℕ). get_or ws 0 0) same) (λ m _. ap (λ (ws : List ℕ). get_or ws (lane_word m) 0) same) (λ m i a c. refl)
             (inl o.mine) (inl k.1) (λ _. k.1 ∙ o.mine) (sets_account key s r id l q b b' v o) tt here in (kept.0, subst (λ (n : ℕ). Event B K A (behind r) (retire_events l n) (behind kept.0)) (ap (λ (c : Account K A). c.stand) o.account) (retire (behind r) (behind kept.0) l o.small k.2 (ap (λ (z : LaneView B A). z.here) (sym k.3) ∙ away_from) record { tail = kept.1.tail; lanes = kept.1.lanes; accounts = kept.1.accounts; lane = kept.1.lane ∙ k.3; account = kept.1.account ∙ sym e ∙ ap (λ (c : Account K A). retired c) (sym o.account) }), refl)),
-        (
-          refl,
-          λ v₁ q₁ b₁ f has₁. subst (λ (z : LaneView B A). KnowsOf me.0 z.number q₁ b₁ → (n ≡ gone) × Sound q₁.tail b₁ z z.number × (b₁.stand ≢ idle) × (w' ≡ record me.0 { writer = Some (with_account z.number (retired b₁) q₁); lane = None })) (same_some v v₁ me.0.lane is f)
-              (λ has₂. retell (λ m d c. (n ≡ gone) × Sound d.tail c v m × (c.stand ≢ idle) × (w' ≡ record me.0 { writer = Some (with_account m (retired c) d); lane = None })) me.0 l l q q₁ b b₁ has has₂ refl
-              (word, subst (λ (t : Tail B). Sound t b v l) (sym o.tail) sd, used, ap (λ (c : Account K A). let z : View B K A = record me.0 { writer = Some (with_account l c q); lane = None } in z) (sym e))) has₁,
-        ),
+        grind (arith, same_some, retell),
       ) in
       either_bool b.away
       (λ (e : b.away ≡ true).
       let aways = c.aways e in let a₀ = aways.0 in let a₁ = aways.1 in let a₂ = aways.2 in let clear = all_clear a₀ in
       let b' : Account K A = record b { away = false; cleared = b.known; stop = suc b.known; stand = idle; loads = b.loads + 1 } in
       one b' (λ i. record (back_if (e i) b) { stand = idle; loads = b.loads + 1 }) record {
-        sound = record {
-          seen = sd.seen;
-          counts = record { stands = omega arith; low = c.low; clear = omega arith; room = omega arith; stops = omega arith; lives = λ z. absurd (omega arith); lays = λ y z. absurd (none_some y (sym unlaid ∙ z)); aways = λ z. absurd (true≢false (sym z)) };
-          turn = sd.turn;
-          note = sd.note;
-          start = sd.start;
-          idles = λ _. away_from;
-          vacates = λ _. away_from;
-          mid = sd.mid;
-          halves = sd.halves;
-          cuts = λ _. ((λ z. omega arith), (λ z. omega arith));
-          keeps = λ z. absurd (omega arith);
-          lags = λ z. absurd (omega arith);
-        };
+        sound = grind (arith, none_some, true≢false);
         word = ap (λ (ws : List ℕ). get_or ws at_word 0) same ∙ word ∙ (λ i. shown (sym away_from i) (4 * v.passed + 2 * bit v.held + 0));
-        keys = λ i x a d f _ _. let is : i ≡ b.known = omega arith in ap (λ (i : ℕ). get_elem? s.homes (slot p l i)) is ∙ ok.away e x (ap (get_elem? t.log) (sym is) ∙ f) bare_hand;
+        keys = grind arith;
         empty = λ i a d _ _ _. ap (get_elem? s.homes) (sym (one_turn_on p l i)) ∙ ok.empty (i + p) (omega arith) (omega arith) (λ z. omega arith) (λ _ z. omega arith) (λ _. unlaid);
         laid = λ y z. absurd (none_some y (sym unlaid ∙ z));
         away = λ z. absurd (true≢false (sym z));
@@ -75,20 +57,7 @@ module _ {B K A : Type 0} (key : B → ℕ → K) where
       (λ (e : b.away ≡ false).
       let b' : Account K A = record b { stand = idle; loads = b.loads + 1 } in
       one b' (λ i. record (back_if (e i) b) { stand = idle; loads = b.loads + 1 }) record {
-        sound = record {
-          seen = sd.seen;
-          counts = record { stands = omega arith; low = c.low; clear = c.clear; room = c.room; stops = c.stops; lives = λ z. absurd (omega arith); lays = λ y z. absurd (none_some y (sym unlaid ∙ z)); aways = λ z. absurd (true≢false (sym z ∙ e)) };
-          turn = sd.turn;
-          note = sd.note;
-          start = sd.start;
-          idles = λ _. away_from;
-          vacates = λ _. away_from;
-          mid = sd.mid;
-          halves = sd.halves;
-          cuts = λ _. ((λ z. omega arith), (λ z. omega arith));
-          keeps = λ z. absurd (omega arith);
-          lags = λ z. absurd (omega arith);
-        };
+        sound = grind (arith, none_some, true≢false);
         word = ap (λ (ws : List ℕ). get_or ws at_word 0) same ∙ word ∙ (λ i. shown (sym away_from i) (4 * v.passed + 2 * bit v.held + 0));
         keys = ok.keys;
         empty = ok.empty;

@@ -1,5 +1,5 @@
 -- A lane takes its next key, or was cut.
-use Rattle.std.proofs.Common.{[], ◌≡◌, ◌≢◌, ℕ, ◌+◌, ◌*◌, ◌/◌, ◌<◌, ◌≤◌, List, ◌∷◌, length, get_or, set, sym, refl, ap, ◌∙◌, subst, arith, Option, Some, Bool, true, false, true≢false, eqb, length-set, get_or-set_other, get_or-set_same}
+use Rattle.std.proofs.Common.{[], ◌≡◌, ◌≢◌, ℕ, ◌+◌, ◌*◌, ◌/◌, ◌<◌, ◌≤◌, List, ◌∷◌, length, get_or, set, sym, refl, ap, ◌∙◌, subst, arith, Option, Some, true, false, true≢false, eqb, length-set, get_or-set_other, get_or-set_same}
 use Rattle.std.proofs.lemmas.Bool.{eqb-true, eqb-false}
 use mathlib.Core.Option.{none, some, some-injective}
 use prog.Atomic.{either}
@@ -50,21 +50,8 @@ module _ {B K A : Type 0} (key : B → ℕ → K) where
         ok.keys v.passed x.0 (omega arith) (omega arith) there (lives.2 v.passed mid (omega arith)) (λ h. absurd (true≢false (sym h ∙ held))),
         let kept = lane_step key s r id me.0 v w words homes at is refl (length-set s.words at_word new) (length-set s.homes k none) (get_or-set_other s.words at_word 0 new 0 (λ e. omega arith)) (λ m ne. get_or-set_other s.words at_word (lane_word m) new 0 (λ e. ne (omega arith)))
             (λ m i a ne. set_else s.homes k (slot p m i) none (other_lane p m l i v.passed a small ne)) record {
-              sound = record {
-                seen = record { number = sd.seen.number; places = sd.seen.places; begins = sd.seen.begins; begun = sd.seen.begun; unbegun = λ _ e. absurd (true≢false (sym begun ∙ e)); high = sd.seen.high; holds = λ _. (here, below); told = sd.seen.told };
-                counts = sd.counts;
-                turn = sd.turn;
-                note = sd.note;
-                start = sd.start;
-                idles = sd.idles;
-                vacates = sd.vacates;
-                mid = sd.mid;
-                halves = λ _. (let h : b.half ≤ 2 * v.passed + 0 = subst (λ (x : Bool). b.half ≤ 2 * v.passed + bit x) held (sd.halves here) in omega arith);
-                cuts = sd.cuts;
-                keeps = λ e _. absurd (omega arith);
-                lags = λ e. absurd (omega arith);
-              };
-              word = get_or-set_same s.words at_word new 0 (omega arith) ∙ (let e : new ≡ 4 * v.passed + 2 * 1 + b.stand / 2 = omega arith in e) ∙ (λ i. shown (sym here i) (4 * v.passed + 2 * 1 + b.stand / 2));
+              sound = grind (arith, true≢false);
+              word = grind (arith, get_or-set_same);
               keys = λ i y a c d e f. beside i a (omega arith) (f refl) ∙ ok.keys i y a c d e (λ h. absurd (true≢false (sym h ∙ held)));
               empty = λ i a c d e f. beside i (omega arith) c (λ z. omega arith) ∙ ok.empty i a c d e f;
               laid = λ y e. let space = (sd.counts.lays y e).1 in beside b.stop (omega arith) space (λ z. omega arith) ∙ ok.laid y e;
@@ -79,9 +66,7 @@ module _ {B K A : Type 0} (key : B → ℕ → K) where
               },
               refl,
             ),
-        λ u y e f. let one : v ≡ u = same_some v u me.0.lane is e in
-            let name : x.0 ≡ y = some-injective x.0 y (sym x.1 ∙ ap (λ (z : LaneView B A). get_elem? z.front z.passed) one ∙ f) in
-            ((λ _. (ap (λ (z : LaneView B A). with_lane (holding z) me.0) one, ap (λ (q : ℕ). let c : List (ℕ × Option K) = (slot q l v.passed, Some (key x.0 l)) ∷ me.1 in c) (sym sd.seen.places) ∙ (λ i. (slot (one i).places (one i).number (one i).passed, Some (key (name i) (one i).number)) ∷ me.1))), (λ ne. absurd (ne hit))),
+        grind (arith, same_some, some-injective),
       ))
       (λ (miss : n ≢ old).
       let was_cut : b.stand ≢ live = λ e. miss (omega arith) in let is_cut : b.stand ≡ cut = cut_of b.stand stands used was_cut (λ e. true≢false (sym here ∙ sd.vacates e)) in
@@ -92,20 +77,7 @@ module _ {B K A : Type 0} (key : B → ℕ → K) where
         keeps,
         tt,
         let kept = lane_step key s r id me.0 v w words s.homes at is refl (ap length same) refl (ap (λ (l : List ℕ). get_or l 0 0) same) (λ m _. ap (λ (l : List ℕ). get_or l (lane_word m) 0) same) (λ m i a c. refl) record {
-          sound = record {
-            seen = record { number = sd.seen.number; places = sd.seen.places; begins = sd.seen.begins; begun = sd.seen.begun; unbegun = λ _ e. absurd (true≢false (sym begun ∙ e)); high = sd.seen.high; holds = sd.seen.holds; told = sd.seen.told };
-            counts = sd.counts;
-            turn = sd.turn;
-            note = sd.note;
-            start = sd.start;
-            idles = sd.idles;
-            vacates = sd.vacates;
-            mid = sd.mid;
-            halves = sd.halves;
-            cuts = λ _. (was_cut, (λ e. true≢false (sym here ∙ sd.vacates e)));
-            keeps = sd.keeps;
-            lags = sd.lags;
-          };
+          sound = grind (arith, true≢false);
           word = ap (λ (l : List ℕ). get_or l at_word 0) same ∙ ok.word;
           keys = ok.keys;
           empty = ok.empty;
@@ -113,15 +85,10 @@ module _ {B K A : Type 0} (key : B → ℕ → K) where
           away = ok.away;
         } in (
           kept,
-          take_cut (behind r) (behind kept) l small began is_cut (ap (λ (z : LaneView B A). z.held) (sym o.3) ∙ held) (subst (λ (z : LaneView B A). z.passed < length z.front) o.3 below) record {
-            tail = refl;
-            accounts = λ m. put_same r.account l b m refl;
-            others = λ m ne. put_else r.lane l w m ne;
-            lane = put_here r.lane l w ∙ ap (λ (z : LaneView B A). cut_off z) o.3;
-          },
+          grind (arith, take_cut, put_same, put_else, put_here),
           refl,
         ),
-        λ u y e f. ((λ h. absurd (miss h)), (λ _. (ap (λ (z : LaneView B A). with_lane (cut_off z) me.0) (same_some v u me.0.lane is e), refl))),
+        grind (arith, same_some),
       ))
 
   pub takes_key : (slots id : ℕ) (me : SeatState B K A) (v : LaneView B A) (old new : ℕ) → me.0.lane ≡ Some v → v.begun ≡ true → v.held ≡ false → v.passed < length v.front → old ≡ 4 * v.passed → new ≡ 4 * v.passed + 2

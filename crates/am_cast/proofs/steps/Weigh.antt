@@ -1,16 +1,13 @@
 -- A seat compares what it knows.
-use Rattle.std.proofs.Common.{◌≡◌, ◌≢◌, ℕ, List, get_or, set, length, sym, refl, ap, ◌∙◌, subst, true}
+use Rattle.std.proofs.Common.{arith, ◌≡◌, ℕ, List, get_or, set, length, sym, refl, ap, ◌∙◌}
 use mathlib.Core.Option.{none}
-use mathlib.Core.List.{IsPrefix}
 use lib.ListN.{get_elem?}
 use lib.Seq.{set-get_or}
 use Rattle.atomic_table.specs.Table.{step, keeps, Allows}
 use Rattle.atomic_table.proofs.Lists.{set_again}
 use Rattle.am_cast.specs.declared.views.Tail.{Tail}
-use Rattle.am_cast.specs.declared.views.Account.{Account}
 use Rattle.am_cast.specs.declared.views.View.{View}
-use Rattle.am_cast.specs.Rule.{lane_word, idle, Sound, HasWriter, Ruled}
-use Rattle.am_cast.specs.Changes.{AreInLog}
+use Rattle.am_cast.specs.Rule.{lane_word, Ruled}
 use Rattle.am_cast.specs.Steps.{SeatState, Weighs}
 use Rattle.am_cast.proofs.Slots.{prefix_back}
 use Rattle.am_cast.proofs.Kept.{writer_ok, lane_ok, stays}
@@ -46,10 +43,8 @@ module _ {B K A : Type 0} (key : B → ℕ → K) where
           record {
             once = mine.owns.once;
             heard = λ k o e h. prefix_back me.0.heard t.log o.place o.batch mine.heard h (mine.owns.each k o e).0;
-            writer = λ q e. let k = subst (HasWriter r.tail r.seat r.account r.lane r.lane_seat id) e mine.writer in
-                subst (λ (t : Tail B). IsPrefix me.0.heard t.log × (me.0.whole ≡ true → (t.closed ≡ true) × (me.0.heard ≡ t.log)) × AreInLog me.0.own t.log) (sym k.0) (mine.heard, mine.whole, λ k o e. (mine.owns.each k o e).0);
-            lane = λ v q b e f. let o = writer_ok key s r id me.0 v.number q b at f in let k = lane_ok key s r id me.0 v at e in
-                subst (λ (z : Tail B × Account K A). Sound z.0 z.1 v v.number × (z.1.stand ≢ idle)) (λ i. (sym o.tail i, o.account i)) (k.4.sound, k.2);
+            writer = grind arith;
+            lane = grind (arith, writer_ok, lane_ok);
           },
         ),
       )
