@@ -207,6 +207,10 @@ func TestWhatWaitsComesAfterADeath(t *testing.T) {
 	it := a.Subscribe()
 	put(t, a, firings(0, count)...)
 	waitUntil(t, "the channel is full", func() bool { return len(it.Next()) == ChannelLength })
+	// What the put brought is printed before this is answered.
+	if _, err := a.Stored(); err != nil {
+		t.Fatal(err)
+	}
 	kill(t, a)
 	put(t, a, firing(count))
 	if got := take(t, it, count+1); !reflect.DeepEqual(numbers(got), numbers(firings(0, count+1))) {
