@@ -66,10 +66,15 @@ impl<'a> IntoIterator for &'a StoredAlerts {
     type IntoIter = slice::Iter<'a, SharedAlert>;
 
     ghost use Rattle.std.specs.Prelude.{◌≡◌};
-    ghost use Rattle.std.specs.Slice.Iter.{iter_rest};
+    ghost use Rattle.std.specs.Iterator.Runs.{EveryRun, ItemsMapTo};
+    ghost use Rattle.std.specs.Slice.Iter.{iter_rest, iter_steps};
+    ghost use Rattle.std.specs.declared.alloc.Global.{Global};
+    ghost use Rattle.std.specs.declared.sync.Arc.{Arc};
+    ghost use Rattle.am_alert.specs.declared.alert.Alert.{Alert};
     ghost use Rattle.am_store.specs.Shared.{alerts_in};
 
-    ghost into_iter_gives = { λ list iter. alerts_in (iter_rest iter) ≡ list.now };
+    ghost into_iter_gives = { λ list iter. (alerts_in (iter_rest iter) ≡ list.now)
+        × EveryRun (iter_steps {A = Arc Alert Global}) (λ run. ItemsMapTo run (λ x. x.now) (iter_rest run.from)) };
 
     fn into_iter(self) -> slice::Iter<'a, SharedAlert> {
         self.alerts.iter()
