@@ -1,16 +1,10 @@
--- How moments, alerts and faults are printed.
+-- How moments and alerts are printed.
 use Rattle.std.specs.Prelude.{ℕ, ◌-◌, ◌==◌, if◌then◌else◌, List, [], ◌∷◌, ◌++◌, codes, length, replicate}
 use Rattle.std.specs.Fmt.{decimal}
 use Rattle.am_labels.specs.Printing.{labels_text}
 use Rattle.am_alert.specs.Calendar.{parts_of}
 use Rattle.am_alert.specs.declared.alert.Alert.{Alert}
-use Rattle.am_alert.specs.declared.alert_parts.PartsFault.{PartsFault}
-use Rattle.am_alert.specs.declared.alert_parts.PartsFault.TheVariants as parts_fault
 use Rattle.am_alert.specs.declared.civil_time.CivilTime.{CivilTime}
-use Rattle.am_alert.specs.declared.post.AlertFault.{AlertFault}
-use Rattle.am_alert.specs.declared.post.AlertFault.TheVariants as alert_fault
-use Rattle.am_alert.specs.declared.post.PostFault.{PostFault}
-use Rattle.am_alert.specs.declared.post.PostFault.TheVariants as post_fault
 
 -- a number in decimal, with as many zeros before it as it lacks digits
 abbrev pub zero_padded : ℕ → ℕ → List ℕ
@@ -36,23 +30,3 @@ alert_text alert =
     labels_text alert.labels ++ (32 ∷ moment_text alert.start ++ (32 ∷ moment_text alert.end
     ++ (32 ∷ (if alert.timeout then codes "timeout" else codes "given")
     ++ (32 ∷ labels_text alert.annotations))))
-
--- why one alert of a post is invalid
-abbrev pub alert_fault_text : AlertFault → List ℕ
-alert_fault_text alert_fault.NoLabels = codes "E10 NoLabels"
-alert_fault_text alert_fault.EndBeforeStart = codes "E11 EndBeforeStart"
-alert_fault_text alert_fault.EmptyName = codes "E12 EmptyName"
-
--- why parts make no alert
-abbrev pub parts_fault_text : PartsFault → List ℕ
-parts_fault_text parts_fault.NoMemory = codes "E0 NoMemory"
-parts_fault_text (parts_fault.Invalid f) = alert_fault_text f
-
--- why a post was refused as a whole
-abbrev pub post_fault_text : PostFault → List ℕ
-post_fault_text post_fault.NoMemory = codes "E0 NoMemory"
-post_fault_text post_fault.NotJson = codes "E5 NotJson"
-post_fault_text post_fault.NotAnArray = codes "E6 NotAnArray"
-post_fault_text post_fault.TooMany = codes "E8 TooMany"
-post_fault_text (post_fault.BadMember index) = codes "E7 BadMember " ++ decimal index
-post_fault_text (post_fault.OutOfRange index) = codes "E9 OutOfRange " ++ decimal index

@@ -5,7 +5,6 @@
 
 ghost use Rattle.std.specs.Prelude.{◌≡◌, ◌≤◌, IfOk, Some, length, map};
 ghost use Rattle.am_alert.specs.FromParts.{alert_of, IsAlertOf, IsPostOfAlerts, IsPostOfParts};
-ghost use Rattle.am_alert.specs.Printing.{parts_fault_text};
 
 use crate::alert::Alert;
 use crate::alerts::Alerts;
@@ -14,7 +13,6 @@ use crate::post::{AlertFault, Faults, MAX_ALERTS, Post, PostFault};
 use crate::unjudged_alert::UnjudgedAlert;
 use am_labels::Text;
 use std::alloc::{AllocError, Global};
-use std::fmt;
 use thiserror::Error;
 
 /// What an alert is made of.
@@ -36,9 +34,12 @@ pub struct AlertParts {
 
 /// Why parts make no alert.
 #[derive(Clone, Copy, Debug, PartialEq, Eq, Error)]
+#[non_exhaustive]
 pub enum PartsFault {
+    #[error("there is no memory for an alert")]
     NoMemory,
     /// The alert is invalid, as it would be in a post.
+    #[error(transparent)]
     Invalid(AlertFault),
 }
 
@@ -49,17 +50,6 @@ impl From<AllocError> for PartsFault {
 
     fn from(_e: AllocError) -> PartsFault {
         PartsFault::NoMemory
-    }
-}
-
-impl fmt::Display for PartsFault {
-    ghost output = { λ fault. Some (parts_fault_text fault) };
-
-    fn fmt<W: fmt::Write>(&self, f: &mut fmt::Formatter<W>) -> fmt::Result {
-        match self {
-            PartsFault::NoMemory => f.write_str("E0 NoMemory"),
-            PartsFault::Invalid(fault) => fault.fmt(f),
-        }
     }
 }
 

@@ -3,13 +3,12 @@
 
 ghost use Rattle.std.specs.Prelude.{◌≡◌, ◌+◌, ◌≤◌, All, Some, length};
 ghost use Rattle.am_alert.specs.ValidAlerts.{IsWellFormed, indices_of, Rises};
-ghost use Rattle.am_alert.specs.Printing.{alert_fault_text, post_fault_text};
 ghost use Rattle.am_alert.specs.declared.post.TheConstants.{MAX_ALERTS};
 
 use crate::alerts::Alerts;
 use std::alloc::{AllocError, AllocFailed};
 use std::marker::Model;
-use std::{fmt, slice};
+use std::slice;
 use thiserror::Error;
 
 /// A post has at most this many bytes.
@@ -19,11 +18,13 @@ pub const MAX_ALERTS: usize = 1_024;
 
 /// Why one alert of a post is invalid. The others of the post stay valid.
 #[derive(Clone, Copy, Debug, PartialEq, Eq, Error)]
+#[non_exhaustive]
 pub enum AlertFault {
-    /// No label has a value.
+    #[error("no label of the alert has a value")]
     NoLabels,
+    #[error("the alert ends before it starts")]
     EndBeforeStart,
-    /// A label or an annotation has an empty name.
+    #[error("a label or an annotation has an empty name")]
     EmptyName,
 }
 
@@ -83,16 +84,19 @@ pub struct Post {
 
 /// Why a post was refused as a whole: nothing of it is stored.
 #[derive(Clone, Copy, Debug, PartialEq, Eq, Error)]
+#[non_exhaustive]
 pub enum PostFault {
+    #[error("there is no memory for a post")]
     NoMemory,
-    /// The bytes aren't JSON.
+    #[error("the body is no JSON")]
     NotJson,
+    #[error("the body is no array")]
     NotAnArray,
-    /// More than 4,194,304 bytes or 1,024 alerts.
+    #[error("the body has more than 4,194,304 bytes or 1,024 alerts")]
     TooMany,
-    /// The element isn't an object, has no labels, or has a member that isn't readable.
+    #[error("element {0} is no object, has no labels, or has a member that can't be read")]
     BadMember(u32),
-    /// The element gives no end, and the moment plus the resolve timeout isn't an instant.
+    #[error("element {0} gives no end, and the resolve timeout leads past the last instant")]
     OutOfRange(u32),
 }
 
@@ -113,32 +117,5 @@ impl<T: Drop> From<AllocFailed<T>> for PostFault {
 
     fn from(_e: AllocFailed<T>) -> PostFault {
         PostFault::NoMemory
-    }
-}
-
-impl fmt::Display for AlertFault {
-    ghost output = { λ fault. Some (alert_fault_text fault) };
-
-    fn fmt<W: fmt::Write>(&self, f: &mut fmt::Formatter<W>) -> fmt::Result {
-        f.write_str(match self {
-            AlertFault::NoLabels => "E10 NoLabels",
-            AlertFault::EndBeforeStart => "E11 EndBeforeStart",
-            AlertFault::EmptyName => "E12 EmptyName",
-        })
-    }
-}
-
-impl fmt::Display for PostFault {
-    ghost output = { λ fault. Some (post_fault_text fault) };
-
-    fn fmt<W: fmt::Write>(&self, f: &mut fmt::Formatter<W>) -> fmt::Result {
-        match self {
-            PostFault::NoMemory => f.write_str("E0 NoMemory"),
-            PostFault::NotJson => f.write_str("E5 NotJson"),
-            PostFault::NotAnArray => f.write_str("E6 NotAnArray"),
-            PostFault::TooMany => f.write_str("E8 TooMany"),
-            PostFault::BadMember(index) => write!(f, "E7 BadMember {index}"),
-            PostFault::OutOfRange(index) => write!(f, "E9 OutOfRange {index}"),
-        }
     }
 }

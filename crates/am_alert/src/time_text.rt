@@ -9,6 +9,7 @@ use thiserror::Error;
 
 /// Why a time text gives no instant.
 #[derive(Clone, Copy, Debug, PartialEq, Eq, Error)]
+#[non_exhaustive]
 pub enum TimeFault {
     /// It isn't readable, or names an instant before 0001-01-01T00:00:00Z.
     #[error("not a time")]

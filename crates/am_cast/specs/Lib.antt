@@ -12,7 +12,6 @@ pub mod Posters
 pub mod Refusals
 pub mod Tables
 pub mod Core
-pub mod FaultTexts
 pub mod inside
 pub mod Laws
 pub mod Runs

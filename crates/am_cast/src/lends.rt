@@ -13,7 +13,7 @@ use crate::feed::Feed;
 use crate::pass::Pass;
 
 /// An answer of `next`.
-#[derive(Drop)]
+#[derive(Debug, Drop)]
 pub enum Step<'s, T> {
     /// The next item. It is lent until the next call.
     Item(&'s T),
@@ -26,7 +26,7 @@ pub enum Step<'s, T> {
 }
 
 /// An answer of `next_slice`.
-#[derive(Drop)]
+#[derive(Debug, Drop)]
 pub enum Slice<'s, T> {
     /// The next items, of which there is one at least. They are lent until the next call.
     Items(&'s [T]),

@@ -63,6 +63,7 @@
 mod batch_view;
 mod board;
 mod cursor;
+mod debug;
 mod faults;
 mod feed;
 mod key_rows;
@@ -79,7 +80,7 @@ mod writer;
 
 pub use batch_view::{BatchView, SegmentKeys};
 pub use cursor::{Cast, Cursor};
-pub use faults::{AdmitFault, AlreadyClosed, PublishFault, Refused};
+pub use faults::{AdmitFault, CloseFault, PublishFault, Refused};
 pub use feed::Feed;
 pub use lends::{Moved, Slice, Step};
 pub use limits::{LANES, LONGEST_LOG, MAX_PLACES};

@@ -20,7 +20,7 @@ pub(crate) mod state;
 mod vouch;
 
 use crate::cursor::Cast;
-use crate::faults::AlreadyClosed;
+use crate::faults::CloseFault;
 use crate::feed::Feed;
 use crate::limits::LANES;
 use crate::pass::Pass;
@@ -129,14 +129,14 @@ impl<T: Drop, P, A, N: Feed> Writer<T, P, A, N> {
     }
 
     /// No place comes after it, and no lane.
-    pub fn close(&mut self, cast: &Cast<T, P, A, N>) -> Result<(), AlreadyClosed>
+    pub fn close(&mut self, cast: &Cast<T, P, A, N>) -> Result<(), CloseFault>
         ensures ok { OnOk result (self.new ≡ record self.old { tail = shut_tail self.old.tail }) }
 
         ensures open { IsOk result ↔ (self.old.tail.closed ≡ false) }
         ensures err { OnErr result (self.new ≡ self.old) }
     {
         if self.is_closed() {
-            return Err(AlreadyClosed);
+            return Err(CloseFault);
         }
         self.state.close(cast);
         Ok(())

@@ -14,6 +14,5 @@ pub mod RuleReadings
 pub mod Durations
 pub mod Timeouts
 pub mod Configs
-pub mod FaultTexts
 pub mod GroupLabels
 pub mod inside

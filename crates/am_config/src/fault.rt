@@ -1,36 +1,39 @@
 //! Why a configuration is refused.
 
-ghost use Rattle.std.specs.Prelude.{Some};
-ghost use Rattle.am_config.specs.FaultTexts.{config_fault_text};
-
 use crate::path::Path;
 use std::alloc::{AllocError, AllocFailed};
-use std::fmt;
 use thiserror::Error;
 
 /// Why a configuration was refused: the first fault, in the order of the checks.
 #[derive(Debug, Drop, Error)]
+#[non_exhaustive]
 pub enum ConfigFault {
+    #[error("there is no memory for a configuration")]
     NoMemory,
-    /// A matcher's text has no operator after its name.
+    #[error("{0}: no operator follows the label's name")]
     NoOperator(Path),
     /// A matcher's text begins with no name of the classic form.
+    #[error("{0}: a matcher begins with a name of letters, digits and underscores")]
     BadName(Path),
-    /// In a matcher's text a quote is missing or out of place, or a comma is outside quotes.
+    #[error("{0}: a quote is missing or out of place, or a comma is outside quotes")]
     BadQuote(Path),
     /// A matcher's value is no pattern that `regex` reads.
+    #[error("{0}: the value is no regular expression")]
     BadPattern(Path),
-    /// The bytes aren't JSON.
+    #[error("the configuration is no JSON")]
     NotJson,
+    #[error("{0} is missing")]
     Missing(Path),
-    /// `match`, `match_re` or a rule's member of that kind: `matchers` says the same.
+    /// `match`, `match_re` or a rule's member of that kind.
+    #[error("{0} is of an older form: `matchers` says the same")]
     Deprecated(Path),
-    /// The root has matchers, though it matches every alert.
+    #[error("the root route has matchers, though it matches every alert")]
     RootMatchers,
-    /// Routes are more than 32 deep, the root's depth being 1.
+    #[error("a route is more than 32 levels deep, the root's level being 1")]
     TooDeep,
-    /// The resolve timeout is no duration, or above 9,223,372,036,854 milliseconds.
+    #[error("the resolve timeout is no duration, or above 9,223,372,036,854 milliseconds")]
     BadDuration,
+    #[error("{0} is of the wrong kind")]
     WrongKind(Path),
 }
 
@@ -53,26 +56,5 @@ impl<T: Drop> From<AllocFailed<T>> for ConfigFault {
 
     fn from(_error: AllocFailed<T>) -> ConfigFault {
         ConfigFault::NoMemory
-    }
-}
-
-impl fmt::Display for ConfigFault {
-    ghost output = { λ fault. Some (config_fault_text fault) };
-
-    fn fmt<W: fmt::Write>(&self, f: &mut fmt::Formatter<W>) -> fmt::Result {
-        match self {
-            ConfigFault::NoMemory => f.write_str("E0 NoMemory"),
-            ConfigFault::NoOperator(path) => write!(f, "E1 NoOperator {path}"),
-            ConfigFault::BadName(path) => write!(f, "E2 BadName {path}"),
-            ConfigFault::BadQuote(path) => write!(f, "E3 BadQuote {path}"),
-            ConfigFault::BadPattern(path) => write!(f, "E4 BadPattern {path}"),
-            ConfigFault::NotJson => f.write_str("E5 NotJson"),
-            ConfigFault::Missing(path) => write!(f, "E17 Missing {path}"),
-            ConfigFault::Deprecated(path) => write!(f, "E18 Deprecated {path}"),
-            ConfigFault::RootMatchers => f.write_str("E19 RootMatchers"),
-            ConfigFault::TooDeep => f.write_str("E20 TooDeep"),
-            ConfigFault::BadDuration => f.write_str("E21 BadDuration"),
-            ConfigFault::WrongKind(path) => write!(f, "E22 WrongKind {path}"),
-        }
     }
 }

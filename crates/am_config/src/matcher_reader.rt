@@ -46,5 +46,6 @@ fn fault_at(fault: MatchFault, at: Path) -> ConfigFault
         MatchFault::BadName => ConfigFault::BadName(at),
         MatchFault::BadQuote => ConfigFault::BadQuote(at),
         MatchFault::BadPattern => ConfigFault::BadPattern(at),
+        _ => unreachable!(),
     }
 }

@@ -2,7 +2,6 @@ pub mod Texts
 pub mod LabelSets
 pub mod LabelLaws
 pub mod Printing
-pub mod FaultTexts
 pub mod MatcherTexts
 pub mod Matchers
 pub mod PlainPatterns

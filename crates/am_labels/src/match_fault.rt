@@ -1,23 +1,23 @@
 //! Why a text is no matcher.
 
-ghost use Rattle.std.specs.Prelude.{Some};
-ghost use Rattle.am_labels.specs.FaultTexts.{match_fault_text};
-
 use std::alloc::AllocError;
-use std::fmt;
 use thiserror::Error;
 
 /// Why a text was not read as a matcher.
 #[derive(Clone, Copy, Debug, PartialEq, Eq, Error)]
+#[non_exhaustive]
 pub enum MatchFault {
+    #[error("there is no memory for a matcher")]
     NoMemory,
-    /// No operator follows the name.
+    #[error("no operator follows the label's name")]
     NoOperator,
     /// The text begins with no name of the classic form.
+    #[error("a matcher begins with a name of letters, digits and underscores")]
     BadName,
-    /// A quote is missing or out of place, or there is a comma outside quotes.
+    #[error("a quote is missing or out of place, or a comma is outside quotes")]
     BadQuote,
     /// The value isn't a pattern that `regex` accepts.
+    #[error("the value is no regular expression")]
     BadPattern,
 }
 
@@ -29,19 +29,5 @@ impl From<AllocError> for MatchFault {
 
     fn from(_error: AllocError) -> MatchFault {
         MatchFault::NoMemory
-    }
-}
-
-impl fmt::Display for MatchFault {
-    ghost output = { λ fault. Some (match_fault_text fault) };
-
-    fn fmt<W: fmt::Write>(&self, f: &mut fmt::Formatter<W>) -> fmt::Result {
-        f.write_str(match self {
-            MatchFault::NoMemory => "E0 NoMemory",
-            MatchFault::NoOperator => "E1 NoOperator",
-            MatchFault::BadName => "E2 BadName",
-            MatchFault::BadQuote => "E3 BadQuote",
-            MatchFault::BadPattern => "E4 BadPattern",
-        })
     }
 }

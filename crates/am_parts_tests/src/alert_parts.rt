@@ -143,7 +143,7 @@ fn made(alloc: Global) -> Result<Alert, Fail> {
     match Alert::from_parts(alloc, parts(alloc, "a", "1", &test_moments()?)?) {
         Ok(alert) => Ok(alert),
         Err(PartsFault::NoMemory) => Err(Fail::from("no memory")),
-        Err(PartsFault::Invalid(_)) => Err(Fail::from("it is invalid")),
+        Err(_) => Err(Fail::from("it is invalid")),
     }
 }
 

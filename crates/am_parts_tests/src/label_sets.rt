@@ -36,8 +36,7 @@ fn has_names(labels: &LabelSet) -> bool {
 }
 
 fn is_copied(labels: &LabelSet) -> Result<bool, AllocError> {
-    let copy = labels.copy()?;
-    Ok(copy == *labels)
+    Ok(labels.copy()? == *labels && labels.clone()? == *labels)
 }
 
 fn is_printed_as(alloc: Global, labels: &LabelSet, text: &str) -> Result<bool, AllocError> {

@@ -23,11 +23,15 @@ mod label_sets;
 #[cfg(test)]
 mod matchers;
 #[cfg(test)]
+mod moments;
+#[cfg(test)]
 mod patterns;
 #[cfg(test)]
 mod posts;
 #[cfg(test)]
 mod rules;
+#[cfg(test)]
+mod sentences;
 #[cfg(test)]
 mod sizes;
 #[cfg(test)]

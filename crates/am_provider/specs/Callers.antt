@@ -13,8 +13,8 @@ use Rattle.am_cast.specs.Posters.{PassView}
 use Rattle.am_provider.specs.declared.answers.Policy.{Policy}
 use Rattle.am_provider.specs.declared.answers.Posted.{Posted}
 use Rattle.am_provider.specs.declared.answers.PostedIf.{PostedIf}
-use Rattle.am_provider.specs.declared.faults.PostRefused.{PostRefused}
-use Rattle.am_provider.specs.declared.faults.PostRefused.TheVariants as refused
+use Rattle.am_provider.specs.declared.faults.BodyFault.{BodyFault}
+use Rattle.am_provider.specs.declared.faults.BodyFault.TheVariants as refused
 use Rattle.am_provider.specs.declared.faults.PutFault.{PutFault}
 use Rattle.am_provider.specs.Headline.{AnswersPost, IsPutRefusal}
 use Rattle.am_provider.specs.Posts.{AddsOwn, WasAskedBefore}
@@ -51,7 +51,7 @@ pub record SeesWhole (was is saw sees : FrontView EntryView) : Type 0 where
 -- how a post of a body is answered. A body that can't be read is refused for its fault before the history is
 -- looked at. Another is posted, and then the pass owns its place with what was read
 abbrev pub AnswersBody : Policy → ℕ → ℕ → ℕ → List ℕ → PassView Alert Call → PassView Alert Call
-    → FrontView EntryView → FrontView EntryView → Result Posted PostRefused → Type 0
+    → FrontView EntryView → FrontView EntryView → Result Posted BodyFault → Type 0
 AnswersBody policy places now timeout body was is saw sees (Ok posted) =
     (post : Post) × IsPostOf now timeout body (Ok post)
     × SeesCall saw sees (AnswersPost policy places now post (Ok posted))

@@ -11,7 +11,7 @@ use Rattle.am_labels.specs.LabelSets.{Labels}
 use Rattle.am_alert.specs.declared.alert.Alert.{Alert}
 use Rattle.am_alert.specs.declared.post.Post.{Post}
 use Rattle.am_alert.specs.Merging.{is_resolved_at}
-use Rattle.am_cast.specs.declared.faults.AlreadyClosed.{AlreadyClosed}
+use Rattle.am_cast.specs.declared.faults.CloseFault.{CloseFault}
 use Rattle.am_cast.specs.declared.limits.TheConstants.{LANES, LONGEST_LOG}
 use Rattle.am_cast.specs.Cursors.{HasCut}
 use Rattle.am_store.specs.AlertList.{lookup}
@@ -161,7 +161,7 @@ AnswersTake now (Ok removed) before added =
 AnswersTake now (Err fault) before added = added ≡ []
 
 -- the log is ended once
-abbrev pub AnswersClose : {U : Type 0} → Result U AlreadyClosed → List EntryView → List EntryView → Type 0
+abbrev pub AnswersClose : {U : Type 0} → Result U CloseFault → List EntryView → List EntryView → Type 0
 AnswersClose (Ok done) before added =
     (is_closed (whole before) ≡ false) × (added ≡ only_call Closed ∷ [])
 AnswersClose (Err fault) before added = (is_closed (whole before) ≡ true) × (added ≡ [])

@@ -1,4 +1,3 @@
-pub mod FaultTexts
 pub mod PartsOf
 pub mod Batches
 pub mod Sending

@@ -40,7 +40,7 @@ use crate::kept_endings::KeptEndings;
 use crate::parts::{Begun, Parts};
 use crate::pass::deal;
 use am_alert::Alerts;
-use am_cast::AlreadyClosed;
+use am_cast::CloseFault;
 use am_labels::LabelSet;
 use am_store::lanes::{LANES, Lanes, OpenLane};
 use am_store::store::{AlertMap, share_all, share_of, share_page};
@@ -260,7 +260,7 @@ impl<N: Origin> Book<N> {
     }
 
     /// Ends the log: no post and no subscription is accepted from now on.
-    pub fn close(&mut self, cast: &Cast<N>) -> Result<(), AlreadyClosed>
+    pub fn close(&mut self, cast: &Cast<N>) -> Result<(), CloseFault>
         ensures journal { OnOk result (self.new.journal ≡ with_call self.old.journal Call.Closed) }
         ensures stored { self.new.stored ≡ self.old.stored }
         ensures log { OnOk result
@@ -275,7 +275,7 @@ impl<N: Origin> Book<N> {
                 self.journal.push(Call::Closed);
                 Ok(())
             }
-            Err(AlreadyClosed) => Err(AlreadyClosed),
+            Err(CloseFault) => Err(CloseFault),
         }
     }
 

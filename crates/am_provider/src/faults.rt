@@ -1,24 +1,23 @@
 //! Why a call of a provider was refused.
 
-ghost use Rattle.std.specs.Prelude.{Some};
-ghost use Rattle.am_provider.specs.FaultTexts.{post_refused_text, put_fault_text, sub_fault_text};
-
 use am_alert::PostFault;
 use std::alloc::AllocError;
-use std::fmt;
 use thiserror::Error;
 
 /// Why a post was refused. What is stored, the journal and the log are as they were.
 #[derive(Clone, Copy, Debug, PartialEq, Eq, Error)]
+#[non_exhaustive]
 pub enum PutFault {
+    #[error("there is no memory for the post")]
     NoMemory,
-    /// The log was ended.
+    #[error("the log was closed")]
     Closed,
-    /// The log has every place that it can have.
+    #[error("the log has every place that it can have")]
     LogEnd,
     /// This lane's subscriber, who has passed `passed` batches, lags by as many as the log has places. No
     /// lower lane does. The contracts of am_cast say so; those of the provider say that the lane is open and
     /// isn't cut.
+    #[error("the log is full: the subscriber of lane {lane} has passed {passed} batches")]
     Full { lane: u32, passed: u64 },
 }
 
@@ -33,33 +32,27 @@ impl From<AllocError> for PutFault {
     }
 }
 
-/// Why a provider's post was refused. What is stored, the journal and the log are as they were.
+/// Why a post by its body was refused. What is stored, the journal and the log are as they were.
 #[derive(Clone, Copy, Debug, PartialEq, Eq, Error)]
-pub enum PostRefused {
+#[non_exhaustive]
+pub enum BodyFault {
     /// The body can't be read.
+    #[error(transparent)]
     Unread(PostFault),
     /// The Book doesn't take it.
+    #[error(transparent)]
     Put(PutFault),
-}
-
-impl fmt::Display for PostRefused {
-    ghost output = { λ refused. Some (post_refused_text refused) };
-
-    fn fmt<W: fmt::Write>(&self, f: &mut fmt::Formatter<W>) -> fmt::Result {
-        match self {
-            PostRefused::Unread(fault) => fault.fmt(f),
-            PostRefused::Put(fault) => fault.fmt(f),
-        }
-    }
 }
 
 /// Why a subscription was refused. What is stored, the journal and the log are as they were.
 #[derive(Clone, Copy, Debug, PartialEq, Eq, Error)]
+#[non_exhaustive]
 pub enum SubFault {
+    #[error("there is no memory for a subscription")]
     NoMemory,
-    /// The log was ended.
+    #[error("the log was closed")]
     Closed,
-    /// All eight lanes are open.
+    #[error("all eight lanes are open")]
     NoLane,
 }
 
@@ -71,30 +64,5 @@ impl From<AllocError> for SubFault {
 
     fn from(_error: AllocError) -> SubFault {
         SubFault::NoMemory
-    }
-}
-
-impl fmt::Display for PutFault {
-    ghost output = { λ fault. Some (put_fault_text fault) };
-
-    fn fmt<W: fmt::Write>(&self, f: &mut fmt::Formatter<W>) -> fmt::Result {
-        match self {
-            PutFault::NoMemory => f.write_str("E0 NoMemory"),
-            PutFault::Closed => f.write_str("E14 Closed"),
-            PutFault::LogEnd => f.write_str("E23 LogEnd"),
-            PutFault::Full { lane, passed } => { write!(f, "E13 Full lane {lane} passed {passed}") }
-        }
-    }
-}
-
-impl fmt::Display for SubFault {
-    ghost output = { λ fault. Some (sub_fault_text fault) };
-
-    fn fmt<W: fmt::Write>(&self, f: &mut fmt::Formatter<W>) -> fmt::Result {
-        f.write_str(match self {
-            SubFault::NoMemory => "E0 NoMemory",
-            SubFault::Closed => "E14 Closed",
-            SubFault::NoLane => "E15 NoLane",
-        })
     }
 }

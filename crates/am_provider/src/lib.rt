@@ -54,6 +54,7 @@
 mod answers;
 mod book;
 mod caller;
+mod debug;
 mod entry;
 mod faults;
 mod feed;
@@ -70,12 +71,12 @@ mod settled;
 mod subscription;
 mod waiters;
 
-pub use am_cast::{AlreadyClosed, MAX_PLACES};
+pub use am_cast::{CloseFault, MAX_PLACES};
 pub use answers::{Counts, Ended, Page, Policy, Posted, PostedIf, Slice, Step};
 pub use book::Book;
 pub use caller::Caller;
 pub use entry::Entry;
-pub use faults::{PostRefused, PutFault, SubFault};
+pub use faults::{BodyFault, PutFault, SubFault};
 pub use feed::{Cast, Origin, Recorded};
 pub use gate::{Gate, NoGate};
 pub use item::Item;

@@ -25,7 +25,7 @@ use crate::answers::{Ended, Page, Policy, Posted, PostedIf};
 use crate::book::Book;
 use crate::caller::{Caller, deal};
 use crate::entry::Entry;
-use crate::faults::{PostRefused, PutFault, SubFault};
+use crate::faults::{BodyFault, PutFault, SubFault};
 use crate::feed::{Cast, Recorded};
 use crate::gate::Gate;
 use crate::parts::{Begun, Parts};
@@ -35,7 +35,7 @@ use crate::settled::Settled;
 use crate::subscription::Subscription;
 use crate::waiters::Waiters;
 use am_alert::{Alert, Moment, Post, read_post};
-use am_cast::AlreadyClosed;
+use am_cast::CloseFault;
 use am_history::{Front, HistoryTable, Opened, open};
 use am_labels::LabelSet;
 use am_store::{SharedAlert, StoredAlerts};
@@ -110,17 +110,17 @@ impl<N: Recorded> Provider<N> {
         gate: &G,
         body: &[u8],
         now: Moment,
-    ) -> Result<Posted, PostRefused>
+    ) -> Result<Posted, BodyFault>
         ensures { AnswersBody N.policy N.places now (as_nanos self.now.resolve_timeout) body.now
             caller.old.pass caller.new.pass caller.old.front caller.new.front result }
     {
         let post = match read_post(self.alloc, body, now, self.resolve_timeout) {
             Ok(post) => post,
-            Err(fault) => return Err(PostRefused::Unread(fault)),
+            Err(fault) => return Err(BodyFault::Unread(fault)),
         };
         match self.put(rt, caller, gate, post, now) {
             Ok(posted) => Ok(posted),
-            Err(fault) => Err(PostRefused::Put(fault)),
+            Err(fault) => Err(BodyFault::Put(fault)),
         }
     }
 
@@ -261,7 +261,7 @@ impl<N: Recorded> Provider<N> {
     }
 
     /// Ends the log: no post and no subscription is accepted from now on.
-    pub fn close<R: Wait>(&self, rt: &R, caller: &mut Caller<N>) -> Result<(), AlreadyClosed>
+    pub fn close<R: Wait>(&self, rt: &R, caller: &mut Caller<N>) -> Result<(), CloseFault>
         ensures sees { SeesCall caller.old.front caller.new.front (AnswersClose result) }
         ensures pass { caller.new.pass ≡ caller.old.pass }
     {

@@ -27,7 +27,7 @@ use crate::feed::{Cast, Recorded};
 use crate::settled::Settled;
 use crate::subscription::Subscription;
 use am_alert::Moment;
-use am_cast::AlreadyClosed;
+use am_cast::CloseFault;
 use am_history::{Front, History, HistoryTable};
 use am_labels::LabelSet;
 use am_store::{Call, LaneSet, SharedAlert, StoredAlerts};
@@ -200,14 +200,14 @@ impl<N: Recorded> RecordedBook<N> {
         cast: &Cast<N>,
         table: &HistoryTable<Entry, N>,
         caller: &mut Caller<N>,
-    ) -> Result<(), AlreadyClosed>
+    ) -> Result<(), CloseFault>
         ensures sees { SeesCall caller.old.front caller.new.front (AnswersClose result) }
         ensures pass { caller.new.pass ≡ caller.old.pass }
     {
         self.book.kept();
         let Ok(()) = self.book.close(cast) else {
             self.history.show(table, &mut caller.front);
-            return Err(AlreadyClosed);
+            return Err(CloseFault);
         };
         self.book.kept();
         record(

@@ -150,5 +150,6 @@ fn give_up(refused: Refused<Item>) -> PutFault
             lane: lane as u32,
             passed,
         },
+        _ => unreachable!(),
     }
 }

@@ -8,8 +8,7 @@ ghost use Rattle.am_provider.specs.PartsOf.{AreOf};
 use crate::stage::Stage;
 use am_alert::PostFault;
 use am_provider::{
-    AlreadyClosed, Caller, Parts, Policy, PostRefused, Provider, PutFault, Recorded, Settled,
-    SubFault,
+    BodyFault, Caller, CloseFault, Parts, Policy, Provider, PutFault, Recorded, Settled, SubFault,
 };
 use std::alloc::{AllocError, Global};
 use std::marker::Brand;
@@ -30,10 +29,10 @@ impl From<AllocError> for Stopped {
     }
 }
 
-impl From<PostRefused> for Stopped {
-    fn from(fault: PostRefused) -> Stopped {
+impl From<BodyFault> for Stopped {
+    fn from(fault: BodyFault) -> Stopped {
         match fault {
-            PostRefused::Unread(PostFault::NoMemory) | PostRefused::Put(PutFault::NoMemory) => {
+            BodyFault::Unread(PostFault::NoMemory) | BodyFault::Put(PutFault::NoMemory) => {
                 Stopped::NoMemory
             }
             _ => Stopped::Refused,
@@ -50,8 +49,8 @@ impl From<SubFault> for Stopped {
     }
 }
 
-impl From<AlreadyClosed> for Stopped {
-    fn from(_error: AlreadyClosed) -> Stopped {
+impl From<CloseFault> for Stopped {
+    fn from(_error: CloseFault) -> Stopped {
         Stopped::Refused
     }
 }

@@ -4,7 +4,7 @@ use crate::bodies::end_body;
 use crate::days::{Day, Settings, Stopped, spend};
 use crate::stage::Stage;
 use am_alert::{Moment, PostFault};
-use am_provider::{Caller, NoGate, PostRefused, Recorded, Settled, Step, Subscription};
+use am_provider::{BodyFault, Caller, NoGate, Recorded, Settled, Step, Subscription};
 use am_store::Call;
 use std::alloc::Global;
 use std::sync::Wait;
@@ -12,7 +12,7 @@ use std::test::Fail;
 use std::time::Duration;
 
 /// What a post answered: how many alerts were valid and their place, or why it was refused.
-type Answer = Result<(u32, Option<u64>), PostRefused>;
+type Answer = Result<(u32, Option<u64>), BodyFault>;
 
 /// What the calls at the greatest instant answered.
 #[derive(Clone, Copy, Debug, PartialEq, Eq, Drop)]
@@ -147,7 +147,7 @@ fn greatest_instant(rt: HostRuntime) -> Result<(), Fail> {
         greatest,
         Greatest {
             ended: Ok((1, Some(0))),
-            open: Err(PostRefused::Unread(PostFault::OutOfRange(0))),
+            open: Err(BodyFault::Unread(PostFault::OutOfRange(0))),
             shown: (1, 0),
             before: 0,
             collected: 1,

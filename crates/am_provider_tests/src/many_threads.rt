@@ -9,7 +9,7 @@ use crate::days::{Settings, Stopped, begin_day};
 use crate::shown::{Shown, is_front};
 use am_alert::Moment;
 use am_provider::{
-    Caller, NoGate, Parts, PostRefused, Provider, PutFault, Recorded, Settled, Step, Subscription,
+    BodyFault, Caller, NoGate, Parts, Provider, PutFault, Recorded, Settled, Step, Subscription,
 };
 use am_store::Call;
 use std::alloc::{AllocError, Global};
@@ -31,7 +31,7 @@ pub fn post_one<N: Recorded, R: Wait>(
     for _turn in 0..10_000_000u32 {
         match provider.post(rt, caller, &NoGate, body, now) {
             Ok(_) => return true,
-            Err(PostRefused::Put(PutFault::Full { lane: _, passed: _ })) => thread::yield_now(),
+            Err(BodyFault::Put(PutFault::Full { lane: _, passed: _ })) => thread::yield_now(),
             Err(_) => return false,
         }
     }

@@ -4,7 +4,7 @@ use crate::bodies::{body_of, moment};
 use crate::days::{Day, Settings, Stopped, spend};
 use crate::stage::{Placed, Stage};
 use am_provider::{
-    Caller, Counts, Ended, NoGate, Policy, PostRefused, PutFault, Recorded, Settled, Step,
+    BodyFault, Caller, Counts, Ended, NoGate, Policy, PutFault, Recorded, Settled, Step,
     Subscription,
 };
 use am_store::{Call, LaneSet};
@@ -73,7 +73,7 @@ fn is_closed<N: Recorded, R: Wait>(
 ) -> Result<bool, Stopped> {
     match stage.post(caller, b"[]", 370) {
         Ok(_) => Ok(false),
-        Err(PostRefused::Put(PutFault::Closed)) => Ok(true),
+        Err(BodyFault::Put(PutFault::Closed)) => Ok(true),
         Err(fault) => Err(Stopped::from(fault)),
     }
 }
@@ -202,7 +202,7 @@ fn lag_of<N: Recorded, R: Wait>(
         .post(stage.rt, caller, &NoGate, second.as_bytes(), moment(20))
     {
         Ok(posted) => (false, posted.cut),
-        Err(PostRefused::Put(PutFault::Full { lane, passed })) => (
+        Err(BodyFault::Put(PutFault::Full { lane, passed })) => (
             lane == 0 && passed == 0,
             LaneSet::EMPTY,
         ),

@@ -4,7 +4,7 @@
 use crate::bodies::moment;
 use crate::days::{Day, Settings, Stopped, spend};
 use crate::stage::Stage;
-use am_provider::{Caller, NoGate, PostRefused, PutFault, Recorded, Step, Subscription};
+use am_provider::{BodyFault, Caller, NoGate, PutFault, Recorded, Step, Subscription};
 use std::sync::Wait;
 use std::test::Fail;
 
@@ -39,7 +39,7 @@ fn post_one<N: Recorded, R: Wait>(
         .post(stage.rt, caller, &NoGate, BODY, moment(60))
     {
         Ok(posted) => Ok(Answer::Placed(posted.place)),
-        Err(PostRefused::Put(PutFault::Full { lane, passed })) => Ok(Answer::Full { lane, passed }),
+        Err(BodyFault::Put(PutFault::Full { lane, passed })) => Ok(Answer::Full { lane, passed }),
         Err(fault) => Err(Stopped::from(fault)),
     }
 }

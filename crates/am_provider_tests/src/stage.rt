@@ -2,7 +2,7 @@
 
 use crate::bodies::{Report, moment, reports_body};
 use crate::days::Stopped;
-use am_provider::{Caller, NoGate, PostRefused, Provider, Recorded};
+use am_provider::{BodyFault, Caller, NoGate, Provider, Recorded};
 use std::alloc::Global;
 use std::sync::Wait;
 
@@ -19,12 +19,7 @@ pub struct Stage<'a, N: Recorded, R: Wait> {
 
 impl<'a, N: Recorded, R: Wait> Stage<'a, N, R> {
     /// Posts a body.
-    pub fn post(
-        &self,
-        caller: &mut Caller<N>,
-        body: &[u8],
-        at: u32,
-    ) -> Result<Placed, PostRefused> {
+    pub fn post(&self, caller: &mut Caller<N>, body: &[u8], at: u32) -> Result<Placed, BodyFault> {
         let posted = self
             .provider
             .post(self.rt, caller, &NoGate, body, moment(at))?;

@@ -1,5 +1,6 @@
 pub mod Arguments
 pub mod ArgumentsFaults
+pub mod ConfigCodes
 pub mod FirstLines
 pub mod Live
 pub mod Options

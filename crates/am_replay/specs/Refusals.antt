@@ -1,7 +1,7 @@
 -- How a configuration or a script that is refused is printed.
 use Rattle.std.specs.Prelude.{ℕ, List, [], ◌∷◌, ◌++◌, codes}
 use Rattle.json.specs.Json.{object}
-use Rattle.am_config.specs.FaultTexts.{config_fault_text}
+use Rattle.am_replay.specs.ConfigCodes.{config_code}
 use Rattle.am_config.specs.declared.fault.ConfigFault.{ConfigFault}
 use Rattle.am_script.specs.JsonLines.{about_line, fault_members, object_line}
 use Rattle.am_script.specs.ScriptTexts.{refusal_text}
@@ -17,8 +17,8 @@ first_line_too_large = record { number = 1; fault = TooLarge }
 
 -- a refused configuration
 abbrev pub refused_config : Form → ConfigFault → List ℕ
-refused_config Text fault = codes "config " ++ (config_fault_text fault ++ 10 ∷ [])
-refused_config Json fault = object_line (object (refusing (codes "config") (config_fault_text fault)))
+refused_config Text fault = codes "config " ++ (config_code fault ++ 10 ∷ [])
+refused_config Json fault = object_line (object (refusing (codes "config") (config_code fault)))
 
 -- a refused script
 abbrev pub refused_script : Form → Refusal → List ℕ

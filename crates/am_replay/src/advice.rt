@@ -52,6 +52,7 @@ pub(crate) fn fault_advice(
             alloc,
             "\"global.resolve_timeout\" is no duration, or too long: it has to be one such as \"5m\"",
         ),
+        _ => unreachable!(),
     }
 }
 

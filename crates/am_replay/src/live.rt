@@ -20,7 +20,7 @@ use crate::transcript::counts_line;
 use am_config::Config;
 use am_provider::{Caller, Counts, Parts, Provider, Recorded};
 use am_runner::{Context, Form, Freely, PreparedConfig, Session};
-use am_script::{Failure, script_advice, write_text};
+use am_script::{WorkFault, script_advice, write_text};
 use am_serve::{InputLine, LiveRun, next_line, serve};
 use std::alloc::{AllocError, Global};
 use std::io::{BufRead, Write};
@@ -88,13 +88,13 @@ fn bytes_of(line: &Option<InputLine>) -> &[u8] {
 }
 
 // How a failure of the program's own work ends it.
-fn status_of(failure: Failure) -> Status
+fn status_of(failure: WorkFault) -> Status
     ensures { IsFailure result }
 {
     match failure {
-        Failure::Read => Status::ReadFailed,
-        Failure::Write => Status::WriteFailed,
-        Failure::OutOfMemory => Status::OutOfMemory,
+        WorkFault::Read => Status::ReadFailed,
+        WorkFault::Write => Status::WriteFailed,
+        WorkFault::OutOfMemory => Status::OutOfMemory,
     }
 }
 
@@ -172,7 +172,7 @@ fn serve_all<'p, 'c, N: Recorded, R: Wait, I: BufRead, O: Write>(
     arguments: Arguments,
     input: &mut I,
     out: &mut O,
-) -> (Result<(), Failure>, Caller<N>)
+) -> (Result<(), WorkFault>, Caller<N>)
     ensures served { OnOk result.0 ((end : RunView) × IsServed config.now
         (setting_of N.places N.policy provider.now.resolve_timeout) arguments.form 2
         (new_run (record { pass = caller.pass; front = caller.front; opened = [] }) (is_following arguments.mode))

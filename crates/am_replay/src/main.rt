@@ -6,6 +6,7 @@
 
 mod advice;
 mod arguments;
+mod config_code;
 mod first_line;
 mod live;
 mod program;

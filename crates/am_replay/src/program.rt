@@ -15,9 +15,9 @@ use crate::refusals::{FIRST_LINE_TOO_LARGE, advise, refused_config, refused_scri
 use crate::script_run::{Ran, Settings, run_script};
 use crate::status::Status;
 use am_config::Config;
-use am_runner::{Form, NotRun};
+use am_runner::{Form, RunFault};
 use am_script::{
-    Failure, Line, ScriptFault, config_line, read_input, read_script, script_advice, write_text,
+    Line, ScriptFault, WorkFault, config_line, read_input, read_script, script_advice, write_text,
 };
 use std::alloc::Global;
 use std::io::{BufReader, Read, Write};
@@ -85,13 +85,13 @@ fn replay<R: Threads + Wait + Sync, I: Read, O: Write, E: Write>(
 {
     let text = match read_input(alloc, input) {
         Ok(text) => text,
-        Err(Failure::OutOfMemory) => return Status::OutOfMemory,
+        Err(WorkFault::OutOfMemory) => return Status::OutOfMemory,
         Err(_) => return Status::ReadFailed,
     };
     let printout = match printout_of(rt, alloc, arguments, text) {
         Ok(printout) => printout,
-        Err(NotRun::NoMemory) => return Status::OutOfMemory,
-        Err(NotRun::NoThread) => return Status::NoThread,
+        Err(RunFault::NoMemory) => return Status::OutOfMemory,
+        Err(RunFault::NoThread) => return Status::NoThread,
     };
     let status = match write_text(out, printout.output.as_bytes()) {
         Ok(()) => printout.status,
@@ -119,7 +119,7 @@ fn printout_of<R: Threads + Wait + Sync>(
     alloc: Global,
     arguments: Arguments,
     text: Vec<u8>,
-) -> Result<Printout, NotRun>
+) -> Result<Printout, RunFault>
     ensures { IfOk result
         (λ printout. ComesTo arguments text.items printout.status (string_bytes printout.output)) }
 {
@@ -158,7 +158,7 @@ fn printout_under<R: Threads + Wait + Sync>(
     arguments: Arguments,
     config: &Config,
     text: Vec<u8>,
-) -> Result<Printout, NotRun>
+) -> Result<Printout, RunFault>
     requires { IsFirstLine text.items (FirstLine.Read config.now) }
     ensures { IfOk result
         (λ printout. ComesTo arguments text.items printout.status (string_bytes printout.output)) }
@@ -177,7 +177,7 @@ fn printout_under<R: Threads + Wait + Sync>(
             let output = refused_script(alloc, arguments.form, refusal)?;
             Ok(refused(output, script_advice(alloc, &text, refusal).ok()))
         }
-        Err((ScriptFault::NoMemory, _)) => Err(NotRun::NoMemory),
+        Err((ScriptFault::NoMemory, _)) => Err(RunFault::NoMemory),
     }
 }
 
@@ -192,7 +192,7 @@ fn take_lines(alloc: Global, text: Vec<u8>) -> Result<Vec<Line>, (ScriptFault, V
     }
 }
 
-fn ran(alloc: Global, form: Form, ran: Ran) -> Result<Printout, NotRun>
+fn ran(alloc: Global, form: Form, ran: Ran) -> Result<Printout, RunFault>
     ensures output { IfOk result (λ printout. string_bytes printout.output
         ≡ transcript_text form ran.transcript.lines.items ran.transcript.answers.items ran.transcript.counts) }
     ensures status { IfOk result (λ printout. printout.status

@@ -3,6 +3,7 @@
 ghost use Rattle.std.specs.Prelude.{◌≡◌, ◌++◌, IfOk, OnOk, string_bytes};
 ghost use Rattle.am_replay.specs.Refusals.{refused_config, refused_script};
 
+use crate::config_code::ConfigCode;
 use crate::status::Status;
 use am_config::ConfigFault;
 use am_runner::Form;
@@ -20,7 +21,7 @@ pub fn refused_config(alloc: Global, form: Form, fault: ConfigFault) -> Result<S
     ensures { IfOk result (λ text. string_bytes text ≡ refused_config form fault) }
 {
     match form {
-        Form::Text => format!(in alloc; "config {fault}\n"),
+        Form::Text => format!(in alloc; "config {}\n", ConfigCode(&fault)),
         Form::Json => config_object(alloc, fault),
     }
 }
@@ -40,7 +41,7 @@ fn write_config(text: &mut String, fault: ConfigFault) -> Result<(), AllocError>
     let mut line = JsonLine::begin(*text.allocator())?;
     line.text("answer", "refused")?;
     line.text("do", "config")?;
-    line.shown("fault", &fault)?;
+    line.shown("fault", &ConfigCode(&fault))?;
     line.end(text)
 }
 

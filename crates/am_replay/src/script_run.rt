@@ -15,7 +15,7 @@ use crate::arguments::{Arguments, Mode};
 use crate::transcript::Transcript;
 use am_config::Config;
 use am_provider::{Caller, Parts, Provider, Recorded, Settled};
-use am_runner::{Answer, Freely, InOrder, NotRun, ThreadOutcome, Turns, run_threads};
+use am_runner::{Answer, Freely, InOrder, RunFault, ThreadOutcome, Turns, run_threads};
 use am_script::{Line, THREADS};
 use std::alloc::{AllocError, Global};
 use std::marker::Brand;
@@ -42,7 +42,7 @@ pub struct Ran {
 pub fn run_script<R: Threads + Wait + Sync>(
     settings: &Settings<'_, R>,
     lines: Vec<Line>,
-) -> Result<Ran, NotRun>
+) -> Result<Ran, RunFault>
     ensures { IfOk result (λ ran. IsRun (runs_in_order settings.now.arguments.mode)
         settings.now.config.now (setting_of settings.now.arguments.places settings.now.arguments.full
         settings.now.config.now.resolve_timeout) lines.items ran.transcript ran.settled) }
@@ -61,7 +61,7 @@ fn run_in<R: Threads + Wait + Sync, T: Turns + Sync>(
     settings: &Settings<'_, R>,
     lines: Vec<Line>,
     turns: &T,
-) -> Result<Ran, NotRun>
+) -> Result<Ran, RunFault>
     ensures { IfOk result (λ ran. IsRun T.ordered settings.now.config.now
         (setting_of settings.now.arguments.places settings.now.arguments.full
         settings.now.config.now.resolve_timeout) lines.items ran.transcript ran.settled) }
@@ -75,7 +75,7 @@ fn run_on<N: Recorded + Send + Sync, R: Threads + Wait + Sync, T: Turns + Sync>(
     lines: Vec<Line>,
     turns: &T,
     parts: Parts,
-) -> Result<Ran, NotRun>
+) -> Result<Ran, RunFault>
     requires parts { AreOf N.table N.name N.parts N.timeline N.entries N.holders parts }
     requires limits { (parts.log.places ≡ N.places)
         × (settings.now.arguments.places ≡ N.places) × (settings.now.arguments.full ≡ N.policy) }

@@ -20,8 +20,8 @@ use Rattle.am_provider.specs.Owing.{StaysFrontOfDue}
 use Rattle.am_provider.specs.Showings.{ShowsNone}
 use Rattle.am_provider.specs.Subscriptions.{SubscriptionView, taken}
 use Rattle.am_provider.specs.declared.answers.Ended.{Ended}
-use Rattle.am_provider.specs.declared.faults.PostRefused.{PostRefused}
-use Rattle.am_provider.specs.declared.faults.PostRefused.TheVariants as refused
+use Rattle.am_provider.specs.declared.faults.BodyFault.{BodyFault}
+use Rattle.am_provider.specs.declared.faults.BodyFault.TheVariants as refused
 use Rattle.am_cast.specs.Posters.{PassView}
 use Rattle.am_store.specs.declared.call.Call.{Call}
 use Rattle.am_config.specs.declared.config.Config.{Config}
@@ -251,7 +251,7 @@ module _ (law : StaysFrontOfDue) (entries : List EntryView) where
   read_back : (max : ℕ) (before after : OpenView) (given : List Answer) → ReadAnswers before max given after → IsOwed after → IsOwed before
   read_back max before after given reads owed = earlier before after given (read_goes_on before after max given reads) owed
 
-  refused_back : (config : Config) (setting : Setting) (at : ℕ) (body : Body) (old : SessionView) (why : PostRefused) (pass : PassView Alert Call) (front : FrontView EntryView)
+  refused_back : (config : Config) (setting : Setting) (at : ℕ) (body : Body) (old : SessionView) (why : BodyFault) (pass : PassView Alert Call) (front : FrontView EntryView)
       → AnswersPosted setting.policy setting.places at setting.timeout body old.pass pass old.front front (Err why) → WasOwed (record old { pass = pass; front = front }) → WasOwed old
   refused_back config setting at body old (refused.Put fault) pass front it owed = same_opened old (record old { pass = pass; front = front }) _ it.2 refl owed
   refused_back config setting at body old (refused.Unread fault) pass front it owed = record {
@@ -259,7 +259,7 @@ module _ (law : StaysFrontOfDue) (entries : List EntryView) where
     owed = owed.owed;
   }
 
-  put_refused_back : (setting : Setting) (at : ℕ) (alerts : List Alert) (old : SessionView) (why : PostRefused) (pass : PassView Alert Call) (front : FrontView EntryView)
+  put_refused_back : (setting : Setting) (at : ℕ) (alerts : List Alert) (old : SessionView) (why : BodyFault) (pass : PassView Alert Call) (front : FrontView EntryView)
       → AnswersPut setting.policy setting.places at alerts old.pass pass old.front front (Err why) → WasOwed (record old { pass = pass; front = front }) → WasOwed old
   put_refused_back setting at alerts old (refused.Put fault) pass front it owed = same_opened old (record old { pass = pass; front = front }) _ it.2 refl owed
   put_refused_back setting at alerts old (refused.Unread fault) pass front it owed = record {

@@ -1,7 +1,7 @@
 -- Which answers say that a call was out of memory, and which show an alert.
 use Rattle.std.specs.Prelude.{Bool, true, false}
 use Rattle.am_alert.specs.declared.post.PostFault.TheVariants as post_fault
-use Rattle.am_provider.specs.declared.faults.PostRefused.TheVariants.{Unread, Put}
+use Rattle.am_provider.specs.declared.faults.BodyFault.TheVariants.{Unread, Put}
 use Rattle.am_provider.specs.declared.faults.PutFault.TheVariants as put_fault
 use Rattle.am_provider.specs.declared.faults.SubFault.TheVariants as sub_fault
 use Rattle.am_runner.specs.declared.answer.Answer.{Answer}

@@ -1,4 +1,5 @@
 pub mod Answers
+pub mod Codes
 pub mod Printing
 pub mod PrintingJson
 pub mod Forms

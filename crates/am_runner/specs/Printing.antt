@@ -2,14 +2,13 @@
 use Rattle.std.specs.Prelude.{ℕ, Bool, List, [], ◌∷◌, ◌++◌, codes, flat_map, Option, Some, None}
 use Rattle.std.specs.Prelude.{if◌then◌else◌}
 use Rattle.std.specs.Fmt.{decimal}
-use Rattle.am_alert.specs.Printing.{alert_text, alert_fault_text}
+use Rattle.am_alert.specs.Printing.{alert_text}
 use Rattle.am_labels.specs.LabelSets.{Labels}
 use Rattle.am_labels.specs.Printing.{labels_text, quoted}
 use Rattle.am_routes.specs.Printing.{listed_text}
 use Rattle.am_routes.specs.declared.dispatcher.Swept.{Swept}
 use Rattle.am_routes.specs.declared.matched_route.MatchedRoute.{MatchedRoute}
-use Rattle.am_cast.specs.FaultTexts.{closed_text}
-use Rattle.am_provider.specs.FaultTexts.{post_refused_text, sub_fault_text}
+use Rattle.am_runner.specs.Codes.{body_code, closed_code, invalid_code, subscribe_code}
 use Rattle.am_script.specs.ScriptTexts.{verb_text}
 use Rattle.am_runner.specs.declared.answer.GroupHead.{GroupHead}
 use Rattle.am_runner.specs.declared.answer.PageHead.{PageHead}
@@ -63,12 +62,12 @@ muted_text rule by = codes "muted rule " ++ (decimal rule ++ (codes " by " ++ la
 abbrev pub answer_text : Answer → List ℕ
 answer_text (answer.Posted valid place) = posted_text valid place
 answer_text (answer.Invalid index why) =
-    codes "invalid " ++ (decimal index ++ 32 ∷ alert_fault_text why)
+    codes "invalid " ++ (decimal index ++ 32 ∷ invalid_code why)
 answer_text (answer.CutLane lane) = codes "cut lane " ++ decimal lane
-answer_text (answer.PostRefused why) = codes "post refused " ++ post_refused_text why
+answer_text (answer.PostRefused why) = codes "post refused " ++ body_code why
 answer_text (answer.Subscribed lane opening) =
     codes "subscribe lane " ++ (decimal lane ++ (codes " opening " ++ decimal opening))
-answer_text (answer.SubscribeRefused why) = codes "subscribe refused " ++ sub_fault_text why
+answer_text (answer.SubscribeRefused why) = codes "subscribe refused " ++ subscribe_code why
 answer_text (answer.Item alert) = codes "item " ++ alert_text alert
 answer_text answer.Pending = codes "pending"
 answer_text answer.SawClosed = codes "closed"
@@ -77,7 +76,7 @@ answer_text (answer.Left taken closed cut) = left_text taken closed cut
 answer_text (answer.Collected removed) = codes "collect removed " ++ decimal removed
 answer_text (answer.Taken removed) = codes "take removed " ++ decimal removed
 answer_text answer.CloseAccepted = codes "close"
-answer_text answer.CloseRefused = codes "close refused " ++ closed_text
+answer_text answer.CloseRefused = codes "close refused " ++ closed_code
 answer_text (answer.Trimmed dropped) = codes "trim dropped " ++ decimal dropped
 answer_text (answer.Compacted dropped) = codes "compact dropped " ++ decimal dropped
 answer_text (answer.Group group) = group_text group

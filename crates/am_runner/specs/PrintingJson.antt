@@ -1,17 +1,15 @@
 -- How answers are printed as JSON objects, one a line.
 use Rattle.std.specs.Prelude.{ℕ, Bool, List, [], ◌∷◌, ◌++◌, codes, flat_map, length, Option, Some, None}
 use Rattle.json.specs.Json.{Json, null, boolean, string, object, Members, no_members, member}
-use Rattle.am_alert.specs.Printing.{alert_fault_text}
 use Rattle.am_alert.specs.declared.alert.Alert.{Alert}
 use Rattle.am_alert.specs.declared.post.AlertFault.{AlertFault}
 use Rattle.am_labels.specs.LabelSets.{Labels}
-use Rattle.am_cast.specs.FaultTexts.{closed_text}
 use Rattle.am_config.specs.declared.group_by.GroupBy.{GroupBy}
 use Rattle.am_config.specs.declared.group_by.GroupBy.TheVariants.{All, Names}
 use Rattle.am_routes.specs.declared.dispatcher.Swept.{Swept}
 use Rattle.am_routes.specs.declared.listed_route.ListedRoute.{ListedRoute}
 use Rattle.am_routes.specs.declared.matched_route.MatchedRoute.{MatchedRoute}
-use Rattle.am_provider.specs.FaultTexts.{post_refused_text, sub_fault_text}
+use Rattle.am_runner.specs.Codes.{body_code, closed_code, invalid_code, subscribe_code}
 use Rattle.am_script.specs.JsonLines.{about_line, alert_members, decimal_json, labels_json, object_line}
 use Rattle.am_script.specs.JsonLines.{texts_json}
 use Rattle.am_script.specs.JsonLines.{worded}
@@ -101,7 +99,7 @@ page_members page = worded (codes "page")
 abbrev pub invalid_members : ℕ → AlertFault → Members
 invalid_members index fault = worded (codes "invalid")
     (member (codes "index") (decimal_json index)
-    (member (codes "fault") (string (alert_fault_text fault)) no_members))
+    (member (codes "fault") (string (invalid_code fault)) no_members))
 
 -- a new subscription: its lane, and how many alerts were stored
 abbrev pub subscribed_members : ℕ → ℕ → Members
@@ -123,9 +121,9 @@ abbrev pub answer_members : Answer → Members
 answer_members (answer.Posted valid place) = posted_members valid place
 answer_members (answer.Invalid index why) = invalid_members index why
 answer_members (answer.CutLane lane) = counting (codes "cut_lane") (codes "lane") lane
-answer_members (answer.PostRefused why) = refusing (verb_text verb.Post) (post_refused_text why)
+answer_members (answer.PostRefused why) = refusing (verb_text verb.Post) (body_code why)
 answer_members (answer.Subscribed lane opening) = subscribed_members lane opening
-answer_members (answer.SubscribeRefused why) = refusing (verb_text verb.Subscribe) (sub_fault_text why)
+answer_members (answer.SubscribeRefused why) = refusing (verb_text verb.Subscribe) (subscribe_code why)
 answer_members (answer.Item alert) = showing (codes "item") alert
 answer_members answer.Pending = worded (codes "pending") no_members
 answer_members answer.SawClosed = worded (codes "closed") no_members
@@ -134,7 +132,7 @@ answer_members (answer.Left taken closed cut) = left_members taken closed cut
 answer_members (answer.Collected removed) = counting (codes "collect") (codes "removed") removed
 answer_members (answer.Taken removed) = counting (codes "take") (codes "removed") removed
 answer_members answer.CloseAccepted = worded (codes "close") no_members
-answer_members answer.CloseRefused = refusing (verb_text verb.Close) closed_text
+answer_members answer.CloseRefused = refusing (verb_text verb.Close) closed_code
 answer_members (answer.Trimmed dropped) = counting (codes "trim") (codes "dropped") dropped
 answer_members (answer.Compacted dropped) = counting (codes "compact") (codes "dropped") dropped
 answer_members (answer.Group group) = group_members group

@@ -15,13 +15,13 @@ use Rattle.am_provider.specs.Histories.{EntryView}
 use Rattle.am_provider.specs.Posts.{AddsOwn}
 use Rattle.am_provider.specs.declared.answers.Policy.{Policy}
 use Rattle.am_provider.specs.declared.answers.Posted.{Posted}
-use Rattle.am_provider.specs.declared.faults.PostRefused.{PostRefused}
-use Rattle.am_provider.specs.declared.faults.PostRefused.TheVariants as refused
+use Rattle.am_provider.specs.declared.faults.BodyFault.{BodyFault}
+use Rattle.am_provider.specs.declared.faults.BodyFault.TheVariants as refused
 
 -- how a post is answered whose reading answers this: one that isn't read is refused for its fault before the
 -- history is looked at; another is posted, and then the pass owns its place
 abbrev pub AnswersRead : (Result Post PostFault → Type 0) → Policy → ℕ → ℕ → PassView Alert Call
-    → PassView Alert Call → FrontView EntryView → FrontView EntryView → Result Posted PostRefused → Type 0
+    → PassView Alert Call → FrontView EntryView → FrontView EntryView → Result Posted BodyFault → Type 0
 AnswersRead is_read policy places now was is saw sees (Ok posted) =
     (post : Post) × is_read (Ok post)
     × SeesCall saw sees (AnswersPost policy places now post (Ok posted))
@@ -34,10 +34,10 @@ AnswersRead is_read policy places now was is saw sees (Err (refused.Unread fault
 
 -- how a post of a body is answered
 abbrev pub AnswersPosted : Policy → ℕ → ℕ → ℕ → Body → PassView Alert Call → PassView Alert Call
-    → FrontView EntryView → FrontView EntryView → Result Posted PostRefused → Type 0
+    → FrontView EntryView → FrontView EntryView → Result Posted BodyFault → Type 0
 AnswersPosted policy places now timeout body = AnswersRead (IsPostOfBody now timeout body) policy places now
 
 -- how a put of alerts is answered
 abbrev pub AnswersPut : Policy → ℕ → ℕ → List Alert → PassView Alert Call → PassView Alert Call
-    → FrontView EntryView → FrontView EntryView → Result Posted PostRefused → Type 0
+    → FrontView EntryView → FrontView EntryView → Result Posted BodyFault → Type 0
 AnswersPut policy places now alerts = AnswersRead (IsPostOfAlerts alerts) policy places now

@@ -15,7 +15,7 @@ use Rattle.am_store.specs.Broadcast.{due, IsFront}
 use Rattle.am_store.specs.LaneSets.{has_lane}
 use Rattle.std.specs.declared.alloc.AllocError.{AllocError}
 use Rattle.am_cast.specs.Posters.{PassView}
-use Rattle.am_cast.specs.declared.faults.AlreadyClosed.{AlreadyClosed}
+use Rattle.am_cast.specs.declared.faults.CloseFault.{CloseFault}
 use Rattle.am_history.specs.Fronts.{FrontView}
 use Rattle.am_provider.specs.Posts.{HasMet}
 use Rattle.am_provider.specs.Callers.{KnowsAllSent, SeesCall}
@@ -28,7 +28,7 @@ use Rattle.am_provider.specs.declared.answers.Policy.{Policy}
 use Rattle.am_provider.specs.declared.answers.Ended.{Ended}
 use Rattle.am_provider.specs.declared.answers.Page.{Page}
 use Rattle.am_provider.specs.declared.answers.Posted.{Posted}
-use Rattle.am_provider.specs.declared.faults.PostRefused.{PostRefused}
+use Rattle.am_provider.specs.declared.faults.BodyFault.{BodyFault}
 use Rattle.am_provider.specs.declared.faults.SubFault.{SubFault}
 use Rattle.am_labels.specs.LabelSets.{Labels}
 use Rattle.am_script.specs.declared.kind.Kind.{Kind}
@@ -209,7 +209,7 @@ pub data Does (config : Config) (setting : Setting) (old : SessionView)
       (Ok posted)
       → Does config setting old (Post at body) (posted_answers posted)
       (record old { pass = pass; front = front })
-  post_refused : {at : ℕ} {body : Body} {why : PostRefused} {pass : PassView Alert Call}
+  post_refused : {at : ℕ} {body : Body} {why : BodyFault} {pass : PassView Alert Call}
       {front : FrontView EntryView}
       → AnswersPosted setting.policy setting.places at setting.timeout body old.pass pass old.front front
       (Err why)
@@ -220,7 +220,7 @@ pub data Does (config : Config) (setting : Setting) (old : SessionView)
       → AnswersPut setting.policy setting.places at alerts old.pass pass old.front front (Ok posted)
       → Does config setting old (Put at alerts) (posted_answers posted)
       (record old { pass = pass; front = front })
-  put_refused : {at : ℕ} {alerts : List Alert} {why : PostRefused} {pass : PassView Alert Call}
+  put_refused : {at : ℕ} {alerts : List Alert} {why : BodyFault} {pass : PassView Alert Call}
       {front : FrontView EntryView}
       → AnswersPut setting.policy setting.places at alerts old.pass pass old.front front (Err why)
       → Does config setting old (Put at alerts) (answer.PostRefused why ∷ [])
@@ -262,7 +262,7 @@ pub data Does (config : Config) (setting : Setting) (old : SessionView)
       → Does config setting old (Take at) (answer.OutOfMemory verb.Take ∷ []) (record old { front = front })
   closed : {front : FrontView EntryView} → SeesCall old.front front (AnswersClose {U = Unit {0}} (Ok tt))
       → Does config setting old Close (answer.CloseAccepted ∷ []) (record old { front = front })
-  close_refused : {fault : AlreadyClosed} {front : FrontView EntryView}
+  close_refused : {fault : CloseFault} {front : FrontView EntryView}
       → SeesCall old.front front (AnswersClose {U = Unit {0}} (Err fault))
       → Does config setting old Close (answer.CloseRefused ∷ []) (record old { front = front })
   trimmed : {dropped : ℕ} {front : FrontView EntryView}

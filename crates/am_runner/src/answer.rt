@@ -8,25 +8,26 @@ ghost use Rattle.am_runner.specs.Printing.{answer_text, answers_text, group_text
 ghost use Rattle.am_runner.specs.Printing.{matched_text, page_text, posted_text, swept_text};
 
 use crate::answer_json::write_objects;
+use crate::codes::{BodyCode, CLOSED, InvalidCode, SubscribeCode};
 use crate::form::Form;
 use crate::room_for_answer::RoomForAnswer;
 use am_alert::{Alert, AlertFault, PostFault};
 use am_labels::{LabelSet, Quoted, Text};
-use am_provider::{PostRefused, PutFault, SubFault};
+use am_provider::{BodyFault, PutFault, SubFault};
 use am_routes::{ListedRoute, MatchedRoute, Swept};
 use am_script::Verb;
 use std::alloc::{AllocError, Global};
 use std::fmt;
 
 /// One answer, which is one line of the output.
-#[derive(Drop)]
+#[derive(Debug, Drop)]
 pub enum Answer {
     Posted { valid: u32, place: Option<u64> },
     /// An invalid alert of an accepted post, by its index in the post.
     Invalid { index: u32, fault: AlertFault },
     /// The post before it cut this lane, whose subscriber was too slow.
     CutLane(u32),
-    PostRefused(PostRefused),
+    PostRefused(BodyFault),
     Subscribed { lane: u32, opening: u64 },
     SubscribeRefused(SubFault),
     Item(Alert),
@@ -73,7 +74,7 @@ pub enum Answer {
 }
 
 /// A group of a dispatcher, with how many alerts it has.
-#[derive(Drop)]
+#[derive(Debug, Drop)]
 pub struct GroupHead {
     pub route: u64,
     pub receiver: Text,
@@ -106,8 +107,8 @@ impl Answer {
         ensures { result ≡ is_out_of_memory self.now }
     {
         match self {
-            Answer::PostRefused(PostRefused::Unread(PostFault::NoMemory))
-            | Answer::PostRefused(PostRefused::Put(PutFault::NoMemory))
+            Answer::PostRefused(BodyFault::Unread(PostFault::NoMemory))
+            | Answer::PostRefused(BodyFault::Put(PutFault::NoMemory))
             | Answer::SubscribeRefused(SubFault::NoMemory)
             | Answer::OutOfMemory(_) => true,
             _ => false,
@@ -121,13 +122,21 @@ impl fmt::Display for Answer {
     fn fmt<W: fmt::Write>(&self, f: &mut fmt::Formatter<W>) -> fmt::Result {
         match self {
             Answer::Posted { valid, place } => write_posted(*valid, *place, f),
-            Answer::Invalid { index, fault } => write!(f, "invalid {index} {fault}"),
+            Answer::Invalid { index, fault } => write!(
+                f,
+                "invalid {index} {}",
+                InvalidCode(*fault)
+            ),
             Answer::CutLane(lane) => write!(f, "cut lane {lane}"),
-            Answer::PostRefused(fault) => write!(f, "post refused {fault}"),
+            Answer::PostRefused(fault) => write!(f, "post refused {}", BodyCode(*fault)),
             Answer::Subscribed { lane, opening } => {
                 write!(f, "subscribe lane {lane} opening {opening}")
             }
-            Answer::SubscribeRefused(fault) => write!(f, "subscribe refused {fault}"),
+            Answer::SubscribeRefused(fault) => write!(
+                f,
+                "subscribe refused {}",
+                SubscribeCode(*fault)
+            ),
             Answer::Item(alert) => write!(f, "item {alert}"),
             Answer::Pending => f.write_str("pending"),
             Answer::SawClosed => f.write_str("closed"),
@@ -136,7 +145,7 @@ impl fmt::Display for Answer {
             Answer::Collected(removed) => write!(f, "collect removed {removed}"),
             Answer::Taken(removed) => write!(f, "take removed {removed}"),
             Answer::CloseAccepted => f.write_str("close"),
-            Answer::CloseRefused => f.write_str("close refused E14 Closed"),
+            Answer::CloseRefused => write!(f, "close refused {CLOSED}"),
             Answer::Trimmed(dropped) => write!(f, "trim dropped {dropped}"),
             Answer::Compacted(dropped) => write!(f, "compact dropped {dropped}"),
             Answer::Group(group) => write_group(group, f),

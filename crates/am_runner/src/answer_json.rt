@@ -12,6 +12,7 @@ ghost use Rattle.am_runner.specs.PrintingJson.{page_members, posted_members, ref
 ghost use Rattle.am_runner.specs.PrintingJson.{subscribed_members, swept_members};
 
 use crate::answer::{Answer, GroupHead, PageHead};
+use crate::codes::{BodyCode, CLOSED, InvalidCode, SubscribeCode};
 use am_alert::{Alert, AlertFault};
 use am_config::GroupBy;
 use am_labels::{LabelSet, Text};
@@ -62,11 +63,15 @@ pub fn write_members(line: &mut JsonLine, answer: &Answer) -> Result<(), AllocEr
 {
     match answer {
         Answer::Posted { valid, place } => write_posted(line, *valid, *place),
-        Answer::Invalid { index, fault } => write_invalid(line, *index, fault),
+        Answer::Invalid { index, fault } => write_invalid(line, *index, *fault),
         Answer::CutLane(lane) => write_number(line, "cut_lane", "lane", u64::from(*lane)),
-        Answer::PostRefused(fault) => write_fault(line, Verb::Post, fault),
+        Answer::PostRefused(fault) => write_fault(line, Verb::Post, &BodyCode(*fault)),
         Answer::Subscribed { lane, opening } => write_subscribed(line, *lane, *opening),
-        Answer::SubscribeRefused(fault) => write_fault(line, Verb::Subscribe, fault),
+        Answer::SubscribeRefused(fault) => write_fault(
+            line,
+            Verb::Subscribe,
+            &SubscribeCode(*fault),
+        ),
         Answer::Item(alert) => write_alert(line, "item", alert),
         Answer::Pending => line.text("answer", "pending"),
         Answer::SawClosed => line.text("answer", "closed"),
@@ -75,7 +80,7 @@ pub fn write_members(line: &mut JsonLine, answer: &Answer) -> Result<(), AllocEr
         Answer::Collected(removed) => write_number(line, "collect", "removed", *removed),
         Answer::Taken(removed) => write_number(line, "take", "removed", *removed),
         Answer::CloseAccepted => line.text("answer", "close"),
-        Answer::CloseRefused => write_refused(line, Verb::Close, "E14 Closed"),
+        Answer::CloseRefused => write_refused(line, Verb::Close, CLOSED),
         Answer::Trimmed(dropped) => write_number(line, "trim", "dropped", *dropped),
         Answer::Compacted(dropped) => write_number(line, "compact", "dropped", *dropped),
         Answer::Group(group) => write_group(line, group),
@@ -185,13 +190,13 @@ fn write_page(line: &mut JsonLine, page: PageHead) -> Result<(), AllocError>
     line.number("calls", page.calls)
 }
 
-fn write_invalid(line: &mut JsonLine, index: u32, fault: &AlertFault) -> Result<(), AllocError>
+fn write_invalid(line: &mut JsonLine, index: u32, fault: AlertFault) -> Result<(), AllocError>
     ensures { OnOk result
-        (line.new ++ end_object ∷ [] ≡ line.old ++ members_tokens (invalid_members index fault.now)) }
+        (line.new ++ end_object ∷ [] ≡ line.old ++ members_tokens (invalid_members index fault)) }
 {
     line.text("answer", "invalid")?;
     line.number("index", u64::from(index))?;
-    line.shown("fault", fault)
+    line.shown("fault", &InvalidCode(fault))
 }
 
 fn write_subscribed(line: &mut JsonLine, lane: u32, opening: u64) -> Result<(), AllocError>

@@ -13,9 +13,9 @@ ghost use Rattle.am_runner.specs.Working.{AreWork, AreWorkIn, IsWork, outcome_of
 use crate::answer::Answer;
 use crate::configured::Configured;
 use crate::context::Context;
-use crate::not_run::NotRun;
 use crate::prepared_config::PreparedConfig;
 use crate::register::{Register, TurnsSeen};
+use crate::run_fault::RunFault;
 use crate::start::Start;
 use crate::turns::Turns;
 use crate::work::work;
@@ -115,7 +115,7 @@ pub fn run_threads<N: Recorded + Send + Sync, R: Threads + Wait + Sync, T: Turns
     config: &Config,
     lines: &[Line],
     turns: &T,
-) -> Result<Vec<ThreadOutcome<N>>, NotRun>
+) -> Result<Vec<ThreadOutcome<N>>, RunFault>
     requires count { vec_len callers ≡ 8 }
     requires fresh { All (λ caller. IsNewCaller caller.pass caller.front) callers.items }
     ensures { IfOk result (λ all. (turns : List (FrontView EntryView)) × AreWork config.now
@@ -124,7 +124,7 @@ pub fn run_threads<N: Recorded + Send + Sync, R: Threads + Wait + Sync, T: Turns
 {
     if lines.len() >= usize::MAX - 7 {
         // No memory has `usize::MAX - 7` lines.
-        return Err(NotRun::NoMemory);
+        return Err(RunFault::NoMemory);
     }
     let taken = NewHistory::<Front<Entry, N>>::make(alloc, 1)?;
     let run = Run {
@@ -149,7 +149,7 @@ fn run_registered<
     run: &Run<'_, N, C, R, T>,
     callers: Vec<Caller<N>>,
     taken: NewHistory<Front<Entry, N>>,
-) -> Result<Vec<ThreadOutcome<N>>, NotRun>
+) -> Result<Vec<ThreadOutcome<N>>, RunFault>
     requires table { taken.board.shared.table_id ≡ M.timeline }
     requires ledger { (taken.ledger.name ≡ M.entries) × (taken.ledger.parts ≡ M.holders) }
     requires some { 0 < taken.ledger.parts }
@@ -189,7 +189,7 @@ fn run_shared<
     C: Configured + Sync,
     R: Threads + Wait + Sync,
     T: Turns + Sync,
->(shared: &Shared<'_, N, M, C, R, T>, callers: Vec<Caller<N>>) -> Result<Outcomes<N, M>, NotRun>
+>(shared: &Shared<'_, N, M, C, R, T>, callers: Vec<Caller<N>>) -> Result<Outcomes<N, M>, RunFault>
     requires count { vec_len callers ≡ 8 }
     requires fresh { All (λ caller. IsNewCaller caller.pass caller.front) callers.items }
     ensures { IfOk result (λ all. AreWorkIn (C.shown shared.now.run.now.config.now)
@@ -199,7 +199,7 @@ fn run_shared<
     thread::scope(
         thread::scope_env(),
         shared.run.rt,
-        |scope| -> Result<Outcomes<N, M>, NotRun>
+        |scope| -> Result<Outcomes<N, M>, RunFault>
             requires count { vec_len callers ≡ 8 }
             requires fresh { All (λ caller. IsNewCaller caller.pass caller.front) callers.items }
             ensures { IfOk result (λ all. AreWorkIn (C.shown shared.entry.now.run.now.config.now)
@@ -223,7 +223,7 @@ fn run_from<
     scope: &Scope<'s, E>,
     shared: &'s Shared<'s, N, M, C, R, T>,
     callers: Vec<Caller<N>>,
-) -> Result<Outcomes<N, M>, NotRun>
+) -> Result<Outcomes<N, M>, RunFault>
     requires count { vec_len callers ≤ 8 }
     requires fresh { All (λ caller. IsNewCaller caller.pass caller.front) callers.items }
     ensures { IfOk result (λ all. AreWorkIn (C.shown shared.now.run.now.config.now)
@@ -240,7 +240,7 @@ fn run_from<
     let promise = RunsLines::by(shared.run, thread);
     let Ok(child) = scope.spawn_with(promise, move || work_when_told(shared, thread, caller)) else {
         shared.start.give_up(rt);
-        return Err(NotRun::NoThread);
+        return Err(RunFault::NoThread);
     };
     let others = run_from(scope, shared, callers);
     let (outcome, seen) = child.join(rt);

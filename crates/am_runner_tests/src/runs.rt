@@ -5,7 +5,9 @@ ghost use Rattle.am_provider.specs.PartsOf.{AreOf};
 
 use am_config::{Config, ConfigFault};
 use am_provider::{Caller, Counts, Ended, Parts, Policy, Provider, Recorded, Settled};
-use am_runner::{Answer, Form, InOrder, NotRun, ThreadOutcome, Turns, run_threads, write_answers};
+use am_runner::{
+    Answer, Form, InOrder, RunFault, ThreadOutcome, Turns, run_threads, write_answers,
+};
 use am_script::{Line, ScriptFault, THREADS, config_line, read_script};
 use am_store::Call;
 use std::alloc::{AllocError, AllocFailed, Global};
@@ -39,11 +41,11 @@ impl<T: Drop> From<AllocFailed<T>> for Stopped {
     }
 }
 
-impl From<NotRun> for Stopped {
-    fn from(why: NotRun) -> Stopped {
+impl From<RunFault> for Stopped {
+    fn from(why: RunFault) -> Stopped {
         match why {
-            NotRun::NoMemory => Stopped::NoMemory,
-            NotRun::NoThread => Stopped::NoThread,
+            RunFault::NoMemory => Stopped::NoMemory,
+            RunFault::NoThread => Stopped::NoThread,
         }
     }
 }
@@ -225,7 +227,7 @@ fn run_over<N: Recorded + Send + Sync, R: Threads + Wait + Sync, T: Turns + Sync
 // them.
 fn take_callers<N: Recorded>(
     alloc: Global,
-    ran: Result<Vec<ThreadOutcome<N>>, NotRun>,
+    ran: Result<Vec<ThreadOutcome<N>>, RunFault>,
     callers: &mut Vec<Caller<N>>,
 ) -> Result<Answers, Stopped> {
     let mut threads = Vec::new(alloc);

@@ -1,7 +1,7 @@
 //! What no contract says: that reading and writing succeed, and that an input above a limit isn't read
 //! on. The inputs are of real size, and come in odd pieces.
 
-use am_script::{CHUNK, Failure, LONGEST_LINE, MOST_LINES, read_input, write_text};
+use am_script::{CHUNK, LONGEST_LINE, MOST_LINES, WorkFault, read_input, write_text};
 use std::alloc::{AllocError, Global};
 use std::io::{Error, ErrorKind, Read, Result, Write};
 use std::test::Fail;
@@ -82,13 +82,17 @@ fn odd_reader(input: &[u8]) -> OddReader<'_> {
     }
 }
 
-fn is_read_whole(alloc: Global, input: &[u8]) -> std::result::Result<bool, Failure> {
+fn is_read_whole(alloc: Global, input: &[u8]) -> std::result::Result<bool, WorkFault> {
     let text = read_input(alloc, &mut odd_reader(input))?;
     Ok(text.as_slice() == input)
 }
 
 // Whether an input is read past its bytes that are within the limits, and that in the last chunk.
-fn is_read_past(alloc: Global, input: &[u8], within: usize) -> std::result::Result<bool, Failure> {
+fn is_read_past(
+    alloc: Global,
+    input: &[u8],
+    within: usize,
+) -> std::result::Result<bool, WorkFault> {
     let mut reader = odd_reader(input);
     let text = read_input(alloc, &mut reader)?;
     let given = input.len().saturating_sub(reader.rest.len());

@@ -223,3 +223,9 @@ pub fn write_fault(text: &mut String, number: u64, fault: Fault) -> Result<(), A
     line.shown("fault", &fault)?;
     line.end(text)
 }
+
+impl fmt::Debug for JsonLine {
+    fn fmt<W: fmt::Write>(&self, f: &mut fmt::Formatter<W>) -> fmt::Result {
+        f.debug_struct("JsonLine").finish_non_exhaustive()
+    }
+}

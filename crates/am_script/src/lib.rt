@@ -12,7 +12,7 @@
 //!
 //! <!-- from crates/am_runner_tests/src/scripts.rt -->
 //! ```rust
-//! fn is_read_whole(alloc: Global, input: &[u8]) -> std::result::Result<bool, Failure> {
+//! fn is_read_whole(alloc: Global, input: &[u8]) -> std::result::Result<bool, WorkFault> {
 //!     let text = read_input(alloc, &mut odd_reader(input))?;
 //!     Ok(text.as_slice() == input)
 //! }
@@ -23,7 +23,6 @@
 
 mod advice;
 mod command;
-mod failure;
 mod input;
 mod json_line;
 mod kind;
@@ -40,10 +39,10 @@ mod put_alerts;
 mod put_reader;
 mod script;
 mod thread;
+mod work_fault;
 
 pub use advice::{config_advice, script_advice};
 pub use command::{Command, GivenMoment, Line, LineFault, Verb};
-pub use failure::Failure;
 pub use input::{CHUNK, read_input};
 pub use json_line::{JsonLine, write_fault};
 pub use kind::Kind;
@@ -54,3 +53,4 @@ pub use output::write_text;
 pub use put_alerts::PutAlerts;
 pub use script::{Fault, Refusal, ScriptFault, config_line, read_script};
 pub use thread::{THREADS, Thread};
+pub use work_fault::WorkFault;

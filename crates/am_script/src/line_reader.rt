@@ -19,6 +19,7 @@ use am_labels::PairBuffer;
 use json::Scratch;
 use serde_json::Value;
 use std::alloc::Global;
+use std::fmt;
 
 /// Reads lines one after another. The memory that reading one takes is kept for the next: 16 KiB, and as much as
 /// the longest line has bytes.
@@ -310,4 +311,10 @@ fn route_of(alloc: Global, value: &Value) -> Result<Command, LineFault>
 {
     let labels = labels_at(alloc, value)?;
     Ok(Command::Route { labels })
+}
+
+impl fmt::Debug for LineReader {
+    fn fmt<W: fmt::Write>(&self, f: &mut fmt::Formatter<W>) -> fmt::Result {
+        f.debug_struct("LineReader").finish_non_exhaustive()
+    }
 }

@@ -163,8 +163,8 @@ pub(crate) fn moment_at(value: &Value, name: &str) -> Result<Moment, LineFault>
     };
     match read_time(text) {
         Ok(Some(moment)) => Ok(moment),
-        Ok(None) | Err(TimeFault::BadTime) => Err(LineFault::BadLine),
         Err(TimeFault::NoMemory) => Err(LineFault::NoMemory),
+        Ok(None) | Err(_) => Err(LineFault::BadLine),
     }
 }
 

@@ -31,6 +31,7 @@
 
 mod block;
 mod builder;
+mod debug;
 mod joined_keys;
 mod key;
 mod key_run;

@@ -114,8 +114,8 @@ fn note_one(known: &mut KnownAlerts, alert: &UnjudgedAlert) -> Result<Option<usi
             let (place, _before) = known.insert_full(alert.labels.copy()?, alert)?;
             Ok(Some(place))
         }
-        Err(PartsFault::Invalid(_)) => Ok(None),
         Err(PartsFault::NoMemory) => Err(AllocError),
+        Err(_) => Ok(None),
     }
 }
 

@@ -12,6 +12,7 @@ use am_provider::Recorded;
 use am_runner::{Context, Session};
 use indexmap::IndexMap;
 use std::alloc::Global;
+use std::fmt;
 use std::marker::Model;
 use std::sync::Wait;
 
@@ -89,5 +90,11 @@ impl<'p, 'c, N: Recorded> LiveRun<'p, 'c, N> {
             pace: _,
         } = self;
         session
+    }
+}
+
+impl<'p, 'c, N: Recorded> fmt::Debug for LiveRun<'p, 'c, N> {
+    fn fmt<W: fmt::Write>(&self, f: &mut fmt::Formatter<W>) -> fmt::Result {
+        f.debug_struct("LiveRun").finish_non_exhaustive()
     }
 }

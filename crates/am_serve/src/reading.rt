@@ -7,7 +7,7 @@ ghost use Rattle.std.specs.Prelude.{◌≡◌, ◌≢◌, ℕ, List, IfOk, lengt
 ghost use Rattle.am_serve.specs.Reading.{IsNextAs, IsInputOf};
 ghost use Rattle.am_serve.specs.inside.Buffered.{Gives, GoesOn};
 
-use am_script::{Failure, LONGEST_LINE};
+use am_script::{LONGEST_LINE, WorkFault};
 use memchr::memchr;
 use std::alloc::Global;
 use std::io::{BufRead, ErrorKind};
@@ -58,7 +58,7 @@ enum Met {
 
 /// The next line of the input, if there is one. It waits for the line feed, or for the input's end. The
 /// bytes of a line that isn't kept are dropped as they are read. No contract says when a read fails.
-pub fn next_line<I: BufRead>(alloc: Global, input: &mut I) -> Result<Option<InputLine>, Failure>
+pub fn next_line<I: BufRead>(alloc: Global, input: &mut I) -> Result<Option<InputLine>, WorkFault>
     ensures { IfOk result (λ line. IsNextAs (I.remaining input.old) line (I.remaining input.new)) }
 {
     let mut line = InputLine::Read(Vec::new(alloc));
@@ -72,12 +72,12 @@ pub fn next_line<I: BufRead>(alloc: Global, input: &mut I) -> Result<Option<Inpu
             Met::Neither => {}
         }
     }
-    Err(Failure::Read)
+    Err(WorkFault::Read)
 }
 
 // Adds the input's buffered bytes up to their first line feed to the line, and consumes them with it. It
 // gives `Neither` where the line goes on: its buffer had no line feed, or the read was interrupted.
-fn take_buffered<I: BufRead>(input: &mut I, line: InputLine) -> Result<(InputLine, Met), Failure>
+fn take_buffered<I: BufRead>(input: &mut I, line: InputLine) -> Result<(InputLine, Met), WorkFault>
     ensures { IfOk result (Gives line (I.remaining input.old) (I.remaining input.new)) }
 {
     let buffered = match input.fill_buf() {
@@ -100,13 +100,13 @@ fn take_buffered<I: BufRead>(input: &mut I, line: InputLine) -> Result<(InputLin
 }
 
 // What a read's error leads to: an interrupted read is tried again.
-fn after(kind: ErrorKind, line: InputLine) -> Result<(InputLine, Met), Failure>
+fn after(kind: ErrorKind, line: InputLine) -> Result<(InputLine, Met), WorkFault>
     ensures { IfOk result (λ taken. (taken.0 ≡ line) × (taken.1 ≡ Met.Neither)) }
 {
     match kind {
         ErrorKind::Interrupted => Ok((line, Met::Neither)),
-        ErrorKind::OutOfMemory => Err(Failure::OutOfMemory),
-        _ => Err(Failure::Read),
+        ErrorKind::OutOfMemory => Err(WorkFault::OutOfMemory),
+        _ => Err(WorkFault::Read),
     }
 }
 

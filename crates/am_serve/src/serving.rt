@@ -12,7 +12,7 @@ use crate::live_run::LiveRun;
 use crate::reading::{InputLine, next_line};
 use am_provider::{Gate, Recorded};
 use am_runner::{Context, Form};
-use am_script::{Failure, LineReader, write_text};
+use am_script::{LineReader, WorkFault, write_text};
 use std::io::{BufRead, Write};
 use std::sync::Wait;
 
@@ -27,7 +27,7 @@ pub fn serve<'p, 'c, N: Recorded, R: Wait, G: Gate, I: BufRead, O: Write>(
     first: u64,
     input: &mut I,
     out: &mut O,
-) -> Result<(), Failure>
+) -> Result<(), WorkFault>
     ensures served { OnOk result (IsServed context.old.config
         (setting_of N.places N.policy context.old.provider.now.resolve_timeout) form first run.old
         (I.remaining input.old) (I.remaining input.new) (O.contents out.old) (O.contents out.new) run.new) }
@@ -43,7 +43,7 @@ pub fn serve<'p, 'c, N: Recorded, R: Wait, G: Gate, I: BufRead, O: Write>(
         serve_line(context, run, &mut reader, form, number, &line, out)?;
         run.compact_if_due(context);
     }
-    Err(Failure::Read)
+    Err(WorkFault::Read)
 }
 
 // Answers one line.
@@ -55,7 +55,7 @@ fn serve_line<'p, 'c, N: Recorded, R: Wait, G: Gate, O: Write>(
     number: u64,
     line: &InputLine,
     out: &mut O,
-) -> Result<(), Failure>
+) -> Result<(), WorkFault>
     ensures answers { OnOk result ((bytes : List ℕ) → IsInputOf bytes line.now → (more : List ℕ)
         × Answers context.old.config
         (setting_of N.places N.policy context.old.provider.now.resolve_timeout) form number bytes
@@ -70,6 +70,6 @@ fn serve_line<'p, 'c, N: Recorded, R: Wait, G: Gate, O: Write>(
     write_text(out, text.as_bytes())?;
     match out.flush() {
         Ok(()) => Ok(()),
-        Err(_) => Err(Failure::Write),
+        Err(_) => Err(WorkFault::Write),
     }
 }

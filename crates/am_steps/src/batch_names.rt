@@ -2,7 +2,7 @@
 use std::marker::Model;
 
 /// The names of batches, in order.
-#[derive(Drop)]
+#[derive(Debug, Drop)]
 pub struct BatchNames<N> {
     pub names: Vec<N>,
 }
@@ -19,7 +19,7 @@ impl<N> Model for BatchNames<N> {
 }
 
 /// A poster's own posts in order: each one's place and its batch's name.
-#[derive(Drop)]
+#[derive(Debug, Drop)]
 pub struct OwnPosts<N> {
     pub posts: Vec<(u64, N)>,
 }

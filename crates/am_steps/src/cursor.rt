@@ -2,7 +2,7 @@
 use crate::batch_names::BatchNames;
 
 /// What the reader of an open lane has passed and seen, and what it has answered.
-#[derive(Drop)]
+#[derive(Debug, Drop)]
 pub struct Cursor<N> {
     /// The number of places before it: the place at which it is.
     pub passed: u64,

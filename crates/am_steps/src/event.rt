@@ -2,7 +2,7 @@
 //! them is in `specs/Steps.antt`.
 
 /// One atomic step. `N` is what names a batch. Lanes and posters go by their numbers, from 0.
-#[derive(Drop)]
+#[derive(Debug, Drop)]
 pub enum Event<N> {
     /// The writer stores the tail word: the log grows by a batch.
     Publish(N),

@@ -19,7 +19,7 @@ use crate::lane_record::LaneRecord;
 use std::alloc::{AllocError, Global};
 
 /// A subscriber's slot, which at most one cursor uses at a time.
-#[derive(Drop)]
+#[derive(Debug, Drop)]
 pub enum Lane<N> {
     /// Nobody's.
     Idle,

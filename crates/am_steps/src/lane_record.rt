@@ -4,7 +4,7 @@ ghost use Rattle.am_steps.specs.inside.LaneRows.{keeps_key, may_cut};
 
 /// What the writer records of a lane that isn't idle. `known` and `key_out` are what the lane's
 /// word showed when the writer last found it.
-#[derive(Clone, Copy, Drop)]
+#[derive(Clone, Copy, Debug, Drop)]
 pub struct LaneRecord {
     /// The log's length when the lane was admitted.
     pub start: u64,

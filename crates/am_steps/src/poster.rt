@@ -8,7 +8,7 @@ use crate::batch_names::OwnPosts;
 use std::alloc::AllocError;
 
 /// What a poster knows of the log.
-#[derive(Drop)]
+#[derive(Debug, Drop)]
 pub struct Poster<N> {
     /// The log's length when it last looked.
     pub places_known: u64,

@@ -16,6 +16,7 @@ use crate::batch_names::OwnPosts;
 use crate::lane::Lane;
 use crate::poster::Poster;
 use std::alloc::{AllocError, Global};
+use std::fmt;
 use std::marker::Model;
 
 /// The core's state, with a number for each batch's name.
@@ -140,4 +141,14 @@ fn unaware_posters(alloc: Global, count: usize) -> Result<Vec<Poster<u64>>, Allo
         });
     }
     Ok(made)
+}
+
+impl fmt::Debug for State {
+    fn fmt<W: fmt::Write>(&self, f: &mut fmt::Formatter<W>) -> fmt::Result {
+        f.debug_struct("State")
+            .field("places", &self.places)
+            .field("log", &self.log)
+            .field("closed", &self.closed)
+            .finish_non_exhaustive()
+    }
 }

@@ -19,7 +19,7 @@ use std::collections::VecDeque;
 pub const MAX_BEFORE: u64 = 9_223_372_036_854_775_807;
 
 /// The accepted calls, of which the first may have been discarded.
-#[derive(Drop)]
+#[derive(Debug, Drop)]
 pub struct Journal {
     /// How many calls were discarded.
     pub before: u64,

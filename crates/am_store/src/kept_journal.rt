@@ -16,6 +16,7 @@ use crate::journal::{Journal, MAX_BEFORE};
 use crate::past::Past;
 use crate::shared_alerts::StoredAlerts;
 use std::alloc::{AllocError, Global};
+use std::fmt;
 use std::marker::Model;
 
 /// A journal, of which memory has as many calls as its last trim or compaction left. Contracts see it as trims
@@ -163,5 +164,13 @@ impl KeptJournal {
             before: _,
         } = self;
         held
+    }
+}
+
+impl fmt::Debug for KeptJournal {
+    fn fmt<W: fmt::Write>(&self, f: &mut fmt::Formatter<W>) -> fmt::Result {
+        f.debug_struct("KeptJournal")
+            .field("before", &self.before)
+            .finish_non_exhaustive()
     }
 }

@@ -11,7 +11,7 @@ use crate::shared_alerts::StoredAlerts;
 pub const LANES: usize = 8;
 
 /// A lane that has a subscription.
-#[derive(Drop)]
+#[derive(Debug, Drop)]
 pub struct OpenLane {
     /// How many calls there had been before the subscription.
     pub at: u64,

@@ -7,6 +7,7 @@
 ghost use Rattle.std.specs.Prelude.{◌≡◌};
 ghost use Rattle.std.specs.Borrow.{ftrue};
 
+use std::fmt;
 use std::marker::{Model, PhantomData, Send};
 
 /// A value that was: contracts read it, and no code. It takes no memory. It may be part of what goes to another
@@ -31,5 +32,11 @@ impl<T> Past<T> {
     {
         let _ = value;
         Past { of: PhantomData }
+    }
+}
+
+impl<T> fmt::Debug for Past<T> {
+    fn fmt<W: fmt::Write>(&self, f: &mut fmt::Formatter<W>) -> fmt::Result {
+        f.debug_struct("Past").finish_non_exhaustive()
     }
 }

@@ -18,7 +18,7 @@ use crate::reader::Reader;
 use am_alert::{Alert, Moment, Post};
 use am_labels::LabelSet;
 use am_provider::{
-    AlreadyClosed, Caller, Ended, NoGate, Page, PostRefused, Posted, PostedIf, Provider, PutFault,
+    BodyFault, Caller, CloseFault, Ended, NoGate, Page, Posted, PostedIf, Provider, PutFault,
     Recorded, SubFault,
 };
 use am_store::{SharedAlert, StoredAlerts};
@@ -67,7 +67,7 @@ impl<'p, N: Recorded> Client<'p, N> {
     }
 
     /// Reads a post's body, and then posts its valid alerts.
-    pub fn post<R: Wait>(&mut self, rt: &R, body: &[u8], now: Moment) -> Result<Posted, PostRefused>
+    pub fn post<R: Wait>(&mut self, rt: &R, body: &[u8], now: Moment) -> Result<Posted, BodyFault>
         ensures answers { AnswersBody N.policy N.places now (as_nanos self.old.provider.now.resolve_timeout)
             body.now self.old.caller.pass self.new.caller.pass self.old.caller.front self.new.caller.front
             result }
@@ -176,7 +176,7 @@ impl<'p, N: Recorded> Client<'p, N> {
     }
 
     /// Ends the log: no post and no reader is accepted from now on.
-    pub fn close<R: Wait>(&mut self, rt: &R) -> Result<(), AlreadyClosed>
+    pub fn close<R: Wait>(&mut self, rt: &R) -> Result<(), CloseFault>
         ensures sees { SeesCall self.old.caller.front self.new.caller.front (AnswersClose result) }
         ensures pass { self.new.caller.pass ≡ self.old.caller.pass }
         ensures same { (self.new.provider ≡ self.old.provider) × (self.new.limits ≡ self.old.limits) }

@@ -36,7 +36,7 @@ mod worker;
 pub use am_alert::{Alert, AlertParts, Moment, Post, PostFault, read_post};
 pub use am_labels::{LabelSet, Text};
 pub use am_provider::{
-    AlreadyClosed, Caller, Ended, Page, Policy, PostRefused, Posted, PostedIf, Provider, PutFault,
+    BodyFault, Caller, CloseFault, Ended, Page, Policy, Posted, PostedIf, Provider, PutFault,
     Recorded, Settled, SubFault, Subscription,
 };
 pub use am_store::{SharedAlert, StoredAlerts};

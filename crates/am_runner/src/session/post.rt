@@ -9,7 +9,7 @@ use crate::answer::{Answer, one};
 use crate::context::Context;
 use crate::session::Session;
 use am_alert::{AlertFault, Body, Moment, Post, PostFault};
-use am_provider::{Caller, Gate, PostRefused, Posted, Recorded};
+use am_provider::{BodyFault, Caller, Gate, Posted, Recorded};
 use am_script::{Command, PutAlerts};
 use am_store::LaneSet;
 use std::alloc::{AllocError, Global};
@@ -59,20 +59,20 @@ fn put_read<N: Recorded, R: Wait, G: Gate>(
     caller: &mut Caller<N>,
     at: Moment,
     read: Result<Post, PostFault>,
-) -> Result<Posted, PostRefused>
+) -> Result<Posted, BodyFault>
     ensures { AnswersRead (λ answer. answer ≡ read) N.policy N.places at
         caller.old.pass caller.new.pass caller.old.front caller.new.front result }
 {
     let post = match read {
         Ok(post) => post,
-        Err(fault) => return Err(PostRefused::Unread(fault)),
+        Err(fault) => return Err(BodyFault::Unread(fault)),
     };
     match context
         .provider
         .put(context.rt, caller, context.turns, post, at)
     {
         Ok(posted) => Ok(posted),
-        Err(fault) => Err(PostRefused::Put(fault)),
+        Err(fault) => Err(BodyFault::Put(fault)),
     }
 }
 

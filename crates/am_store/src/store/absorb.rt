@@ -21,7 +21,7 @@ use std::mem;
 use std::sync::Arc;
 
 /// What one report changed, kept to take it back.
-#[derive(Drop)]
+#[derive(Debug, Drop)]
 pub enum Change {
     /// The report began its label set, which is the last one.
     Added,
@@ -30,7 +30,7 @@ pub enum Change {
 }
 
 /// What the reports of a post became, and what they changed.
-#[derive(Drop)]
+#[derive(Debug, Drop)]
 pub struct Absorbed {
     /// What each became.
     pub batch: Vec<SharedAlert>,
