@@ -3,19 +3,14 @@
 //! One thread makes all calls, so that none waits. Each is made many times, and its least time counts: nearly all of
 //! that is spent under the provider's lock. Bodies are read before, outside of it.
 
-ghost use Rattle.std.specs.Prelude.{◌≡◌};
-ghost use Rattle.am_provider.specs.PartsOf.{AreOf};
-ghost use Rattle.am_provider.specs.declared.answers.Policy.TheVariants.{Refuse};
-
 use crate::failure::Failure;
 use crate::printed::Printed;
 use crate::provider::{PLACES, moment, write_four};
 use crate::stopwatch::since;
 use crate::words::number;
 use am_alert::{Moment, Post, PostReader};
-use am_provider::{Caller, NoGate, Parts, Policy, Provider, Recorded};
+use sinnoraku::{Client, Limits, Program, Recorded, run};
 use std::alloc::{AllocError, Global};
-use std::marker::Brand;
 use std::sync::Wait;
 use std::time::{Clock, Duration, Instant};
 
@@ -115,8 +110,7 @@ fn post_of(
 fn put<N: Recorded, R: Wait + Clock>(
     rt: &R,
     alloc: Global,
-    provider: &Provider<N>,
-    caller: &mut Caller<N>,
+    client: &mut Client<'_, N>,
     reader: &mut PostReader,
     first: u64,
     alerts: u64,
@@ -124,7 +118,7 @@ fn put<N: Recorded, R: Wait + Clock>(
     let now = moment(first);
     let post = post_of(alloc, reader, first, alerts, now)?;
     let begin = Instant::now(rt);
-    let put = provider.put(rt, caller, &NoGate, post, now);
+    let put = client.put(rt, post, now);
     let took = since(rt, begin);
     match put {
         Ok(_) => Ok(took),
@@ -136,16 +130,13 @@ fn put<N: Recorded, R: Wait + Clock>(
 fn put_often<N: Recorded, R: Wait + Clock>(
     rt: &R,
     alloc: Global,
-    provider: &Provider<N>,
-    caller: &mut Caller<N>,
+    client: &mut Client<'_, N>,
     reader: &mut PostReader,
     times: &mut Times,
 ) -> Result<(), Failure> {
     for at in 0..MANY {
-        note(
-            &mut times.put_one,
-            put(rt, alloc, provider, caller, reader, at, 1)?,
-        );
+        let took = put(rt, alloc, client, reader, at, 1)?;
+        note(&mut times.put_one, took);
     }
     Ok(())
 }
@@ -153,21 +144,20 @@ fn put_often<N: Recorded, R: Wait + Clock>(
 // Reads what is stored: one alert, a page of many, and all.
 fn read<N: Recorded, R: Wait + Clock>(
     rt: &R,
-    provider: &Provider<N>,
-    caller: &mut Caller<N>,
+    client: &mut Client<'_, N>,
     load: Load,
     times: &mut Times,
 ) -> Result<(), Failure> {
     let begin = Instant::now(rt);
-    let page = provider.stored_page(rt, caller, load.stored / 2, MANY)?;
+    let page = client.stored_page(rt, load.stored / 2, MANY)?;
     note(&mut times.page, since(rt, begin));
     if let Some(alert) = page.alerts.as_slice().first() {
         let begin = Instant::now(rt);
-        let _found = provider.get(rt, caller, &alert.labels)?;
+        let _found = client.get(rt, &alert.labels)?;
         note(&mut times.get, since(rt, begin));
     }
     let begin = Instant::now(rt);
-    let _stored = provider.stored(rt, caller)?;
+    let _stored = client.stored(rt)?;
     note(&mut times.stored, since(rt, begin));
     Ok(())
 }
@@ -175,18 +165,17 @@ fn read<N: Recorded, R: Wait + Clock>(
 // Subscribes, and leaves.
 fn subscribe<N: Recorded, R: Wait + Clock>(
     rt: &R,
-    provider: &Provider<N>,
-    caller: &mut Caller<N>,
+    client: &mut Client<'_, N>,
     times: &mut Times,
 ) -> Result<(), Failure> {
     let begin = Instant::now(rt);
-    let subscribed = provider.subscribe(rt, caller);
+    let subscribed = client.subscribe(rt);
     note(&mut times.subscribe, since(rt, begin));
     let Ok(subscription) = subscribed else {
         return Err(Failure::OutOfMemory);
     };
     let begin = Instant::now(rt);
-    let _ended = provider.leave(rt, caller, subscription);
+    let _ended = client.leave(rt, subscription);
     note(&mut times.leave, since(rt, begin));
     Ok(())
 }
@@ -195,20 +184,19 @@ fn subscribe<N: Recorded, R: Wait + Clock>(
 fn clear<N: Recorded, R: Wait + Clock>(
     rt: &R,
     alloc: Global,
-    provider: &Provider<N>,
-    caller: &mut Caller<N>,
+    client: &mut Client<'_, N>,
     reader: &mut PostReader,
     times: &mut Times,
 ) -> Result<(), Failure> {
     let begin = Instant::now(rt);
-    let _removed = provider.collect_resolved(rt, caller, moment(0))?;
+    let _removed = client.collect_resolved(rt, moment(0))?;
     note(&mut times.collect, since(rt, begin));
     let begin = Instant::now(rt);
-    let _dropped = provider.compact(rt, caller)?;
+    let _dropped = client.compact(rt)?;
     note(&mut times.compact, since(rt, begin));
-    put_often(rt, alloc, provider, caller, reader, times)?;
+    put_often(rt, alloc, client, reader, times)?;
     let begin = Instant::now(rt);
-    let _dropped = provider.trim(rt, caller)?;
+    let _dropped = client.trim(rt)?;
     note(&mut times.trim, since(rt, begin));
     Ok(())
 }
@@ -217,68 +205,43 @@ fn clear<N: Recorded, R: Wait + Clock>(
 fn store<N: Recorded, R: Wait + Clock>(
     rt: &R,
     alloc: Global,
-    provider: &Provider<N>,
-    caller: &mut Caller<N>,
+    client: &mut Client<'_, N>,
     reader: &mut PostReader,
     load: Load,
 ) -> Result<(), Failure> {
     for at in 0..load.stored / MANY + 1 {
-        let _took = put(
-            rt,
-            alloc,
-            provider,
-            caller,
-            reader,
-            at.wrapping_mul(MANY),
-            MANY,
-        )?;
+        let _took = put(rt, alloc, client, reader, at.wrapping_mul(MANY), MANY)?;
     }
-    let _dropped = provider.compact(rt, caller)?;
+    let _dropped = client.compact(rt)?;
     Ok(())
 }
 
-// Stores the alerts, and makes all calls.
-fn call<N: Recorded, R: Wait + Clock>(
-    rt: &R,
+/// A program that stores the alerts, and makes all calls.
+#[derive(Drop)]
+struct Calling {
     alloc: Global,
-    provider: &Provider<N>,
-    caller: &mut Caller<N>,
     load: Load,
-) -> Result<Times, Failure> {
-    let mut reader = PostReader::new(alloc);
-    let mut times = Times::NONE;
-    store(rt, alloc, provider, caller, &mut reader, load)?;
-    for _round in 0..ROUNDS {
-        put_often(rt, alloc, provider, caller, &mut reader, &mut times)?;
-        note(
-            &mut times.put_many,
-            put(rt, alloc, provider, caller, &mut reader, 0, MANY)?,
-        );
-        read(rt, provider, caller, load, &mut times)?;
-        subscribe(rt, provider, caller, &mut times)?;
-        clear(rt, alloc, provider, caller, &mut reader, &mut times)?;
-    }
-    Ok(times)
 }
 
-// Makes the calls of a new provider. Answers how many alerts were stored at its end, too.
-fn run<N: Recorded, R: Wait + Clock>(
-    rt: &R,
-    alloc: Global,
-    parts: Parts,
-    load: Load,
-) -> Result<(Times, u64), Failure>
-    requires parts { AreOf N.table N.name N.parts N.timeline N.entries N.holders parts }
-    requires limits { (parts.log.places ≡ N.places) × (Refuse ≡ N.policy) }
-{
-    let timeout = Duration::from_secs(300);
-    let (provider, mut callers) = Provider::<N>::begin(alloc, parts, Policy::Refuse, timeout)?;
-    let called = match callers.first_mut() {
-        Some(caller) => call(rt, alloc, &provider, caller, load),
-        None => Ok(Times::NONE),
-    };
-    let settled = provider.settle(rt, callers);
-    Ok((called?, settled.store.len() as u64))
+impl<R: Wait + Clock> Program<R> for Calling {
+    type Outcome = Result<Times, Failure>;
+
+    fn run<N: Recorded>(self, rt: &R, clients: &mut [Client<'_, N>]) -> Result<Times, Failure> {
+        let Calling { alloc, load } = self;
+        let client = &mut clients[0];
+        let mut reader = PostReader::new(alloc);
+        let mut times = Times::NONE;
+        store(rt, alloc, client, &mut reader, load)?;
+        for _round in 0..ROUNDS {
+            put_often(rt, alloc, client, &mut reader, &mut times)?;
+            let took = put(rt, alloc, client, &mut reader, 0, MANY)?;
+            note(&mut times.put_many, took);
+            read(rt, client, load, &mut times)?;
+            subscribe(rt, client, &mut times)?;
+            clear(rt, alloc, client, &mut reader, &mut times)?;
+        }
+        Ok(times)
+    }
 }
 
 /// Runs a load. It prints how many alerts were stored at the end; and to standard error the nanoseconds of each call.
@@ -288,9 +251,10 @@ pub(crate) fn time<R: Wait + Clock>(
     load: Load,
     printed: &mut Printed,
 ) -> Result<(), Failure> {
-    let parts = Parts::make(alloc, PLACES, 1)?;
-    let (times, stored) = run::<Brand, R>(rt, alloc, parts, load)?;
-    write!(printed.counts, "{stored}\n")?;
+    let limits = Limits::with_callers(1).places(PLACES);
+    let (times, settled) = run(rt, alloc, limits, Calling { alloc, load })?;
+    let times = times?;
+    write!(printed.counts, "{}\n", settled.store.len())?;
     let out = &mut printed.nanoseconds;
     write!(
         out,

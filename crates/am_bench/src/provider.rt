@@ -59,6 +59,17 @@ pub(crate) struct Measured {
     pub(crate) stored: u64,
 }
 
+impl Measured {
+    // Adds what one poster posted, and what one reader received.
+    fn add(&mut self, posted: Posted, shown: u64) {
+        let sum = &mut self.posted;
+        sum.accepted = sum.accepted.wrapping_add(posted.accepted);
+        sum.posting = sum.posting.wrapping_add(posted.posting);
+        sum.subscribing = sum.subscribing.wrapping_add(posted.subscribing);
+        self.shown = self.shown.wrapping_add(shown);
+    }
+}
+
 /// A moment that many nanoseconds after the beginning of 2024.
 pub(crate) fn moment(nanoseconds: u64) -> Moment {
     Moment::try_new(NEW_YEAR + u128::from(nanoseconds)).unwrap_or(Moment::MAX)
@@ -116,8 +127,7 @@ fn run<R: Threads + Wait + Clock + Sync>(
         let parts = Parts::make(alloc, PLACES, 1)?;
         return run_ready::<Brand, R>(rt, alloc, parts, posts, load);
     }
-    let parts = Parts::make(alloc, PLACES, load.posters + load.readers)?;
-    run_bytes::<Brand, R>(rt, alloc, parts, &bodies, load)
+    run_bytes(rt, alloc, &bodies, load)
 }
 
 /// Runs a load. It prints how many posts were accepted, how many alerts the readers received, and how

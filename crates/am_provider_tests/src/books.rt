@@ -4,7 +4,7 @@
 ghost use Rattle.std.specs.Prelude.{◌≡◌};
 
 use crate::bodies::{Report, moment, reports_body};
-use crate::days::Stopped;
+use crate::stopped::Stopped;
 use am_alert::{Alert, Moment, read_post};
 use am_labels::LabelSet;
 use am_provider::{Begun, Book, Cast, Counts, Ended, Origin, Parts, Pass, Policy, Settled, Step};

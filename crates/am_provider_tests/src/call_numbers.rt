@@ -2,21 +2,15 @@
 //! number that each caller reads off its front after a call is that call's number in the journal, counted
 //! from one.
 
-ghost use Rattle.std.specs.Prelude.{◌≡◌};
-ghost use Rattle.am_provider.specs.PartsOf.{AreOf};
-
 use crate::bodies::{body_of, moment};
-use crate::days::{Settings, Stopped, begin_day};
-use crate::many_threads::post_one;
+use crate::stopped::Stopped;
+use crate::tries::post_one;
 use am_alert::Moment;
-use am_provider::{Caller, Parts, Provider, Recorded, Settled, Subscription};
 use am_store::Call;
+use sinnoraku::{Caller, Client, Limits, Recorded, Settled, Subscription, Worker, run_workers};
 use std::alloc::{AllocError, Global};
-use std::marker::Brand;
-use std::sync::{Mutex, Wait};
+use std::sync::Wait;
 use std::test::Fail;
-use std::thread;
-use std::thread::Threads;
 
 // How many calls each thread makes.
 const EACH: u32 = 400;
@@ -64,39 +58,52 @@ impl Notes {
     }
 }
 
+/// Four threads that post, two that collect and four that subscribe.
+#[derive(Drop)]
+struct TenThreads;
+
+impl<R: Wait + AllocGlobal> Worker<R> for TenThreads {
+    /// What each noted.
+    type Outcome = Result<Notes, Stopped>;
+
+    fn work<N: Recorded>(&self, rt: &R, index: usize, client: &mut Client<'_, N>) -> Self::Outcome {
+        match index {
+            0 | 1 | 2 | 3 => post_each(rt, client, index as u32),
+            4 | 5 => collect_each(rt, client, index as u32),
+            _ => subscribe_each(rt, client),
+        }
+    }
+}
+
 // Posts, each time at a moment of its own.
-fn post_each<N: Recorded, R: Wait>(
+fn post_each<N: Recorded, R: Wait + AllocGlobal>(
     rt: &R,
-    alloc: Global,
-    provider: &Provider<N>,
-    caller: &mut Caller<N>,
+    client: &mut Client<'_, N>,
     thread: u32,
 ) -> Result<Notes, Stopped> {
-    let mut notes = Notes::new(alloc);
+    let mut notes = Notes::new(rt.alloc());
     for at in 0..EACH {
         let number = thread % THREADS * EACH + at;
-        let body = body_of(alloc, number)?;
-        if !post_one(rt, provider, caller, body.as_bytes(), moment(number)) {
+        let body = body_of(rt.alloc(), number)?;
+        if !post_one(rt, client, body.as_bytes(), moment(number)) {
             return Err(Stopped::Refused);
         }
-        notes.add(caller, Made::Posted(moment(number)))?;
+        notes.add(&client.caller, Made::Posted(moment(number)))?;
     }
     Ok(notes)
 }
 
 // Collects, each time at a moment of its own, when all that was posted is resolved.
-fn collect_each<N: Recorded, R: Wait>(
+fn collect_each<N: Recorded, R: Wait + AllocGlobal>(
     rt: &R,
-    alloc: Global,
-    provider: &Provider<N>,
-    caller: &mut Caller<N>,
+    client: &mut Client<'_, N>,
     thread: u32,
 ) -> Result<Notes, Stopped> {
-    let mut notes = Notes::new(alloc);
+    let mut notes = Notes::new(rt.alloc());
     for at in 0..EACH {
         let now = moment(5_000_000 + thread % THREADS * EACH + at);
-        provider.collect_resolved(rt, caller, now)?;
-        notes.add(caller, Made::Collected(now))?;
+        client.collect_resolved(rt, now)?;
+        notes.add(&client.caller, Made::Collected(now))?;
     }
     Ok(notes)
 }
@@ -109,72 +116,21 @@ fn read_some<N: Recorded>(subscription: &mut Subscription<'_, N>, turns: u32) {
 }
 
 // Subscribes, reads a while and leaves, again and again.
-fn subscribe_each<N: Recorded, R: Wait>(
+fn subscribe_each<N: Recorded, R: Wait + AllocGlobal>(
     rt: &R,
-    alloc: Global,
-    provider: &Provider<N>,
-    caller: &mut Caller<N>,
+    client: &mut Client<'_, N>,
 ) -> Result<Notes, Stopped> {
-    let mut notes = Notes::new(alloc);
+    let mut notes = Notes::new(rt.alloc());
     for turn in 0..EACH / 2 {
-        let mut subscription = provider.subscribe(rt, caller)?;
-        let lane = subscription.lane();
-        let came = notes.add(caller, Made::Subscribed(lane));
-        read_some(&mut subscription, turn % 20);
-        provider.leave(rt, caller, subscription);
+        let mut reader = client.subscribe(rt)?;
+        let lane = reader.subscription.lane();
+        let came = notes.add(&client.caller, Made::Subscribed(lane));
+        read_some(&mut reader.subscription, turn % 20);
+        client.leave(rt, reader);
         came?;
-        notes.add(caller, Made::Left(lane))?;
+        notes.add(&client.caller, Made::Left(lane))?;
     }
     Ok(notes)
-}
-
-// What each thread noted. What can't be kept for lack of memory is missing.
-fn ten_threads<N: Recorded + Send + Sync, R: Threads + Wait + Sync>(
-    rt: &R,
-    alloc: Global,
-    provider: &Provider<N>,
-    callers: &mut [Caller<N>],
-) -> Result<Vec<Result<Notes, Stopped>>, Stopped> {
-    let all = Mutex::new(Vec::new(alloc));
-    thread::for_each_mut(
-        rt,
-        callers,
-        10,
-        &|at, caller| {
-            let thread = (at % 10) as u32;
-            let notes = match thread {
-                0 | 1 | 2 | 3 => post_each(rt, alloc, provider, caller, thread),
-                4 | 5 => collect_each(rt, alloc, provider, caller, thread),
-                _ => subscribe_each(rt, alloc, provider, caller),
-            };
-            let _kept = all.lock(rt).push(notes);
-        },
-    );
-    Ok(all.into_inner())
-}
-
-fn ten_threads_over<N: Recorded + Send + Sync, R: Threads + Wait + Sync>(
-    rt: &R,
-    alloc: Global,
-    parts: Parts,
-    settings: Settings,
-) -> Result<(Vec<Result<Notes, Stopped>>, Settled), Stopped>
-    requires parts { AreOf N.table N.name N.parts N.timeline N.entries N.holders parts }
-    requires limits { (parts.log.places ≡ N.places) × (settings.policy ≡ N.policy) }
-{
-    let (provider, mut callers) = begin_day::<N>(alloc, parts, settings)?;
-    let outcome = ten_threads(rt, alloc, &provider, &mut callers);
-    let settled = provider.settle(rt, callers);
-    Ok((outcome?, settled))
-}
-
-fn ten_threads_of<R: Threads + Wait + Sync>(
-    rt: &R,
-    alloc: Global,
-    settings: Settings,
-) -> Result<(Vec<Result<Notes, Stopped>>, Settled), Stopped> {
-    let parts = settings.parts(alloc)?;
-    ten_threads_over::<Brand, R>(rt, alloc, parts, settings)
 }
 
 // How many of the noted calls are the journal's calls of their numbers. No call of the journal counts twice.
@@ -208,7 +164,8 @@ fn take(left: &mut [Option<Made>], number: u64) -> Option<Made> {
 
 #[test]
 fn numbers_of_calls_are_those_of_the_journal(rt: HostRuntime) -> Result<(), Fail> {
-    let (all, settled) = ten_threads_of(&rt, rt.alloc(), Settings::of(16, 10))?;
+    let limits = Limits::with_callers(THREADS).places(16);
+    let (all, settled) = run_workers(&rt, rt.alloc(), limits, &TenThreads)?;
     assert_eq!(rt; count_right(rt.alloc(), &settled, &all)?, 4_000);
     assert_eq!(rt; settled.journal.calls.len(), 4_000);
     assert_eq!(rt; settled.journal.before, 0);

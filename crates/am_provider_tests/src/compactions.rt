@@ -2,10 +2,10 @@
 //! however many posts come. Pages of the store, too.
 
 use crate::bodies::moment;
-use crate::days::{Day, Settings, Stopped, spend};
-use crate::stage::Stage;
+use crate::stopped::Stopped;
 use crate::trims::post_one;
-use am_provider::{Caller, Counts, Ended, Recorded, Step, Subscription};
+use am_provider::{Counts, Step, Subscription};
+use sinnoraku::{Client, Ended, Limits, Program, Recorded, run};
 use std::sync::Wait;
 use std::test::Fail;
 
@@ -29,20 +29,20 @@ struct WhileOpen {
     trimmed: u64,
 }
 
-fn while_open<N: Recorded, R: Wait>(
-    stage: &Stage<'_, N, R>,
-    caller: &mut Caller<N>,
+fn while_open<N: Recorded, R: Wait + AllocGlobal>(
+    rt: &R,
+    client: &mut Client<'_, N>,
     subscription: &mut Subscription<'_, N>,
 ) -> Result<WhileOpen, Stopped> {
     let shown = read_on(subscription);
-    post_one(stage, caller, 3)?;
-    let compacted = stage.provider.compact(stage.rt, caller)?;
-    post_one(stage, caller, 4)?;
+    post_one(rt, client, 3)?;
+    let compacted = client.compact(rt)?;
+    post_one(rt, client, 4)?;
     Ok(WhileOpen {
         shown,
         compacted,
         shown_later: read_on(subscription),
-        trimmed: stage.provider.trim(stage.rt, caller)?,
+        trimmed: client.trim(rt)?,
     })
 }
 
@@ -56,27 +56,24 @@ struct Compacted {
     at_last: u64,
 }
 
-#[derive(Clone, Copy, Drop)]
+#[derive(Drop)]
 struct Compacting;
 
-impl Day for Compacting {
-    type Outcome = Compacted;
+impl<R: Wait + AllocGlobal> Program<R> for Compacting {
+    type Outcome = Result<Compacted, Stopped>;
 
-    fn spend<N: Recorded, R: Wait>(
-        &self,
-        stage: &Stage<'_, N, R>,
-        caller: &mut Caller<N>,
-    ) -> Result<Compacted, Stopped> {
-        post_one(stage, caller, 1)?;
-        post_one(stage, caller, 2)?;
-        let mut subscription = stage.provider.subscribe(stage.rt, caller)?;
-        let open = while_open(stage, caller, &mut subscription);
-        let ended = stage.provider.leave(stage.rt, caller, subscription);
+    fn run<N: Recorded>(self, rt: &R, clients: &mut [Client<'_, N>]) -> Self::Outcome {
+        let client = &mut clients[0];
+        post_one(rt, client, 1)?;
+        post_one(rt, client, 2)?;
+        let mut reader = client.subscribe(rt)?;
+        let open = while_open(rt, client, &mut reader.subscription);
+        let ended = client.leave(rt, reader);
         Ok(Compacted {
             open: open?,
             ended,
-            trimmed: stage.provider.trim(stage.rt, caller)?,
-            at_last: stage.provider.compact(stage.rt, caller)?,
+            trimmed: client.trim(rt)?,
+            at_last: client.compact(rt)?,
         })
     }
 }
@@ -85,9 +82,14 @@ impl Day for Compacting {
 // subscription, which memory hasn't any more; then the other four calls.
 #[test]
 fn nobody_sees_a_compaction(rt: HostRuntime) -> Result<(), Fail> {
-    let (compacted, settled) = spend(&rt, rt.alloc(), Settings::of(4, 1), &Compacting)?;
+    let (compacted, settled) = run(
+        &rt,
+        rt.alloc(),
+        Limits::with_callers(1).places(4),
+        Compacting,
+    )?;
     assert_eq!(rt;
-        compacted,
+        compacted?,
         Compacted {
             open: WhileOpen {
                 shown: 2,
@@ -119,29 +121,29 @@ fn nobody_sees_a_compaction(rt: HostRuntime) -> Result<(), Fail> {
 }
 
 // Posts a thousand label sets, and answers how many of them the subscription showed.
-fn post_and_read<N: Recorded, R: Wait>(
-    stage: &Stage<'_, N, R>,
-    caller: &mut Caller<N>,
+fn post_and_read<N: Recorded, R: Wait + AllocGlobal>(
+    rt: &R,
+    client: &mut Client<'_, N>,
     subscription: &mut Subscription<'_, N>,
 ) -> Result<u32, Stopped> {
     let mut shown = 0u32;
     for number in 0..1_000u32 {
-        post_one(stage, caller, number)?;
+        post_one(rt, client, number)?;
         shown = shown.saturating_add(read_on(subscription));
     }
     Ok(shown)
 }
 
 // In how many turns the subscription showed a thousand alerts and a compaction took as many calls.
-fn turns<N: Recorded, R: Wait>(
-    stage: &Stage<'_, N, R>,
-    caller: &mut Caller<N>,
+fn turns<N: Recorded, R: Wait + AllocGlobal>(
+    rt: &R,
+    client: &mut Client<'_, N>,
     subscription: &mut Subscription<'_, N>,
 ) -> Result<u32, Stopped> {
-    let _begun = stage.provider.compact(stage.rt, caller)?;
+    let _begun = client.compact(rt)?;
     for turn in 0..20u32 {
-        let shown = post_and_read(stage, caller, subscription)?;
-        let compacted = stage.provider.compact(stage.rt, caller)?;
+        let shown = post_and_read(rt, client, subscription)?;
+        let compacted = client.compact(rt)?;
         if (shown, compacted) != (1_000, 1_000) {
             return Ok(turn);
         }
@@ -149,20 +151,17 @@ fn turns<N: Recorded, R: Wait>(
     Ok(20)
 }
 
-#[derive(Clone, Copy, Drop)]
+#[derive(Drop)]
 struct StandingReader;
 
-impl Day for StandingReader {
-    type Outcome = (u32, Ended);
+impl<R: Wait + AllocGlobal> Program<R> for StandingReader {
+    type Outcome = Result<(u32, Ended), Stopped>;
 
-    fn spend<N: Recorded, R: Wait>(
-        &self,
-        stage: &Stage<'_, N, R>,
-        caller: &mut Caller<N>,
-    ) -> Result<(u32, Ended), Stopped> {
-        let mut subscription = stage.provider.subscribe(stage.rt, caller)?;
-        let turns = turns(stage, caller, &mut subscription);
-        let ended = stage.provider.leave(stage.rt, caller, subscription);
+    fn run<N: Recorded>(self, rt: &R, clients: &mut [Client<'_, N>]) -> Self::Outcome {
+        let client = &mut clients[0];
+        let mut reader = client.subscribe(rt)?;
+        let turns = turns(rt, client, &mut reader.subscription);
+        let ended = client.leave(rt, reader);
         Ok((turns?, ended))
     }
 }
@@ -171,7 +170,9 @@ impl Day for StandingReader {
 // last one, so memory has never more than a thousand; and the subscription is given back with all that it was owed.
 #[test]
 fn few_calls_are_in_memory_while_a_reader_stays(rt: HostRuntime) -> Result<(), Fail> {
-    let ((turns, ended), settled) = spend(&rt, rt.alloc(), Settings::of(4, 1), &StandingReader)?;
+    let limits = Limits::with_callers(1).places(4);
+    let (outcome, settled) = run(&rt, rt.alloc(), limits, StandingReader)?;
+    let (turns, ended) = outcome?;
     assert_eq!(rt; turns, 20);
     assert_eq!(rt;
         ended,
@@ -201,12 +202,12 @@ fn few_calls_are_in_memory_while_a_reader_stays(rt: HostRuntime) -> Result<(), F
 type Said = (usize, Option<u32>, u64, u64);
 
 fn page<N: Recorded, R: Wait>(
-    stage: &Stage<'_, N, R>,
-    caller: &mut Caller<N>,
+    rt: &R,
+    client: &mut Client<'_, N>,
     from: u64,
     most: u64,
 ) -> Result<Said, Stopped> {
-    let page = stage.provider.stored_page(stage.rt, caller, from, most)?;
+    let page = client.stored_page(rt, from, most)?;
     let alerts = page.alerts.as_slice();
     let first = match alerts.first() {
         Some(alert) => alert.labels.get("n").parse::<u32>().ok(),
@@ -215,37 +216,32 @@ fn page<N: Recorded, R: Wait>(
     Ok((alerts.len(), first, page.stored, page.calls))
 }
 
-#[derive(Clone, Copy, Drop)]
+#[derive(Drop)]
 struct Paging;
 
-impl Day for Paging {
-    type Outcome = [Said; 5];
+impl<R: Wait + AllocGlobal> Program<R> for Paging {
+    type Outcome = Result<[Said; 5], Stopped>;
 
-    fn spend<N: Recorded, R: Wait>(
-        &self,
-        stage: &Stage<'_, N, R>,
-        caller: &mut Caller<N>,
-    ) -> Result<[Said; 5], Stopped> {
+    fn run<N: Recorded>(self, rt: &R, clients: &mut [Client<'_, N>]) -> Self::Outcome {
+        let client = &mut clients[0];
         for number in 0..5u32 {
-            post_one(stage, caller, number)?;
+            post_one(rt, client, number)?;
         }
-        let first = page(stage, caller, 0, 2)?;
-        let last = page(stage, caller, 4, 2)?;
-        let past = page(stage, caller, 9, 2)?;
-        let none = page(stage, caller, 0, 0)?;
-        stage
-            .provider
-            .collect_resolved(stage.rt, caller, moment(9_000))?;
-        let empty = page(stage, caller, 0, 2)?;
+        let first = page(rt, client, 0, 2)?;
+        let last = page(rt, client, 4, 2)?;
+        let past = page(rt, client, 9, 2)?;
+        let none = page(rt, client, 0, 0)?;
+        client.collect_resolved(rt, moment(9_000))?;
+        let empty = page(rt, client, 0, 2)?;
         Ok([first, last, past, none, empty])
     }
 }
 
 #[test]
 fn a_page_says_what_it_is_of(rt: HostRuntime) -> Result<(), Fail> {
-    let (said, _settled) = spend(&rt, rt.alloc(), Settings::of(256, 1), &Paging)?;
+    let (said, _settled) = run(&rt, rt.alloc(), Limits::with_callers(1).places(256), Paging)?;
     assert_eq!(rt;
-        said,
+        said?,
         [
             (2, Some(0), 5, 5),
             (1, Some(4), 5, 5),

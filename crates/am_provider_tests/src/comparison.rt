@@ -3,11 +3,12 @@
 ghost use Rattle.std.specs.Prelude.{◌<◌};
 
 use crate::bodies::{Report, moment, reports_body};
-use crate::days::{Day, Settings, Stopped, spend};
 use crate::plain_store::{absorb_each, remove_resolved};
-use crate::stage::Stage;
+use crate::posts::post;
+use crate::stopped::Stopped;
 use am_alert::{Alert, read_post};
-use am_provider::{Caller, Recorded, Step, Subscription};
+use am_provider::{Step, Subscription};
+use sinnoraku::{Client, Limits, Program, Recorded, run};
 use std::alloc::{AllocError, Global};
 use std::sync::Wait;
 use std::test::Fail;
@@ -63,97 +64,93 @@ fn skip<N: Recorded>(subscription: &mut Subscription<'_, N>, count: u64) {
 
 // Whether the provider stores exactly these alerts.
 fn stores<N: Recorded, R: Wait>(
-    stage: &Stage<'_, N, R>,
-    caller: &mut Caller<N>,
+    rt: &R,
+    client: &mut Client<'_, N>,
     alerts: &[Alert],
 ) -> Result<bool, Stopped> {
-    let mut subscription = stage.provider.subscribe(stage.rt, caller)?;
-    let shown = shows(&mut subscription, alerts);
-    stage.provider.leave(stage.rt, caller, subscription);
+    let mut reader = client.subscribe(rt)?;
+    let shown = shows(&mut reader.subscription, alerts);
+    client.leave(rt, reader);
     Ok(shown)
 }
 
 // Whether the provider sends out exactly these alerts for a post.
 fn sends<N: Recorded, R: Wait>(
-    stage: &Stage<'_, N, R>,
-    caller: &mut Caller<N>,
+    rt: &R,
+    client: &mut Client<'_, N>,
     body: &[u8],
     now: u32,
     batch: &[Alert],
 ) -> Result<bool, Stopped> {
-    let mut subscription = stage.provider.subscribe(stage.rt, caller)?;
-    let opening = subscription.opening();
-    skip(&mut subscription, opening);
-    let posted = stage.post(caller, body, now);
-    let shown = shows(&mut subscription, batch);
-    stage.provider.leave(stage.rt, caller, subscription);
+    let mut reader = client.subscribe(rt)?;
+    let opening = reader.subscription.opening();
+    skip(&mut reader.subscription, opening);
+    let posted = post(rt, client, body, now);
+    let shown = shows(&mut reader.subscription, batch);
+    client.leave(rt, reader);
     posted?;
     Ok(shown)
 }
 
 // What the list makes of a body.
-fn batch_of<N: Recorded, R: Wait>(
-    stage: &Stage<'_, N, R>,
+fn batch_of(
+    alloc: Global,
+    limits: Limits,
     list: &mut Vec<Alert>,
     body: &[u8],
     now: u32,
 ) -> Result<Vec<Alert>, Stopped> {
     let now = moment(now);
-    let Ok(post) = read_post(stage.alloc, body, now, stage.provider.resolve_timeout) else {
+    let Ok(post) = read_post(alloc, body, now, limits.resolve_timeout) else {
         return Err(Stopped::Refused);
     };
-    Ok(absorb_each(stage.alloc, list, post.valid.as_slice(), now)?)
+    Ok(absorb_each(alloc, list, post.valid.as_slice(), now)?)
 }
 
 // Whether both take a post alike, and store the same after it. Some posts come late.
-fn agree_on_a_post<N: Recorded, R: Wait>(
-    stage: &Stage<'_, N, R>,
-    caller: &mut Caller<N>,
+fn agree_on_a_post<N: Recorded, R: Wait + AllocGlobal>(
+    rt: &R,
+    client: &mut Client<'_, N>,
     list: &mut Vec<Alert>,
     seed: &mut u64,
     now: u32,
 ) -> Result<bool, Stopped> {
     let late = now.saturating_sub(below(seed, 20));
-    let body = next_body(stage.alloc, seed, now)?;
-    let batch = batch_of(stage, list, body.as_bytes(), late)?;
-    let sent = sends(stage, caller, body.as_bytes(), late, &batch)?;
-    Ok(sent && stores(stage, caller, list)?)
+    let body = next_body(rt.alloc(), seed, now)?;
+    let batch = batch_of(rt.alloc(), client.limits, list, body.as_bytes(), late)?;
+    let sent = sends(rt, client, body.as_bytes(), late, &batch)?;
+    Ok(sent && stores(rt, client, list)?)
 }
 
 // Whether a collection removes what the list loses, and the provider stores what is left.
 fn agree_on_a_collection<N: Recorded, R: Wait>(
-    stage: &Stage<'_, N, R>,
-    caller: &mut Caller<N>,
+    rt: &R,
+    client: &mut Client<'_, N>,
     list: &mut Vec<Alert>,
     now: u32,
 ) -> Result<bool, Stopped> {
     let want = remove_resolved(list, moment(now));
-    let removed = stage
-        .provider
-        .collect_resolved(stage.rt, caller, moment(now))?;
-    Ok(removed == want && stores(stage, caller, list)?)
+    let removed = client.collect_resolved(rt, moment(now))?;
+    Ok(removed == want && stores(rt, client, list)?)
 }
 
-#[derive(Clone, Copy, Drop)]
+#[derive(Drop)]
 struct BesideAList;
 
 // How many turns went alike.
-impl Day for BesideAList {
-    type Outcome = u32;
+impl<R: Wait + AllocGlobal> Program<R> for BesideAList {
+    type Outcome = Result<u32, Stopped>;
 
-    fn spend<N: Recorded, R: Wait>(
-        &self,
-        stage: &Stage<'_, N, R>,
-        caller: &mut Caller<N>,
-    ) -> Result<u32, Stopped> {
-        let mut list = Vec::new(stage.alloc);
+    fn run<N: Recorded>(self, rt: &R, clients: &mut [Client<'_, N>]) -> Self::Outcome {
+        let client = &mut clients[0];
+        let mut list = Vec::new(rt.alloc());
         let mut seed = 1;
         for turn in 0..TURNS {
             let now = turn * 10;
-            if !agree_on_a_post(stage, caller, &mut list, &mut seed, now)? {
+            if !agree_on_a_post(rt, client, &mut list, &mut seed, now)? {
                 return Ok(turn);
             }
-            if turn % 7 == 0 && !agree_on_a_collection(stage, caller, &mut list, now)? {
+            if turn % 7 == 0 && !agree_on_a_collection(rt, client, &mut list, now)? {
                 return Ok(turn);
             }
         }
@@ -163,10 +160,11 @@ impl Day for BesideAList {
 
 #[test]
 fn agrees_with_a_plain_list(rt: HostRuntime) -> Result<(), Fail> {
-    let mut settings = Settings::of(4, 2);
-    settings.resolve_timeout = Duration::from_secs(30);
-    let (turns, settled) = spend(&rt, rt.alloc(), settings, &BesideAList)?;
-    assert_eq!(rt; turns, TURNS);
+    let limits = Limits::with_callers(2)
+        .places(4)
+        .resolve_timeout(Duration::from_secs(30));
+    let (turns, settled) = run(&rt, rt.alloc(), limits, BesideAList)?;
+    assert_eq!(rt; turns?, TURNS);
     assert!(rt; settled.complete);
     Ok(())
 }

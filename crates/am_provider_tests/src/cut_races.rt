@@ -1,19 +1,16 @@
 //! A poster against one reader, at one place in a log that cuts who is slow: however the two meet, the
 //! reader is shown the first of what was posted, and then at most one cut.
 
-ghost use Rattle.std.specs.Prelude.{◌≡◌};
-ghost use Rattle.am_provider.specs.PartsOf.{AreOf};
-
 use crate::bodies::{body_of, moment};
-use crate::days::{Settings, Stopped, begin_day};
 use crate::shown::is_front;
+use crate::stopped::Stopped;
 use am_alert::Moment;
-use am_provider::{Caller, NoGate, Parts, Policy, Provider, Recorded, Settled, Step, Subscription};
+use am_provider::Step;
 use am_store::LaneSet;
+use sinnoraku::{Client, Limits, Policy, Recorded, Settled, Subscription, Worker, run_workers};
 use std::alloc::{AllocError, Global};
-use std::marker::Brand;
-use std::sync::Wait;
 use std::sync::atomic::{AtomicU8, Ordering};
+use std::sync::{Barrier, Wait};
 use std::test::Fail;
 use std::thread;
 use std::thread::Threads;
@@ -35,53 +32,114 @@ struct Told {
     end: End,
 }
 
-/// What one round showed.
+/// What one of both did.
 #[derive(Drop)]
-struct Round {
+enum Part {
+    Posted(Posted),
+    Read(Result<Reading, Stopped>),
+}
+
+/// How many bodies were accepted, and how many of them cut the reader.
+#[derive(Clone, Copy, Drop)]
+struct Posted {
+    placed: usize,
+    cuts: usize,
+}
+
+/// What the reader was shown.
+#[derive(Drop)]
+struct Reading {
     told: Told,
     // Whether the end stayed as it was answered.
     stays: bool,
-    // How many alerts were posted, and how many posts cut the reader.
-    placed: usize,
-    cuts: usize,
     // Whether the reader was cut, whether or not `next` answered so.
     ended_cut: bool,
 }
 
-// Waits for the reader to begin, but not for long, and then for `turns` turns more.
-fn wait_for(began: &AtomicU8, turns: u32) {
-    for _turn in 0..100_000u32 {
-        if began.load(Ordering::SeqCst) == 1 {
-            break;
+/// One round of a poster and then a reader: these bodies, and how many turns the poster waits before each.
+#[derive(Drop)]
+struct Race<'a> {
+    bodies: &'a [String],
+    turns: u32,
+    // Both meet once the reader has subscribed, and once all is posted.
+    meeting: Barrier,
+    began: AtomicU8,
+}
+
+impl<'a, R: Wait + AllocGlobal> Worker<R> for Race<'a> {
+    type Outcome = Part;
+
+    fn work<N: Recorded>(&self, rt: &R, index: usize, client: &mut Client<'_, N>) -> Part {
+        if index == 0 {
+            Part::Posted(self.post_all(rt, client))
+        } else {
+            Part::Read(self.read(rt, client))
         }
-    }
-    for _turn in 0..turns {
-        let _began = began.load(Ordering::SeqCst);
     }
 }
 
-// Posts these bodies, and closes. Answers how many were accepted, and how many of them cut the reader.
-fn post_all<N: Recorded, R: Wait>(
-    rt: &R,
-    provider: &Provider<N>,
-    caller: &mut Caller<N>,
-    bodies: &[String],
-    began: &AtomicU8,
-    turns: u32,
-) -> (usize, usize) {
-    let mut placed: usize = 0;
-    let mut cuts: usize = 0;
-    for body in bodies {
-        wait_for(began, turns);
-        if let Ok(posted) = provider.post(rt, caller, &NoGate, body.as_bytes(), moment(9)) {
-            placed = placed.wrapping_add(1);
-            if posted.cut == LaneSet::EMPTY.with(0) {
-                cuts = cuts.wrapping_add(1);
+impl<'a> Race<'a> {
+    // Posts the bodies once the reader has subscribed, and closes.
+    fn post_all<N: Recorded, R: Wait>(&self, rt: &R, client: &mut Client<'_, N>) -> Posted {
+        let mut placed: usize = 0;
+        let mut cuts: usize = 0;
+        self.meeting.wait(rt);
+        for body in self.bodies {
+            self.wait();
+            if let Ok(posted) = client.post(rt, body.as_bytes(), moment(9)) {
+                placed = placed.wrapping_add(1);
+                if posted.cut == LaneSet::EMPTY.with(0) {
+                    cuts = cuts.wrapping_add(1);
+                }
             }
         }
+        let _closed = client.close(rt);
+        self.meeting.wait(rt);
+        Posted { placed, cuts }
     }
-    let _closed = provider.close(rt, caller);
-    (placed, cuts)
+
+    // Waits for the reader to begin, but not for long, and then for some turns more.
+    fn wait(&self) {
+        for _turn in 0..100_000u32 {
+            if self.began.load(Ordering::SeqCst) == 1 {
+                break;
+            }
+        }
+        for _turn in 0..self.turns {
+            let _began = self.began.load(Ordering::SeqCst);
+        }
+    }
+
+    // Subscribes and reads. Once all is posted, asks again and leaves.
+    fn read<N: Recorded, R: Wait + AllocGlobal>(
+        &self,
+        rt: &R,
+        client: &mut Client<'_, N>,
+    ) -> Result<Reading, Stopped> {
+        let subscribed = client.subscribe(rt);
+        self.meeting.wait(rt);
+        let mut reader = match subscribed {
+            Ok(reader) => reader,
+            Err(fault) => {
+                self.meeting.wait(rt);
+                return Err(Stopped::from(fault));
+            }
+        };
+        self.began.store(1, Ordering::SeqCst);
+        let told = read_all(rt.alloc(), &mut reader.subscription);
+        self.meeting.wait(rt);
+        let end = match &told {
+            Ok(told) => told.end,
+            Err(_) => End::Nothing,
+        };
+        let stays = stays(&mut reader.subscription, end);
+        let ended = client.leave(rt, reader);
+        Ok(Reading {
+            told: told?,
+            stays,
+            ended_cut: ended.cut,
+        })
+    }
 }
 
 // Lets other threads run at some turns.
@@ -95,10 +153,8 @@ fn rest(turn: u32) {
 fn read_all<N: Recorded>(
     alloc: Global,
     subscription: &mut Subscription<'_, N>,
-    began: &AtomicU8,
 ) -> Result<Told, AllocError> {
     let mut starts = Vec::new(alloc);
-    began.store(1, Ordering::SeqCst);
     for turn in 0..1_000_000_000u32 {
         match subscription.next() {
             Step::Item(alert) => starts.push(alert.start)?,
@@ -138,101 +194,43 @@ fn stays<N: Recorded>(subscription: &mut Subscription<'_, N>, end: End) -> bool 
     true
 }
 
-/// One round: these bodies, and how many turns the poster waits before each.
-#[derive(Clone, Copy, Drop)]
-struct Race<'a> {
-    bodies: &'a [String],
-    turns: u32,
-}
-
-fn run_race<N: Recorded + Send + Sync, R: Threads + Wait + Sync>(
-    rt: &R,
-    alloc: Global,
-    provider: &Provider<N>,
-    callers: &mut [Caller<N>],
-    race: &Race<'_>,
-) -> Result<Round, Stopped> {
-    let (poster, others) = callers.split_first_mut().ok_or(Stopped::Refused)?;
-    let reader = others.first_mut().ok_or(Stopped::Refused)?;
-    let Race { bodies, turns } = *race;
-    let mut subscription = provider.subscribe(rt, reader)?;
-    let began = AtomicU8::new(0);
-    let shared = &began;
-    let lent = &mut subscription;
-    let ((placed, cuts), told) = thread::join(
-        rt,
-        move || post_all(rt, provider, poster, bodies, shared, turns),
-        move || read_all(alloc, lent, shared),
-    );
-    let end = match &told {
-        Ok(told) => told.end,
-        Err(_) => End::Nothing,
-    };
-    let stays = stays(&mut subscription, end);
-    let ended = provider.leave(rt, reader, subscription);
-    Ok(Round {
-        told: told?,
-        stays,
-        placed,
-        cuts,
-        ended_cut: ended.cut,
-    })
-}
-
-fn race_over<N: Recorded + Send + Sync, R: Threads + Wait + Sync>(
-    rt: &R,
-    alloc: Global,
-    parts: Parts,
-    settings: Settings,
-    race: &Race<'_>,
-) -> Result<(Round, Settled), Stopped>
-    requires parts { AreOf N.table N.name N.parts N.timeline N.entries N.holders parts }
-    requires limits { (parts.log.places ≡ N.places) × (settings.policy ≡ N.policy) }
-{
-    let (provider, mut callers) = begin_day::<N>(alloc, parts, settings)?;
-    let outcome = run_race(rt, alloc, &provider, &mut callers, race);
-    let settled = provider.settle(rt, callers);
-    Ok((outcome?, settled))
-}
-
-fn race_of<R: Threads + Wait + Sync>(
-    rt: &R,
-    alloc: Global,
-    settings: Settings,
-    race: &Race<'_>,
-) -> Result<(Round, Settled), Stopped> {
-    let parts = settings.parts(alloc)?;
-    race_over::<Brand, R>(rt, alloc, parts, settings, race)
-}
-
 // Whether a round is as it has to be, with that many bodies to post.
-fn is_right(round: &Round, settled: &Settled, bodies: usize) -> bool {
-    if round.placed != bodies || !settled.complete || !round.stays {
+fn is_right(posted: Posted, reading: &Reading, settled: &Settled, bodies: usize) -> bool {
+    let Posted { placed, cuts } = posted;
+    if placed != bodies || !settled.complete || !reading.stays {
         return false;
     }
-    if !is_front(settled, &round.told.starts) {
+    let Told { starts, end } = &reading.told;
+    if !is_front(settled, starts) {
         return false;
     }
-    match round.told.end {
-        End::Cut => round.ended_cut && round.cuts == 1,
-        End::Closed => {
-            !round.ended_cut && round.cuts == 0 && round.told.starts.len() == round.placed
-        }
+    match *end {
+        End::Cut => reading.ended_cut && cuts == 1,
+        End::Closed => !reading.ended_cut && cuts == 0 && starts.len() == placed,
         End::Nothing => false,
     }
 }
 
 // Whether a round was as it has to be.
-fn is_right_round<R: Threads + Wait + Sync>(
+fn is_right_round<R: Threads + Wait + AllocGlobal + Sync>(
     rt: &R,
-    alloc: Global,
     bodies: &[String],
     turns: u32,
 ) -> Result<bool, Stopped> {
-    let mut settings = Settings::of(1, 2);
-    settings.policy = Policy::Cut;
-    let (round, settled) = race_of(rt, alloc, settings, &Race { bodies, turns })?;
-    Ok(is_right(&round, &settled, bodies.len()))
+    let race = Race {
+        bodies,
+        turns,
+        meeting: Barrier::new(2),
+        began: AtomicU8::new(0),
+    };
+    let limits = Limits::with_callers(2).places(1).policy(Policy::Cut);
+    let (parts, settled) = run_workers(rt, rt.alloc(), limits, &race)?;
+    match parts.as_slice() {
+        [Part::Posted(posted), Part::Read(Ok(reading))] => {
+            Ok(is_right(*posted, reading, &settled, bodies.len()))
+        }
+        _ => Ok(false),
+    }
 }
 
 // Four bodies to post.
@@ -245,11 +243,11 @@ fn four_bodies(alloc: Global) -> Result<Vec<String>, AllocError> {
 }
 
 // How many rounds were as they have to be.
-fn right_rounds<R: Threads + Wait + Sync>(rt: &R, alloc: Global) -> Result<u32, Stopped> {
-    let bodies = four_bodies(alloc)?;
+fn right_rounds<R: Threads + Wait + AllocGlobal + Sync>(rt: &R) -> Result<u32, Stopped> {
+    let bodies = four_bodies(rt.alloc())?;
     let mut right: u32 = 0;
     for round in 0..ROUNDS {
-        if is_right_round(rt, alloc, &bodies, round % 1_000)? {
+        if is_right_round(rt, &bodies, round % 1_000)? {
             right = right.wrapping_add(1);
         }
     }
@@ -258,6 +256,6 @@ fn right_rounds<R: Threads + Wait + Sync>(rt: &R, alloc: Global) -> Result<u32, 
 
 #[test]
 fn cut_races(rt: HostRuntime) -> Result<(), Fail> {
-    assert_eq!(rt; right_rounds(&rt, rt.alloc())?, ROUNDS);
+    assert_eq!(rt; right_rounds(&rt)?, ROUNDS);
     Ok(())
 }

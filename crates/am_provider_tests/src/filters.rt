@@ -1,10 +1,10 @@
 //! Posts whose alerts a filter judges before they are stored: of as many alerts as a post may have.
 
 use crate::bodies::{Report, moment, reports_body};
-use crate::days::{Day, Settings, Stopped, spend};
-use crate::stage::Stage;
+use crate::stopped::Stopped;
 use am_alert::{Alert, MAX_ALERTS, Moment, Post, read_post};
-use am_provider::{Caller, Counts, NoGate, PostedIf, PutFault, Recorded};
+use am_provider::Counts;
+use sinnoraku::{Client, Limits, PostedIf, Program, PutFault, Recorded, run};
 use std::alloc::{AllocError, Global};
 use std::sync::Wait;
 use std::test::Fail;
@@ -46,27 +46,23 @@ fn judged(answer: Result<PostedIf, PutFault>) -> Result<Judged, Stopped> {
 }
 
 // Posts the most reports through a filter that lets in `LIMIT` new label sets.
-fn post_most<N: Recorded, R: Wait>(
-    stage: &Stage<'_, N, R>,
-    caller: &mut Caller<N>,
+fn post_most<N: Recorded, R: Wait + AllocGlobal>(
+    rt: &R,
+    client: &mut Client<'_, N>,
 ) -> Result<Judged, Stopped> {
-    let reports = most_reports(stage.alloc)?;
-    let post = read(stage.alloc, reports.as_slice(), 10)?;
+    let reports = most_reports(rt.alloc())?;
+    let post = read(rt.alloc(), reports.as_slice(), 10)?;
     let mut left = LIMIT;
-    judged(
-        stage.provider.put_if(
-            stage.rt,
-            caller,
-            &NoGate,
-            post,
-            moment(10),
-            &mut |_alert: &Alert, first: bool| -> bool {
-                let accepts = !first || left > 0;
-                left = left.saturating_sub(1);
-                accepts
-            },
-        ),
-    )
+    judged(client.put_if(
+        rt,
+        post,
+        moment(10),
+        &mut |_alert: &Alert, first: bool| -> bool {
+            let accepts = !first || left > 0;
+            left = left.saturating_sub(1);
+            accepts
+        },
+    ))
 }
 
 // Whether a filter is shown an alert of these times, which isn't new.
@@ -76,56 +72,45 @@ fn sees_merged(alert: &Alert, first: bool, start: Moment, end: Moment) -> bool {
 
 // Posts a report of a label set that is stored from 10 to 20, through a filter that lets it in only if it is
 // shown what becomes of both.
-fn post_longer<N: Recorded, R: Wait>(
-    stage: &Stage<'_, N, R>,
-    caller: &mut Caller<N>,
+fn post_longer<N: Recorded, R: Wait + AllocGlobal>(
+    rt: &R,
+    client: &mut Client<'_, N>,
 ) -> Result<Judged, Stopped> {
-    let post = read(stage.alloc, &[Report::new(0, 15, 40)], 15)?;
+    let post = read(rt.alloc(), &[Report::new(0, 15, 40)], 15)?;
     let (start, end) = (moment(10), moment(40));
-    judged(
-        stage.provider.put_if(
-            stage.rt,
-            caller,
-            &NoGate,
-            post,
-            moment(15),
-            &mut |alert: &Alert, first: bool| -> bool { sees_merged(alert, first, start, end) },
-        ),
-    )
+    judged(client.put_if(
+        rt,
+        post,
+        moment(15),
+        &mut |alert: &Alert, first: bool| -> bool { sees_merged(alert, first, start, end) },
+    ))
 }
 
 // Posts a report of a new label set twice, through a filter that lets nothing in.
-fn post_none<N: Recorded, R: Wait>(
-    stage: &Stage<'_, N, R>,
-    caller: &mut Caller<N>,
+fn post_none<N: Recorded, R: Wait + AllocGlobal>(
+    rt: &R,
+    client: &mut Client<'_, N>,
 ) -> Result<Judged, Stopped> {
     let post = read(
-        stage.alloc,
+        rt.alloc(),
         &[Report::new(5_000, 15, 40), Report::new(5_000, 16, 41)],
         16,
     )?;
-    judged(
-        stage.provider.put_if(
-            stage.rt,
-            caller,
-            &NoGate,
-            post,
-            moment(16),
-            &mut |_alert: &Alert, _first: bool| -> bool { false },
-        ),
-    )
+    judged(client.put_if(
+        rt,
+        post,
+        moment(16),
+        &mut |_alert: &Alert, _first: bool| -> bool { false },
+    ))
 }
 
 // Posts a report of a new label set through no filter.
-fn put_one<N: Recorded, R: Wait>(
-    stage: &Stage<'_, N, R>,
-    caller: &mut Caller<N>,
+fn put_one<N: Recorded, R: Wait + AllocGlobal>(
+    rt: &R,
+    client: &mut Client<'_, N>,
 ) -> Result<(u32, Option<u64>), Stopped> {
-    let post = read(stage.alloc, &[Report::new(6_000, 15, 40)], 17)?;
-    match stage
-        .provider
-        .put(stage.rt, caller, &NoGate, post, moment(17))
-    {
+    let post = read(rt.alloc(), &[Report::new(6_000, 15, 40)], 17)?;
+    match client.put(rt, post, moment(17)) {
         Ok(posted) => Ok((posted.valid, posted.place)),
         Err(_) => Err(Stopped::Refused),
     }
@@ -140,31 +125,33 @@ struct Answers {
     one: (u32, Option<u64>),
 }
 
-#[derive(Clone, Copy, Drop)]
+#[derive(Drop)]
 struct Filtering;
 
-impl Day for Filtering {
-    type Outcome = Answers;
+impl<R: Wait + AllocGlobal> Program<R> for Filtering {
+    type Outcome = Result<Answers, Stopped>;
 
-    fn spend<N: Recorded, R: Wait>(
-        &self,
-        stage: &Stage<'_, N, R>,
-        caller: &mut Caller<N>,
-    ) -> Result<Answers, Stopped> {
+    fn run<N: Recorded>(self, rt: &R, clients: &mut [Client<'_, N>]) -> Self::Outcome {
+        let client = &mut clients[0];
         Ok(Answers {
-            most: post_most(stage, caller)?,
-            longer: post_longer(stage, caller)?,
-            none: post_none(stage, caller)?,
-            one: put_one(stage, caller)?,
+            most: post_most(rt, client)?,
+            longer: post_longer(rt, client)?,
+            none: post_none(rt, client)?,
+            one: put_one(rt, client)?,
         })
     }
 }
 
 #[test]
 fn a_filter_judges_what_would_be_stored(rt: HostRuntime) -> Result<(), Fail> {
-    let (answers, settled) = spend(&rt, rt.alloc(), Settings::of(4, 1), &Filtering)?;
+    let (answers, settled) = run(
+        &rt,
+        rt.alloc(),
+        Limits::with_callers(1).places(4),
+        Filtering,
+    )?;
     assert_eq!(rt;
-        answers,
+        answers?,
         Answers {
             most: (1_000, Some(0), 24, Some(1_000)),
             longer: (1, Some(1), 0, None),

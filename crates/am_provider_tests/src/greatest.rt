@@ -1,12 +1,11 @@
 //! Posts and collections at the greatest instant there is.
 
 use crate::bodies::end_body;
-use crate::days::{Day, Settings, Stopped, spend};
-use crate::stage::Stage;
+use crate::stopped::Stopped;
 use am_alert::{Moment, PostFault};
-use am_provider::{BodyFault, Caller, NoGate, Recorded, Settled, Step, Subscription};
+use am_provider::{BodyFault, Step, Subscription};
 use am_store::Call;
-use std::alloc::Global;
+use sinnoraku::{Client, Limits, Program, Recorded, Settled, run};
 use std::sync::Wait;
 use std::test::Fail;
 use std::time::Duration;
@@ -29,26 +28,20 @@ struct Greatest {
 
 // A post of an alert that gives an end, and one of an alert that doesn't.
 fn post_both<N: Recorded, R: Wait>(
-    stage: &Stage<'_, N, R>,
-    caller: &mut Caller<N>,
+    rt: &R,
+    client: &mut Client<'_, N>,
     body: &[u8],
 ) -> Result<(Answer, Answer), Stopped> {
-    let ended = post(stage, caller, body)?;
-    Ok((
-        ended,
-        post(stage, caller, b"[{\"labels\":{\"open\":\"1\"}}]")?,
-    ))
+    let ended = post(rt, client, body)?;
+    Ok((ended, post(rt, client, b"[{\"labels\":{\"open\":\"1\"}}]")?))
 }
 
 fn post<N: Recorded, R: Wait>(
-    stage: &Stage<'_, N, R>,
-    caller: &mut Caller<N>,
+    rt: &R,
+    client: &mut Client<'_, N>,
     body: &[u8],
 ) -> Result<Answer, Stopped> {
-    match stage
-        .provider
-        .post(stage.rt, caller, &NoGate, body, Moment::MAX)
-    {
+    match client.post(rt, body, Moment::MAX) {
         Ok(posted) => Ok(Ok((posted.valid, posted.place))),
         Err(fault) => {
             if Stopped::from(fault) == Stopped::NoMemory {
@@ -80,47 +73,36 @@ fn count_shown<N: Recorded>(subscription: &mut Subscription<'_, N>) -> (u32, u32
     (at_end, others)
 }
 
-#[derive(Clone, Copy, Drop)]
-struct AtTheEnd<'a> {
-    body: &'a str,
-}
+#[derive(Drop)]
+struct AtTheEnd;
 
-impl<'a> Day for AtTheEnd<'a> {
-    type Outcome = Greatest;
+impl<R: Wait + AllocGlobal> Program<R> for AtTheEnd {
+    type Outcome = Result<Greatest, Stopped>;
 
-    fn spend<N: Recorded, R: Wait>(
-        &self,
-        stage: &Stage<'_, N, R>,
-        caller: &mut Caller<N>,
-    ) -> Result<Greatest, Stopped> {
-        let mut subscription = stage.provider.subscribe(stage.rt, caller)?;
-        let posted = post_both(stage, caller, self.body.as_bytes());
-        let shown = count_shown(&mut subscription);
-        stage.provider.leave(stage.rt, caller, subscription);
+    fn run<N: Recorded>(self, rt: &R, clients: &mut [Client<'_, N>]) -> Self::Outcome {
+        let client = &mut clients[0];
+        let body = end_body(rt.alloc())?;
+        let mut reader = client.subscribe(rt)?;
+        let posted = post_both(rt, client, body.as_bytes());
+        let shown = count_shown(&mut reader.subscription);
+        client.leave(rt, reader);
         let (ended, open) = posted?;
         let earlier = Moment::try_new(Moment::MAX.nanoseconds() - 1).ok_or(Stopped::Refused)?;
         Ok(Greatest {
             ended,
             open,
             shown,
-            before: stage.provider.collect_resolved(stage.rt, caller, earlier)?,
-            collected: stage
-                .provider
-                .collect_resolved(stage.rt, caller, Moment::MAX)?,
+            before: client.collect_resolved(rt, earlier)?,
+            collected: client.collect_resolved(rt, Moment::MAX)?,
         })
     }
 }
 
-// A day at the greatest instant, with that resolve timeout.
-fn spend_at_the_end<R: Wait>(
-    rt: &R,
-    alloc: Global,
-    resolve_timeout: Duration,
-) -> Result<(Greatest, Settled), Stopped> {
-    let body = end_body(alloc)?;
-    let mut settings = Settings::of(4, 1);
-    settings.resolve_timeout = resolve_timeout;
-    spend(rt, alloc, settings, &AtTheEnd { body: &body })
+// The limits of a provider with that resolve timeout.
+fn limits_of(resolve_timeout: Duration) -> Limits {
+    Limits::with_callers(1)
+        .places(4)
+        .resolve_timeout(resolve_timeout)
 }
 
 // How many of the calls are posts and collections at that instant.
@@ -142,9 +124,10 @@ fn calls_at_end(settled: &Settled) -> (u32, u32) {
 // An end that is given may be the greatest instant. One that isn't given would be later, so such a post is refused.
 #[test]
 fn greatest_instant(rt: HostRuntime) -> Result<(), Fail> {
-    let (greatest, settled) = spend_at_the_end(&rt, rt.alloc(), Duration::from_nanos(1))?;
+    let limits = limits_of(Duration::from_nanos(1));
+    let (greatest, settled) = run(&rt, rt.alloc(), limits, AtTheEnd)?;
     assert_eq!(rt;
-        greatest,
+        greatest?,
         Greatest {
             ended: Ok((1, Some(0))),
             open: Err(BodyFault::Unread(PostFault::OutOfRange(0))),
@@ -162,9 +145,10 @@ fn greatest_instant(rt: HostRuntime) -> Result<(), Fail> {
 // Without a resolve timeout an end that isn't given is the post's instant.
 #[test]
 fn greatest_instant_without_timeout(rt: HostRuntime) -> Result<(), Fail> {
-    let (greatest, settled) = spend_at_the_end(&rt, rt.alloc(), Duration::from_nanos(0))?;
+    let limits = limits_of(Duration::from_nanos(0));
+    let (greatest, settled) = run(&rt, rt.alloc(), limits, AtTheEnd)?;
     assert_eq!(rt;
-        greatest,
+        greatest?,
         Greatest {
             ended: Ok((1, Some(0))),
             open: Ok((1, Some(1))),

@@ -15,8 +15,6 @@ mod comparison;
 #[cfg(test)]
 mod cut_races;
 #[cfg(test)]
-mod days;
-#[cfg(test)]
 mod filters;
 #[cfg(test)]
 mod greatest;
@@ -31,6 +29,8 @@ mod one_thread;
 #[cfg(test)]
 mod plain_store;
 #[cfg(test)]
+mod posts;
+#[cfg(test)]
 mod reads;
 #[cfg(test)]
 mod reports;
@@ -43,6 +43,8 @@ mod slices;
 #[cfg(test)]
 mod slow_lanes;
 #[cfg(test)]
-mod stage;
+mod stopped;
+#[cfg(test)]
+mod tries;
 #[cfg(test)]
 mod trims;

@@ -2,22 +2,17 @@
 //! again: what each was shown begins what was stored when it came and what became of each report since,
 //! by the journal alone.
 
-ghost use Rattle.std.specs.Prelude.{◌≡◌};
-ghost use Rattle.am_provider.specs.PartsOf.{AreOf};
-
 use crate::bodies::{Report, moment, reports_body};
-use crate::days::{Settings, Stopped, begin_day};
-use crate::many_threads::post_one;
+use crate::stopped::Stopped;
+use crate::tries::post_one;
 use am_alert::{Alert, Moment};
-use am_provider::{Caller, Counts, Ended, Parts, Provider, Recorded, Settled, Step, Subscription};
+use am_provider::{Counts, Step};
 use am_store::Call;
+use sinnoraku::{Client, Ended, Limits, Recorded, Settled, Subscription, Worker, run_workers};
 use std::alloc::{AllocError, Global};
-use std::marker::Brand;
-use std::sync::atomic::{AtomicU32, Ordering};
-use std::sync::{Mutex, Wait};
+use std::sync::Wait;
 use std::test::Fail;
 use std::thread;
-use std::thread::Threads;
 
 // How many alerts each poster reports, and how often each reader subscribes.
 const EACH: u32 = 1_000;
@@ -74,45 +69,83 @@ struct Reading {
     ended: Ended,
 }
 
+/// Four posters and then four readers.
+#[derive(Drop)]
+struct ComeAndGo;
+
+/// How many reports of a poster were accepted, or a reader's readings.
+#[derive(Drop)]
+enum Part {
+    Reported(u32),
+    Read(Result<Vec<Reading>, Stopped>),
+}
+
+impl<R: Wait + AllocGlobal> Worker<R> for ComeAndGo {
+    type Outcome = Part;
+
+    fn work<N: Recorded>(&self, rt: &R, index: usize, client: &mut Client<'_, N>) -> Part {
+        if index < 4 {
+            Part::Reported(report_all(rt, client, index as u32))
+        } else {
+            Part::Read(read_again(rt, client))
+        }
+    }
+}
+
+// Answers how many reports were accepted.
+fn report_all<N: Recorded, R: Wait + AllocGlobal>(
+    rt: &R,
+    client: &mut Client<'_, N>,
+    poster: u32,
+) -> u32 {
+    let mut accepted: u32 = 0;
+    for at in 0..EACH {
+        let number = at * 4 + poster % 4;
+        if report(rt, client, number) == Ok(true) {
+            accepted = accepted.wrapping_add(1);
+        }
+    }
+    accepted
+}
+
 // Reports one of the label sets. Most reports begin or end within the stored one, so that they are
 // merged; some come earlier than another that was accepted before.
-fn report<N: Recorded, R: Wait>(
+fn report<N: Recorded, R: Wait + AllocGlobal>(
     rt: &R,
-    alloc: Global,
-    provider: &Provider<N>,
-    caller: &mut Caller<N>,
+    client: &mut Client<'_, N>,
     number: u32,
 ) -> Result<bool, AllocError> {
     let label = number % LABELS;
     let apart = if number % 17 == 0 { 5_000 } else { 0 };
     let start = 10_000 + label * 10_000 + apart + number % 50;
     let end = start + 100 + number % 30;
-    let body = reports_body(alloc, &[Report::new(label, start, end)])?;
-    Ok(post_one(rt, provider, caller, body.as_bytes(), moment(number)))
+    let body = reports_body(rt.alloc(), &[Report::new(label, start, end)])?;
+    Ok(post_one(rt, client, body.as_bytes(), moment(number)))
 }
 
-// Each poster in a thread of its own. Answers how many reports were accepted.
-fn report_all<N: Recorded + Send + Sync, R: Threads + Wait + Sync>(
+// Subscribes again and again.
+fn read_again<N: Recorded, R: Wait + AllocGlobal>(
     rt: &R,
-    alloc: Global,
-    provider: &Provider<N>,
-    posters: &mut [Caller<N>],
-) -> u32 {
-    let accepted = AtomicU32::new(0);
-    thread::for_each_mut(
-        rt,
-        posters,
-        4,
-        &|poster, caller| {
-            for at in 0..EACH {
-                let number = at * 4 + (poster % 4) as u32;
-                if report(rt, alloc, provider, caller, number) == Ok(true) {
-                    accepted.fetch_add(1, Ordering::SeqCst);
-                }
-            }
-        },
-    );
-    accepted.load(Ordering::SeqCst)
+    client: &mut Client<'_, N>,
+) -> Result<Vec<Reading>, Stopped> {
+    let mut readings = Vec::with_capacity(rt.alloc(), EACH as usize)?;
+    for turn in 0..EACH {
+        let reading = read_once(rt, client, turn % 40)?;
+        readings.push(reading).map_err(AllocError::from)?;
+    }
+    Ok(readings)
+}
+
+// Subscribes, reads a while and leaves.
+fn read_once<N: Recorded, R: Wait + AllocGlobal>(
+    rt: &R,
+    client: &mut Client<'_, N>,
+    turns: u32,
+) -> Result<Reading, Stopped> {
+    let mut reader = client.subscribe(rt)?;
+    let seen = read(rt.alloc(), &mut reader.subscription, turns);
+    let ended = client.leave(rt, reader);
+    Ok(Reading { seen: seen?, ended })
 }
 
 // What is shown in `turns` turns.
@@ -129,101 +162,6 @@ fn read<N: Recorded>(
         }
     }
     Ok(seen)
-}
-
-// Subscribes, reads a while and leaves.
-fn read_once<N: Recorded, R: Wait>(
-    rt: &R,
-    alloc: Global,
-    provider: &Provider<N>,
-    caller: &mut Caller<N>,
-    turns: u32,
-) -> Result<Reading, Stopped> {
-    let mut subscription = provider.subscribe(rt, caller)?;
-    let seen = read(alloc, &mut subscription, turns);
-    let ended = provider.leave(rt, caller, subscription);
-    Ok(Reading { seen: seen?, ended })
-}
-
-// Subscribes again and again.
-fn read_again<N: Recorded, R: Wait>(
-    rt: &R,
-    alloc: Global,
-    provider: &Provider<N>,
-    caller: &mut Caller<N>,
-) -> Result<Vec<Reading>, Stopped> {
-    let mut readings = Vec::with_capacity(alloc, EACH as usize)?;
-    for turn in 0..EACH {
-        let reading = read_once(rt, alloc, provider, caller, turn % 40)?;
-        readings.push(reading).map_err(AllocError::from)?;
-    }
-    Ok(readings)
-}
-
-// Each reader in a thread of its own. What can't be kept for lack of memory is missing.
-fn read_each<N: Recorded + Send + Sync, R: Threads + Wait + Sync>(
-    rt: &R,
-    alloc: Global,
-    provider: &Provider<N>,
-    readers: &mut [Caller<N>],
-) -> Vec<Result<Vec<Reading>, Stopped>> {
-    let all = Mutex::new(Vec::new(alloc));
-    thread::for_each_mut(
-        rt,
-        readers,
-        4,
-        &|_reader, caller| {
-            let readings = read_again(rt, alloc, provider, caller);
-            let _kept = all.lock(rt).push(readings);
-        },
-    );
-    all.into_inner()
-}
-
-/// How many reports were accepted, and each reader's readings.
-#[derive(Drop)]
-struct Run {
-    accepted: u32,
-    readers: Vec<Result<Vec<Reading>, Stopped>>,
-}
-
-fn come_and_go<N: Recorded + Send + Sync, R: Threads + Wait + Sync>(
-    rt: &R,
-    alloc: Global,
-    provider: &Provider<N>,
-    callers: &mut [Caller<N>],
-) -> Result<Run, Stopped> {
-    let (posters, readers) = callers.split_at_mut_checked(4).ok_or(Stopped::Refused)?;
-    let (accepted, readers) = thread::join(
-        rt,
-        move || report_all(rt, alloc, provider, posters),
-        move || read_each(rt, alloc, provider, readers),
-    );
-    Ok(Run { accepted, readers })
-}
-
-fn come_and_go_over<N: Recorded + Send + Sync, R: Threads + Wait + Sync>(
-    rt: &R,
-    alloc: Global,
-    parts: Parts,
-    settings: Settings,
-) -> Result<(Run, Settled), Stopped>
-    requires parts { AreOf N.table N.name N.parts N.timeline N.entries N.holders parts }
-    requires limits { (parts.log.places ≡ N.places) × (settings.policy ≡ N.policy) }
-{
-    let (provider, mut callers) = begin_day::<N>(alloc, parts, settings)?;
-    let outcome = come_and_go(rt, alloc, &provider, &mut callers);
-    let settled = provider.settle(rt, callers);
-    Ok((outcome?, settled))
-}
-
-fn come_and_go_of<R: Threads + Wait + Sync>(
-    rt: &R,
-    alloc: Global,
-    settings: Settings,
-) -> Result<(Run, Settled), Stopped> {
-    let parts = settings.parts(alloc)?;
-    come_and_go_over::<Brand, R>(rt, alloc, parts, settings)
 }
 
 /// What was stored when a subscription came, and how many alerts had been sent out.
@@ -287,6 +225,17 @@ impl Replay {
         Ok(())
     }
 
+    // How many readings are as they have to be.
+    fn count_right(&self, readings: &[Reading]) -> u32 {
+        let mut right: u32 = 0;
+        for reading in readings {
+            if self.owes(reading) && reading.ended.taken == reading.seen.len() as u64 {
+                right = right.wrapping_add(1);
+            }
+        }
+        right
+    }
+
     // Whether that is what was due to the subscription first.
     fn owes(&self, reading: &Reading) -> bool {
         for opening in &self.openings {
@@ -320,31 +269,28 @@ fn replace(stored: &mut [Seen], report: &Seen) -> Option<usize> {
     Some(at)
 }
 
-// How many readings are as they have to be.
-fn count_right(
-    alloc: Global,
-    settled: &Settled,
-    readers: &[Result<Vec<Reading>, Stopped>],
-) -> Result<u32, AllocError> {
+// How many reports were accepted, and how many readings are as they have to be.
+fn counts_of(alloc: Global, settled: &Settled, parts: &[Part]) -> Result<(u32, u32), AllocError> {
     let replay = Replay::of(alloc, settled)?;
+    let mut accepted: u32 = 0;
     let mut right: u32 = 0;
-    for reader in readers {
-        if let Ok(readings) = reader {
-            for reading in readings {
-                if replay.owes(reading) && reading.ended.taken == reading.seen.len() as u64 {
-                    right = right.wrapping_add(1);
-                }
-            }
+    for part in parts {
+        match part {
+            Part::Reported(count) => accepted = accepted.wrapping_add(*count),
+            Part::Read(Ok(readings)) => right = right.wrapping_add(replay.count_right(readings)),
+            Part::Read(Err(_)) => {}
         }
     }
-    Ok(right)
+    Ok((accepted, right))
 }
 
 #[test]
 fn four_thousand_subscriptions(rt: HostRuntime) -> Result<(), Fail> {
-    let (run, settled) = come_and_go_of(&rt, rt.alloc(), Settings::of(256, 8))?;
-    assert_eq!(rt; run.accepted, 4_000);
-    assert_eq!(rt; count_right(rt.alloc(), &settled, &run.readers)?, 4_000);
+    let limits = Limits::with_callers(8).places(256);
+    let (parts, settled) = run_workers(&rt, rt.alloc(), limits, &ComeAndGo)?;
+    let (accepted, right) = counts_of(rt.alloc(), &settled, &parts)?;
+    assert_eq!(rt; accepted, 4_000);
+    assert_eq!(rt; right, 4_000);
     assert_eq!(rt; settled.ended.len(), 4_000);
     assert_eq!(rt;
         settled.counts(),

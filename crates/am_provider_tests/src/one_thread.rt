@@ -1,13 +1,11 @@
 //! A provider in one thread: what its calls answer, and the journal at its end.
 
 use crate::bodies::{body_of, moment};
-use crate::days::{Day, Settings, Stopped, spend};
-use crate::stage::{Placed, Stage};
-use am_provider::{
-    BodyFault, Caller, Counts, Ended, NoGate, Policy, PutFault, Recorded, Settled, Step,
-    Subscription,
-};
+use crate::posts::{Placed, post};
+use crate::stopped::Stopped;
+use am_provider::{BodyFault, Caller, Counts, Provider, PutFault, Step, Subscription};
 use am_store::{Call, LaneSet};
+use sinnoraku::{Client, Ended, Limits, Policy, Program, Recorded, Settled, run};
 use std::alloc::{AllocError, Global};
 use std::sync::Wait;
 use std::test::Fail;
@@ -23,55 +21,42 @@ struct Answers {
     late: u64,
 }
 
-#[derive(Clone, Copy, Drop)]
+#[derive(Drop)]
 struct SmallDay;
 
-impl Day for SmallDay {
-    type Outcome = Answers;
+impl<R: Wait> Program<R> for SmallDay {
+    type Outcome = Result<Answers, Stopped>;
 
-    fn spend<N: Recorded, R: Wait>(
-        &self,
-        stage: &Stage<'_, N, R>,
-        caller: &mut Caller<N>,
-    ) -> Result<Answers, Stopped> {
-        let first = stage.post(caller, b"[]", 0)?;
-        let subscription = stage.provider.subscribe(stage.rt, caller)?;
-        let within = post_and_collect(stage, caller);
-        let ended = stage.provider.leave(stage.rt, caller, subscription);
+    fn run<N: Recorded>(self, rt: &R, clients: &mut [Client<'_, N>]) -> Self::Outcome {
+        let client = &mut clients[0];
+        let first = post(rt, client, b"[]", 0)?;
+        let reader = client.subscribe(rt)?;
+        let within = post_and_collect(rt, client);
+        let ended = client.leave(rt, reader);
         let (placed, collected) = within?;
-        stage.provider.close(stage.rt, caller)?;
+        client.close(rt)?;
         Ok(Answers {
             first,
             placed,
             collected,
             ended,
-            refused: is_closed(stage, caller)?,
-            late: stage
-                .provider
-                .collect_resolved(stage.rt, caller, moment(420))?,
+            refused: is_closed(rt, client)?,
+            late: client.collect_resolved(rt, moment(420))?,
         })
     }
 }
 
 fn post_and_collect<N: Recorded, R: Wait>(
-    stage: &Stage<'_, N, R>,
-    caller: &mut Caller<N>,
+    rt: &R,
+    client: &mut Client<'_, N>,
 ) -> Result<(Option<u64>, u64), Stopped> {
-    let (_, place) = stage.post(caller, b"[{\"labels\":{\"a\":\"1\"}}]", 60)?;
-    Ok((
-        place,
-        stage
-            .provider
-            .collect_resolved(stage.rt, caller, moment(360))?,
-    ))
+    let (_, place) = post(rt, client, b"[{\"labels\":{\"a\":\"1\"}}]", 60)?;
+    Ok((place, client.collect_resolved(rt, moment(360))?))
 }
 
 // Whether a post is refused since the log was ended.
-fn is_closed<N: Recorded, R: Wait>(
-    stage: &Stage<'_, N, R>,
-    caller: &mut Caller<N>,
-) -> Result<bool, Stopped> {
-    match stage.post(caller, b"[]", 370) {
+fn is_closed<N: Recorded, R: Wait>(rt: &R, client: &mut Client<'_, N>) -> Result<bool, Stopped> {
+    match post(rt, client, b"[]", 370) {
         Ok(_) => Ok(false),
         Err(BodyFault::Put(PutFault::Closed)) => Ok(true),
         Err(fault) => Err(Stopped::from(fault)),
@@ -101,9 +86,14 @@ fn kinds_of(alloc: Global, settled: &Settled) -> Result<String, AllocError> {
 
 #[test]
 fn settled_journal(rt: HostRuntime) -> Result<(), Fail> {
-    let (answers, settled) = spend(&rt, rt.alloc(), Settings::of(256, 1), &SmallDay)?;
+    let (answers, settled) = run(
+        &rt,
+        rt.alloc(),
+        Limits::with_callers(1).places(256),
+        SmallDay,
+    )?;
     assert_eq!(rt;
-        answers,
+        answers?,
         Answers {
             first: (0, None),
             placed: Some(0),
@@ -145,32 +135,29 @@ struct Lag {
     none_left: bool,
 }
 
-#[derive(Clone, Copy, Drop)]
+#[derive(Drop)]
 struct Lagging;
 
-impl Day for Lagging {
-    type Outcome = (Lag, Ended);
+impl<R: Wait + AllocGlobal> Program<R> for Lagging {
+    type Outcome = Result<(Lag, Ended), Stopped>;
 
-    fn spend<N: Recorded, R: Wait>(
-        &self,
-        stage: &Stage<'_, N, R>,
-        caller: &mut Caller<N>,
-    ) -> Result<(Lag, Ended), Stopped> {
-        let mut slow = stage.provider.subscribe(stage.rt, caller)?;
-        let lag = with_quick(stage, caller, &mut slow);
-        let ended = stage.provider.leave(stage.rt, caller, slow);
+    fn run<N: Recorded>(self, rt: &R, clients: &mut [Client<'_, N>]) -> Self::Outcome {
+        let client = &mut clients[0];
+        let mut slow = client.subscribe(rt)?;
+        let lag = with_quick(rt, client, &mut slow.subscription);
+        let ended = client.leave(rt, slow);
         Ok((lag?, ended))
     }
 }
 
-fn with_quick<N: Recorded, R: Wait>(
-    stage: &Stage<'_, N, R>,
-    caller: &mut Caller<N>,
+fn with_quick<N: Recorded, R: Wait + AllocGlobal>(
+    rt: &R,
+    client: &mut Client<'_, N>,
     slow: &mut Subscription<'_, N>,
 ) -> Result<Lag, Stopped> {
-    let mut quick = stage.provider.subscribe(stage.rt, caller)?;
-    let lag = lag_of(stage, caller, slow, &mut quick);
-    stage.provider.leave(stage.rt, caller, quick);
+    let mut quick = client.subscribe(rt)?;
+    let lag = lag_of(rt, client, slow, &mut quick.subscription);
+    client.leave(rt, quick);
     lag
 }
 
@@ -187,20 +174,17 @@ fn read<N: Recorded>(subscription: &mut Subscription<'_, N>, most: u32) -> (u32,
     (items, false)
 }
 
-fn lag_of<N: Recorded, R: Wait>(
-    stage: &Stage<'_, N, R>,
-    caller: &mut Caller<N>,
+fn lag_of<N: Recorded, R: Wait + AllocGlobal>(
+    rt: &R,
+    client: &mut Client<'_, N>,
     slow: &mut Subscription<'_, N>,
     quick: &mut Subscription<'_, N>,
 ) -> Result<Lag, Stopped> {
-    let first = body_of(stage.alloc, 1)?;
-    let second = body_of(stage.alloc, 2)?;
-    stage.post(caller, first.as_bytes(), 10)?;
+    let first = body_of(rt.alloc(), 1)?;
+    let second = body_of(rt.alloc(), 2)?;
+    post(rt, client, first.as_bytes(), 10)?;
     let (items, _) = read(quick, 9);
-    let (full, cut) = match stage
-        .provider
-        .post(stage.rt, caller, &NoGate, second.as_bytes(), moment(20))
-    {
+    let (full, cut) = match client.post(rt, second.as_bytes(), moment(20)) {
         Ok(posted) => (false, posted.cut),
         Err(BodyFault::Put(PutFault::Full { lane, passed })) => (
             lane == 0 && passed == 0,
@@ -223,7 +207,8 @@ fn lag_of<N: Recorded, R: Wait>(
 
 #[test]
 fn a_full_log_refuses(rt: HostRuntime) -> Result<(), Fail> {
-    let ((lag, ended), settled) = spend(&rt, rt.alloc(), Settings::of(1, 1), &Lagging)?;
+    let (lagged, settled) = run(&rt, rt.alloc(), Limits::with_callers(1).places(1), Lagging)?;
+    let (lag, ended) = lagged?;
     assert_eq!(rt;
         lag,
         Lag {
@@ -250,9 +235,9 @@ fn a_full_log_refuses(rt: HostRuntime) -> Result<(), Fail> {
 
 #[test]
 fn a_full_log_cuts_the_slow_lane(rt: HostRuntime) -> Result<(), Fail> {
-    let mut settings = Settings::of(1, 1);
-    settings.policy = Policy::Cut;
-    let ((lag, ended), settled) = spend(&rt, rt.alloc(), settings, &Lagging)?;
+    let limits = Limits::with_callers(1).places(1).policy(Policy::Cut);
+    let (lagged, settled) = run(&rt, rt.alloc(), limits, Lagging)?;
+    let (lag, ended) = lagged?;
     assert_eq!(rt;
         lag,
         Lag {
@@ -287,38 +272,45 @@ struct Carried {
     trimmed: u64,
 }
 
-#[derive(Clone, Copy, Drop)]
+#[derive(Drop)]
 struct Carrying;
 
-impl Day for Carrying {
-    type Outcome = Carried;
+impl<R: Wait> Program<R> for Carrying {
+    type Outcome = Result<Carried, Stopped>;
 
-    fn spend<N: Recorded, R: Wait>(
-        &self,
-        stage: &Stage<'_, N, R>,
-        caller: &mut Caller<N>,
-    ) -> Result<Carried, Stopped> {
-        let mut subscription = stage.provider.subscribe(stage.rt, caller)?;
-        let within = read_past(stage, caller, &mut subscription);
-        stage.provider.leave(stage.rt, caller, subscription);
+    fn run<N: Recorded>(self, rt: &R, clients: &mut [Client<'_, N>]) -> Self::Outcome {
+        let client = &mut clients[0];
+        let mut reader = client.subscribe(rt)?;
+        let within = read_past(rt, client, &mut reader.subscription);
+        client.leave(rt, reader);
         let (item, then_pending, kept) = within?;
         Ok(Carried {
             item,
             then_pending,
             kept,
-            trimmed: stage.provider.trim(stage.rt, caller)?,
+            trimmed: client.trim(rt)?,
         })
     }
 }
 
 // Whether the reader is shown what the poster posted, and then that no more is there; what a trim drops.
 fn read_past<N: Recorded, R: Wait>(
-    stage: &Stage<'_, N, R>,
-    caller: &mut Caller<N>,
+    rt: &R,
+    client: &mut Client<'_, N>,
     subscription: &mut Subscription<'_, N>,
 ) -> Result<(bool, bool, u64), Stopped> {
-    stage.post(caller, b"[{\"labels\":{\"a\":\"1\"}}]", 60)?;
-    stage.provider.meet(subscription, &mut caller.pass);
+    post(rt, client, b"[{\"labels\":{\"a\":\"1\"}}]", 60)?;
+    let (item, then_pending) = meet_and_read(client.provider, &mut client.caller, subscription);
+    Ok((item, then_pending, client.trim(rt)?))
+}
+
+// Whether an item is shown, and then that no more is there.
+fn meet_and_read<N: Recorded>(
+    provider: &Provider<N>,
+    caller: &mut Caller<N>,
+    subscription: &mut Subscription<'_, N>,
+) -> (bool, bool) {
+    provider.meet(subscription, &mut caller.pass);
     let item = match subscription.next_past(&mut caller.pass) {
         Step::Item(_) => true,
         _ => false,
@@ -327,14 +319,14 @@ fn read_past<N: Recorded, R: Wait>(
         Step::Pending => true,
         _ => false,
     };
-    Ok((item, then_pending, stage.provider.trim(stage.rt, caller)?))
+    (item, then_pending)
 }
 
 #[test]
 fn pass_carries_order(rt: HostRuntime) -> Result<(), Fail> {
-    let (carried, settled) = spend(&rt, rt.alloc(), Settings::of(4, 1), &Carrying)?;
+    let (carried, settled) = run(&rt, rt.alloc(), Limits::with_callers(1).places(4), Carrying)?;
     assert_eq!(rt;
-        carried,
+        carried?,
         Carried {
             item: true,
             then_pending: true,

@@ -2,12 +2,13 @@
 //! as many alerts as a post may have.
 
 use crate::bodies::{Report, moment};
-use crate::days::{Day, Settings, Stopped, spend};
-use crate::stage::{Placed, Stage};
+use crate::posts::{Placed, post_reports};
+use crate::stopped::Stopped;
 use am_alert::{MAX_ALERTS, Moment};
 use am_labels::LabelSet;
-use am_provider::{Caller, Counts, Recorded};
+use am_provider::Counts;
 use am_store::SharedAlert;
+use sinnoraku::{Client, Limits, Program, Recorded, run};
 use std::alloc::{AllocError, Global};
 use std::sync::Wait;
 use std::test::Fail;
@@ -54,41 +55,38 @@ fn are_numbered(
 type Listed = (usize, bool);
 
 // What is stored, which should be the alerts of the numbers from one on in steps.
-fn stored<N: Recorded, R: Wait>(
-    stage: &Stage<'_, N, R>,
-    caller: &mut Caller<N>,
+fn stored<N: Recorded, R: Wait + AllocGlobal>(
+    rt: &R,
+    client: &mut Client<'_, N>,
     first: u32,
     step: u32,
 ) -> Result<Listed, AllocError> {
-    let alerts = stage.provider.stored(stage.rt, caller)?;
+    let alerts = client.stored(rt)?;
     let alerts = alerts.as_slice();
-    Ok((
-        alerts.len(),
-        are_numbered(stage.alloc, alerts, first, step)?,
-    ))
+    Ok((alerts.len(), are_numbered(rt.alloc(), alerts, first, step)?))
 }
 
 // The end of the stored alert of a number, if there is one.
-fn end_of<N: Recorded, R: Wait>(
-    stage: &Stage<'_, N, R>,
-    caller: &mut Caller<N>,
+fn end_of<N: Recorded, R: Wait + AllocGlobal>(
+    rt: &R,
+    client: &mut Client<'_, N>,
     number: u32,
 ) -> Result<Option<Moment>, AllocError> {
-    let labels = labels_of(stage.alloc, number)?;
-    match stage.provider.get(stage.rt, caller, &labels)? {
+    let labels = labels_of(rt.alloc(), number)?;
+    match client.get(rt, &labels)? {
         Some(alert) => Ok(Some(alert.end)),
         None => Ok(None),
     }
 }
 
 // What a collection at 20 removes, which should be the alerts of even numbers.
-fn taken<N: Recorded, R: Wait>(
-    stage: &Stage<'_, N, R>,
-    caller: &mut Caller<N>,
+fn taken<N: Recorded, R: Wait + AllocGlobal>(
+    rt: &R,
+    client: &mut Client<'_, N>,
 ) -> Result<Listed, AllocError> {
-    let alerts = stage.provider.take_resolved(stage.rt, caller, moment(20))?;
+    let alerts = client.take_resolved(rt, moment(20))?;
     let alerts = alerts.as_slice();
-    Ok((alerts.len(), are_numbered(stage.alloc, alerts, 0, 2)?))
+    Ok((alerts.len(), are_numbered(rt.alloc(), alerts, 0, 2)?))
 }
 
 /// What reads answered before a collection and after it.
@@ -105,43 +103,40 @@ struct Answers {
     last_again: Option<Moment>,
 }
 
-#[derive(Clone, Copy, Drop)]
+#[derive(Drop)]
 struct Reading;
 
-impl Day for Reading {
-    type Outcome = Answers;
+impl<R: Wait + AllocGlobal> Program<R> for Reading {
+    type Outcome = Result<Answers, Stopped>;
 
-    fn spend<N: Recorded, R: Wait>(
-        &self,
-        stage: &Stage<'_, N, R>,
-        caller: &mut Caller<N>,
-    ) -> Result<Answers, Stopped> {
-        let reports = most_reports(stage.alloc)?;
-        let posted = stage.post_reports(caller, reports.as_slice(), 10)?;
-        let all = stored(stage, caller, 0, 1)?;
-        let first = end_of(stage, caller, 0)?;
-        let last = end_of(stage, caller, 1_023)?;
-        let unknown = end_of(stage, caller, 1_024)?;
-        stage.provider.close(stage.rt, caller)?;
+    fn run<N: Recorded>(self, rt: &R, clients: &mut [Client<'_, N>]) -> Self::Outcome {
+        let client = &mut clients[0];
+        let reports = most_reports(rt.alloc())?;
+        let posted = post_reports(rt, client, reports.as_slice(), 10)?;
+        let all = stored(rt, client, 0, 1)?;
+        let first = end_of(rt, client, 0)?;
+        let last = end_of(rt, client, 1_023)?;
+        let unknown = end_of(rt, client, 1_024)?;
+        client.close(rt)?;
         Ok(Answers {
             posted,
             all,
             first,
             last,
             unknown,
-            removed: taken(stage, caller)?,
-            left: stored(stage, caller, 1, 2)?,
-            first_again: end_of(stage, caller, 0)?,
-            last_again: end_of(stage, caller, 1_023)?,
+            removed: taken(rt, client)?,
+            left: stored(rt, client, 1, 2)?,
+            first_again: end_of(rt, client, 0)?,
+            last_again: end_of(rt, client, 1_023)?,
         })
     }
 }
 
 #[test]
 fn reads_and_a_collection_of_the_most_alerts(rt: HostRuntime) -> Result<(), Fail> {
-    let (answers, settled) = spend(&rt, rt.alloc(), Settings::of(1, 1), &Reading)?;
+    let (answers, settled) = run(&rt, rt.alloc(), Limits::with_callers(1).places(1), Reading)?;
     assert_eq!(rt;
-        answers,
+        answers?,
         Answers {
             posted: (1_024, Some(0)),
             all: (1_024, true),

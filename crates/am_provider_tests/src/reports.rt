@@ -1,9 +1,10 @@
 //! Reports that are merged, collected, and shown to who comes later, against values worked out by hand.
 
 use crate::bodies::{Report, moment};
-use crate::days::{Day, Settings, Stopped, spend};
-use crate::stage::{Placed, Stage};
-use am_provider::{Caller, Counts, Ended, Recorded, Step, SubFault, Subscription};
+use crate::posts::{Placed, post_reports};
+use crate::stopped::Stopped;
+use am_provider::{Counts, Step, Subscription};
+use sinnoraku::{Client, Ended, Limits, Program, Recorded, SubFault, run};
 use std::sync::Wait;
 use std::test::Fail;
 
@@ -23,14 +24,14 @@ fn two_reports() -> [Report; 2] {
 }
 
 // Two reports, a longer one of the first label set, and none.
-fn post_three<N: Recorded, R: Wait>(
-    stage: &Stage<'_, N, R>,
-    caller: &mut Caller<N>,
+fn post_three<N: Recorded, R: Wait + AllocGlobal>(
+    rt: &R,
+    client: &mut Client<'_, N>,
 ) -> Result<[Placed; 3], Stopped> {
     let longer = [Report::new(1, 15, 25)];
-    let first = stage.post_reports(caller, &two_reports(), 10)?;
-    let second = stage.post_reports(caller, &longer, 15)?;
-    let third = stage.post_reports(caller, &[], 16)?;
+    let first = post_reports(rt, client, &two_reports(), 10)?;
+    let second = post_reports(rt, client, &longer, 15)?;
+    let third = post_reports(rt, client, &[], 16)?;
     Ok([first, second, third])
 }
 
@@ -43,21 +44,18 @@ struct Reached {
     ended: Ended,
 }
 
-#[derive(Clone, Copy, Drop)]
+#[derive(Drop)]
 struct Reaching;
 
-impl Day for Reaching {
-    type Outcome = Reached;
+impl<R: Wait + AllocGlobal> Program<R> for Reaching {
+    type Outcome = Result<Reached, Stopped>;
 
-    fn spend<N: Recorded, R: Wait>(
-        &self,
-        stage: &Stage<'_, N, R>,
-        caller: &mut Caller<N>,
-    ) -> Result<Reached, Stopped> {
-        let mut subscription = stage.provider.subscribe(stage.rt, caller)?;
-        let posted = post_three(stage, caller);
-        let shown = shows(&mut subscription, &[(10, 20), (10, 30), (10, 25)]);
-        let ended = stage.provider.leave(stage.rt, caller, subscription);
+    fn run<N: Recorded>(self, rt: &R, clients: &mut [Client<'_, N>]) -> Self::Outcome {
+        let client = &mut clients[0];
+        let mut reader = client.subscribe(rt)?;
+        let posted = post_three(rt, client);
+        let shown = shows(&mut reader.subscription, &[(10, 20), (10, 30), (10, 25)]);
+        let ended = client.leave(rt, reader);
         Ok(Reached {
             posted: posted?,
             shown,
@@ -68,9 +66,9 @@ impl Day for Reaching {
 
 #[test]
 fn reports_reach_a_subscriber(rt: HostRuntime) -> Result<(), Fail> {
-    let (reached, settled) = spend(&rt, rt.alloc(), Settings::of(4, 1), &Reaching)?;
+    let (reached, settled) = run(&rt, rt.alloc(), Limits::with_callers(1).places(4), Reaching)?;
     assert_eq!(rt;
-        reached,
+        reached?,
         Reached {
             posted: [(2, Some(0)), (1, Some(1)), (0, None)],
             shown: true,
@@ -96,14 +94,11 @@ struct Late {
 }
 
 // Subscribes, where the alert of two that isn't collected is left.
-fn come_late<N: Recorded, R: Wait>(
-    stage: &Stage<'_, N, R>,
-    caller: &mut Caller<N>,
-) -> Result<Late, Stopped> {
-    let mut subscription = stage.provider.subscribe(stage.rt, caller)?;
-    let (lane, opening) = (subscription.lane(), subscription.opening());
-    let shown = shows(&mut subscription, &[(10, 30)]);
-    let ended = stage.provider.leave(stage.rt, caller, subscription);
+fn come_late<N: Recorded, R: Wait>(rt: &R, client: &mut Client<'_, N>) -> Result<Late, Stopped> {
+    let mut reader = client.subscribe(rt)?;
+    let (lane, opening) = (reader.subscription.lane(), reader.subscription.opening());
+    let shown = shows(&mut reader.subscription, &[(10, 30)]);
+    let ended = client.leave(rt, reader);
     Ok(Late {
         lane,
         opening,
@@ -113,13 +108,10 @@ fn come_late<N: Recorded, R: Wait>(
 }
 
 // Why a subscription is refused.
-fn refusal<N: Recorded, R: Wait>(
-    stage: &Stage<'_, N, R>,
-    caller: &mut Caller<N>,
-) -> Option<SubFault> {
-    match stage.provider.subscribe(stage.rt, caller) {
-        Ok(subscription) => {
-            stage.provider.leave(stage.rt, caller, subscription);
+fn refusal<N: Recorded, R: Wait>(rt: &R, client: &mut Client<'_, N>) -> Option<SubFault> {
+    match client.subscribe(rt) {
+        Ok(reader) => {
+            client.leave(rt, reader);
             None
         }
         Err(fault) => Some(fault),
@@ -136,38 +128,38 @@ struct Collected {
     refusal: Option<SubFault>,
 }
 
-#[derive(Clone, Copy, Drop)]
+#[derive(Drop)]
 struct Collecting;
 
-impl Day for Collecting {
-    type Outcome = Collected;
+impl<R: Wait + AllocGlobal> Program<R> for Collecting {
+    type Outcome = Result<Collected, Stopped>;
 
-    fn spend<N: Recorded, R: Wait>(
-        &self,
-        stage: &Stage<'_, N, R>,
-        caller: &mut Caller<N>,
-    ) -> Result<Collected, Stopped> {
-        let posted = stage.post_reports(caller, &two_reports(), 10)?;
-        let removed = stage
-            .provider
-            .collect_resolved(stage.rt, caller, moment(20))?;
-        let late = come_late(stage, caller)?;
-        stage.provider.close(stage.rt, caller)?;
+    fn run<N: Recorded>(self, rt: &R, clients: &mut [Client<'_, N>]) -> Self::Outcome {
+        let client = &mut clients[0];
+        let posted = post_reports(rt, client, &two_reports(), 10)?;
+        let removed = client.collect_resolved(rt, moment(20))?;
+        let late = come_late(rt, client)?;
+        client.close(rt)?;
         Ok(Collected {
             posted,
             removed,
             late,
-            closed_again: stage.provider.close(stage.rt, caller).is_ok(),
-            refusal: refusal(stage, caller),
+            closed_again: client.close(rt).is_ok(),
+            refusal: refusal(rt, client),
         })
     }
 }
 
 #[test]
 fn collections_and_the_end(rt: HostRuntime) -> Result<(), Fail> {
-    let (collected, settled) = spend(&rt, rt.alloc(), Settings::of(4, 1), &Collecting)?;
+    let (collected, settled) = run(
+        &rt,
+        rt.alloc(),
+        Limits::with_callers(1).places(4),
+        Collecting,
+    )?;
     assert_eq!(rt;
-        collected,
+        collected?,
         Collected {
             posted: (2, Some(0)),
             removed: 1,

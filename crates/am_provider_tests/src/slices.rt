@@ -2,11 +2,12 @@
 //! them one by one before.
 
 use crate::bodies::{Report, moment};
-use crate::days::{Day, Settings, Stopped, spend};
-use crate::stage::Stage;
+use crate::posts::post_reports;
+use crate::stopped::Stopped;
 use am_alert::{MAX_ALERTS, Moment};
-use am_provider::{Caller, Ended, Policy, Recorded, Slice, Step, Subscription};
+use am_provider::{Slice, Step, Subscription};
 use am_store::SharedAlert;
+use sinnoraku::{Client, Ended, Limits, Policy, Program, Recorded, run};
 use std::alloc::{AllocError, Global};
 use std::sync::Wait;
 use std::test::Fail;
@@ -84,14 +85,14 @@ fn reports_from(alloc: Global, first: u32, count: u32) -> Result<Vec<Report>, Al
     Ok(reports)
 }
 
-fn post_from<N: Recorded, R: Wait>(
-    stage: &Stage<'_, N, R>,
-    caller: &mut Caller<N>,
+fn post_from<N: Recorded, R: Wait + AllocGlobal>(
+    rt: &R,
+    client: &mut Client<'_, N>,
     first: u32,
     count: u32,
 ) -> Result<(), Stopped> {
-    let reports = reports_from(stage.alloc, first, count)?;
-    stage.post_reports(caller, reports.as_slice(), 10)?;
+    let reports = reports_from(rt.alloc(), first, count)?;
+    post_reports(rt, client, reports.as_slice(), 10)?;
     Ok(())
 }
 
@@ -99,50 +100,48 @@ fn post_from<N: Recorded, R: Wait>(
 type Read = (Vec<Shown>, Ended);
 
 // Reads to the end of the log, some of it one by one.
-fn read<N: Recorded, R: Wait>(
-    stage: &Stage<'_, N, R>,
-    caller: &mut Caller<N>,
+fn read<N: Recorded, R: Wait + AllocGlobal>(
+    rt: &R,
+    client: &mut Client<'_, N>,
     subscription: &mut Subscription<'_, N>,
 ) -> Result<Vec<Shown>, Stopped> {
-    let mut shown = Vec::new(stage.alloc);
+    let mut shown = Vec::new(rt.alloc());
     one_by_one(subscription, 2);
     note_slice(&mut shown, subscription)?;
     note_slice(&mut shown, subscription)?;
-    post_from(stage, caller, MOST, MOST)?;
-    post_from(stage, caller, 2 * MOST, 1)?;
+    post_from(rt, client, MOST, MOST)?;
+    post_from(rt, client, 2 * MOST, 1)?;
     note_slice(&mut shown, subscription)?;
     note_slice(&mut shown, subscription)?;
-    post_from(stage, caller, 0, MOST)?;
+    post_from(rt, client, 0, MOST)?;
     one_by_one(subscription, MOST - 1);
     note_slice(&mut shown, subscription)?;
     note_slice(&mut shown, subscription)?;
-    stage.provider.close(stage.rt, caller)?;
+    client.close(rt)?;
     note_slice(&mut shown, subscription)?;
     Ok(shown)
 }
 
-#[derive(Clone, Copy, Drop)]
+#[derive(Drop)]
 struct Whole;
 
-impl Day for Whole {
-    type Outcome = Read;
+impl<R: Wait + AllocGlobal> Program<R> for Whole {
+    type Outcome = Result<Read, Stopped>;
 
-    fn spend<N: Recorded, R: Wait>(
-        &self,
-        stage: &Stage<'_, N, R>,
-        caller: &mut Caller<N>,
-    ) -> Result<Read, Stopped> {
-        post_from(stage, caller, 0, MOST)?;
-        let mut subscription = stage.provider.subscribe(stage.rt, caller)?;
-        let shown = read(stage, caller, &mut subscription);
-        let ended = stage.provider.leave(stage.rt, caller, subscription);
+    fn run<N: Recorded>(self, rt: &R, clients: &mut [Client<'_, N>]) -> Self::Outcome {
+        let client = &mut clients[0];
+        post_from(rt, client, 0, MOST)?;
+        let mut reader = client.subscribe(rt)?;
+        let shown = read(rt, client, &mut reader.subscription);
+        let ended = client.leave(rt, reader);
         Ok((shown?, ended))
     }
 }
 
 #[test]
 fn slices_of_the_most_alerts(rt: HostRuntime) -> Result<(), Fail> {
-    let ((shown, ended), _settled) = spend(&rt, rt.alloc(), Settings::of(4, 1), &Whole)?;
+    let (read, _settled) = run(&rt, rt.alloc(), Limits::with_callers(1).places(4), Whole)?;
+    let (shown, ended) = read?;
     let most = MAX_ALERTS;
     let wanted = [
         Shown::Stored(most - 2, moment(2), moment(MOST - 1)),
@@ -159,34 +158,31 @@ fn slices_of_the_most_alerts(rt: HostRuntime) -> Result<(), Fail> {
     Ok(())
 }
 
-#[derive(Clone, Copy, Drop)]
+#[derive(Drop)]
 struct Cutting;
 
-impl Day for Cutting {
-    type Outcome = Read;
+impl<R: Wait + AllocGlobal> Program<R> for Cutting {
+    type Outcome = Result<Read, Stopped>;
 
-    fn spend<N: Recorded, R: Wait>(
-        &self,
-        stage: &Stage<'_, N, R>,
-        caller: &mut Caller<N>,
-    ) -> Result<Read, Stopped> {
-        let mut subscription = stage.provider.subscribe(stage.rt, caller)?;
-        let shown = read_cut(stage, caller, &mut subscription);
-        let ended = stage.provider.leave(stage.rt, caller, subscription);
+    fn run<N: Recorded>(self, rt: &R, clients: &mut [Client<'_, N>]) -> Self::Outcome {
+        let client = &mut clients[0];
+        let mut reader = client.subscribe(rt)?;
+        let shown = read_cut(rt, client, &mut reader.subscription);
+        let ended = client.leave(rt, reader);
         Ok((shown?, ended))
     }
 }
 
 // The log has one place: a batch in hand is shown to its end after the next post has cut the reader.
-fn read_cut<N: Recorded, R: Wait>(
-    stage: &Stage<'_, N, R>,
-    caller: &mut Caller<N>,
+fn read_cut<N: Recorded, R: Wait + AllocGlobal>(
+    rt: &R,
+    client: &mut Client<'_, N>,
     subscription: &mut Subscription<'_, N>,
 ) -> Result<Vec<Shown>, Stopped> {
-    let mut shown = Vec::new(stage.alloc);
-    post_from(stage, caller, 0, 3)?;
+    let mut shown = Vec::new(rt.alloc());
+    post_from(rt, client, 0, 3)?;
     one_by_one(subscription, 1);
-    post_from(stage, caller, 3, 3)?;
+    post_from(rt, client, 3, 3)?;
     note_slice(&mut shown, subscription)?;
     note_slice(&mut shown, subscription)?;
     Ok(shown)
@@ -194,9 +190,9 @@ fn read_cut<N: Recorded, R: Wait>(
 
 #[test]
 fn a_slice_of_a_reader_that_is_cut(rt: HostRuntime) -> Result<(), Fail> {
-    let mut settings = Settings::of(1, 1);
-    settings.policy = Policy::Cut;
-    let ((shown, ended), _settled) = spend(&rt, rt.alloc(), settings, &Cutting)?;
+    let limits = Limits::with_callers(1).places(1).policy(Policy::Cut);
+    let (read, _settled) = run(&rt, rt.alloc(), limits, Cutting)?;
+    let (shown, ended) = read?;
     let wanted = [Shown::Posted(2, moment(1), moment(2)), Shown::Cut];
     assert_eq!(rt; shown.as_slice(), wanted.as_slice());
     assert_eq!(rt; ended.taken, 3);

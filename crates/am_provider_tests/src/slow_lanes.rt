@@ -2,9 +2,9 @@
 //! again.
 
 use crate::bodies::moment;
-use crate::days::{Day, Settings, Stopped, spend};
-use crate::stage::Stage;
-use am_provider::{BodyFault, Caller, NoGate, PutFault, Recorded, Step, Subscription};
+use crate::stopped::Stopped;
+use am_provider::{BodyFault, PutFault, Step, Subscription};
+use sinnoraku::{Client, Limits, Program, Recorded, run};
 use std::sync::Wait;
 use std::test::Fail;
 
@@ -30,14 +30,8 @@ struct Filled {
     shown: bool,
 }
 
-fn post_one<N: Recorded, R: Wait>(
-    stage: &Stage<'_, N, R>,
-    caller: &mut Caller<N>,
-) -> Result<Answer, Stopped> {
-    match stage
-        .provider
-        .post(stage.rt, caller, &NoGate, BODY, moment(60))
-    {
+fn post_one<N: Recorded, R: Wait>(rt: &R, client: &mut Client<'_, N>) -> Result<Answer, Stopped> {
+    match client.post(rt, BODY, moment(60)) {
         Ok(posted) => Ok(Answer::Placed(posted.place)),
         Err(BodyFault::Put(PutFault::Full { lane, passed })) => Ok(Answer::Full { lane, passed }),
         Err(fault) => Err(Stopped::from(fault)),
@@ -68,24 +62,24 @@ fn shows_all<N: Recorded>(subscription: &mut Subscription<'_, N>, count: u32) ->
 
 // The quick subscriber reads all that comes; the slow and the slowest one lag by two batches.
 fn fill<N: Recorded, R: Wait>(
-    stage: &Stage<'_, N, R>,
-    caller: &mut Caller<N>,
+    rt: &R,
+    client: &mut Client<'_, N>,
     quick: &mut Subscription<'_, N>,
     slow: &mut Subscription<'_, N>,
     slowest: &mut Subscription<'_, N>,
 ) -> Result<Filled, Stopped> {
-    let one = post_one(stage, caller)?;
+    let one = post_one(rt, client)?;
     let first = shows_all(quick, 1) && shows_all(slow, 1) && shows_all(slowest, 1);
-    let two = post_one(stage, caller)?;
-    let three = post_one(stage, caller)?;
+    let two = post_one(rt, client)?;
+    let three = post_one(rt, client)?;
     let all = shows_all(quick, 2);
-    let full = post_one(stage, caller)?;
+    let full = post_one(rt, client)?;
     let held = shows(slow, 1);
-    let in_hand = post_one(stage, caller)?;
+    let in_hand = post_one(rt, client)?;
     let passed = shows(slow, 1);
-    let asked = post_one(stage, caller)?;
+    let asked = post_one(rt, client)?;
     let both = shows(slowest, 2);
-    let last = post_one(stage, caller)?;
+    let last = post_one(rt, client)?;
     Ok(Filled {
         one,
         two,
@@ -99,42 +93,39 @@ fn fill<N: Recorded, R: Wait>(
 }
 
 fn with_slowest<N: Recorded, R: Wait>(
-    stage: &Stage<'_, N, R>,
-    caller: &mut Caller<N>,
+    rt: &R,
+    client: &mut Client<'_, N>,
     quick: &mut Subscription<'_, N>,
     slow: &mut Subscription<'_, N>,
 ) -> Result<Filled, Stopped> {
-    let mut slowest = stage.provider.subscribe(stage.rt, caller)?;
-    let filled = fill(stage, caller, quick, slow, &mut slowest);
-    stage.provider.leave(stage.rt, caller, slowest);
+    let mut slowest = client.subscribe(rt)?;
+    let filled = fill(rt, client, quick, slow, &mut slowest.subscription);
+    client.leave(rt, slowest);
     filled
 }
 
 fn with_slow<N: Recorded, R: Wait>(
-    stage: &Stage<'_, N, R>,
-    caller: &mut Caller<N>,
+    rt: &R,
+    client: &mut Client<'_, N>,
     quick: &mut Subscription<'_, N>,
 ) -> Result<Filled, Stopped> {
-    let mut slow = stage.provider.subscribe(stage.rt, caller)?;
-    let filled = with_slowest(stage, caller, quick, &mut slow);
-    stage.provider.leave(stage.rt, caller, slow);
+    let mut slow = client.subscribe(rt)?;
+    let filled = with_slowest(rt, client, quick, &mut slow.subscription);
+    client.leave(rt, slow);
     filled
 }
 
-#[derive(Clone, Copy, Drop)]
+#[derive(Drop)]
 struct Filling;
 
-impl Day for Filling {
-    type Outcome = Filled;
+impl<R: Wait> Program<R> for Filling {
+    type Outcome = Result<Filled, Stopped>;
 
-    fn spend<N: Recorded, R: Wait>(
-        &self,
-        stage: &Stage<'_, N, R>,
-        caller: &mut Caller<N>,
-    ) -> Result<Filled, Stopped> {
-        let mut quick = stage.provider.subscribe(stage.rt, caller)?;
-        let filled = with_slow(stage, caller, &mut quick);
-        stage.provider.leave(stage.rt, caller, quick);
+    fn run<N: Recorded>(self, rt: &R, clients: &mut [Client<'_, N>]) -> Self::Outcome {
+        let client = &mut clients[0];
+        let mut quick = client.subscribe(rt)?;
+        let filled = with_slow(rt, client, &mut quick.subscription);
+        client.leave(rt, quick);
         filled
     }
 }
@@ -143,9 +134,9 @@ impl Day for Filling {
 // it was shown, and then the next such lane is named. Once none is left the post is taken.
 #[test]
 fn slowest_lane_fills_the_log(rt: HostRuntime) -> Result<(), Fail> {
-    let (filled, settled) = spend(&rt, rt.alloc(), Settings::of(2, 1), &Filling)?;
+    let (filled, settled) = run(&rt, rt.alloc(), Limits::with_callers(1).places(2), Filling)?;
     assert_eq!(rt;
-        filled,
+        filled?,
         Filled {
             one: Answer::Placed(Some(0)),
             two: Answer::Placed(Some(1)),

@@ -1,16 +1,17 @@
 //! What trims answer, and that the journal stays short however many posts come.
 
 use crate::bodies::{Report, moment};
-use crate::days::{Day, Settings, Stopped, spend};
-use crate::stage::Stage;
-use am_provider::{Caller, Counts, Ended, Recorded};
+use crate::posts::post_reports;
+use crate::stopped::Stopped;
+use am_provider::Counts;
+use sinnoraku::{Client, Ended, Limits, Program, Recorded, run};
 use std::sync::Wait;
 use std::test::Fail;
 
 /// Posts one report at its start. The number names its label set.
-pub fn post_one<N: Recorded, R: Wait>(
-    stage: &Stage<'_, N, R>,
-    caller: &mut Caller<N>,
+pub fn post_one<N: Recorded, R: Wait + AllocGlobal>(
+    rt: &R,
+    client: &mut Client<'_, N>,
     number: u32,
 ) -> Result<(), Stopped> {
     let report = Report {
@@ -18,18 +19,18 @@ pub fn post_one<N: Recorded, R: Wait>(
         start: number,
         end: None,
     };
-    stage.post_reports(caller, &[report], number)?;
+    post_reports(rt, client, &[report], number)?;
     Ok(())
 }
 
 // What a trim drops while a subscription is open that came just now, and that one's ending.
 fn trim_while_open<N: Recorded, R: Wait>(
-    stage: &Stage<'_, N, R>,
-    caller: &mut Caller<N>,
+    rt: &R,
+    client: &mut Client<'_, N>,
 ) -> Result<(u64, Ended), Stopped> {
-    let subscription = stage.provider.subscribe(stage.rt, caller)?;
-    let dropped = stage.provider.trim(stage.rt, caller);
-    let ended = stage.provider.leave(stage.rt, caller, subscription);
+    let reader = client.subscribe(rt)?;
+    let dropped = client.trim(rt);
+    let ended = client.leave(rt, reader);
     Ok((dropped?, ended))
 }
 
@@ -46,43 +47,38 @@ struct Trimmed {
     closed_again: bool,
 }
 
-#[derive(Clone, Copy, Drop)]
+#[derive(Drop)]
 struct Trimming;
 
-impl Day for Trimming {
-    type Outcome = Trimmed;
+impl<R: Wait + AllocGlobal> Program<R> for Trimming {
+    type Outcome = Result<Trimmed, Stopped>;
 
-    fn spend<N: Recorded, R: Wait>(
-        &self,
-        stage: &Stage<'_, N, R>,
-        caller: &mut Caller<N>,
-    ) -> Result<Trimmed, Stopped> {
-        post_one(stage, caller, 1)?;
-        post_one(stage, caller, 2)?;
-        let posts = stage.provider.trim(stage.rt, caller)?;
-        let (while_open, ended) = trim_while_open(stage, caller)?;
-        let subscription = stage.provider.trim(stage.rt, caller)?;
-        let removed = stage
-            .provider
-            .collect_resolved(stage.rt, caller, moment(9_000))?;
-        stage.provider.close(stage.rt, caller)?;
+    fn run<N: Recorded>(self, rt: &R, clients: &mut [Client<'_, N>]) -> Self::Outcome {
+        let client = &mut clients[0];
+        post_one(rt, client, 1)?;
+        post_one(rt, client, 2)?;
+        let posts = client.trim(rt)?;
+        let (while_open, ended) = trim_while_open(rt, client)?;
+        let subscription = client.trim(rt)?;
+        let removed = client.collect_resolved(rt, moment(9_000))?;
+        client.close(rt)?;
         Ok(Trimmed {
             posts,
             while_open,
             ended,
             subscription,
             removed,
-            at_the_end: stage.provider.trim(stage.rt, caller)?,
-            closed_again: stage.provider.close(stage.rt, caller).is_ok(),
+            at_the_end: client.trim(rt)?,
+            closed_again: client.close(rt).is_ok(),
         })
     }
 }
 
 #[test]
 fn a_trim_drops_what_no_open_subscription_needs(rt: HostRuntime) -> Result<(), Fail> {
-    let (trimmed, settled) = spend(&rt, rt.alloc(), Settings::of(4, 1), &Trimming)?;
+    let (trimmed, settled) = run(&rt, rt.alloc(), Limits::with_callers(1).places(4), Trimming)?;
     assert_eq!(rt;
-        trimmed,
+        trimmed?,
         Trimmed {
             posts: 2,
             while_open: 0,
@@ -112,23 +108,20 @@ fn a_trim_drops_what_no_open_subscription_needs(rt: HostRuntime) -> Result<(), F
     Ok(())
 }
 
-#[derive(Clone, Copy, Drop)]
+#[derive(Drop)]
 struct LongRun;
 
 // How often a trim dropped a thousand posts, which are all that there were since the last one.
-impl Day for LongRun {
-    type Outcome = u32;
+impl<R: Wait + AllocGlobal> Program<R> for LongRun {
+    type Outcome = Result<u32, Stopped>;
 
-    fn spend<N: Recorded, R: Wait>(
-        &self,
-        stage: &Stage<'_, N, R>,
-        caller: &mut Caller<N>,
-    ) -> Result<u32, Stopped> {
+    fn run<N: Recorded>(self, rt: &R, clients: &mut [Client<'_, N>]) -> Self::Outcome {
+        let client = &mut clients[0];
         for turn in 0..20u32 {
             for number in 0..1_000u32 {
-                post_one(stage, caller, number)?;
+                post_one(rt, client, number)?;
             }
-            if stage.provider.trim(stage.rt, caller)? != 1_000 {
+            if client.trim(rt)? != 1_000 {
                 return Ok(turn);
             }
         }
@@ -140,8 +133,8 @@ impl Day for LongRun {
 // each trim answers that it drops all that the journal holds.
 #[test]
 fn the_journal_stays_short(rt: HostRuntime) -> Result<(), Fail> {
-    let (turns, settled) = spend(&rt, rt.alloc(), Settings::of(4, 1), &LongRun)?;
-    assert_eq!(rt; turns, 20);
+    let (turns, settled) = run(&rt, rt.alloc(), Limits::with_callers(1).places(4), LongRun)?;
+    assert_eq!(rt; turns?, 20);
     assert_eq!(rt; settled.journal.calls.len(), 0);
     assert_eq!(rt;
         settled.counts(),

@@ -1,169 +1,146 @@
 //! Posters and readers of a provider, each in a thread of its own.
 
-ghost use Rattle.std.specs.Prelude.{◌≡◌};
-ghost use Rattle.am_provider.specs.PartsOf.{AreOf};
-ghost use Rattle.am_provider.specs.declared.answers.Policy.TheVariants.{Refuse};
-
 use crate::provider::load::Load;
-use crate::provider::{Measured, Posted, count_shown, moment, wait, wait_for};
+use crate::provider::{Measured, PLACES, Posted, count_shown, moment, wait, wait_for};
 use crate::stopwatch::since;
 use am_alert::PostReader;
-use am_provider::{Caller, NoGate, Parts, Policy, Provider, Recorded};
+use sinnoraku::{Client, Limits, Recorded, Worker, run_workers};
 use std::alloc::{AllocError, Global};
-use std::sync::Wait;
 use std::sync::atomic::{AtomicU64, Ordering};
-use std::thread;
+use std::sync::{Barrier, Wait};
 use std::thread::Threads;
-use std::time::{Clock, Duration, Instant};
+use std::time::{Clock, Instant};
 
-// Subscribes, and reads until the log ends.
-fn read<N: Recorded, R: Wait + Clock>(
-    rt: &R,
-    provider: &Provider<N>,
-    caller: &mut Caller<N>,
-    arrived: &AtomicU64,
-) -> u64 {
-    let Ok(mut subscription) = provider.subscribe(rt, caller) else {
-        return 0;
-    };
-    arrived.fetch_add(1, Ordering::SeqCst);
-    let shown = count_shown(rt, &mut subscription);
-    provider.leave(rt, caller, subscription);
-    shown
-}
-
-// Reads in a thread for each reader. Returns how many alerts all of them received.
-fn read_all<N: Recorded + Send + Sync, R: Threads + Wait + Clock + Sync>(
-    rt: &R,
-    provider: &Provider<N>,
-    readers: &mut [Caller<N>],
-    arrived: &AtomicU64,
-) -> u64 {
-    let shown = AtomicU64::new(0);
-    thread::for_each_mut(
-        rt,
-        readers,
-        64,
-        &|_reader, caller| {
-            shown.fetch_add(read(rt, provider, caller, arrived), Ordering::SeqCst);
-        },
-    );
-    shown.load(Ordering::SeqCst)
-}
-
-// Posts the bodies in turn, trying each again while the log is full. Returns how many were accepted.
-fn post<N: Recorded, R: Wait>(
-    rt: &R,
+/// The posters and then the readers.
+#[derive(Drop)]
+struct Posting<'a> {
     alloc: Global,
-    provider: &Provider<N>,
-    caller: &mut Caller<N>,
-    bodies: &[String],
+    bodies: &'a [String],
     load: Load,
-) -> u64 {
-    let mut reader = PostReader::new(alloc);
-    let mut turns = 0;
-    let mut accepted: u64 = 0;
-    for at in 0..load.posts {
-        let Some(body) = bodies.get((at % load.labels) as usize) else {
-            return accepted;
-        };
-        for _turn in 0..u64::MAX {
-            let read = reader.read(body.as_bytes(), moment(at), provider.resolve_timeout);
-            if let Ok(post) = read
-                && provider.put(rt, caller, &NoGate, post, moment(at)).is_ok()
-            {
-                accepted = accepted.wrapping_add(1);
-                break;
-            }
-            wait(&mut turns);
+    // How many readers have subscribed.
+    arrived: AtomicU64,
+    // All posters meet before the first post, and after the last one.
+    meeting: Barrier,
+}
+
+impl<'a, R: Wait + Clock> Worker<R> for Posting<'a> {
+    /// What it posted, and how many alerts it received. Only the first poster tells times.
+    type Outcome = (Posted, u64);
+
+    fn work<N: Recorded>(&self, rt: &R, index: usize, client: &mut Client<'_, N>) -> (Posted, u64) {
+        if index == 0 {
+            return (self.post_first(rt, client), 0);
         }
-        if load.compact > 0 && at % load.compact == 0 {
-            let _dropped = provider.compact(rt, caller);
+        if index >= self.load.posters as usize {
+            return (Posted::NOTHING, self.read(rt, client));
+        }
+        let mut posted = Posted::NOTHING;
+        posted.accepted = self.post_among(rt, client);
+        (posted, 0)
+    }
+}
+
+impl<'a> Posting<'a> {
+    // Subscribes, and reads until the log ends.
+    fn read<N: Recorded, R: Wait + Clock>(&self, rt: &R, client: &mut Client<'_, N>) -> u64 {
+        let Ok(mut reader) = client.subscribe(rt) else {
+            return 0;
+        };
+        self.arrived.fetch_add(1, Ordering::SeqCst);
+        let shown = count_shown(rt, &mut reader.subscription);
+        client.leave(rt, reader);
+        shown
+    }
+
+    // Posts with the others once the readers have subscribed. Then it subscribes once more, and closes the log. The
+    // others sleep until it has read the clock, so that the time has their wake in it.
+    fn post_first<N: Recorded, R: Wait + Clock>(
+        &self,
+        rt: &R,
+        client: &mut Client<'_, N>,
+    ) -> Posted {
+        wait_for(&self.arrived, self.load.readers);
+        let begin = Instant::now(rt);
+        let accepted = self.post_among(rt, client);
+        let posting = since(rt, begin);
+        Posted {
+            accepted,
+            posting,
+            subscribing: subscribe_last(rt, client),
         }
     }
-    accepted
+
+    // Posts between the meetings. Returns how many bodies were accepted.
+    fn post_among<N: Recorded, R: Wait>(&self, rt: &R, client: &mut Client<'_, N>) -> u64 {
+        self.meeting.wait(rt);
+        let accepted = self.post(rt, client);
+        self.meeting.wait(rt);
+        accepted
+    }
+
+    // Posts the bodies in turn, trying each again while the log is full. Returns how many were accepted.
+    fn post<N: Recorded, R: Wait>(&self, rt: &R, client: &mut Client<'_, N>) -> u64 {
+        let load = self.load;
+        let timeout = client.limits.resolve_timeout;
+        let mut reader = PostReader::new(self.alloc);
+        let mut turns = 0;
+        let mut accepted: u64 = 0;
+        for at in 0..load.posts {
+            let Some(body) = self.bodies.get((at % load.labels) as usize) else {
+                return accepted;
+            };
+            for _turn in 0..u64::MAX {
+                if let Ok(post) = reader.read(body.as_bytes(), moment(at), timeout)
+                    && client.put(rt, post, moment(at)).is_ok()
+                {
+                    accepted = accepted.wrapping_add(1);
+                    break;
+                }
+                wait(&mut turns);
+            }
+            if load.compact > 0 && at % load.compact == 0 {
+                let _dropped = client.compact(rt);
+            }
+        }
+        accepted
+    }
 }
 
 // Subscribes once more, and closes the log. Returns the nanoseconds of that subscription.
-fn subscribe_last<N: Recorded, R: Wait + Clock>(
-    rt: &R,
-    provider: &Provider<N>,
-    caller: &mut Caller<N>,
-) -> u128 {
+fn subscribe_last<N: Recorded, R: Wait + Clock>(rt: &R, client: &mut Client<'_, N>) -> u128 {
     let begin = Instant::now(rt);
-    let last = provider.subscribe(rt, caller);
+    let last = client.subscribe(rt);
     let subscribing = since(rt, begin);
     if let Ok(last) = last {
-        provider.leave(rt, caller, last);
+        client.leave(rt, last);
     }
-    let _closed = provider.close(rt, caller);
+    let _closed = client.close(rt);
     subscribing
 }
 
-// Posts in a thread for each poster once the readers have subscribed. Then the first poster subscribes
-// once more, and closes the log.
-fn post_all<N: Recorded + Send + Sync, R: Threads + Wait + Clock + Sync>(
-    rt: &R,
-    alloc: Global,
-    provider: &Provider<N>,
-    posters: &mut [Caller<N>],
-    bodies: &[String],
-    arrived: &AtomicU64,
-    load: Load,
-) -> Posted {
-    let accepted = AtomicU64::new(0);
-    wait_for(arrived, load.readers);
-    let begin = Instant::now(rt);
-    thread::for_each_mut(
-        rt,
-        posters,
-        64,
-        &|_poster, caller| {
-            accepted.fetch_add(
-                post(rt, alloc, provider, caller, bodies, load),
-                Ordering::SeqCst,
-            );
-        },
-    );
-    let posting = since(rt, begin);
-    let subscribing = match posters.first_mut() {
-        Some(first) => subscribe_last(rt, provider, first),
-        None => 0,
-    };
-    Posted {
-        accepted: accepted.load(Ordering::SeqCst),
-        posting,
-        subscribing,
-    }
-}
-
 // Posts bodies to a provider while the readers read.
-pub(crate) fn run_bytes<N: Recorded + Send + Sync, R: Threads + Wait + Clock + Sync>(
+pub(crate) fn run_bytes<R: Threads + Wait + Clock + Sync>(
     rt: &R,
     alloc: Global,
-    parts: Parts,
     bodies: &[String],
     load: Load,
-) -> Result<Measured, AllocError>
-    requires parts { AreOf N.table N.name N.parts N.timeline N.entries N.holders parts }
-    requires limits { (parts.log.places ≡ N.places) × (Refuse ≡ N.policy) }
-{
-    let timeout = Duration::from_secs(300);
-    let (provider, mut callers) = Provider::<N>::begin(alloc, parts, Policy::Refuse, timeout)?;
-    let arrived = AtomicU64::new(0);
-    let (shared, come) = (&provider, &arrived);
-    let (posted, shown) = match callers.split_at_mut_checked(load.posters as usize) {
-        Some((posters, readers)) => thread::join(
-            rt,
-            move || post_all(rt, alloc, shared, posters, bodies, come, load),
-            move || read_all(rt, shared, readers, come),
-        ),
-        None => (Posted::NOTHING, 0),
+) -> Result<Measured, AllocError> {
+    let posting = Posting {
+        alloc,
+        bodies,
+        load,
+        arrived: AtomicU64::new(0),
+        meeting: Barrier::new(load.posters as usize),
     };
-    let settled = provider.settle(rt, callers);
-    Ok(Measured {
-        posted,
-        shown,
+    let limits = Limits::with_callers(load.posters + load.readers).places(PLACES);
+    let (parts, settled) = run_workers(rt, alloc, limits, &posting)?;
+    let mut measured = Measured {
+        posted: Posted::NOTHING,
+        shown: 0,
         stored: settled.store.len() as u64,
-    })
+    };
+    for (posted, shown) in parts {
+        measured.add(posted, shown);
+    }
+    Ok(measured)
 }
