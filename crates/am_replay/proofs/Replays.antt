@@ -1,22 +1,12 @@
 -- Facts about the words of specs/Replays.antt, and of specs/Runs.antt below it.
-use Rattle.std.proofs.Common.{◌≡◌, ℕ, ◌+◌, Bool, List, [], ◌∷◌, ◌++◌, true, false, length, map, Option, Some, None, Result, Ok, Err, IfOk, ap, sym, subst, refl, ◌∙◌}
-use Rattle.std.proofs.lemmas.List.{map-append, length-append, length-map}
-use Rattle.std.specs.declared.alloc.AllocError.{AllocError}
+use Rattle.std.proofs.Common.{◌≡◌, ℕ, Bool, List, [], true, false, Option, Some, None, Result, Ok, Err, IfOk, ap, sym, subst, refl, ◌∙◌}
 use Rattle.std.specs.Io.KnownBytes.{Appends, Keeps}
-use Rattle.am_alert.specs.declared.alert.Alert.{Alert}
-use Rattle.am_store.specs.declared.call.Call.{Call}
-use Rattle.am_cast.specs.Posters.{PassView}
-use Rattle.am_history.specs.Fronts.{FrontView}
-use Rattle.am_provider.specs.Histories.{EntryView}
-use Rattle.am_provider.specs.Ending.{IsSettledFrom}
 use Rattle.am_provider.specs.declared.settled.Settled.{Settled}
-use Rattle.am_runner.specs.Sessions.{Setting, setting_of}
-use Rattle.am_runner.specs.Turning.{Order, order_of}
-use Rattle.am_runner.specs.Working.{AreWork, Outcome, none, one_more_thread}
+use Rattle.am_runner.specs.Sessions.{setting_of}
 use Rattle.am_replay.specs.declared.arguments.Arguments.{Arguments}
 use Rattle.am_replay.specs.Printing.{transcript_text, ran_out_of_memory}
 use Rattle.am_replay.specs.Replays.{ComesTo, IsPrinted, IsReplay, no_config, ran, refused, runs_in_order, status_of, too_long}
-use Rattle.am_replay.specs.Runs.{AreCountsOf, IsRun}
+use Rattle.am_replay.specs.Runs.{IsRun}
 use Rattle.am_config.specs.declared.config.Config.{Config}
 use Rattle.am_replay.specs.FirstLines.{IsFirstLine}
 use Rattle.am_replay.specs.declared.first_line.FirstLine.TheVariants.{Read}
@@ -46,47 +36,6 @@ comes arguments text lines config transcript settled status output first checks 
     subst (λ (s : Status). ComesTo arguments text s output) (sym ends)
     (subst (λ (o : List ℕ). ComesTo arguments text (status_of (ran_out_of_memory transcript.answers.items)) o) (sym (said ∙ ap (λ (all : List Line). transcript_text arguments.form all transcript.answers.items transcript.counts) runs.script))
     (ran config transcript settled first checks runs))
-
--- one thread's outcome more
-pub one_more_parted : {A B E : Type 0} (all : List (Result A E × B)) (answers answers_then : List A) (passes passes_then : List B) (one : Result A E) (answer : A) (pass : B)
-    → (map (λ x. x.0) all ≡ map Ok answers) × (map (λ x. x.1) all ≡ passes)
-    → one ≡ Ok answer → answers_then ≡ answers ++ answer ∷ [] → passes_then ≡ passes ++ pass ∷ []
-    → (map (λ x. x.0) (all ++ (one, pass) ∷ []) ≡ map Ok answers_then) × (map (λ x. x.1) (all ++ (one, pass) ∷ []) ≡ passes_then)
-one_more_parted {A} {B} {E} all answers answers_then passes passes_then one answer pass so_far is grown more = (
-  map-append (λ (x : Result A E × B). x.0) all ((one, pass) ∷ [])
-      ∙ (ap (λ (front : List (Result A E)). front ++ one ∷ []) so_far.0
-      ∙ (ap (λ (o : Result A E). map Ok answers ++ o ∷ []) is
-      ∙ (sym (map-append Ok answers (answer ∷ [])) ∙ ap (λ (l : List A). map Ok l) (sym grown)))),
-  map-append (λ (x : Result A E × B). x.1) all ((one, pass) ∷ [])
-      ∙ (ap (λ (front : List B). front ++ pass ∷ []) so_far.1 ∙ sym more),
-)
-
-work_of_each : {config : Config} {setting : Setting} {order : Order} {lines : List Line} {threads : ℕ} {all : List (Outcome AllocError)} → AreWork config setting order lines threads all → length all ≡ threads
-work_of_each none = refl
-work_of_each (one_more_thread {thread} {before} one work this) =
-    length-append before (one ∷ []) ∙ ap (λ (n : ℕ). n + 1) (work_of_each work)
-
--- what the threads came to, and the provider by their callers
-pub run_of : (ordered : Bool) (turns : List (FrontView EntryView)) (config : Config) (setting : Setting) (lines : List Line) (all : List (Outcome AllocError)) (transcript : Transcript) (passes : List (PassView Alert Call)) (fronts : List (FrontView EntryView)) (settled : Settled)
-    → transcript.lines.items ≡ lines → AreWork config setting (order_of ordered turns) lines 8 all
-    → map (λ (x : Outcome AllocError). x.answers) all ≡ map Ok transcript.answers.items → map (λ (x : Outcome AllocError). x.pass) all ≡ passes → map (λ (x : Outcome AllocError). x.front) all ≡ fronts
-    → IsSettledFrom passes fronts settled → (length passes ≡ 8 → settled.complete ≡ true) → AreCountsOf settled transcript.counts
-    → IsRun ordered config setting lines transcript settled
-run_of ordered turns config setting lines all transcript passes fronts settled script work answered owned seen end complete counts = record {
-  outcomes = all;
-  turns = turns;
-  script = script;
-  work = work;
-  answered = answered;
-  end = subst (λ (given : List (PassView Alert Call)). IsSettledFrom given (map (λ (x : Outcome AllocError). x.front) all) settled) (sym owned) (subst (λ (given : List (FrontView EntryView)). IsSettledFrom passes given settled) (sym seen) end);
-  complete = complete (ap length (sym owned) ∙ (length-map all (λ (x : Outcome AllocError). x.pass) ∙ work_of_each work));
-  counts = counts;
-}
-
--- one map after another
-pub map_twice : {A B C : Type 0} (f : A → B) (g : B → C) (xs : List A) → map g (map f xs) ≡ map (λ x. g (f x)) xs
-map_twice f g [] = refl
-map_twice f g (x ∷ xs) = ap (λ rest. g (f x) ∷ rest) (map_twice f g xs)
 
 pub keeps_same : (known : Option (List ℕ)) → Keeps known known
 keeps_same None = tt

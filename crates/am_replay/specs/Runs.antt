@@ -1,17 +1,12 @@
 -- A script's run on a new provider.
-use Rattle.std.specs.Prelude.{◌≡◌, Bool, true, List, map, length, Ok}
-use Rattle.std.specs.declared.alloc.AllocError.{AllocError}
+use Rattle.std.specs.Prelude.{◌≡◌, Bool, List, length}
 use Rattle.am_store.specs.Journal.{posts_of}
 use Rattle.am_store.specs.Journal.{journal_of}
-use Rattle.am_history.specs.Fronts.{FrontView}
 use Rattle.am_provider.specs.BookView.{places_of}
-use Rattle.am_provider.specs.Histories.{EntryView}
-use Rattle.am_provider.specs.Ending.{IsSettledFrom}
 use Rattle.am_provider.specs.declared.answers.Counts.{Counts}
 use Rattle.am_provider.specs.declared.settled.Settled.{Settled}
 use Rattle.am_runner.specs.Sessions.{Setting}
-use Rattle.am_runner.specs.Turning.{order_of}
-use Rattle.am_runner.specs.Working.{AreWork, Outcome}
+use Rattle.am_runner.specs.WholeRuns.{IsWholeRun}
 use Rattle.am_config.specs.declared.config.Config.{Config}
 use Rattle.am_script.specs.declared.command.Line.{Line}
 use Rattle.am_replay.specs.declared.transcript.Transcript.{Transcript}
@@ -22,20 +17,10 @@ pub record AreCountsOf (settled : Settled) (counts : Counts) : Type 0 where
   pub posts : counts.posts ≡ posts_of (journal_of settled.journal)
   pub stored : counts.stored ≡ length settled.store.entries
 
--- The eight threads ran the lines under one configuration, each its own, and the transcript has what each
--- answered. Their callers settled the provider. Its one history has one entry for each accepted call of a
--- line and for each subscription that was left at the end, and no other entry. Each line's answer is the one
--- that the history gives at its place. If the lines are run in order, their turns are one list in the order
--- of the script. Then, when a line's turn began, its thread had seen all that was done in the turns before
--- it. The counts are those of the journal that is left of the history.
+-- The eight threads ran the lines on a provider of their own, and settled it. The transcript has the lines
+-- with their answers, and the counts are those of the journal that is left.
 pub record IsRun (ordered : Bool) (config : Config) (setting : Setting) (lines : List Line)
     (transcript : Transcript) (settled : Settled) : Type 0 where
-  pub outcomes : List (Outcome AllocError)
-  pub turns : List (FrontView EntryView)
   pub script : transcript.lines.items ≡ lines
-  pub work : AreWork config setting (order_of ordered turns) lines 8 outcomes
-  pub answered : map (λ (one : Outcome AllocError). one.answers) outcomes ≡ map Ok transcript.answers.items
-  pub end : IsSettledFrom (map (λ (one : Outcome AllocError). one.pass) outcomes)
-      (map (λ (one : Outcome AllocError). one.front) outcomes) settled
-  pub complete : settled.complete ≡ true
+  pub ran : IsWholeRun ordered config setting lines transcript.answers.items settled
   pub counts : AreCountsOf settled transcript.counts

@@ -8,3 +8,4 @@ pub mod Taking
 pub mod Turning
 pub mod Putting
 pub mod LostAnswers
+pub mod WholeRuns

@@ -14,3 +14,4 @@ pub mod Unanswered
 pub mod Compacting
 pub mod Turning
 pub mod Working
+pub mod WholeRuns

@@ -13,10 +13,11 @@
 //! one after another in the script's order (`InOrder`), or as the threads reach them (`Freely`). What comes
 //! back is what each line answered, and the passes, by which `Provider::settle` shows the journal.
 //!
+//! `run_whole` begins a provider, runs the threads on it, and settles it.
+//!
 //! <!-- from crates/am_replay/src/script_run.rt -->
 //! ```rust
-//! match run_threads(rt, alloc, &provider, callers, config, &lines, turns) {
-//!     Ok(outcomes) => Ok(end(rt, alloc, provider, lines, outcomes)?),
+//! let WholeRun { answers, settled } = run_whole(rt, alloc, log, config, &lines, turns)?;
 //! ```
 #![tactic(auto)]
 
@@ -40,6 +41,7 @@ mod start;
 mod threads;
 mod turns;
 mod unanswered;
+mod whole_run;
 mod work;
 
 pub use answer::{Answer, GroupHead, PageHead, write_answers};
@@ -57,3 +59,4 @@ pub use session::Session;
 pub use threads::{ThreadOutcome, run_threads};
 pub use turns::{Freely, InOrder, Turn, Turns};
 pub use unanswered::{is_question, loses_nothing};
+pub use whole_run::{LogLimits, WholeRun, run_whole};

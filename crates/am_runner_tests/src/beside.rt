@@ -1,9 +1,9 @@
 //! The eight threads run their lines at the same time.
 
-use crate::runs::{Log, Run, Stopped, run_lines};
+use crate::runs::{Run, Stopped, run_lines};
 use am_history::Timeline;
 use am_provider::{Caller, Gate, Policy, Provider, Recorded};
-use am_runner::{Register, Turn, Turns, TurnsSeen};
+use am_runner::{LogLimits, Register, Turn, Turns, TurnsSeen};
 use am_script::{THREADS, read_script};
 use std::alloc::Global;
 use std::rt::Clock;
@@ -128,7 +128,7 @@ fn run_last_first<R: Threads + Wait + Clock + Sync>(
     let run = run_lines(
         rt,
         alloc,
-        Log::of(16, Policy::Refuse),
+        LogLimits::of(16, Policy::Refuse),
         SCRIPT,
         lines,
         &turns,

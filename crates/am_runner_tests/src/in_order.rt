@@ -1,7 +1,8 @@
 //! Scripts that are run one line after another, each of them in eight threads.
 
-use crate::runs::{Log, Run, Stopped, run_in_order};
+use crate::runs::{Run, Stopped, run_in_order};
 use am_provider::Policy;
+use am_runner::LogLimits;
 use std::alloc::Global;
 use std::sync::Wait;
 use std::test::Fail;
@@ -93,7 +94,7 @@ early 0 places 2 posts 2 stored 0 complete true
 #[test]
 fn day_of_eight_threads(rt: HostRuntime) -> Result<(), Fail> {
     let alloc = rt.alloc();
-    let run = run_in_order(&rt, alloc, Log::of(256, Policy::Refuse), DAY)?;
+    let run = run_in_order(&rt, alloc, LogLimits::of(256, Policy::Refuse), DAY)?;
     assert_eq!(rt; run.printed(alloc)?.as_str(), DAY_ANSWERS);
     Ok(())
 }
@@ -160,7 +161,7 @@ early 0 places 2 posts 2 stored 2 complete true
 #[test]
 fn full_log_refuses(rt: HostRuntime) -> Result<(), Fail> {
     let alloc = rt.alloc();
-    let run = run_in_order(&rt, alloc, Log::of(1, Policy::Refuse), FULL)?;
+    let run = run_in_order(&rt, alloc, LogLimits::of(1, Policy::Refuse), FULL)?;
     assert_eq!(rt; run.printed(alloc)?.as_str(), FULL_REFUSED);
     Ok(())
 }
@@ -168,7 +169,7 @@ fn full_log_refuses(rt: HostRuntime) -> Result<(), Fail> {
 #[test]
 fn full_log_cuts(rt: HostRuntime) -> Result<(), Fail> {
     let alloc = rt.alloc();
-    let run = run_in_order(&rt, alloc, Log::of(1, Policy::Cut), FULL)?;
+    let run = run_in_order(&rt, alloc, LogLimits::of(1, Policy::Cut), FULL)?;
     assert_eq!(rt; run.printed(alloc)?.as_str(), FULL_CUT);
     Ok(())
 }
@@ -208,7 +209,7 @@ early 1 places 1 posts 1 stored 1 complete true
 #[test]
 fn compacted_while_a_subscription_is_open(rt: HostRuntime) -> Result<(), Fail> {
     let alloc = rt.alloc();
-    let run = run_in_order(&rt, alloc, Log::of(256, Policy::Refuse), COMPACTED)?;
+    let run = run_in_order(&rt, alloc, LogLimits::of(256, Policy::Refuse), COMPACTED)?;
     assert_eq!(rt; run.printed(alloc)?.as_str(), COMPACTED_ANSWERS);
     Ok(())
 }
@@ -266,7 +267,7 @@ const RUNS: u32 = 1_000;
 fn count_alike<R: Threads + Wait + Sync>(rt: &R, alloc: Global) -> Result<u32, Stopped> {
     let mut alike: u32 = 0;
     for _run in 0..RUNS {
-        let run = run_in_order(rt, alloc, Log::of(16, Policy::Refuse), SHORT)?;
+        let run = run_in_order(rt, alloc, LogLimits::of(16, Policy::Refuse), SHORT)?;
         if run.printed(alloc)?.as_str() == SHORT_ANSWERS {
             alike = alike.wrapping_add(1);
         }

@@ -1,23 +1,15 @@
 //! A script's run from its text: read, run in eight threads, and settled.
 
-ghost use Rattle.std.specs.Prelude.{◌≡◌, ◌≤◌};
-ghost use Rattle.am_provider.specs.PartsOf.{AreOf};
-
 use am_config::{Config, ConfigFault};
-use am_provider::{Caller, Counts, Ended, Parts, Policy, Provider, Recorded, Settled};
+use am_provider::{Counts, Ended, Settled};
 use am_runner::{
-    Answer, Form, InOrder, RunFault, ThreadOutcome, Turns, run_threads, write_answers,
+    Answer, Form, InOrder, LogLimits, RunFault, Turns, WholeRun, run_whole, write_answers,
 };
-use am_script::{Line, ScriptFault, THREADS, config_line, read_script};
+use am_script::{Line, ScriptFault, config_line, read_script};
 use am_store::Call;
 use std::alloc::{AllocError, AllocFailed, Global};
-use std::marker::Brand;
 use std::sync::Wait;
 use std::thread::Threads;
-use std::time::Duration;
-
-// The resolve timeout of each run, which is that of a configuration that gives none.
-const RESOLVE_SECONDS: u64 = 300;
 
 /// Why a run gave nothing.
 #[derive(Clone, Copy, Debug, Drop)]
@@ -65,22 +57,6 @@ impl From<ScriptFault> for Stopped {
             ScriptFault::NoMemory => Stopped::NoMemory,
             ScriptFault::Refused(_) => Stopped::NoScript,
         }
-    }
-}
-
-/// How many places a provider's log has, and what a post does where it is full.
-#[derive(Clone, Copy, Drop)]
-pub struct Log {
-    pub places: u32,
-    pub policy: Policy,
-    ghost places_fit: { (1 ≤ places) × (places ≤ 256) },
-}
-
-impl Log {
-    pub fn of(places: u32, policy: Policy) -> Log
-        requires { (1 ≤ places) × (places ≤ 256) }
-    {
-        Log { places, policy }
     }
 }
 
@@ -172,7 +148,7 @@ fn write_end(text: &mut String, settled: &Settled) -> Result<(), AllocError> {
 pub fn run_in_order<R: Threads + Wait + Sync>(
     rt: &R,
     alloc: Global,
-    log: Log,
+    log: LogLimits,
     text: &str,
 ) -> Result<Run, Stopped> {
     let lines = read_script(alloc, text.as_bytes())?;
@@ -180,66 +156,25 @@ pub fn run_in_order<R: Threads + Wait + Sync>(
     run_lines(rt, alloc, log, text, lines, &turns)
 }
 
-/// Runs the lines of a script, in the turns that are passed.
+/// Runs the lines of a script, in the turns that are passed. A call that was out of memory spoils them.
 pub fn run_lines<R: Threads + Wait + Sync, T: Turns + Sync>(
     rt: &R,
     alloc: Global,
-    log: Log,
+    log: LogLimits,
     text: &str,
     lines: Vec<Line>,
     turns: &T,
 ) -> Result<Run, Stopped> {
     let config = Config::read(alloc, config_line(text.as_bytes()))?;
-    let parts = Parts::make(alloc, log.places, THREADS)?;
-    let (threads, settled) = run_over::<Brand, R, T>(
-        rt, alloc, parts, log, &config, &lines, turns,
-    )?;
-    Ok(Run {
-        lines,
-        threads: threads?,
-        settled,
-    })
-}
-
-fn run_over<N: Recorded + Send + Sync, R: Threads + Wait + Sync, T: Turns + Sync>(
-    rt: &R,
-    alloc: Global,
-    parts: Parts,
-    log: Log,
-    config: &Config,
-    lines: &[Line],
-    turns: &T,
-) -> Result<(Result<Answers, Stopped>, Settled), Stopped>
-    requires parts { AreOf N.table N.name N.parts N.timeline N.entries N.holders parts }
-    requires limits { (parts.log.places ≡ N.places) × (log.policy ≡ N.policy) }
-    requires posters { parts.posters ≡ 8 }
-{
-    let timeout = Duration::from_secs(RESOLVE_SECONDS);
-    let (provider, callers) = Provider::<N>::begin(alloc, parts, log.policy, timeout)?;
-    let ran = run_threads(rt, alloc, &provider, callers, config, lines, turns);
-    let mut callers = Vec::new(alloc);
-    let threads = take_callers(alloc, ran, &mut callers);
-    let settled = provider.settle(rt, callers);
-    Ok((threads, settled))
-}
-
-// The answers of all threads, whose callers are added to the others. A call that was out of memory spoils
-// them.
-fn take_callers<N: Recorded>(
-    alloc: Global,
-    ran: Result<Vec<ThreadOutcome<N>>, RunFault>,
-    callers: &mut Vec<Caller<N>>,
-) -> Result<Answers, Stopped> {
-    let mut threads = Vec::new(alloc);
-    for outcome in ran? {
-        let (answers, caller) = outcome;
-        callers.push(caller)?;
-        threads.push(answers?)?;
-    }
-    if threads.iter().any(is_out_of_memory) {
+    let WholeRun { answers, settled } = run_whole(rt, alloc, log, &config, &lines, turns)?;
+    if answers.iter().any(is_out_of_memory) {
         return Err(Stopped::NoMemory);
     }
-    Ok(threads)
+    Ok(Run {
+        lines,
+        threads: answers,
+        settled,
+    })
 }
 
 // Whether one of a thread's calls was out of memory.

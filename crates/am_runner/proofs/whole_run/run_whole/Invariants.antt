@@ -1,4 +1,4 @@
-use Rattle.am_runner_tests.proofs.runs.run_lines.Given as goal
+use Rattle.am_runner.proofs.whole_run.run_whole.Given as goal
 
 abbrev pub ghosts-run_over-N-Feed : goal.ghosts-run_over-N-Feed
 ghosts-run_over-N-Feed g a = record { table = a.parts.log.board.shared.table_id }
@@ -14,4 +14,4 @@ ghosts-run_over-N-Timeline g a = record {
 }
 
 abbrev pub ghosts-run_over-N-Recorded : goal.ghosts-run_over-N-Recorded
-ghosts-run_over-N-Recorded g a = record { places = a.parts.log.places; policy = a.log.policy }
+ghosts-run_over-N-Recorded g a = record { places = a.log.places; policy = a.log.policy }

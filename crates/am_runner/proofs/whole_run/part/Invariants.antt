@@ -1,5 +1,5 @@
 use Rattle.std.proofs.Common.{◌≡◌, Ok, map}
-use Rattle.am_replay.proofs.script_run.part.Given as goal
+use Rattle.am_runner.proofs.whole_run.part.Given as goal
 
 -- what the outcomes so far had
 abbrev pub invariant-loop-answered : goal.invariant-loop-answered

@@ -1,5 +1,5 @@
-use Rattle.am_replay.proofs.Replays.{one_more_parted}
-use Rattle.am_replay.proofs.script_run.part.Goals as goal
+use Rattle.am_runner.proofs.WholeRuns.{one_more_parted}
+use Rattle.am_runner.proofs.whole_run.part.Goals as goal
 
 pub loop-answered-preserved : goal.loop-answered-preserved
 loop-answered-preserved g c =
