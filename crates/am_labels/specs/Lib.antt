@@ -2,6 +2,7 @@ pub mod Texts
 pub mod LabelSets
 pub mod LabelLaws
 pub mod Printing
+pub mod LabelTexts
 pub mod MatcherTexts
 pub mod Matchers
 pub mod PlainPatterns

@@ -25,6 +25,7 @@ mod choice;
 mod comparison;
 mod label_name;
 mod label_set;
+mod label_text;
 mod laws;
 mod match_fault;
 mod matcher;
@@ -43,6 +44,7 @@ mod text;
 
 pub use label_name::LabelName;
 pub use label_set::LabelSet;
+pub use label_text::LabelsFault;
 pub use laws::{label_set_laws, matcher_grammar_laws, plain_pattern_laws};
 pub use match_fault::MatchFault;
 pub use matcher::Matcher;

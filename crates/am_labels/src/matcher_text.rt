@@ -69,7 +69,7 @@ fn begins_name(text: &[u8]) -> bool
 }
 
 // The name and what follows it.
-fn split_name(text: &str) -> Option<(&str, &str)>
+pub(crate) fn split_name(text: &str) -> Option<(&str, &str)>
     ensures { MatchOption result (begins is_name_start text.now ≡ false)
         (λ parts. IsNameThen text.now parts.0.now parts.1.now) }
 {
@@ -138,7 +138,7 @@ fn read_unquoted(alloc: Global, raw: &str) -> Result<Option<Text>, AllocError>
 }
 
 // What a text means up to its first bare quote, and what follows that quote.
-fn read_letters(alloc: Global, text: &str) -> Result<(Text, Option<&str>), AllocError>
+pub(crate) fn read_letters(alloc: Global, text: &str) -> Result<(Text, Option<&str>), AllocError>
     ensures { IfOk result (λ read. MatchOption read.1
         (IsMeantWhole text.now read.0) (λ rest. IsMeantUntil text.now rest.now read.0)) }
 {

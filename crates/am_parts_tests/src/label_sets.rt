@@ -1,7 +1,7 @@
 //! Label sets.
 
 use crate::expectation::expect;
-use am_labels::{LabelSet, PairBuffer};
+use am_labels::{LabelSet, LabelsFault, PairBuffer};
 use std::alloc::{AllocError, Global};
 use std::test::Fail;
 
@@ -44,6 +44,19 @@ fn is_printed_as(alloc: Global, labels: &LabelSet, text: &str) -> Result<bool, A
     Ok(printed.as_str() == text)
 }
 
+fn read(alloc: Global, text: &str) -> Result<Option<LabelSet>, AllocError> {
+    match LabelSet::read(alloc, text) {
+        Ok(labels) => Ok(Some(labels)),
+        Err(LabelsFault::NoMemory) => Err(AllocError),
+        Err(_) => Ok(None),
+    }
+}
+
+fn is_read_back(alloc: Global, labels: &LabelSet) -> Result<bool, AllocError> {
+    let printed = labels.to_string(alloc)?;
+    Ok(read(alloc, printed.as_str())?.is_some_and(|read| read == *labels))
+}
+
 fn are_the_last(alloc: Global, labels: &LabelSet) -> Result<(), Fail> {
     expect(has_last_values(labels), "other values")?;
     expect(has_names(labels), "other names")?;
@@ -58,6 +71,49 @@ fn are_the_last(alloc: Global, labels: &LabelSet) -> Result<(), Fail> {
 fn last_of_two_pairs_holds(rt: HostRuntime) -> Result<(), Fail> {
     let labels = labels_of(rt.alloc(), &[("b", "1"), ("a", "2"), ("b", "3")])?;
     are_the_last(rt.alloc(), &labels)
+}
+
+const PRINTED: [&str; 5] = [
+    "{}",
+    "{a=\"1\"}",
+    "{a=\"\",b=\"},{\"}",
+    "{\"\"=\"1\",\"a b\"=\"\\\"\\\\\\n\"}",
+    "{:=\"\u{e9}\",_1=\"=\",\"\u{e9}\"=\"x\"}",
+];
+
+// They hold labels or begin as if they did, but no label set prints so.
+const NOT_PRINTED: [&str; 16] = [
+    "",
+    "{",
+    "}",
+    "{}}",
+    "{ }",
+    "{} ",
+    "{,}",
+    "{a}",
+    "{a=1}",
+    "{a=\"1}",
+    "{a=\"1\",}",
+    "{a=\"1\"b=\"2\"}",
+    "{a=\"1\",a=\"1\"}",
+    "{b=\"1\",a=\"2\"}",
+    "{\"a\"=\"1\"}",
+    "{a=\"\\x\"}",
+];
+
+#[test]
+fn printed_label_sets_are_read(rt: HostRuntime) -> Result<(), Fail> {
+    let alloc = rt.alloc();
+    for text in PRINTED {
+        let Some(labels) = read(alloc, text)? else {
+            return Err(Fail::from("a printed text is refused"));
+        };
+        assert!(rt; is_printed_as(alloc, &labels, text)?, "{text}");
+    }
+    for text in NOT_PRINTED {
+        assert!(rt; read(alloc, text)?.is_none(), "{text}");
+    }
+    Ok(())
 }
 
 fn are_in_order(one: &LabelSet, other: &LabelSet) -> bool {
@@ -147,6 +203,7 @@ fn many_labels_from_one_buffer(rt: HostRuntime) -> Result<(), Fail> {
         assert!(rt; has_values(alloc, &others, count, "another")?, "{count}");
         assert!(rt; come_in_order(&labels) && come_in_order(&others), "{count}");
         assert!(rt; labels == again && is_copied(&labels)?, "{count}");
+        assert!(rt; is_read_back(alloc, &labels)?, "{count}");
         assert!(rt; (labels == others) == (count < 2), "{count}");
     }
     Ok(())

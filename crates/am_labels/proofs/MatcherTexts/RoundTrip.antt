@@ -14,7 +14,7 @@ use Rattle.am_labels.proofs.MatcherTexts.Letters.{letters-plain, letters-escape}
 use Rattle.am_labels.proofs.MatcherTexts.Spaces.{both}
 
 -- the letter for a byte inside quotes
-abbrev letter_for : ℕ → Letter
+abbrev pub letter_for : ℕ → Letter
 letter_for byte = cond (byte == 34) (escape 34) (cond (byte == 92) (escape 92) (cond (byte == 10) (escape 110) (plain byte)))
 
 differs_from : (byte special : ℕ) → (byte == special) ≡ false → byte ≢ special
@@ -34,15 +34,15 @@ bare_step false true n byte eq = refl
 bare_step false false true byte eq = refl
 bare_step false false false byte eq = eq
 
-written : (value rest : List ℕ) → letters (escaped_all value ++ rest) ≡ map letter_for value ++ letters rest
+pub written : (value rest : List ℕ) → letters (escaped_all value ++ rest) ≡ map letter_for value ++ letters rest
 written [] rest = refl
 written (byte ∷ value) rest = let other = written value rest in grind (arith, append_assoc, written_step)
 
-meant_back : (value : List ℕ) → map meant (map letter_for value) ≡ value
+pub meant_back : (value : List ℕ) → map meant (map letter_for value) ≡ value
 meant_back [] = refl
 meant_back (byte ∷ value) = let rest = meant_back value in grind arith
 
-none_bare : (value : List ℕ) → list_any is_bare_quote (map letter_for value) ≡ false
+pub none_bare : (value : List ℕ) → list_any is_bare_quote (map letter_for value) ≡ false
 none_bare [] = refl
 none_bare (byte ∷ value) = rw (bare_step (byte == 34) (byte == 92) (byte == 10) byte refl, none_bare value) refl
 

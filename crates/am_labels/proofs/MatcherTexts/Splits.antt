@@ -25,7 +25,7 @@ name_all : (name : List ℕ) → is_classic_name name ≡ true → list_all is_n
 name_all [] h = absurd (false≢true h)
 name_all (x ∷ xs) h = let parts = both (is_name_start x) (list_all is_name_byte xs) h in rw (parts.0, parts.1) refl
 
-one_name : (text other name like rest left : List ℕ) → text ≡ other → IsNameThen text name rest → IsNameThen other like left → (name ≡ like) × (rest ≡ left)
+pub one_name : (text other name like rest left : List ℕ) → text ≡ other → IsNameThen text name rest → IsNameThen other like left → (name ≡ like) × (rest ≡ left)
 one_name text other name like rest left e a b =
     one_front is_name_byte name like rest left (name_all name a.1) (name_all like b.1) a.2 b.2 (sym a.0 ∙ (e ∙ b.0))
 

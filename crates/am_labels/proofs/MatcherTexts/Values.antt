@@ -22,7 +22,7 @@ letters_none [] e = refl
 letters_none (byte ∷ []) e = cc
 letters_none (byte ∷ next ∷ rest) e = absurd (some_letter _ _ _ _ _ e)
 
-quote_first : (rest : List ℕ) → letters (34 ∷ rest) ≡ plain 34 ∷ letters rest
+pub quote_first : (rest : List ℕ) → letters (34 ∷ rest) ≡ plain 34 ∷ letters rest
 quote_first rest = letters-plain 34 rest (λ e. absurd (omega (arith, e)))
 
 pub no_quoted_more : (text rest value other : List ℕ) → rest ≢ [] → IsMeantUntil text rest value → IsMeantUntil text [] other → ⊥
