@@ -34,7 +34,7 @@ mod seat;
 mod worker;
 
 pub use am_alert::{Alert, AlertParts, Moment, Post, PostFault, read_post};
-pub use am_labels::{LabelSet, Text};
+pub use am_labels::{LabelSet, LabelsFault, Text};
 pub use am_provider::{
     BodyFault, Caller, CloseFault, Ended, Page, Policy, Posted, PostedIf, Provider, PutFault,
     Recorded, Settled, SubFault, Subscription,
