@@ -1,4 +1,8 @@
 //! A script's run on a provider of its own, from the provider's beginning to its end.
+//!
+//! Crate sinnoraku can't begin it: the threads share a register of turns, whose type rests on the provider's own type, and a
+//! `Worker` is made before that is there. A `Program` that starts threads is refused: what it sends to one rests on a bound
+//! that a trait's method assumes.
 
 ghost use Rattle.std.specs.Prelude.{◌≡◌, ◌≤◌, Bool, List, IfOk, Ok, map};
 ghost use Rattle.am_cast.specs.declared.limits.TheConstants.{MAX_PLACES};
