@@ -25,40 +25,10 @@ kept_twice few many low (ended ∷ endings) = by_test (kept_twice few many low e
         ∙ (rest ∙ ap (λ (b : Bool). cond b (ended ∷ filter (is_since many) endings) (filter (is_since many) endings)) (sym d))
     by_test rest false true e d = absurd (let above = leb-true many ended.at d in let fails : is_since few ended ≡ true = le-leb few ended.at (omega (arith, low, above)) in let no : false ≡ true = sym e ∙ fails in cc)
 
-pub endings_last : (pasts : List (Past Ended)) (last : Past Ended) (ended : Ended) → last.value ≡ ended → endings_in (pasts ++ last ∷ []) ≡ endings_in pasts ++ ended ∷ []
-endings_last [] last ended e = ap (λ one. one ∷ []) e
-endings_last (first ∷ pasts) last ended e = ap (λ rest. first.value ∷ rest) (endings_last pasts last ended e)
-
 pub fewer : (count : ℕ) (endings : List Ended) → length (filter (is_since count) endings) ≤ length endings
 fewer count endings = omega (arith, length-filter (is_since count) endings, count_by-le-length (is_since count) endings)
 
-pub one_since : (count : ℕ) (endings : List Ended) (ended : Ended) → count ≤ ended.at → filter (is_since count) (endings ++ ended ∷ []) ≡ filter (is_since count) endings ++ ended ∷ []
-one_since count endings ended late =
-    filter-append (is_since count) endings (ended ∷ [])
-    ∙ ap (λ (b : Bool). filter (is_since count) endings ++ cond b (ended ∷ []) []) (le-leb count ended.at late)
-
-one_before : (count : ℕ) (endings : List Ended) (ended : Ended) → ended.at < count → filter (is_since count) (endings ++ ended ∷ []) ≡ filter (is_since count) endings
-one_before count endings ended early =
-    filter-append (is_since count) endings (ended ∷ [])
-    ∙ (ap (λ (b : Bool). filter (is_since count) endings ++ cond b (ended ∷ []) []) (lt-leb count ended.at early) ∙ append-nil (filter (is_since count) endings))
-
 module _ (all : List Ended) (before gone : ℕ) (held : List Ended) (others : ℕ) (kept : AreHeld all before gone held others) where
-  -- one ending more, which memory has
-  pub held_more : (ended : Ended) → gone ≤ ended.at → AreHeld (all ++ ended ∷ []) before gone (held ++ ended ∷ []) others
-  held_more ended late = record {
-    few = kept.few;
-    memory = ap (λ xs. xs ++ ended ∷ []) kept.memory ∙ sym (one_since gone all ended late);
-    counted = omega (arith, kept.counted, length-append all (ended ∷ []), length-append held (ended ∷ []));
-  }
-
-  -- one ending more, which is counted
-  pub others_more : (ended : Ended) → ended.at < gone → AreHeld (all ++ ended ∷ []) before gone held (others + 1)
-  others_more ended early = record {
-    few = kept.few;
-    memory = kept.memory ∙ sym (one_before gone all ended early);
-    counted = omega (arith, kept.counted, length-append all (ended ∷ []));
-  }
-
   -- memory lets go of some
   pub held_less : (now more : ℕ) (rest : List Ended) → gone ≤ now → rest ≡ filter (is_since now) held → others + (length held - length rest) ≡ more → AreHeld all before now rest more
   held_less now more rest late is counts = record {
@@ -66,10 +36,6 @@ module _ (all : List Ended) (before gone : ℕ) (held : List Ended) (others : �
     memory = is ∙ (ap (filter (is_since now)) kept.memory ∙ kept_twice gone now late all);
     counted = let less : length rest ≤ length held = omega (arith, ap length is, fewer now held) in omega (arith, kept.counted, counts);
   }
-
-  -- trims discarded more
-  pub held_since : (now : ℕ) → now ≤ gone → AreHeld all now gone held others
-  held_since now few = record { few = few; memory = kept.memory; counted = kept.counted }
 
   -- what memory has, by what trims left
   pub held_of_left : held ≡ filter (is_since gone) (filter (is_since before) all)

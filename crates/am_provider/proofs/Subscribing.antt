@@ -89,36 +89,12 @@ shown_one old new alert moved here =
       was_uncut = moved.2.was_uncut;
     }
 
--- nothing more was shown, so all that always holds still does
-pub stays_sound : (old new : SubscriptionView) (count : ℕ) → IsSubscription old count → StaysShown old new → length old.opening ≤ old.shown → old.closed_told ≡ false → IsSubscription new count
-stays_sound old new count was stays past untold =
-    let opening : new.opening ≡ old.opening = ap (λ (s : SubscriptionView). s.opening) stays.rest in
-    let shown : new.shown ≡ old.shown = ap (λ (s : SubscriptionView). s.shown) stays.rest in
-    let at : new.at ≡ old.at = ap (λ (s : SubscriptionView). s.at) stays.rest in
-    let told : new.closed_told ≡ old.closed_told = ap (λ (s : SubscriptionView). s.closed_told) stays.rest in
-    let within = was.within in
-    record {
-      within = omega (arith, within, shown, ap length opening);
-      first = λ less. absurd (omega (arith, past, shown, ap length opening, less));
-      note = stays.on.2 ∙ (was.note ∙ (ap (λ a. Some (record { at = a; opening = old.opening })) (sym at) ∙ ap (λ o. Some (record { at = new.at; opening = o })) (sym opening)));
-      told = λ yes. absurd (false≢true (sym (told ∙ untold) ∙ yes));
-      counted = was.counted ∙ ap (λ xs. length xs % 2 ^ 64) (sym stays.taken);
-    }
-
 -- the cursor moved on and showed nothing
 pub looked : (old new : SubscriptionView) → new ≡ record old { cursor = new.cursor } → GoesOn old.cursor new.cursor → cast.shown_items new.cursor ≡ cast.shown_items old.cursor → StaysShown old new
 looked old new rest on same = record {
   rest = rest;
   on = on;
   taken = took_more old new [] (ap (λ (s : SubscriptionView). s.opening) rest) (ap (λ (s : SubscriptionView). s.shown) rest) (same ∙ sym (append-nil (cast.shown_items old.cursor))) ∙ append-nil (taken old);
-}
-
--- and where it didn't move
-pub not_looked : (old new : SubscriptionView) → new ≡ old → StaysShown old new
-not_looked old new same = record {
-  rest = same ∙ ap (λ (s : SubscriptionView). record old { cursor = s.cursor }) (sym same);
-  on = subst (λ (s : SubscriptionView). GoesOn old.cursor s.cursor) (sym same) (refl, refl, refl, refl, ([], append-nil old.cursor.lane.front));
-  taken = ap taken same;
 }
 
 module _ (old new : SubscriptionView) (count next : ℕ) where

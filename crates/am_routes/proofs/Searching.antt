@@ -307,13 +307,6 @@ module _ (labels : Labels) (at : ℕ) (r : Route) (old new : List Node) (found :
   pub own-kept : length new ≢ length old → new ≡ old ++ answer_of labels at (forest_of (r ∷ []))
   own-kept more = search (rules, length-append, alone-below)
 
--- one without routes below it answers itself, and none are looked at below it
-pub leaf-itself : (labels : Labels) (at : ℕ) (r : Route) → has_no_routes r.children ≡ true → all_admitted r.matchers labels ≡ true → answer_of labels at (forest_of (r ∷ [])) ≡ record { number = at; route = route_view r } ∷ []
-leaf-itself labels at r leaf admits = grind arith
-
-pub leaf-looked : (labels : Labels) (r : Route) → has_no_routes r.children ≡ true → routes_looked_at labels (forest_of (r ∷ [])) ≡ 0
-leaf-looked labels r leaf = grind arith
-
 -- the indexes, once the one of a route is written
 pub level-written : (before : List Forest) (none below : Forest) (at : ℕ) → at ≡ length before
     → set ((before ++ none ∷ []) ++ levels_of below) at below ≡ before ++ (below ∷ levels_of below)

@@ -1,7 +1,6 @@
 pub mod LineFeeds
 pub mod Lines
 pub mod JsonLines
-pub mod Puts
 pub mod Labels
 pub mod LineMembers
 pub mod Naming

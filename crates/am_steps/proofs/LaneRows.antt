@@ -34,10 +34,6 @@ module _ {X : Type 0} (c : Core X) (l : ℕ) where
   decide_admit inside fine n is (Open m r) e = λ d step. none-some m (ap record_of (sym (of_admit c l d step).1) ∙ ap record_of e)
   decide_admit inside fine n is (Left m) e = λ d step. none-some m (ap record_of (sym (of_admit c l d step).1) ∙ ap record_of e)
 
-  pub not_admitted : (c.closed ≡ true) ⊎ (c.lanes ≤ l) → (d : Core X) → Step c (does.Admit l) d → ⊥
-  not_admitted (inl e) d step = false≢true (sym (of_admit c l d step).2 ∙ e)
-  not_admitted (inr h) d step = let u = (of_admit c l d step).0 in omega arith
-
   pub decide_open : (v : Lane X) → c.lane l ≡ v → Decides c (does.Open l) l (after_open v)
   decide_open Idle e = λ d step. let u = of_open c l d step in none-some u.0 (ap admitted_record (sym e ∙ u.1))
   decide_open (Admitted m) e = λ d t. opens c d l m e t

@@ -1,3 +1,2 @@
-pub mod Waiting
 pub mod Lists
 pub mod Outcomes
