@@ -39,7 +39,7 @@ impl Body {
         ensures { IfOk result (IsBodyOf (view value)) }
     {
         match value {
-            Value::String(text) => Ok(Body::Text(Text { text })),
+            Value::String(text) => Ok(Body::Text(Text::new(text))),
             Value::Array(items) => of_items(alloc, items),
             other => written(alloc, &other),
         }
@@ -101,9 +101,7 @@ fn written(alloc: Global, value: &Value) -> Result<Body, AllocError>
     requires { as_str (view value.now) ≡ None }
     ensures { IfOk result (IsBodyOf (view value.now)) }
 {
-    Ok(Body::Text(Text {
-        text: value.to_string(alloc)?,
-    }))
+    Ok(Body::Text(Text::new(value.to_string(alloc)?)))
 }
 
 // How much of some room the compact text of a value leaves, at least. None of a value with a number, whose

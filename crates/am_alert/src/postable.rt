@@ -1,6 +1,6 @@
 //! Reading the members of a postable alert.
 
-ghost use Rattle.std.specs.Prelude.{◌≡◌, [], List, ℕ, IfOk, filter, option_and_then, option_map};
+ghost use Rattle.std.specs.Prelude.{◌≡◌, ◌++◌, ◌∷◌, [], List, ℕ, IfOk, OnOk, filter, option_and_then, option_map, string_bytes};
 ghost use Rattle.std.specs.FinMap.{empty};
 ghost use Rattle.std.specs.List.{list_all};
 ghost use Rattle.serde_json.specs.Data.{object};
@@ -184,7 +184,7 @@ fn generator_of(alloc: Global, value: Option<Value>) -> Result<SharedText, Membe
 {
     match value {
         None => Ok(SharedText::new()),
-        Some(Value::String(text)) => Ok(SharedText::from_text(alloc, Text { text })?),
+        Some(Value::String(text)) => Ok(SharedText::from_text(alloc, Text::new(text))?),
         Some(_) => Err(MemberFault::Bad),
     }
 }
@@ -223,7 +223,15 @@ fn pairs_of(alloc: Global, members: Map<String, Value>) -> Result<Vec<(Text, Tex
         let Value::String(value) = value else {
             return Err(MemberFault::Bad);
         };
-        pairs.push((Text { text: name }, Text { text: value }))?;
+        push_pair(&mut pairs, name, value)?;
     }
     Ok(pairs)
+}
+
+fn push_pair(pairs: &mut Vec<(Text, Text)>, name: String, value: String) -> Result<(), AllocError>
+    ensures { OnOk result
+        (pairs.new.items ≡ pairs.old.items ++ (string_bytes name, string_bytes value) ∷ []) }
+{
+    pairs.push((Text::new(name), Text::new(value)))?;
+    Ok(())
 }

@@ -243,7 +243,7 @@ fn generator_of(alloc: Global, member: Option<Value>) -> Result<Text, MemberFaul
 {
     match member {
         None => Ok(Text::from_str(alloc, "")?),
-        Some(Value::String(text)) => Ok(Text { text }),
+        Some(Value::String(text)) => Ok(Text::new(text)),
         Some(_) => Err(MemberFault::Bad),
     }
 }

@@ -15,7 +15,7 @@ ghost use Rattle.am_cast.specs.Runs.{RunsOfTheCore};
 
 use crate::limits::{LANES, LONGEST_LOG, MAX_PLACES, WORDS};
 use crate::rule::Keyed;
-use am_steps::a_needed_place_is_not_freed;
+use am_steps::laws::a_needed_place_is_not_freed;
 
 /// A lane that was given out begins: Open.
 pub fn an_open_is_an_event<B, K, A, R: Keyed<B, K>>()

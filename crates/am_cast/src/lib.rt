@@ -60,7 +60,7 @@
 //! ```
 #![tactic(auto)]
 
-mod batch_view;
+pub mod batch_view;
 mod board;
 mod cursor;
 mod debug;
@@ -78,7 +78,6 @@ mod tag;
 pub mod views;
 mod writer;
 
-pub use batch_view::{BatchView, SegmentKeys};
 pub use cursor::{Cast, Cursor};
 pub use faults::{AdmitFault, CloseFault, PublishFault, Refused};
 pub use feed::Feed;

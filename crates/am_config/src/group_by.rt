@@ -6,7 +6,8 @@ ghost use Rattle.std.specs.FinMap.{retain_keys};
 ghost use Rattle.am_labels.specs.Texts.{same_text};
 
 use crate::group_names::GroupNames;
-use am_labels::{LabelSet, PairBuffer, label_set_laws};
+use am_labels::laws::label_set_laws;
+use am_labels::{LabelSet, PairBuffer};
 use std::alloc::{AllocError, Global};
 
 /// By which labels a route groups its alerts.

@@ -6,7 +6,7 @@ use std::marker::Model;
 /// Names in order, seen by contracts as their list.
 #[derive(Debug, Drop)]
 pub struct LabelNames {
-    pub names: Vec<Text>,
+    pub(crate) names: Vec<Text>,
 }
 
 impl Model for LabelNames {

@@ -24,7 +24,7 @@ pub(crate) fn read_matchers(
     for (i, text) in texts.as_slice().iter().enumerate() {
         matchers.push(read_matcher(alloc, path, i, text.as_str())?)?;
     }
-    Ok(Matchers { matchers })
+    Ok(Matchers::new(matchers))
 }
 
 fn read_matcher(alloc: Global, path: &Path, i: usize, text: &str) -> Result<Matcher, ConfigFault>

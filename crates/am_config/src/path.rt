@@ -11,7 +11,7 @@ use std::marker::Model;
 /// The whole has the empty path, which is printed `config`.
 #[derive(Debug, Drop)]
 pub struct Path {
-    pub path: String,
+    pub(crate) path: String,
 }
 
 impl Model for Path {

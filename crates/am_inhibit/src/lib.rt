@@ -32,9 +32,8 @@
 mod equal_values;
 mod inhibitor;
 mod last_alerts;
-mod laws;
+pub mod laws;
 mod source;
 mod source_index;
 
 pub use inhibitor::Inhibitor;
-pub use laws::{inhibition_laws, kept_laws, sweep_laws};

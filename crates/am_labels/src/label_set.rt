@@ -68,7 +68,7 @@ impl LabelSet {
     {
         let mut texts = Vec::with_capacity(alloc, pairs.len())?;
         for (name, value) in pairs {
-            texts.push((Text { text: name }, Text { text: value }))?;
+            texts.push((Text::new(name), Text::new(value)))?;
         }
         LabelSet::from_texts(alloc, texts)
     }

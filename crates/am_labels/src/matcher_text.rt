@@ -152,7 +152,7 @@ pub(crate) fn read_letters(alloc: Global, text: &str) -> Result<(Text, Option<&s
         } else if c == '\\' {
             is_escaped = true;
         } else if c == '"' {
-            return Ok((Text { text: value }, Some(chars.as_str())));
+            return Ok((Text::new(value), Some(chars.as_str())));
         } else {
             value.push(c)?;
         }
@@ -160,7 +160,7 @@ pub(crate) fn read_letters(alloc: Global, text: &str) -> Result<(Text, Option<&s
     if is_escaped {
         value.push('\\')?;
     }
-    Ok((Text { text: value }, None))
+    Ok((Text::new(value), None))
 }
 
 // What a backslash and this character mean.

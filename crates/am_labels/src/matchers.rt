@@ -14,7 +14,7 @@ use std::slice;
 /// Matchers in order, seen by contracts as their list.
 #[derive(Debug, Drop)]
 pub struct Matchers {
-    pub matchers: Vec<Matcher>,
+    matchers: Vec<Matcher>,
 }
 
 impl Model for Matchers {
@@ -31,6 +31,12 @@ impl Model for Matchers {
 }
 
 impl Matchers {
+    pub fn new(matchers: Vec<Matcher>) -> Matchers
+        ensures { result ≡ matchers.items }
+    {
+        Matchers { matchers }
+    }
+
     pub fn as_slice(&self) -> &[Matcher]
         ensures { result.now ≡ self.now }
     {
@@ -45,7 +51,7 @@ impl Matchers {
         for matcher in self.as_slice() {
             matchers.push(matcher.prepare()?)?;
         }
-        Ok(PreparedMatchers { matchers })
+        Ok(PreparedMatchers::new(matchers))
     }
 
     /// Whether each of them admits a label set; no matchers admit every one. Only a pattern takes

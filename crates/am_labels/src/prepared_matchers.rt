@@ -9,7 +9,7 @@ use std::marker::Model;
 /// Prepared matchers in order, seen by contracts as their list.
 #[derive(Debug, Drop)]
 pub struct PreparedMatchers<'m> {
-    pub matchers: Vec<PreparedMatcher<'m>>,
+    matchers: Vec<PreparedMatcher<'m>>,
 }
 
 impl<'m> Model for PreparedMatchers<'m> {
@@ -27,6 +27,12 @@ impl<'m> Model for PreparedMatchers<'m> {
 
 impl<'m> PreparedMatchers<'m> {
     ghost use Rattle.am_labels.specs.Matchers.{all_admitted};
+
+    pub fn new(matchers: Vec<PreparedMatcher<'m>>) -> PreparedMatchers<'m>
+        ensures { result ≡ matchers.entry.items }
+    {
+        PreparedMatchers { matchers }
+    }
 
     /// Whether each of them admits a label set; no matchers admit every one. It takes no
     /// memory.

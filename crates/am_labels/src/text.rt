@@ -11,7 +11,7 @@ use std::marker::Model;
 /// A text, seen by contracts as its bytes, which are UTF-8. A `String` shows its capacity too.
 #[derive(Debug, Drop)]
 pub struct Text {
-    pub text: String,
+    text: String,
 }
 
 impl Model for Text {
@@ -23,6 +23,14 @@ impl Model for Text {
 }
 
 impl Text {
+    ghost use Rattle.std.specs.Prelude.{string_bytes};
+
+    pub fn new(text: String) -> Text
+        ensures { result ≡ string_bytes text }
+    {
+        Text { text }
+    }
+
     /// A new text with the same bytes.
     pub fn from_str(alloc: Global, text: &str) -> Result<Text, AllocError>
         ensures { IfOk result (λ made. made ≡ text.now) }
@@ -38,7 +46,7 @@ impl Text {
         self.text.as_str()
     }
 
-    pub(crate) fn allocator(&self) -> Global {
+    pub fn allocator(&self) -> Global {
         *self.text.allocator()
     }
 

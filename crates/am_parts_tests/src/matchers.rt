@@ -319,7 +319,7 @@ fn list(alloc: Global, texts: &[&str]) -> Result<Matchers, Fail> {
             matchers.push(full.value)?;
         }
     }
-    Ok(Matchers { matchers })
+    Ok(Matchers::new(matchers))
 }
 
 fn answer_of_all(matchers: &mut Matchers, labels: &LabelSet) -> Result<bool, AllocError> {

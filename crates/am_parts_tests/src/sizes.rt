@@ -108,7 +108,7 @@ fn annotations_of(alloc: Global, set: usize) -> Result<LabelSet, AllocError> {
 
 fn generator_of(alloc: Global, set: usize) -> Result<SharedText, AllocError> {
     let text = format!(in alloc; "g{set}")?;
-    SharedText::from_text(alloc, Text { text })
+    SharedText::from_text(alloc, Text::new(text))
 }
 
 // The alert of that number in such a post.

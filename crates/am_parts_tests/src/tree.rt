@@ -4,7 +4,8 @@ use crate::configurations::{configuration, labels};
 use crate::expectation::expect;
 use am_config::RouteTree;
 use am_labels::LabelSet;
-use am_routes::{PreparedTree, RouteId, dispatch_laws, matching_routes};
+use am_routes::laws::dispatch_laws;
+use am_routes::{PreparedTree, RouteId, matching_routes};
 use std::alloc::{AllocError, Global};
 use std::test::Fail;
 

@@ -22,12 +22,21 @@ use std::fmt;
 /// has seen. A thread needs one of its own, and another thread may have it after that one.
 #[derive(Drop)]
 pub struct Caller<N: Recorded> {
-    /// What it posted, and how far it knows the log.
+    /// What it posted, and how far it knows the log. `Subscription::next_past` and others that don't take the lock borrow
+    /// it alone.
     pub pass: Pass<N>,
     /// The beginning of the history that it has seen, and which entries of it are its own. Its length is the
     /// number of the last call that it made or saw.
-    pub front: Front<Entry, N>,
+    pub(crate) front: Front<Entry, N>,
     pub ghost one: { front.parts ≡ 1 },
+}
+
+impl<N: Recorded> Caller<N> {
+    pub fn front(&self) -> &Front<Entry, N>
+        ensures { result.now ≡ self.now.front }
+    {
+        &self.front
+    }
 }
 
 // A caller for each pass, with a part of the history's ledger each.

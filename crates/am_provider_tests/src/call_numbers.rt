@@ -53,7 +53,7 @@ impl Notes {
     }
 
     fn add<N: Recorded>(&mut self, caller: &Caller<N>, made: Made) -> Result<(), AllocError> {
-        self.list.push((caller.front.len(), made))?;
+        self.list.push((caller.front().len(), made))?;
         Ok(())
     }
 }

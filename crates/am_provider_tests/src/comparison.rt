@@ -117,7 +117,7 @@ fn agree_on_a_post<N: Recorded, R: Wait + AllocGlobal>(
 ) -> Result<bool, Stopped> {
     let late = now.saturating_sub(below(seed, 20));
     let body = next_body(rt.alloc(), seed, now)?;
-    let batch = batch_of(rt.alloc(), client.limits, list, body.as_bytes(), late)?;
+    let batch = batch_of(rt.alloc(), client.limits(), list, body.as_bytes(), late)?;
     let sent = sends(rt, client, body.as_bytes(), late, &batch)?;
     Ok(sent && stores(rt, client, list)?)
 }

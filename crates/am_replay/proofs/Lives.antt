@@ -15,9 +15,9 @@ use Rattle.am_provider.specs.declared.answers.Counts.{Counts}
 use Rattle.am_runner.specs.Sessions.{Setting}
 use Rattle.am_runner.specs.declared.form.Form.{Form}
 use Rattle.am_runner.specs.declared.form.Form.TheVariants as forms
-use Rattle.am_serve.specs.Reading.{IsNext, IsNextAs}
-use Rattle.am_serve.specs.declared.reading.InputLine.{InputLine}
-use Rattle.am_serve.specs.declared.reading.InputLine.TheVariants as input_line
+use Rattle.am_runner.specs.live.Reading.{IsNext, IsNextAs}
+use Rattle.am_runner.specs.declared.live.reading.InputLine.{InputLine}
+use Rattle.am_runner.specs.declared.live.reading.InputLine.TheVariants as input_line
 use Rattle.am_replay.specs.FirstLines.{IsFirstLine}
 use Rattle.am_replay.specs.declared.first_line.FirstLine.TheVariants as first_line
 use Rattle.am_replay.specs.Live.{IsEnd, IsFirstAs, IsLive, IsLived, IsRefusedAs, IsWritten, LivesUnder, line_or_empty, lived, last_line_cut_short, no_memory, not_written, refused, refusal_cut_short}

@@ -10,10 +10,10 @@ use Rattle.am_provider.specs.declared.answers.Counts.{Counts}
 use Rattle.am_provider.specs.declared.settled.Settled.{Settled}
 use Rattle.am_runner.specs.Sessions.{Setting, SessionView, LeavesAll, new_session, setting_of}
 use Rattle.am_runner.specs.declared.form.Form.{Form}
-use Rattle.am_serve.specs.Reading.{IsNext, IsInputOf}
-use Rattle.am_serve.specs.Serving.{IsServed, IsServedInPart}
-use Rattle.am_serve.specs.Standing.{RunView, new_run}
-use Rattle.am_serve.specs.declared.reading.InputLine.{InputLine}
+use Rattle.am_runner.specs.live.Reading.{IsNext, IsInputOf}
+use Rattle.am_runner.specs.live.Serving.{IsServed, IsServedInPart}
+use Rattle.am_runner.specs.live.Standing.{RunView, new_run}
+use Rattle.am_runner.specs.declared.live.reading.InputLine.{InputLine}
 use Rattle.am_replay.specs.FirstLines.{IsFirstLine}
 use Rattle.am_replay.specs.Printing.{counts_line}
 use Rattle.am_replay.specs.Refusals.{first_line_too_large, refused_config, refused_script}

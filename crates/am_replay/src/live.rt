@@ -1,14 +1,14 @@
 //! A live run: each line of the input is answered before the next one is read.
 //!
-//! `serve_all` is apart, since its signature gives the runtime and the provider one lifetime: a context
-//! lent as `&mut` has one, and the references put into it had two.
+//! It begins its provider itself: a session owns its caller, and a `sinnoraku::Program` is lent clients. `serve_all` is
+//! apart, since its signature gives the runtime and the provider one lifetime, as a context lent as `&mut` has.
 
 ghost use Rattle.std.specs.Prelude.{◌≡◌, ℕ, List, ◌++◌, ◌∷◌, [], Option, IfOk, OnErr, OnOk, string_bytes};
 ghost use Rattle.am_replay.specs.FirstLines.{IsFirstLine};
 ghost use Rattle.am_replay.specs.Live.{IsEnd, IsFailure, IsFirstAs, IsLive, IsWritten, LivesUnder, is_following, line_or_empty};
 ghost use Rattle.am_runner.specs.Sessions.{LeavesAll, setting_of};
-ghost use Rattle.am_serve.specs.Serving.{IsServed, IsServedInPart};
-ghost use Rattle.am_serve.specs.Standing.{RunView, new_run};
+ghost use Rattle.am_runner.specs.live.Serving.{IsServed, IsServedInPart};
+ghost use Rattle.am_runner.specs.live.Standing.{RunView, new_run};
 ghost use Rattle.am_provider.specs.PartsOf.{AreOf};
 
 use crate::advice::fault_advice;
@@ -19,9 +19,10 @@ use crate::status::Status;
 use crate::transcript::counts_line;
 use am_config::Config;
 use am_provider::{Caller, Counts, Parts, Provider, Recorded};
-use am_runner::{Context, Form, Freely, PreparedConfig, Session};
+use am_runner::{
+    Context, Form, Freely, InputLine, LiveRun, PreparedConfig, Session, next_line, serve,
+};
 use am_script::{WorkFault, script_advice, write_text};
-use am_serve::{InputLine, LiveRun, next_line, serve};
 use std::alloc::{AllocError, Global};
 use std::io::{BufRead, Write};
 use std::marker::Brand;

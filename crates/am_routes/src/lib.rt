@@ -24,7 +24,7 @@ mod child_entry;
 mod child_index;
 mod dispatcher;
 mod group;
-mod laws;
+pub mod laws;
 mod listed_route;
 mod matched_route;
 mod matcher_texts;
@@ -34,7 +34,6 @@ mod route_id;
 
 pub use dispatcher::{Dispatcher, Noted, Swept};
 pub use group::Group;
-pub use laws::dispatch_laws;
 pub use listed_route::{ListedRoute, list_routes};
 pub use matched_route::{MatchedRoute, matched_routes};
 pub use matcher_texts::MatcherTexts;

@@ -15,7 +15,7 @@ use std::marker::Model;
 /// Texts of matchers in order, each as `name="value"`, seen by contracts as their list.
 #[derive(Debug, Drop)]
 pub struct MatcherTexts {
-    pub texts: Vec<Text>,
+    pub(crate) texts: Vec<Text>,
 }
 
 impl Model for MatcherTexts {
@@ -50,9 +50,7 @@ fn matcher_text(alloc: Global, matcher: &Matcher) -> Result<Text, AllocError>
     let name = matcher.name();
     let operator = operator_text(matcher.operator());
     let value = Quoted(matcher.value());
-    Ok(Text {
-        text: format!(in alloc; "{name}{operator}{value}")?,
-    })
+    Ok(Text::new(format!(in alloc; "{name}{operator}{value}")?))
 }
 
 fn operator_text(operator: Operator) -> &'static str

@@ -254,7 +254,7 @@ fn prepare_others(alloc: Global, matchers: &Matchers) -> Result<PreparedMatchers
             others.push(matcher.prepare()?)?;
         }
     }
-    Ok(PreparedMatchers { matchers: others })
+    Ok(PreparedMatchers::new(others))
 }
 
 // Asks a tree, and adds the routes that a label set matches.

@@ -1,4 +1,5 @@
 pub mod Lines
+pub mod Nexts
 pub mod Named
 pub mod Notifying
 pub mod Owed

@@ -1,5 +1,5 @@
 -- What is done to the subscription of a name.
-use Rattle.std.proofs.Common.{◌≡◌, ◌+◌, ◌<◌, ℕ, Bool, true, false, cond, List, [], ◌∷◌, ◌++◌, Some, None, Ok, IfSome, refl, ap, sym, subst, ◌∙◌, length, get_or, slice_get, slice_set, arith}
+use Rattle.std.proofs.Common.{◌≡◌, ◌+◌, ◌<◌, ℕ, Bool, true, false, cond, List, [], ◌∷◌, ◌++◌, Some, None, Ok, refl, ap, sym, subst, ◌∙◌, length, get_or, slice_get, slice_set, arith}
 use Rattle.std.proofs.Math.Dec.{ltb}
 use Rattle.std.proofs.lemmas.Bool.{le-ltb, lt-ltb}
 use Rattle.std.specs.List.{position, position_or_len}
@@ -63,10 +63,10 @@ pub on_index : (name : List ℕ) (word : Verb) (does : OpenView → List Answer 
 on_index name word does opened index other after answers here done =
     one_named here (lent name opened index other here) done
 
-pub fresh_took : (config : Config) (kind : Kind) → IfSome (fresh_consumer config kind) (HasTaken [])
-fresh_took config Plain = tt
-fresh_took config Dispatch = ([], refl, refl)
-fresh_took config Inhibit = ([], refl, refl)
+pub fresh_took : (config : Config) (kind : Kind) → HasTaken [] (fresh_consumer config kind)
+fresh_took config Plain = (tt, tt)
+fresh_took config Dispatch = (([], refl, refl), tt)
+fresh_took config Inhibit = (tt, ([], refl, refl))
 fresh_took config Notify = (([], refl, refl), ([], refl, refl))
 
 pub subscribed_so : (config : Config) (setting : Setting) (old new : SessionView) (name : List ℕ) (kind : Kind) (made : OpenView) (lane opening : ℕ)

@@ -30,11 +30,11 @@ use Rattle.am_script.specs.declared.command.Line.{Line}
 use Rattle.am_script.specs.declared.command.Verb.{Verb}
 use Rattle.am_script.specs.declared.command.Verb.TheVariants as verb
 use Rattle.am_runner.specs.Answers.{is_item}
-use Rattle.am_runner.specs.Consuming.{IsAsked, IsSwept}
 use Rattle.am_runner.specs.Owed.{AreOwed, ReadIsDue, ReadsContinue, item_in, items_in}
 use Rattle.am_runner.specs.Putting.{AnswersPosted, AnswersPut}
-use Rattle.am_runner.specs.Reading.{OpenView, NextIs, ReadsOne, takes, misses, ends, ReadsSome, nothing, one_more, ReadAnswers, all, ended, Asks}
-use Rattle.am_runner.specs.Sessions.{Setting, SessionView, Does, LeavesAt, LeavesAll, OnNamed, IsOne}
+use Rattle.am_runner.specs.Reading.{OpenView, NextIs, ReadsOne, takes, misses, ends, ReadsSome, nothing, one_more, ReadAnswers, all, ended}
+use Rattle.am_runner.proofs.Nexts.{by_next}
+use Rattle.am_runner.specs.Sessions.{Setting, SessionView, Does, LeavesAt, LeavesAll, OnNamed, IsOne, SweepsOne}
 use Rattle.am_runner.specs.Sessions as does
 use Rattle.am_runner.specs.Turning.{Order}
 use Rattle.am_runner.specs.Working.{LeavesLast, LooksOn, Works, RunsLine}
@@ -42,6 +42,7 @@ use Rattle.am_runner.specs.Working as works
 use Rattle.am_runner.proofs.Turning.{prefix_then}
 use Rattle.am_runner.specs.declared.answer.Answer.{Answer}
 use Rattle.am_runner.specs.declared.answer.Answer.TheVariants as answer
+use Rattle.am_runner.specs.declared.consumer.Half.{Half}
 use Rattle.am_runner.specs.declared.consumer.Half.TheVariants as half
 
 -- ---- what a read takes
@@ -58,37 +59,12 @@ quiet old new told none same = record {
 }
 
 last_stays : (old new : SubscriptionView) (last : Answer) → is_item last ≡ false → NextIs old last new → Stays old new × (item_in last ≡ None)
-last_stays old new (answer.Item alert) none next = absurd (false≢true (sym none))
-last_stays old new answer.Pending none next = (quiet old new old.closed_told next.0 next.1.taken, refl)
-last_stays old new answer.SawClosed none next = (quiet old new true next.0 next.1.taken, refl)
-last_stays old new answer.SawCut none next = (quiet old new old.closed_told next.0 next.1.taken, refl)
-last_stays old new (answer.Posted v p) none next = absurd next
-last_stays old new (answer.Invalid i f) none next = absurd next
-last_stays old new (answer.CutLane l) none next = absurd next
-last_stays old new (answer.PostRefused w) none next = absurd next
-last_stays old new (answer.Subscribed l o) none next = absurd next
-last_stays old new (answer.SubscribeRefused w) none next = absurd next
-last_stays old new (answer.Left t c u) none next = absurd next
-last_stays old new (answer.Collected n) none next = absurd next
-last_stays old new (answer.Taken n) none next = absurd next
-last_stays old new answer.CloseAccepted none next = absurd next
-last_stays old new answer.CloseRefused none next = absurd next
-last_stays old new (answer.Trimmed n) none next = absurd next
-last_stays old new (answer.Compacted n) none next = absurd next
-last_stays old new (answer.Group h) none next = absurd next
-last_stays old new (answer.Member a) none next = absurd next
-last_stays old new (answer.Swept s) none next = absurd next
-last_stays old new (answer.Forgotten n) none next = absurd next
-last_stays old new (answer.Muted r b) none next = absurd next
-last_stays old new answer.NotMuted none next = absurd next
-last_stays old new (answer.StoredCount n) none next = absurd next
-last_stays old new (answer.Page h) none next = absurd next
-last_stays old new (answer.StoredAlert a) none next = absurd next
-last_stays old new answer.NotStored none next = absurd next
-last_stays old new (answer.Route r) none next = absurd next
-last_stays old new (answer.Matched r) none next = absurd next
-last_stays old new (answer.OutOfMemory v) none next = absurd next
-last_stays old new (answer.NotOpen v) none next = absurd next
+last_stays old new last none next = by_next (λ one. is_item one ≡ false → Stays old new × (item_in one ≡ None))
+    (λ alert shows item. absurd (false≢true (sym item)))
+    (λ shows item. (quiet old new old.closed_told shows.0 shows.1.taken, refl))
+    (λ shows item. (quiet old new true shows.0 shows.1.taken, refl))
+    (λ shows item. (quiet old new old.closed_told shows.0 shows.1.taken, refl))
+    last next none
 
 -- what a subscription has taken since it had taken this, and when it came
 record HasGoneOn (start : List Alert) (at : ℕ) (answers : List Answer) (now : OpenView) : Type 0 where
@@ -198,14 +174,11 @@ module _ (law : StaysFrontOfDue) (entries : List EntryView) where
   on_named name word changes old new answers back (does.none_named here) owed = owed
 
   -- a consumer alone was changed
-  asked : {A : Type 0} (changes : _) (without : A) (before after : OpenView) (given : A) → Asks changes without before given after → IsOwed after → IsOwed before
-  asked changes without before after given it owed = subst IsFrontly (ap (λ (one : OpenView). one.subscription) it.1) owed
+  swept_one : (which : Half) (at : ℕ) (before after : OpenView) (given : List Answer) → IsOne (λ one. SweepsOne which at before one after) given → IsOwed after → IsOwed before
+  swept_one which at before after given (does.just it) owed = subst IsFrontly (ap (λ (one : OpenView). one.subscription) it.1) owed
     where
       IsFrontly : SubscriptionView → Type 0
       IsFrontly s = IsFront (taken s) (due (whole entries) s.at)
-
-  asked_one : (changes : _) (without : Answer) (before after : OpenView) (given : List Answer) → IsOne (λ one. Asks changes without before one after) given → IsOwed after → IsOwed before
-  asked_one changes without before after given (does.just it) owed = asked changes without before after _ it owed
 
   -- what a session was before, by what it has come to
   record WasOwed (old : SessionView) : Type 0 where
@@ -297,16 +270,13 @@ module _ (law : StaysFrontOfDue) (entries : List EntryView) where
   does_back config setting old new command given (does.groups is) owed = owed
   does_back config setting old new command given (does.swept {name = name} {at = at} {answers = answers} {opened = opened} it) owed = record {
     seen = owed.seen;
-    owed = on_named name verb.Sweep _ old.opened opened answers (asked_one (IsSwept at half.Dispatcher) (answer.NotOpen verb.Sweep)) it owed.owed;
+    owed = on_named name verb.Sweep _ old.opened opened answers (swept_one half.Dispatcher at) it owed.owed;
   }
   does_back config setting old new command given (does.forgot {name = name} {at = at} {answers = answers} {opened = opened} it) owed = record {
     seen = owed.seen;
-    owed = on_named name verb.Forget _ old.opened opened answers (asked_one (IsSwept at half.Inhibitor) (answer.NotOpen verb.Forget)) it owed.owed;
+    owed = on_named name verb.Forget _ old.opened opened answers (swept_one half.Inhibitor at) it owed.owed;
   }
-  does_back config setting old new command given (does.mutes {name = name} {at = at} {labels = labels} {answers = answers} {opened = opened} it) owed = record {
-    seen = owed.seen;
-    owed = on_named name verb.Mutes _ old.opened opened answers (asked_one (IsAsked labels at) (answer.NotOpen verb.Mutes)) it owed.owed;
-  }
+  does_back config setting old new command given (does.mutes it) owed = owed
   does_back config setting old new command given (does.stored {front = front} sees) owed = same_opened old (record old { front = front }) _ sees refl owed
   does_back config setting old new command given (does.stored_refused {front = front} sees) owed = same_opened old (record old { front = front }) _ sees refl owed
   does_back config setting old new command given (does.paged {front = front} sees) owed = same_opened old (record old { front = front }) _ sees refl owed

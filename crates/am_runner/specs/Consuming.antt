@@ -1,7 +1,7 @@
--- The consumer of a subscription, a dispatcher, an inhibitor or both: what it takes of what the
+-- The consumer of a subscription, a dispatcher, an inhibitor, both or neither: what it takes of what the
 -- subscription shows, and what it answers.
 use Rattle.std.specs.Prelude.{◌≡◌, ◌⊎◌, ℕ, ◌^◌, ◌-◌, min, List, [], ◌∷◌, ◌++◌, map, length, flat_map, Option}
-use Rattle.std.specs.Prelude.{Some, None, count_by}
+use Rattle.std.specs.Prelude.{Some, None, Bool, ◌&&◌, is_some, IfSome, count_by, ⊤}
 use Rattle.std.specs.List.{filter_map}
 use Rattle.am_alert.specs.Merging.{is_resolved_at, unresolved}
 use Rattle.am_alert.specs.declared.alert.Alert.{Alert}
@@ -10,10 +10,11 @@ use Rattle.am_routes.specs.Groups.{DispatchEvent, DispatcherView, GroupView, Fol
 use Rattle.am_routes.specs.Groups.{removed_alerts, removed_groups}
 use Rattle.am_config.specs.RouteLists.{root_of}
 use Rattle.am_config.specs.declared.config.Config.{Config}
-use Rattle.am_inhibit.specs.Inhibitors.{InhibitorView, having_looked}
+use Rattle.am_routes.specs.declared.dispatcher.Swept.{Swept}
+use Rattle.am_inhibit.specs.Inhibitors.{InhibitorView}
 use Rattle.am_inhibit.specs.KeptAlerts as keeping
 use Rattle.am_inhibit.specs.LastAlerts.{last_alerts}
-use Rattle.am_inhibit.specs.Muting.{candidates_seen, muted}
+use Rattle.am_inhibit.specs.Muting.{muted}
 use Rattle.am_script.specs.declared.kind.Kind.{Kind}
 use Rattle.am_script.specs.declared.kind.Kind.TheVariants.{Plain, Dispatch, Inhibit, Notify}
 use Rattle.am_script.specs.declared.command.Verb.{Verb}
@@ -21,11 +22,9 @@ use Rattle.am_script.specs.declared.command.Verb.TheVariants as verb
 use Rattle.am_runner.specs.declared.answer.GroupHead.{GroupHead}
 use Rattle.am_runner.specs.declared.answer.Answer.{Answer}
 use Rattle.am_runner.specs.declared.answer.Answer.TheVariants as answer
-use Rattle.am_runner.specs.declared.consumer.Consumer.{Consumer}
-use Rattle.am_runner.specs.declared.consumer.Consumer.TheVariants.{Dispatcher, Inhibitor, Notifier}
 use Rattle.am_runner.specs.declared.consumer.Half.{Half}
 use Rattle.am_runner.specs.declared.consumer.Half.TheVariants as half
-use Rattle.am_runner.specs.Notifiers.{NotifierView}
+use Rattle.am_runner.specs.Consumers.{ConsumerView}
 
 -- a dispatcher that took nothing yet
 abbrev pub fresh_dispatcher : Config → DispatcherView
@@ -35,27 +34,34 @@ fresh_dispatcher config = record { tree = root_of config.tree; groups = [] }
 abbrev pub fresh_inhibitor : Config → InhibitorView
 fresh_inhibitor config = record { rules = config.rules; alerts = []; looked = 0 }
 
--- the consumer of a kind, which took nothing yet; a plain subscription has none
-abbrev pub fresh_consumer : Config → Kind → Option Consumer
-fresh_consumer config Plain = None
-fresh_consumer config Dispatch = Some (Dispatcher (fresh_dispatcher config))
-fresh_consumer config Inhibit = Some (Inhibitor (fresh_inhibitor config))
-fresh_consumer config Notify = Some (Notifier (record {
-  dispatcher = fresh_dispatcher config;
-  inhibitor = fresh_inhibitor config;
-}))
+-- the consumer of a kind, which took nothing yet; that of a plain subscription has neither half
+abbrev pub fresh_consumer : Config → Kind → ConsumerView
+fresh_consumer config Plain = record { dispatcher = None; inhibitor = None }
+fresh_consumer config Dispatch = record { dispatcher = Some (fresh_dispatcher config); inhibitor = None }
+fresh_consumer config Inhibit = record { dispatcher = None; inhibitor = Some (fresh_inhibitor config) }
+fresh_consumer config Notify = record {
+  dispatcher = Some (fresh_dispatcher config);
+  inhibitor = Some (fresh_inhibitor config);
+}
+
+-- whether a consumer has both halves
+abbrev pub has_both : ConsumerView → Bool
+has_both consumer = is_some consumer.inhibitor && is_some consumer.dispatcher
+
+-- what becomes of a half of a consumer, and what holds of a consumer without it
+abbrev pub OnHalf : {A : Type 0} → (A → A → Type 0) → Type 0 → Option A → Option A → Type 0
+OnHalf becomes without (Some old) (Some new) = becomes old new
+OnHalf becomes without None None = without
+OnHalf becomes without old new = ⊥
 
 -- an inhibitor takes an alert
 abbrev pub InhibitorTakes : Alert → InhibitorView → InhibitorView → Type 0
 InhibitorTakes alert old new = new ≡ record old { alerts = last_alerts (old.alerts ++ alert ∷ []) }
 
--- a consumer takes an alert; of a notifier both take it
-abbrev pub TakesAlert : Alert → Consumer → Consumer → Type 0
-TakesAlert alert (Dispatcher old) (Dispatcher new) = Follows (Take alert) old new
-TakesAlert alert (Inhibitor old) (Inhibitor new) = InhibitorTakes alert old new
-TakesAlert alert (Notifier old) (Notifier new) =
-    Follows (Take alert) old.dispatcher new.dispatcher × InhibitorTakes alert old.inhibitor new.inhibitor
-TakesAlert alert old new = ⊥
+-- a consumer takes an alert: each of its halves does
+abbrev pub TakesAlert : Alert → ConsumerView → ConsumerView → Type 0
+TakesAlert alert old new = OnHalf (Follows (Take alert)) ⊤ old.dispatcher new.dispatcher
+    × OnHalf (InhibitorTakes alert) ⊤ old.inhibitor new.inhibitor
 
 -- the alert of an event
 abbrev pub alert_taken : DispatchEvent → Option Alert
@@ -82,12 +88,10 @@ abbrev pub InhibitorTook : List Alert → InhibitorView → Type 0
 InhibitorTook alerts inhibitor = (events : List keeping.InhibitorEvent)
     × (filter_map alert_kept events ≡ alerts) × (inhibitor.alerts ≡ keeping.kept_alerts events)
 
--- the same of a consumer; a notifier's two took the same alerts
-abbrev pub HasTaken : List Alert → Consumer → Type 0
-HasTaken alerts (Dispatcher dispatcher) = DispatcherTook alerts dispatcher
-HasTaken alerts (Inhibitor inhibitor) = InhibitorTook alerts inhibitor
-HasTaken alerts (Notifier notifier) =
-    DispatcherTook alerts notifier.dispatcher × InhibitorTook alerts notifier.inhibitor
+-- the same of each half of a consumer
+abbrev pub HasTaken : List Alert → ConsumerView → Type 0
+HasTaken alerts consumer =
+    IfSome consumer.dispatcher (DispatcherTook alerts) × IfSome consumer.inhibitor (InhibitorTook alerts)
 
 -- where the numbers of alerts that are counted for an answer stop
 abbrev pub most_counted : ℕ
@@ -100,32 +104,24 @@ sweep_word half.Inhibitor = verb.Forget
 
 -- a dispatcher is swept, and answers how much it dropped
 abbrev pub DispatcherSwept : ℕ → DispatcherView → DispatcherView → Answer → Type 0
-DispatcherSwept now old new (answer.Swept gone) = Follows (Sweep now) old new
+DispatcherSwept now old new given = (gone : Swept) × (given ≡ answer.Swept gone) × Follows (Sweep now) old new
     × (gone.alerts ≡ min (removed_alerts now old.groups) most_counted)
     × (gone.groups ≡ removed_groups now old.groups)
-DispatcherSwept now old new other = ⊥
 
 -- an inhibitor is swept, and answers how many alerts it dropped
 abbrev pub InhibitorSwept : ℕ → InhibitorView → InhibitorView → Answer → Type 0
-InhibitorSwept now old new (answer.Forgotten gone) =
-    (new ≡ record old { alerts = unresolved now old.alerts })
-    × (gone ≡ count_by (is_resolved_at now) old.alerts)
-InhibitorSwept now old new other = ⊥
+InhibitorSwept now old new given = (given ≡ answer.Forgotten (count_by (is_resolved_at now) old.alerts))
+    × (new ≡ record old { alerts = unresolved now old.alerts })
 
 -- One half of a consumer is swept, and the other stays as it was. A consumer without that half stays, and
 -- that is answered.
-abbrev pub IsSwept : ℕ → Half → Consumer → Consumer → Answer → Type 0
-IsSwept now half.Dispatcher (Dispatcher old) (Dispatcher new) given = DispatcherSwept now old new given
-IsSwept now half.Dispatcher (Notifier old) (Notifier new) given =
-    DispatcherSwept now old.dispatcher new.dispatcher given × (new.inhibitor ≡ old.inhibitor)
-IsSwept now half.Dispatcher (Inhibitor old) new given =
-    (new ≡ Inhibitor old) × (given ≡ answer.NotOpen verb.Sweep)
-IsSwept now half.Inhibitor (Inhibitor old) (Inhibitor new) given = InhibitorSwept now old new given
-IsSwept now half.Inhibitor (Notifier old) (Notifier new) given =
-    InhibitorSwept now old.inhibitor new.inhibitor given × (new.dispatcher ≡ old.dispatcher)
-IsSwept now half.Inhibitor (Dispatcher old) new given =
-    (new ≡ Dispatcher old) × (given ≡ answer.NotOpen verb.Forget)
-IsSwept now which old new given = ⊥
+abbrev pub IsSwept : ℕ → Half → ConsumerView → ConsumerView → Answer → Type 0
+IsSwept now half.Dispatcher old new given =
+    OnHalf (λ was is. DispatcherSwept now was is given) (given ≡ answer.NotOpen verb.Sweep)
+    old.dispatcher new.dispatcher × (new.inhibitor ≡ old.inhibitor)
+IsSwept now half.Inhibitor old new given =
+    OnHalf (λ was is. InhibitorSwept now was is given) (given ≡ answer.NotOpen verb.Forget)
+    old.inhibitor new.inhibitor × (new.dispatcher ≡ old.dispatcher)
 
 -- what is answered of the rule that mutes a target and the label set by which it does, if there is one
 abbrev pub muting_answer : Option (ℕ × Labels) → Answer
@@ -136,26 +132,15 @@ muting_answer (Some muting) = answer.Muted muting.0 muting.1
 abbrev pub muting_at : InhibitorView → ℕ → Labels → Answer
 muting_at inhibitor now labels = muting_answer (muted inhibitor.alerts inhibitor.rules labels now)
 
--- an inhibitor that was asked of a target: it has noted how many sources it examined
-abbrev pub having_answered : Labels → ℕ → InhibitorView → InhibitorView
-having_answered labels now old =
-    having_looked (min (candidates_seen old.alerts old.rules labels now) most_counted) old
+-- what an inhibitor, if there is one, answers of a target: what mutes it, or that it is out of memory
+abbrev pub IsAskedOf : Labels → ℕ → Option InhibitorView → Answer → Type 0
+IsAskedOf labels now None given = given ≡ answer.NotOpen verb.Mutes
+IsAskedOf labels now (Some inhibitor) given =
+    (given ≡ answer.OutOfMemory verb.Mutes) ⊎ (given ≡ muting_at inhibitor now labels)
 
--- an inhibitor is asked of a target: it answers, or it is out of memory, and then stays as it was
-abbrev pub AsksInhibitor : Labels → ℕ → InhibitorView → InhibitorView → Answer → Type 0
-AsksInhibitor labels now old new (answer.OutOfMemory word) = (word ≡ verb.Mutes) × (new ≡ old)
-AsksInhibitor labels now old new given = (new ≡ having_answered labels now old)
-    × (given ≡ muting_answer (muted old.alerts old.rules labels now))
-
--- an inhibitor is asked of a target, alone or as a notifier's; a dispatcher can't be
-pub data IsAsked (labels : Labels) (now : ℕ) : Consumer → Consumer → Answer → Type 0 where
-  asked : {old new : InhibitorView} {given : Answer} → AsksInhibitor labels now old new given
-      → IsAsked labels now (Inhibitor old) (Inhibitor new) given
-  asked_one_of_both : {notifier : NotifierView} {given : Answer}
-      → (given ≡ answer.OutOfMemory verb.Mutes) ⊎ (given ≡ muting_at notifier.inhibitor now labels)
-      → IsAsked labels now (Notifier notifier) (Notifier notifier) given
-  no_inhibitor : {dispatcher : DispatcherView} → IsAsked labels now (Dispatcher dispatcher)
-      (Dispatcher dispatcher) (answer.NotOpen verb.Mutes)
+-- what a consumer answers of a target
+abbrev pub IsAsked : Labels → ℕ → ConsumerView → Answer → Type 0
+IsAsked labels now consumer given = IsAskedOf labels now consumer.inhibitor given
 
 -- what is answered of a group before its alerts
 abbrev pub head_of_group : GroupView → GroupHead
@@ -183,11 +168,17 @@ answers_of_group_at inhibitor now group =
     answer.Group (head_of_group group)
     ∷ flat_map (answers_of_member inhibitor now) group.alerts
 
--- what is answered of the groups of a dispatcher, and of what mutes their alerts at a moment, if it is given
--- and there is an inhibitor; an inhibitor alone has no groups
-abbrev pub answers_of_groups : Option ℕ → Consumer → List Answer
-answers_of_groups at (Dispatcher dispatcher) = flat_map answers_of_group dispatcher.groups
-answers_of_groups at (Inhibitor inhibitor) = answer.NotOpen verb.Groups ∷ []
-answers_of_groups None (Notifier notifier) = flat_map answers_of_group notifier.dispatcher.groups
-answers_of_groups (Some now) (Notifier notifier) =
-    flat_map (answers_of_group_at notifier.inhibitor now) notifier.dispatcher.groups
+-- what is answered of groups, and of what mutes their alerts at a moment, if it is given and there is an
+-- inhibitor
+abbrev pub answers_of_each : Option ℕ → Option InhibitorView → List GroupView → List Answer
+answers_of_each (Some now) (Some inhibitor) groups = flat_map (answers_of_group_at inhibitor now) groups
+answers_of_each at inhibitor groups = flat_map answers_of_group groups
+
+-- the same of the groups of a dispatcher, if there is one
+abbrev pub answers_of_all : Option ℕ → Option InhibitorView → Option DispatcherView → List Answer
+answers_of_all at inhibitor (Some dispatcher) = answers_of_each at inhibitor dispatcher.groups
+answers_of_all at inhibitor None = answer.NotOpen verb.Groups ∷ []
+
+-- the same of a consumer
+abbrev pub answers_of_groups : Option ℕ → ConsumerView → List Answer
+answers_of_groups at consumer = answers_of_all at consumer.inhibitor consumer.dispatcher

@@ -3,7 +3,7 @@ pub mod Codes
 pub mod Printing
 pub mod PrintingJson
 pub mod Forms
-pub mod Notifiers
+pub mod Consumers
 pub mod Consuming
 pub mod Asking
 pub mod Owed
@@ -15,3 +15,4 @@ pub mod Compacting
 pub mod Turning
 pub mod Working
 pub mod WholeRuns
+pub mod live

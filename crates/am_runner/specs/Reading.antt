@@ -1,6 +1,5 @@
 -- An open subscription with its consumer, and what reading it answers.
 use Rattle.std.specs.Prelude.{◌≡◌, ℕ, ◌+◌, ◌<◌, Bool, true, false, List, [], ◌∷◌, ◌++◌, Option, Some, None}
-use Rattle.std.specs.Prelude.{IfSome}
 use mathlib.Core.List.{IsPrefix}
 use Rattle.am_alert.specs.declared.alert.Alert.{Alert}
 use Rattle.am_provider.specs.Batches.{Batch}
@@ -8,23 +7,22 @@ use Rattle.am_provider.specs.Subscriptions.{SubscriptionView, taken}
 use Rattle.am_provider.specs.Showings.{ShowsItem, Shows}
 use Rattle.am_provider.specs.declared.answers.Step.TheVariants as step
 use Rattle.am_runner.specs.Answers.{is_item}
-use Rattle.am_runner.specs.Consuming.{TakesAlert, HasTaken, answers_of_groups}
+use Rattle.am_runner.specs.Consumers.{ConsumerView}
+use Rattle.am_runner.specs.Consuming.{TakesAlert, HasTaken}
 use Rattle.am_script.specs.declared.command.Verb.TheVariants as verb
 use Rattle.am_runner.specs.declared.answer.Answer.{Answer}
 use Rattle.am_runner.specs.declared.answer.Answer.TheVariants as answer
-use Rattle.am_runner.specs.declared.consumer.Consumer.{Consumer}
-use Rattle.am_runner.specs.declared.consumer.Consumer.TheVariants.{Notifier}
 
 -- a subscription, its name, its consumer, and whether that had no memory for an alert that was shown
 pub record OpenView : Type 0 where
   pub name : List ℕ
   pub subscription : SubscriptionView
-  pub consumer : Option Consumer
+  pub consumer : ConsumerView
   pub missed : Bool
 
 -- unless an alert was missed, a consumer took what its subscription has taken, and nothing else
-abbrev pub TookAll : SubscriptionView → Option Consumer → Bool → Type 0
-TookAll subscription consumer missed = missed ≡ false → IfSome consumer (HasTaken (taken subscription))
+abbrev pub TookAll : SubscriptionView → ConsumerView → Bool → Type 0
+TookAll subscription consumer missed = missed ≡ false → HasTaken (taken subscription) consumer
 
 -- the answer to what the subscription shows next
 abbrev pub NextIs : SubscriptionView → Answer → SubscriptionView → Type 0
@@ -34,23 +32,16 @@ NextIs old answer.SawClosed new = Shows old step.Closed new
 NextIs old answer.SawCut new = Shows old step.Cut new
 NextIs old other new = ⊥
 
--- the consumer of a subscription, if there is one, takes an alert
-abbrev pub TakenBeside : Alert → Option Consumer → Option Consumer → Type 0
-TakenBeside alert None None = Unit {0}
-TakenBeside alert (Some old) (Some new) = TakesAlert alert old new
-TakenBeside alert (Some old) None = ⊥
-TakenBeside alert None (Some new) = ⊥
-
 -- an answer that is an alert is taken, and then there may be more; of another one nothing is
-abbrev pub IsTaken : Answer → Option Consumer → Bool → Option Consumer → Type 0
-IsTaken (answer.Item alert) old goes_on new = (goes_on ≡ true) × TakenBeside alert old new
+abbrev pub IsTaken : Answer → ConsumerView → Bool → ConsumerView → Type 0
+IsTaken (answer.Item alert) old goes_on new = (goes_on ≡ true) × TakesAlert alert old new
 IsTaken other old goes_on new = (goes_on ≡ false) × (new ≡ old)
 
 -- One read: an alert, which the consumer takes, or after which it is answered that it had no memory to take
 -- it; or another answer, which ends the reading. It comes after those before.
 pub data ReadsOne (old : OpenView) (before : List Answer) : Bool → List Answer → OpenView → Type 0 where
   takes : {new : OpenView} (alert : Alert) → ShowsItem old.subscription alert new.subscription
-      → TakenBeside alert old.consumer new.consumer
+      → TakesAlert alert old.consumer new.consumer
       → (new.name ≡ old.name) × (new.missed ≡ old.missed)
       → ReadsOne old before true (before ++ answer.Item alert ∷ []) new
   misses : {new : OpenView} (alert : Alert) → ShowsItem old.subscription alert new.subscription
@@ -88,26 +79,3 @@ pub record SaysPendingPast (noted : List Batch) (was new : SubscriptionView) : T
   pub start : old.cursor.lane.start ≡ was.cursor.lane.start
   pub shows : Shows old step.Pending new
   pub past : IsPrefix noted new.cursor.lane.front
-
--- what is answered of the groups of a subscription's dispatcher, at a moment if one is given
-abbrev pub groups_beside : Option ℕ → Option Consumer → List Answer
-groups_beside at (Some consumer) = answers_of_groups at consumer
-groups_beside at None = answer.NotOpen verb.Groups ∷ []
-
--- whether a consumer is a dispatcher and an inhibitor
-abbrev pub is_notifier : Option Consumer → Bool
-is_notifier (Some (Notifier both)) = true
-is_notifier other = false
-
--- what a consumer, if there is one, does and answers; where there is none, nothing is done
-pub data AsksBeside {A : Type 0} (does : Consumer → Consumer → A → Type 0) (without_one : A)
-    : Option Consumer → A → Option Consumer → Type 0 where
-  asks : {before after : Consumer} {given : A} → does before after given
-      → AsksBeside does without_one (Some before) given (Some after)
-  none_beside : AsksBeside does without_one None without_one None
-
--- the consumer of a subscription is asked, and nothing else of the subscription changes
-abbrev pub Asks : {A : Type 0} → (Consumer → Consumer → A → Type 0) → A → OpenView → A → OpenView → Type 0
-Asks does without_one old given new =
-    AsksBeside does without_one old.consumer given new.consumer
-    × (new ≡ record old { consumer = new.consumer })

@@ -44,9 +44,10 @@ use Rattle.am_script.specs.Commands.{moment_in}
 use Rattle.am_script.specs.declared.command.Verb.{Verb}
 use Rattle.am_script.specs.declared.command.Verb.TheVariants as verb
 use Rattle.am_runner.specs.Asking.{AsksTree, ShowsTree}
-use Rattle.am_runner.specs.Consuming.{fresh_consumer, IsAsked, IsSwept, sweep_word}
+use Rattle.am_runner.specs.Consuming.{answers_of_groups, fresh_consumer, has_both, sweep_word}
+use Rattle.am_runner.specs.Consuming.{IsAsked, IsSwept}
 use Rattle.am_runner.specs.Putting.{AnswersPosted, AnswersPut}
-use Rattle.am_runner.specs.Reading.{OpenView, ReadAnswers, EndsPending, Asks, groups_beside, is_notifier}
+use Rattle.am_runner.specs.Reading.{OpenView, ReadAnswers, EndsPending}
 use Rattle.am_runner.specs.declared.answer.Answer.{Answer}
 use Rattle.am_runner.specs.declared.answer.Answer.TheVariants as answer
 use Rattle.am_runner.specs.declared.consumer.Half.{Half}
@@ -167,7 +168,7 @@ pub record ReadsAt (index max : ℕ) (old : SessionView) (answers : List Answer)
 -- what is answered of the groups of a subscription's dispatcher, if there is one, at a moment if one is given
 abbrev pub groups_told : Option ℕ → Option OpenView → List Answer
 groups_told at None = answer.NotOpen verb.Groups ∷ []
-groups_told at (Some open_one) = groups_beside at open_one.consumer
+groups_told at (Some open_one) = answers_of_groups at open_one.consumer
 
 -- the subscription of a name
 abbrev pub named_in : List ℕ → List OpenView → Option OpenView
@@ -176,7 +177,7 @@ named_in name opened = option_and_then (slice_get opened) (index_named name open
 -- whether there is a subscription with a dispatcher and an inhibitor
 abbrev pub is_notified : Option OpenView → Bool
 is_notified None = false
-is_notified (Some one) = is_notifier one.consumer
+is_notified (Some one) = has_both one.consumer
 
 -- whether the subscription of a name has both
 abbrev pub has_notifier : List ℕ → List OpenView → Bool
@@ -187,17 +188,20 @@ abbrev pub sweep_command : Half → List ℕ → ℕ → Command
 sweep_command half.Dispatcher name at = Sweep name at
 sweep_command half.Inhibitor name at = Forget name at
 
--- that half is swept
+-- that half is swept, and nothing else of the subscription changes
+abbrev pub SweepsOne : Half → ℕ → OpenView → Answer → OpenView → Type 0
+SweepsOne which at old given new = IsSwept at which old.consumer new.consumer given
+    × (new ≡ record old { consumer = new.consumer })
+
 abbrev pub SweepsNamed : Half → List ℕ → ℕ → List OpenView → List Answer → List OpenView → Type 0
 SweepsNamed which name at old answers new = OnNamed name (sweep_word which) (λ before given after.
-    IsOne (λ one. Asks (IsSwept at which) (answer.NotOpen (sweep_word which)) before one after) given)
+    IsOne (λ one. SweepsOne which at before one after) given)
     old answers new
 
--- the inhibitor of the subscription of this name is asked of a target
-abbrev pub AsksNamed : List ℕ → Labels → ℕ → List OpenView → List Answer → List OpenView → Type 0
-AsksNamed name labels at old answers new = OnNamed name verb.Mutes (λ before given after.
-    IsOne (λ one. Asks (IsAsked labels at) (answer.NotOpen verb.Mutes) before one after) given)
-    old answers new
+-- what is answered of a target by the inhibitor of a subscription, if there is one
+abbrev pub IsAskedAt : Labels → ℕ → Option OpenView → Answer → Type 0
+IsAskedAt labels at None given = given ≡ answer.NotOpen verb.Mutes
+IsAskedAt labels at (Some one) given = IsAsked labels at one.consumer given
 
 -- What a command does to a session, and what it answers, under a configuration and a setting. What the
 -- provider makes of it is what its calls say, at their places in the one history.
@@ -286,9 +290,9 @@ pub data Does (config : Config) (setting : Setting) (old : SessionView)
   forgot : {name : List ℕ} {at : ℕ} {answers : List Answer} {opened : List OpenView}
       → SweepsNamed half.Inhibitor name at old.opened answers opened
       → Does config setting old (Forget name at) answers (record old { opened = opened })
-  mutes : {name : List ℕ} {at : ℕ} {labels : Labels} {answers : List Answer} {opened : List OpenView}
-      → AsksNamed name labels at old.opened answers opened
-      → Does config setting old (Mutes name at labels) answers (record old { opened = opened })
+  mutes : {name : List ℕ} {at : ℕ} {labels : Labels} {answers : List Answer}
+      → IsOne (IsAskedAt labels at (named_in name old.opened)) answers
+      → Does config setting old (Mutes name at labels) answers old
   stored : {alerts : List Alert} {front : FrontView EntryView}
       → SeesCall old.front front (AnswersStored {E = AllocError} (Ok alerts))
       → Does config setting old Stored (stored_answers alerts) (record old { front = front })

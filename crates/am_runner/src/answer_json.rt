@@ -47,7 +47,7 @@ fn write_object(text: &mut String, number: u64, answer: &Answer) -> Result<(), A
 }
 
 /// Writes how many answers the line of input with this number has.
-pub fn write_count(text: &mut String, number: u64, answers: u64) -> Result<(), AllocError>
+pub(crate) fn write_count(text: &mut String, number: u64, answers: u64) -> Result<(), AllocError>
     ensures { OnOk result (string_bytes text.new
         ≡ string_bytes text.old ++ object_line (about_line number (count_members answers))) }
 {
@@ -57,7 +57,7 @@ pub fn write_count(text: &mut String, number: u64, answers: u64) -> Result<(), A
 }
 
 /// Writes the members of an answer. The brace that closes them is still to come.
-pub fn write_members(line: &mut JsonLine, answer: &Answer) -> Result<(), AllocError>
+pub(crate) fn write_members(line: &mut JsonLine, answer: &Answer) -> Result<(), AllocError>
     ensures { OnOk result
         (line.new ++ end_object ∷ [] ≡ line.old ++ members_tokens (answer_members answer.now)) }
 {
@@ -142,7 +142,7 @@ fn write_route(line: &mut JsonLine, route: &ListedRoute) -> Result<(), AllocErro
     line.number("depth", route.depth)?;
     line.text("receiver", route.receiver.as_str())?;
     line.texts("matchers", route.matchers.as_slice())?;
-    write_grouping(line, *route.receiver.text.allocator(), &route.group_by)?;
+    write_grouping(line, route.receiver.allocator(), &route.group_by)?;
     line.flag("continue", route.continues)
 }
 

@@ -1,31 +1,51 @@
-//! The consumer of a subscription: a dispatcher, an inhibitor or both. It takes what the subscription
-//! shows, and knows of no provider.
+//! The consumer of a subscription: a dispatcher, an inhibitor, both or neither. It takes what the subscription shows, and
+//! knows of no provider. With both, Alertmanager's two halves meet here, as at the flush of a group, whose pipeline asks
+//! the inhibitor of each alert of the group (`notify.MuteStage`).
 
-ghost use Rattle.std.specs.Prelude.{◌≡◌, ◌⊎◌, ◌++◌, ◌∷◌, [], List, IfOk, OnOk, OnErr, flat_map, length, map};
-ghost use Rattle.am_runner.specs.Consuming.{answers_of_group, answers_of_groups, fresh_consumer, head_of_group, sweep_word};
-ghost use Rattle.am_runner.specs.Consuming.{AsksInhibitor, HasTaken, IsAsked, IsSwept, TakesAlert, having_answered, muting_at};
-ghost use Rattle.am_runner.specs.Notifiers.{unasked};
-ghost use Rattle.am_alert.specs.declared.alert.Alert.{Alert};
+ghost use Rattle.std.specs.Prelude.{◌≡◌, Some, IfOk, OnOk, OnErr, ⊤};
+ghost use Rattle.std.specs.Option.{option_map};
+ghost use Rattle.am_routes.specs.Groups.{Follows, Take};
+ghost use Rattle.am_runner.specs.Consuming.{answers_of_groups, fresh_consumer, has_both, sweep_word};
+ghost use Rattle.am_runner.specs.Consuming.{DispatcherSwept, InhibitorSwept, InhibitorTakes, IsAsked, IsAskedOf};
+ghost use Rattle.am_runner.specs.Consuming.{IsSwept, OnHalf, TakesAlert};
+ghost use Rattle.am_runner.specs.Consumers.{unasked};
 
-use crate::answer::{Answer, GroupHead, one};
-use crate::notifier::Notifier;
+use crate::answer::{Answer, one};
+use crate::group_answers::groups_of;
 use am_alert::{Alert, Moment};
 use am_config::Config;
 use am_inhibit::Inhibitor;
-use am_labels::{LabelSet, Text};
-use am_routes::{Dispatcher, Group};
+use am_labels::LabelSet;
+use am_routes::Dispatcher;
 use am_script::{Kind, Verb};
 use std::alloc::{AllocError, Global};
+use std::marker::Model;
 
-/// What takes the alerts that a subscription shows.
+/// What takes the alerts that a subscription shows. Contracts see its inhibitor's rules and alerts, not how many sources
+/// were examined.
 #[derive(Drop)]
-pub enum Consumer<'c> {
-    Dispatcher(Dispatcher<'c>),
-    Inhibitor(Inhibitor<'c>),
-    Notifier(Notifier<'c>),
+pub struct Consumer<'c> {
+    dispatcher: Option<Dispatcher<'c>>,
+    inhibitor: Option<Inhibitor<'c>>,
 }
 
-/// One of the two consumers that a subscription can have.
+impl<'c> Model for Consumer<'c> {
+    ghost use Rattle.std.specs.Coded.{codes};
+    ghost use Rattle.std.specs.Option.{option_map};
+    ghost use Rattle.am_routes.specs.contracts.dispatcher.Dispatcher as dispatching;
+    ghost use Rattle.am_inhibit.specs.contracts.inhibitor.Inhibitor as inhibiting;
+    ghost use Rattle.std.specs.Prelude.{[]};
+    ghost use mir.Syntax.{named};
+    ghost use Rattle.am_runner.specs.Consumers.{ConsumerView, unasked};
+
+    ghost Value = { ConsumerView };
+
+    ghost coded = { Prim.hlevel (codes, (dispatching.the_row (record { mir = named 0; lft = [] })).coded, (inhibiting.the_row (record { mir = named 0; lft = [] })).coded) };
+
+    ghost view = { λ c. record { dispatcher = c.dispatcher; inhibitor = option_map unasked c.inhibitor } };
+}
+
+/// One of the two that a consumer can have.
 #[derive(Clone, Copy, Debug, PartialEq, Eq)]
 pub enum Half {
     Dispatcher,
@@ -45,44 +65,60 @@ impl Half {
 }
 
 impl<'c> Consumer<'c> {
-    /// The consumer of a kind, which took nothing yet. A plain subscription has none.
-    pub fn begin(
-        alloc: Global,
-        config: &'c Config,
-        kind: Kind,
-    ) -> Result<Option<Consumer<'c>>, AllocError>
+    /// The consumer of a kind, which took nothing yet. That of a plain subscription has neither half.
+    pub fn begin(alloc: Global, config: &'c Config, kind: Kind) -> Result<Consumer<'c>, AllocError>
         ensures { IfOk result (λ made. made ≡ fresh_consumer config.now kind) }
     {
         match kind {
-            Kind::Plain => Ok(None),
-            Kind::Dispatch => Ok(Some(Consumer::Dispatcher(Dispatcher::new(alloc, &config.tree)?))),
-            Kind::Inhibit => Ok(Some(Consumer::Inhibitor(Inhibitor::new(alloc, &config.rules)?))),
-            Kind::Notify => Ok(Some(Consumer::Notifier(Notifier::new(alloc, config)?))),
+            Kind::Plain => Ok(Consumer {
+                dispatcher: None,
+                inhibitor: None,
+            }),
+            Kind::Dispatch => Ok(Consumer {
+                dispatcher: Some(Dispatcher::new(alloc, &config.tree)?),
+                inhibitor: None,
+            }),
+            Kind::Inhibit => Ok(Consumer {
+                dispatcher: None,
+                inhibitor: Some(Inhibitor::new(alloc, &config.rules)?),
+            }),
+            Kind::Notify => Ok(Consumer {
+                dispatcher: Some(Dispatcher::new(alloc, &config.tree)?),
+                inhibitor: Some(Inhibitor::new(alloc, &config.rules)?),
+            }),
         }
     }
 
-    /// Takes an alert. If memory runs out, all stays as it was.
+    /// Whether it has a dispatcher and an inhibitor.
+    pub fn has_both(&self) -> bool
+        ensures { result ≡ has_both self.now }
+    {
+        match &self.inhibitor {
+            Some(_) => self.dispatcher.is_some(),
+            None => false,
+        }
+    }
+
+    /// Both halves take an alert. If memory runs out for one of them, neither has taken it.
     pub fn take(&mut self, alert: &Alert) -> Result<(), AllocError>
         ensures taken { OnOk result (TakesAlert alert.now self.old self.new) }
         ensures err { OnErr result (self.new ≡ self.old) }
     {
-        match self {
-            Consumer::Dispatcher(dispatcher) => dispatcher.take(alert),
-            Consumer::Inhibitor(inhibitor) => inhibitor.take(alert),
-            Consumer::Notifier(notifier) => notifier.take(alert),
+        match &mut self.dispatcher {
+            Some(dispatcher) => take_both(dispatcher, &mut self.inhibitor, alert),
+            None => take_last(&mut self.inhibitor, alert),
         }
     }
 
-    /// The groups of a dispatcher, each followed by its alerts. With an inhibitor and a moment each alert
+    /// The groups of its dispatcher, each followed by its alerts. With an inhibitor and a moment each alert
     /// is followed by what mutes it then.
     pub fn groups(&mut self, alloc: Global, at: Option<Moment>) -> Result<Vec<Answer>, AllocError>
         ensures answers { IfOk result (λ answers. answers.items ≡ answers_of_groups at self.old) }
         ensures same { self.new ≡ self.old }
     {
-        match self {
-            Consumer::Dispatcher(dispatcher) => groups_of(alloc, dispatcher),
-            Consumer::Inhibitor(_) => one(alloc, Answer::NotOpen(Verb::Groups)),
-            Consumer::Notifier(notifier) => notifier.groups(alloc, at),
+        match &self.dispatcher {
+            Some(dispatcher) => groups_of(alloc, dispatcher.groups(), &mut self.inhibitor, at),
+            None => one(alloc, Answer::NotOpen(Verb::Groups)),
         }
     }
 
@@ -91,55 +127,94 @@ impl<'c> Consumer<'c> {
         ensures { IsSwept now half self.old self.new result }
     {
         match half {
-            Half::Dispatcher => self.sweep_dispatcher(now),
-            Half::Inhibitor => self.sweep_inhibitor(now),
+            Half::Dispatcher => sweep_dispatcher(&mut self.dispatcher, now),
+            Half::Inhibitor => sweep_inhibitor(&mut self.inhibitor, now),
         }
     }
 
-    fn sweep_dispatcher(&mut self, now: Moment) -> Answer
-        ensures { IsSwept now Half.Dispatcher self.old self.new result }
-    {
-        match self {
-            Consumer::Dispatcher(dispatcher) => Answer::Swept(dispatcher.sweep(now)),
-            Consumer::Inhibitor(_) => Answer::NotOpen(Verb::Sweep),
-            Consumer::Notifier(notifier) => Answer::Swept(notifier.sweep(now)),
-        }
-    }
-
-    fn sweep_inhibitor(&mut self, now: Moment) -> Answer
-        ensures { IsSwept now Half.Inhibitor self.old self.new result }
-    {
-        match self {
-            Consumer::Dispatcher(_) => Answer::NotOpen(Verb::Forget),
-            Consumer::Inhibitor(inhibitor) => Answer::Forgotten(inhibitor.sweep(now)),
-            Consumer::Notifier(notifier) => Answer::Forgotten(notifier.forget(now)),
-        }
-    }
-
-    /// By what an inhibitor mutes a target. If memory runs out for the answer, it was asked.
+    /// By what its inhibitor mutes a target.
     pub fn mutes(&mut self, labels: &LabelSet, now: Moment) -> Result<Answer, AllocError>
-        ensures asked { IfOk result (IsAsked labels.now now self.old self.new) }
-        ensures lost { OnErr result ((answer : Answer) × IsAsked labels.now now self.old self.new answer) }
-        ensures took { (alerts : List Alert) → HasTaken alerts self.old → HasTaken alerts self.new }
+        ensures asked { IfOk result (IsAsked labels.now now self.old) }
+        ensures same { self.new ≡ self.old }
     {
-        match self {
-            Consumer::Dispatcher(_) => Ok(Answer::NotOpen(Verb::Mutes)),
-            Consumer::Inhibitor(inhibitor) => muting_answer(inhibitor, labels, now),
-            Consumer::Notifier(notifier) => notifier.mutes(labels, now),
+        ask(&mut self.inhibitor, labels, now)
+    }
+}
+
+// A dispatcher takes an alert, and then the inhibitor, if there is one. The dispatcher keeps what it changed, so that
+// undoing it needs no memory.
+fn take_both(
+    dispatcher: &mut Dispatcher<'_>,
+    inhibitor: &mut Option<Inhibitor<'_>>,
+    alert: &Alert,
+) -> Result<(), AllocError>
+    ensures dispatcher { OnOk result (Follows (Take alert.now) dispatcher.old dispatcher.new) }
+    ensures inhibitor { OnOk result (OnHalf (InhibitorTakes alert.now) ⊤
+        (option_map unasked inhibitor.old) (option_map unasked inhibitor.new)) }
+    ensures undone { OnErr result (dispatcher.new ≡ dispatcher.old) }
+    ensures err { OnErr result (inhibitor.new ≡ inhibitor.old) }
+{
+    let noted = dispatcher.take_noted(alert)?;
+    match take_last(inhibitor, alert) {
+        Ok(()) => Ok(()),
+        Err(error) => {
+            dispatcher.undo(noted);
+            Err(error)
         }
     }
 }
 
-// What mutes a target.
-pub(crate) fn muting_answer(
+fn take_last(inhibitor: &mut Option<Inhibitor<'_>>, alert: &Alert) -> Result<(), AllocError>
+    ensures taken { OnOk result (OnHalf (InhibitorTakes alert.now) ⊤
+        (option_map unasked inhibitor.old) (option_map unasked inhibitor.new)) }
+    ensures err { OnErr result (inhibitor.new ≡ inhibitor.old) }
+{
+    match inhibitor {
+        Some(inhibitor) => inhibitor.take(alert),
+        None => Ok(()),
+    }
+}
+
+fn sweep_dispatcher(dispatcher: &mut Option<Dispatcher<'_>>, now: Moment) -> Answer
+    ensures { OnHalf (λ old new. DispatcherSwept now old new result)
+        (result ≡ Answer.NotOpen Verb.Sweep) dispatcher.old dispatcher.new }
+{
+    match dispatcher {
+        Some(dispatcher) => Answer::Swept(dispatcher.sweep(now)),
+        None => Answer::NotOpen(Verb::Sweep),
+    }
+}
+
+fn sweep_inhibitor(inhibitor: &mut Option<Inhibitor<'_>>, now: Moment) -> Answer
+    ensures { OnHalf (λ old new. InhibitorSwept now old new result)
+        (result ≡ Answer.NotOpen Verb.Forget) (option_map unasked inhibitor.old) (option_map unasked inhibitor.new) }
+{
+    match inhibitor {
+        Some(inhibitor) => Answer::Forgotten(inhibitor.sweep(now)),
+        None => Answer::NotOpen(Verb::Forget),
+    }
+}
+
+fn ask(
+    inhibitor: &mut Option<Inhibitor<'_>>,
+    labels: &LabelSet,
+    now: Moment,
+) -> Result<Answer, AllocError>
+    ensures asked { IfOk result (IsAskedOf labels.now now (option_map unasked inhibitor.old)) }
+    ensures same { option_map unasked inhibitor.new ≡ option_map unasked inhibitor.old }
+{
+    match inhibitor {
+        Some(inhibitor) => ask_one(inhibitor, labels, now),
+        None => Ok(Answer::NotOpen(Verb::Mutes)),
+    }
+}
+
+fn ask_one(
     inhibitor: &mut Inhibitor<'_>,
     labels: &LabelSet,
     now: Moment,
 ) -> Result<Answer, AllocError>
-    ensures asks { IfOk result (AsksInhibitor labels.now now inhibitor.old inhibitor.new) }
-    ensures answer { IfOk result (λ answer. (answer ≡ Answer.OutOfMemory Verb.Mutes)
-        ⊎ (answer ≡ muting_at inhibitor.old now labels.now)) }
-    ensures lost { OnErr result (inhibitor.new ≡ having_answered labels.now now inhibitor.old) }
+    ensures asked { IfOk result (IsAskedOf labels.now now (Some (unasked inhibitor.old))) }
     ensures same { unasked inhibitor.new ≡ unasked inhibitor.old }
 {
     match inhibitor.mutes(labels, now) {
@@ -150,54 +225,4 @@ pub(crate) fn muting_answer(
         Ok(None) => Ok(Answer::NotMuted),
         Err(_) => Ok(Answer::OutOfMemory(Verb::Mutes)),
     }
-}
-
-// Each group of a dispatcher, followed by its alerts.
-fn groups_of(alloc: Global, dispatcher: &Dispatcher<'_>) -> Result<Vec<Answer>, AllocError>
-    ensures { IfOk result (λ answers. answers.items ≡ flat_map answers_of_group dispatcher.now.groups) }
-{
-    group_answers(alloc, dispatcher.groups())
-}
-
-// Each group, followed by its alerts.
-pub(crate) fn group_answers(alloc: Global, groups: &[Group<'_>]) -> Result<Vec<Answer>, AllocError>
-    ensures { IfOk result (λ answers. answers.items ≡ flat_map answers_of_group groups.now) }
-{
-    let mut answers = Vec::new(alloc);
-    for group in groups {
-        add_group(&mut answers, group)?;
-    }
-    Ok(answers)
-}
-
-fn add_group(answers: &mut Vec<Answer>, group: &Group<'_>) -> Result<(), AllocError>
-    ensures { OnOk result
-        (answers.new.items ≡ answers.old.items ++ answers_of_group group.now) }
-{
-    add_group_line(answers, group)?;
-    add_members(answers, group.alerts())
-}
-
-pub(crate) fn add_group_line(answers: &mut Vec<Answer>, group: &Group<'_>) -> Result<(), AllocError>
-    ensures { OnOk result
-        (answers.new.items ≡ answers.old.items ++ Answer.Group (head_of_group group.now) ∷ []) }
-{
-    let alloc = *answers.allocator();
-    answers.push(Answer::Group(GroupHead {
-        route: group.route().0,
-        receiver: Text::from_str(alloc, group.receiver())?,
-        labels: group.labels().copy()?,
-        alerts: group.alerts().len() as u64,
-    }))?;
-    Ok(())
-}
-
-fn add_members(answers: &mut Vec<Answer>, alerts: &[Alert]) -> Result<(), AllocError>
-    ensures { OnOk result
-        (answers.new.items ≡ answers.old.items ++ map Answer.Member alerts.now) }
-{
-    for alert in alerts {
-        answers.push(Answer::Member(alert.copy()?))?;
-    }
-    Ok(())
 }

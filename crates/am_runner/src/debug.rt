@@ -2,7 +2,6 @@
 
 use crate::consumer::Consumer;
 use crate::context::Context;
-use crate::notifier::Notifier;
 use crate::open_subscription::OpenSubscription;
 use crate::prepared_config::PreparedConfig;
 use crate::register::Register;
@@ -15,12 +14,6 @@ use std::fmt;
 impl<'c> fmt::Debug for Consumer<'c> {
     fn fmt<W: fmt::Write>(&self, f: &mut fmt::Formatter<W>) -> fmt::Result {
         f.debug_struct("Consumer").finish_non_exhaustive()
-    }
-}
-
-impl<'c> fmt::Debug for Notifier<'c> {
-    fn fmt<W: fmt::Write>(&self, f: &mut fmt::Formatter<W>) -> fmt::Result {
-        f.debug_struct("Notifier").finish_non_exhaustive()
     }
 }
 

@@ -3,7 +3,7 @@
 ghost use Rattle.am_runner.specs.Owed.{ReadIsDue, ReadsContinue};
 ghost use Rattle.am_runner.specs.Turning.{TurnsFollow};
 
-use am_provider::history_laws;
+use am_provider::laws::history_laws;
 
 /// What a line's read prints continues what its subscription had taken before, and nothing else is
 /// taken. All that a thread's reads have taken begins what the provider's whole history owes the

@@ -1,5 +1,5 @@
 //! Runs the lines of a script in eight threads, each thread its own lines in their order, on one
-//! provider.
+//! provider. Or it answers each line of an input before it reads the next one (`serve`, in `live.rt`).
 //!
 //! > Whatever posts, subscriptions, reads, leaves, collections and close come, from whichever
 //! > threads and in whatever interleaving, what a subscription has taken begins the alerts stored at
@@ -29,8 +29,9 @@ mod consumer;
 mod context;
 mod debug;
 mod form;
-mod laws;
-mod notifier;
+mod group_answers;
+pub mod laws;
+mod live;
 mod open_subscription;
 mod prepared_config;
 mod register;
@@ -45,18 +46,14 @@ mod whole_run;
 mod work;
 
 pub use answer::{Answer, GroupHead, PageHead, write_answers};
-pub use answer_json::{write_count, write_members};
 pub use consumer::{Consumer, Half};
 pub use context::Context;
 pub use form::Form;
-pub use laws::{reading_laws, turn_laws};
-pub use notifier::Notifier;
+pub use live::{InputLine, LiveRun, answer_line, next_line, serve};
 pub use open_subscription::OpenSubscription;
 pub use prepared_config::PreparedConfig;
 pub use register::{Register, TurnsSeen};
 pub use run_fault::RunFault;
 pub use session::Session;
-pub use threads::{ThreadOutcome, run_threads};
 pub use turns::{Freely, InOrder, Turn, Turns};
-pub use unanswered::{is_question, loses_nothing};
 pub use whole_run::{LogLimits, WholeRun, run_whole};

@@ -3,22 +3,21 @@
 //! A `read` asks `vouch` first, and so takes the lock once a line: else `pending` would say only that a look found
 //! nothing.
 
-ghost use Rattle.std.specs.Prelude.{◌≡◌, ◌∷◌, ℕ, List, false, true, [], IfOk, IfSome, OnErr, OnOk};
+ghost use Rattle.std.specs.Prelude.{◌≡◌, ◌∷◌, ℕ, List, false, true, [], IfOk, OnErr, OnOk};
 ghost use Rattle.std.specs.Str.{bytes_eq};
 ghost use mathlib.Core.List.{IsPrefix};
 ghost use Rattle.am_provider.specs.Callers.{KnowsAllSent, SeesCall};
 ghost use Rattle.am_provider.specs.Headline.{AnswersVouch};
 ghost use Rattle.am_provider.specs.Subscriptions.{taken};
-ghost use Rattle.am_runner.specs.Consuming.{HasTaken, IsAsked, IsSwept, sweep_word};
-ghost use Rattle.am_alert.specs.declared.alert.Alert.{Alert};
+ghost use Rattle.am_runner.specs.Consuming.{HasTaken, IsAsked, answers_of_groups, has_both};
 ghost use Rattle.am_runner.specs.Answers.{is_item};
-ghost use Rattle.am_runner.specs.Reading.{Asks, AsksBeside, EndsPending, IsTaken, NextIs, ReadAnswers, SaysPendingPast};
-ghost use Rattle.am_runner.specs.Reading.{ReadsOne, TakenBeside, TookAll, groups_beside, is_notifier};
+ghost use Rattle.am_runner.specs.Reading.{EndsPending, IsTaken, NextIs, ReadAnswers, ReadsOne, SaysPendingPast, TookAll};
+ghost use Rattle.am_runner.specs.Sessions.{SweepsOne};
 
-use crate::answer::{Answer, one};
+use crate::answer::Answer;
 use crate::consumer::{Consumer, Half};
-use am_alert::{Alert, Moment};
-use am_inhibit::kept_laws;
+use am_alert::Moment;
+use am_inhibit::laws::kept_laws;
 use am_labels::{LabelSet, Text};
 use am_provider::{Caller, Origin, Pass, Provider, Recorded, Step, Subscription};
 use am_script::Verb;
@@ -26,12 +25,12 @@ use std::alloc::{AllocError, Global};
 use std::marker::Model;
 use std::sync::Wait;
 
-/// An open subscription with its name and its consumer, if it has one. Contracts see all of it: unless an
+/// An open subscription with its name and its consumer. Contracts see all of it: unless an
 /// alert was missed, the consumer took what the subscription has taken, and nothing else.
 pub struct OpenSubscription<'p, 'c, N: Origin> {
     name: Text,
     subscription: Subscription<'p, N>,
-    consumer: Option<Consumer<'c>>,
+    consumer: Consumer<'c>,
     // Whether there was no memory for an alert that was shown.
     missed: bool,
 }
@@ -65,10 +64,10 @@ impl<'p, 'c, N: Origin> OpenSubscription<'p, 'c, N> {
     pub fn begin(
         name: Text,
         subscription: Subscription<'p, N>,
-        consumer: Option<Consumer<'c>>,
+        consumer: Consumer<'c>,
     ) -> OpenSubscription<'p, 'c, N>
         requires unread { taken subscription ≡ [] }
-        requires fresh { IfSome consumer (HasTaken []) }
+        requires fresh { HasTaken [] consumer }
         ensures { result ≡ record {
           name = name;
           subscription = subscription.entry;
@@ -92,12 +91,9 @@ impl<'p, 'c, N: Origin> OpenSubscription<'p, 'c, N> {
 
     /// Whether its consumer is a dispatcher and an inhibitor.
     pub fn has_notifier(&self) -> bool
-        ensures { result ≡ is_notifier self.now.consumer }
+        ensures { result ≡ has_both self.now.consumer }
     {
-        match &self.consumer {
-            Some(Consumer::Notifier(_)) => true,
-            _ => false,
-        }
+        self.consumer.has_both()
     }
 
     /// What at most this many reads answer. Any answer that isn't an alert ends them. They don't end with Pending before
@@ -146,28 +142,26 @@ impl<'p, 'c, N: Origin> OpenSubscription<'p, 'c, N> {
     /// The groups of its dispatcher, and at a moment, if one is given, what its inhibitor mutes their
     /// alerts by.
     pub fn groups(&mut self, alloc: Global, at: Option<Moment>) -> Result<Vec<Answer>, AllocError>
-        ensures answers { IfOk result (λ answers. answers.items ≡ groups_beside at self.old.consumer) }
+        ensures answers { IfOk result (λ answers. answers.items ≡ answers_of_groups at self.old.consumer) }
         ensures same { self.new ≡ self.old }
     {
-        groups_beside(&mut self.consumer, alloc, at)
+        self.consumer.groups(alloc, at)
     }
 
     /// One half of its consumer drops what is resolved at a moment.
     pub fn sweep(&mut self, half: Half, now: Moment) -> Answer
-        ensures { Asks (IsSwept now half) (Answer.NotOpen (sweep_word half)) self.old result self.new }
+        ensures { SweepsOne half now self.old result self.new }
     {
         kept_laws();
-        sweep_beside(&mut self.consumer, half, now)
+        self.consumer.sweep(half, now)
     }
 
-    /// By what the subscription's inhibitor mutes a target. If memory runs out for the answer, it was asked.
+    /// By what the subscription's inhibitor mutes a target.
     pub fn mutes(&mut self, labels: &LabelSet, now: Moment) -> Result<Answer, AllocError>
-        ensures asks { IfOk result (λ answer. Asks (IsAsked labels.now now)
-            (Answer.NotOpen Verb.Mutes) self.old answer self.new) }
-        ensures lost { OnErr result ((answer : Answer) × Asks (IsAsked labels.now now)
-            (Answer.NotOpen Verb.Mutes) self.old answer self.new) }
+        ensures asked { IfOk result (IsAsked labels.now now self.old.consumer) }
+        ensures same { self.new ≡ self.old }
     {
-        ask_beside(&mut self.consumer, labels, now)
+        self.consumer.mutes(labels, now)
     }
 
     /// The provider says that the subscription has taken its due so far, and what has been sent so far.
@@ -198,7 +192,7 @@ impl<'p, 'c, N: Origin> OpenSubscription<'p, 'c, N> {
 // Reads once; the subscription's consumer takes the alert that was shown.
 fn read_beside<N: Origin>(
     subscription: &mut Subscription<'_, N>,
-    consumer: &mut Option<Consumer<'_>>,
+    consumer: &mut Consumer<'_>,
     missed: &mut bool,
     answers: &mut Vec<Answer>,
     pass: &mut Pass<N>,
@@ -235,59 +229,17 @@ fn read_beside<N: Origin>(
     }
 }
 
-// Whether the answer is an alert, which the subscription's consumer, if there is one, then takes.
-fn take_shown(consumer: &mut Option<Consumer<'_>>, answer: &Answer) -> Result<bool, AllocError>
+// Whether the answer is an alert, which the subscription's consumer then takes.
+fn take_shown(consumer: &mut Consumer<'_>, answer: &Answer) -> Result<bool, AllocError>
     ensures taken { IfOk result (λ goes_on. IsTaken answer.now consumer.old goes_on consumer.new) }
     ensures err { OnErr result ((is_item answer.now ≡ true) × (consumer.new ≡ consumer.old)) }
 {
     match answer {
         Answer::Item(alert) => {
-            take_beside(consumer, alert)?;
+            consumer.take(alert)?;
             Ok(true)
         }
         _ => Ok(false),
-    }
-}
-
-fn groups_beside(
-    consumer: &mut Option<Consumer<'_>>,
-    alloc: Global,
-    at: Option<Moment>,
-) -> Result<Vec<Answer>, AllocError>
-    ensures answers { IfOk result (λ answers. answers.items ≡ groups_beside at consumer.old) }
-    ensures same { consumer.new ≡ consumer.old }
-{
-    match consumer {
-        Some(consumer) => consumer.groups(alloc, at),
-        None => one(alloc, Answer::NotOpen(Verb::Groups)),
-    }
-}
-
-fn sweep_beside(consumer: &mut Option<Consumer<'_>>, half: Half, now: Moment) -> Answer
-    ensures { AsksBeside (IsSwept now half)
-        (Answer.NotOpen (sweep_word half)) consumer.old result consumer.new }
-{
-    match consumer {
-        Some(consumer) => consumer.sweep(half, now),
-        None => Answer::NotOpen(half.sweep_word()),
-    }
-}
-
-fn ask_beside(
-    consumer: &mut Option<Consumer<'_>>,
-    labels: &LabelSet,
-    now: Moment,
-) -> Result<Answer, AllocError>
-    ensures answer { IfOk result (λ answer. AsksBeside (IsAsked labels.now now)
-        (Answer.NotOpen Verb.Mutes) consumer.old answer consumer.new) }
-    ensures lost { OnErr result ((answer : Answer) × AsksBeside (IsAsked labels.now now)
-        (Answer.NotOpen Verb.Mutes) consumer.old answer consumer.new) }
-    ensures took { (alerts : List Alert) → IfSome consumer.old (HasTaken alerts)
-        → IfSome consumer.new (HasTaken alerts) }
-{
-    match consumer {
-        Some(consumer) => consumer.mutes(labels, now),
-        None => Ok(Answer::NotOpen(Verb::Mutes)),
     }
 }
 
@@ -307,15 +259,4 @@ fn next_answer<N: Origin>(
         Step::Cut => Answer::SawCut,
     };
     Ok(answer)
-}
-
-// A subscription's consumer, if there is one, takes an alert. If memory runs out, all stays as it was.
-fn take_beside(consumer: &mut Option<Consumer<'_>>, alert: &Alert) -> Result<(), AllocError>
-    ensures taken { OnOk result (TakenBeside alert.now consumer.old consumer.new) }
-    ensures err { OnErr result (consumer.new ≡ consumer.old) }
-{
-    match consumer {
-        Some(consumer) => consumer.take(alert),
-        None => Ok(()),
-    }
 }

@@ -169,7 +169,7 @@ impl<N: Recorded, M: Timeline> Taken<N, M> {
         provider.look(rt, caller, &mut self.onlooker);
         self.turns.show(table, seen);
         self.turns
-            .push(table, &Snapshot::of(&caller.front), &mut self.maker);
+            .push(table, &Snapshot::of(caller.front()), &mut self.maker);
         self.next += 1;
         self.turns.show(table, seen);
     }

@@ -33,7 +33,7 @@ use std::time::Duration;
 /// The outcome of a thread's run: what each line of the script answered, and the caller, which has what the
 /// thread added to the provider's history. A line of another thread answered nothing. An error says that
 /// memory ran out, or that the threads weren't started.
-pub type ThreadOutcome<N> = (Result<Vec<Vec<Answer>>, AllocError>, Caller<N>);
+pub(crate) type ThreadOutcome<N> = (Result<Vec<Vec<Answer>>, AllocError>, Caller<N>);
 
 // The same, and what the thread had seen of the turns.
 type Worked<N, M> = (ThreadOutcome<N>, TurnsSeen<N, M>);
@@ -83,7 +83,7 @@ impl<'s, C, T> RunsLines<'s, C, T> {
         RunsLines {
             config: run.config,
             lines: run.lines,
-            timeout: run.provider.resolve_timeout,
+            timeout: run.provider.resolve_timeout(),
             thread,
             turns: PhantomData::<T>,
         }
@@ -105,9 +105,9 @@ impl<'s, N: Recorded, M: Timeline, C: Configured, T: Turns> Promise<Worked<N, M>
         p.thread worked.0.0 worked.0.1.pass worked.0.1.front };
 }
 
-/// Runs a script's lines, each in the thread that it names. None is run before all threads are there;
-/// where one can't be started, none is run at all. The threads share the configuration.
-pub fn run_threads<N: Recorded + Send + Sync, R: Threads + Wait + Sync, T: Turns + Sync>(
+// Runs a script's lines, each in the thread that it names. None is run before all threads are there;
+// where one can't be started, none is run at all. The threads share the configuration.
+pub(crate) fn run_threads<N: Recorded + Send + Sync, R: Threads + Wait + Sync, T: Turns + Sync>(
     rt: &R,
     alloc: Global,
     provider: &Provider<N>,

@@ -6,7 +6,7 @@ ghost use Rattle.am_runner.specs.Unanswered.{is_question, loses_nothing};
 use am_script::Command;
 
 /// Whether a command only asks: what is lost with its answer can be asked again.
-pub fn is_question(command: &Command) -> bool
+pub(crate) fn is_question(command: &Command) -> bool
     ensures { result ≡ is_question command.now }
 {
     matches!(
@@ -23,7 +23,7 @@ pub fn is_question(command: &Command) -> bool
 
 /// Whether nothing is lost with the answer of a command: it only asks, or there was room for its answer before it
 /// was done. Of the others the answer may be lost after they were done.
-pub fn loses_nothing(command: &Command) -> bool
+pub(crate) fn loses_nothing(command: &Command) -> bool
     ensures { result ≡ loses_nothing command.now }
 {
     !matches!(

@@ -35,7 +35,7 @@ mod debug;
 mod joined_keys;
 mod key;
 mod key_run;
-mod laws;
+pub mod laws;
 mod seal_fault;
 mod share;
 
@@ -43,5 +43,4 @@ pub use builder::{MAX_ITEMS, SegmentBuilder};
 pub use joined_keys::{JoinedKeys, reunite};
 pub use key::{MAX_KEYS, SegKey};
 pub use key_run::KeyRun;
-pub use laws::keys_in_order_are_all;
 pub use seal_fault::SealFault;

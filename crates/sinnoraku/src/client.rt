@@ -32,7 +32,7 @@ pub struct Client<'p, N: Recorded> {
     pub provider: &'p Provider<N>,
     /// What it posted, and how much of the provider's one history it has seen.
     pub caller: Caller<N>,
-    pub limits: Limits,
+    limits: Limits,
     pub ghost sized: { N.places ≡ limits.places },
     pub ghost strict: { N.policy ≡ limits.policy },
     pub ghost timed: { provider.now.resolve_timeout ≡ limits.resolve_timeout },
@@ -52,6 +52,12 @@ impl<'p, N: Recorded> Client<'p, N> {
             caller,
             limits,
         }
+    }
+
+    pub fn limits(&self) -> Limits
+        ensures { result ≡ self.now.limits }
+    {
+        self.limits
     }
 
     /// Its caller, which `Provider::settle` takes back.

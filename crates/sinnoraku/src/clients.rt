@@ -10,8 +10,8 @@ use std::alloc::{AllocError, Global};
 
 // Room for as many clients, and for their callers.
 pub(crate) struct ClientRooms<'p, N: Recorded> {
-    pub clients: Vec<Client<'p, N>>,
-    pub callers: Vec<Caller<N>>,
+    pub(crate) clients: Vec<Client<'p, N>>,
+    pub(crate) callers: Vec<Caller<N>>,
 }
 
 impl<'p, N: Recorded> ClientRooms<'p, N> {

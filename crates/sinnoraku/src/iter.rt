@@ -14,9 +14,9 @@ use std::sync::Wait;
 /// The alerts of a reader, one after another. Each is a copy, which shares its texts.
 pub struct Iter<'r, 'p, N: Recorded, R: Wait> {
     rt: &'r R,
-    pub reader: &'r mut Reader<'p, N>,
+    pub(crate) reader: &'r mut Reader<'p, N>,
     /// How often it may still be asked: an iterator has to end.
-    pub left: u64,
+    pub(crate) left: u64,
 }
 
 impl<'r, 'p, N: Recorded, R: Wait> Iter<'r, 'p, N, R> {

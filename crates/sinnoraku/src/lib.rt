@@ -46,4 +46,8 @@ pub use limits::{Limits, USUAL_PLACES};
 pub use next::Next;
 pub use program::{Program, run};
 pub use reader::Reader;
+pub use std::alloc::{AllocError, Global};
+pub use std::sync::Wait;
+pub use std::thread::Threads;
+pub use std::time::Duration;
 pub use worker::{Worker, run_workers};

@@ -12,15 +12,15 @@ use std::alloc::{AllocError, Global};
 // A client, and the outcome of its worker once that has returned.
 #[derive(Drop)]
 pub(crate) struct Seat<'p, N: Recorded, O> {
-    pub client: Client<'p, N>,
-    pub outcome: Option<O>,
+    pub(crate) client: Client<'p, N>,
+    pub(crate) outcome: Option<O>,
 }
 
 // Room for a seat, an outcome and a caller each.
 pub(crate) struct Rooms<'p, N: Recorded, O> {
-    pub seats: Vec<Seat<'p, N, O>>,
-    pub outcomes: Vec<O>,
-    pub callers: Vec<Caller<N>>,
+    pub(crate) seats: Vec<Seat<'p, N, O>>,
+    pub(crate) outcomes: Vec<O>,
+    pub(crate) callers: Vec<Caller<N>>,
 }
 
 impl<'p, N: Recorded, O: Drop> Rooms<'p, N, O> {

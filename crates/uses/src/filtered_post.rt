@@ -1,10 +1,10 @@
 //! A post of alerts that aren't JSON, of which a filter takes at most two that are new.
 
 use anyhow::Result;
-use sinnoraku::{Alert, AlertParts, Client, Limits, Moment, Post, Program, Recorded, Text, run};
-use std::alloc::Global;
-use std::sync::Wait;
-use std::time::Duration;
+use sinnoraku::{
+    Alert, AlertParts, Client, Duration, Global, Limits, Moment, Post, Program, Recorded, Text,
+    Wait, run,
+};
 
 const NEW_YEAR: &str = "2024-01-01T00:00:00Z";
 

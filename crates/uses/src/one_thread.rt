@@ -1,9 +1,7 @@
 //! One thread posts an alert, and prints what a reader shows until no more will come.
 
 use anyhow::Result;
-use sinnoraku::{Client, Limits, Moment, Program, Reader, Recorded, run};
-use std::alloc::Global;
-use std::sync::Wait;
+use sinnoraku::{Client, Global, Limits, Moment, Program, Reader, Recorded, Wait, run};
 
 const BODY: &[u8] = b"[{\"labels\":{\"alertname\":\"DiskFull\"}}]";
 

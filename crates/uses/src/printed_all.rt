@@ -5,10 +5,11 @@ ghost use Rattle.std.specs.Option.{IsSomeAnd};
 ghost use Rattle.sinnoraku.specs.Owed.{PrintsItsDue, alert_lines, taken};
 
 use anyhow::Result;
-use sinnoraku::{Client, Ended, Limits, Moment, Next, Reader, Recorded, Worker, run_workers};
-use std::alloc::Global;
-use std::sync::{Barrier, Wait};
-use std::thread::Threads;
+use sinnoraku::{
+    Client, Ended, Global, Limits, Moment, Next, Reader, Recorded, Threads, Wait, Worker,
+    run_workers,
+};
+use std::sync::Barrier;
 
 const BODY: &[u8] = b"[{\"labels\":{\"alertname\":\"DiskFull\"}}]";
 

@@ -1,9 +1,9 @@
 //! A reader that lags by as many batches as there are places: the next post is refused, or the reader is cut off.
 
 use anyhow::Result;
-use sinnoraku::{Client, Limits, Moment, Next, Policy, Program, Reader, Recorded, run};
-use std::alloc::Global;
-use std::sync::Wait;
+use sinnoraku::{
+    Client, Global, Limits, Moment, Next, Policy, Program, Reader, Recorded, Wait, run,
+};
 
 const BODY: &[u8] = b"[{\"labels\":{\"alertname\":\"DiskFull\"}}]";
 

@@ -81,7 +81,7 @@ impl<'a> Posting<'a> {
     // Posts the bodies in turn, trying each again while the log is full. Returns how many were accepted.
     fn post<N: Recorded, R: Wait>(&self, rt: &R, client: &mut Client<'_, N>) -> u64 {
         let load = self.load;
-        let timeout = client.limits.resolve_timeout;
+        let timeout = client.limits().resolve_timeout;
         let mut reader = PostReader::new(self.alloc);
         let mut turns = 0;
         let mut accepted: u64 = 0;

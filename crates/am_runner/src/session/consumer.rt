@@ -1,10 +1,9 @@
 //! What the dispatcher and the inhibitor of a subscription are asked.
 
-ghost use Rattle.std.specs.Prelude.{◌≡◌, ◌⊎◌, IfOk, List, OnErr};
+ghost use Rattle.std.specs.Prelude.{◌≡◌, IfOk, OnErr};
 ghost use Rattle.am_config.specs.declared.config.Config.{Config};
-ghost use Rattle.am_runner.specs.Sessions.{AsksNamed, Does, Setting, SweepsNamed, groups_told};
+ghost use Rattle.am_runner.specs.Sessions.{Does, IsAskedAt, IsOne, Setting, SweepsNamed, groups_told};
 ghost use Rattle.am_runner.specs.Sessions.{named_in, sweep_command};
-ghost use Rattle.am_runner.specs.Unanswered.{IsUnanswered};
 
 use crate::answer::{Answer, one};
 use crate::consumer::Half;
@@ -55,8 +54,7 @@ impl<'p, 'c, N: Recorded> Session<'p, 'c, N> {
     ) -> Result<Vec<Answer>, AllocError>
         ensures does { IfOk result (λ answers. (config : Config) (setting : Setting) → Does config setting
             self.old (Command.Mutes name.now at labels.now) answers.items self.new) }
-        ensures unanswered { OnErr result ((config : Config) (setting : Setting) → IsUnanswered config setting
-            self.old (Command.Mutes name.now at labels.now) self.new) }
+        ensures err { OnErr result (self.new ≡ self.old) }
     {
         ask_named(&mut self.opened, alloc, name, labels, at)
     }
@@ -102,13 +100,12 @@ fn ask_named<N: Recorded>(
     labels: &LabelSet,
     at: Moment,
 ) -> Result<Vec<Answer>, AllocError>
-    ensures asks { IfOk result (λ answers.
-        AsksNamed name.now labels.now at opened.old answers.items opened.new) }
-    ensures lost { OnErr result ((opened.new ≡ opened.old)
-        ⊎ ((answers : List Answer) × AsksNamed name.now labels.now at opened.old answers opened.new)) }
+    ensures asked { IfOk result (λ answers.
+        IsOne (IsAskedAt labels.now at (named_in name.now opened.old)) answers.items) }
+    ensures same { opened.new ≡ opened.old }
 {
     match index_named(opened, name) {
-        Some(index) => Ok(RoomForAnswer::make(alloc)?.filled(opened[index].mutes(labels, at)?)),
+        Some(index) => one(alloc, opened[index].mutes(labels, at)?),
         None => one(alloc, Answer::NotOpen(Verb::Mutes)),
     }
 }

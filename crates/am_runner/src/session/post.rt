@@ -26,7 +26,7 @@ impl<'p, 'c, N: Recorded> Session<'p, 'c, N> {
             → Does config (setting_of N.places N.policy context.now.provider.now.resolve_timeout)
             self.old (Command.Post at body.now) answers.items self.new) }
     {
-        let read = body.read(context.alloc, at, context.provider.resolve_timeout);
+        let read = body.read(context.alloc, at, context.provider.resolve_timeout());
         let posted = match put_read(context, &mut self.caller, at, read) {
             Ok(posted) => posted,
             Err(why) => return one(context.alloc, Answer::PostRefused(why)),

@@ -1,5 +1,8 @@
-use Rattle.std.proofs.Common.{◌<◌, ◌≤◌, ◌∙◌, Err, ℕ, List, ap, get_or, length, arith}
+use Rattle.std.proofs.Common.{◌<◌, ◌≤◌, ◌∙◌, Ok, Err, ℕ, List, ap, sym, subst, get_or, length, arith}
 use Rattle.std.proofs.lemmas.Result.{err_from_is_err_and}
+use Rattle.am_labels.specs.Matchers.{MatcherView}
+use Rattle.am_config.specs.MatcherReadings.{matchers_of}
+use Rattle.am_config.specs.Readings.{AllowsResult}
 use Rattle.am_config.proofs.Readings.{read_at, refused_at, read_all}
 use Rattle.am_config.proofs.matcher_reader.read_matchers.Goals as goal
 
@@ -27,4 +30,5 @@ returns-in_err-read_matcher c =
 pub returns : goal.returns
 returns c =
     let past : length c.args.texts.now ≤ c.loop-i.i = omega (arith, ap length c.as_slice-text-items.ensures) in
-    read_all _ c.args.texts.now c.loop-i.matchers.items c.loop-i.i past c.loop-i.invariant
+    subst (λ (made : List MatcherView). AllowsResult (matchers_of c.args.path.now c.args.texts.now) (Ok made)) (sym c.new.ensures)
+    (read_all _ c.args.texts.now c.loop-i.matchers.items c.loop-i.i past c.loop-i.invariant)

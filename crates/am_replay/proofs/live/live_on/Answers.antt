@@ -9,8 +9,8 @@ use Rattle.am_provider.specs.Ending.{IsSettledFrom}
 use Rattle.am_provider.specs.declared.answers.Policy.{Policy}
 use Rattle.std.specs.declared.time.Duration.{Duration}
 use Rattle.am_runner.specs.Sessions.{Setting, SessionView, new_session, setting_of}
-use Rattle.am_serve.specs.Serving.{IsServed, IsServedInPart}
-use Rattle.am_serve.specs.Standing.{new_run}
+use Rattle.am_runner.specs.live.Serving.{IsServed, IsServedInPart}
+use Rattle.am_runner.specs.live.Standing.{new_run}
 use Rattle.am_replay.specs.Live.{LivesUnder, cut_short, is_following}
 use Rattle.am_replay.proofs.Lives.{counts_told, last_holds, none_before}
 use Rattle.am_replay.proofs.Replays.{keeps_same}

@@ -1,5 +1,5 @@
 use Rattle.std.proofs.Common.{rules, ◌≡◌, Some, subst}
-use Rattle.am_serve.specs.declared.reading.InputLine.TheVariants.{TooLong}
+use Rattle.am_runner.specs.declared.live.reading.InputLine.TheVariants.{TooLong}
 use Rattle.am_replay.specs.Live.{IsFirstAs}
 use Rattle.am_replay.proofs.Lives.{first_too_long}
 use Rattle.am_replay.proofs.live.read_first.Goals as goal

@@ -1,5 +1,4 @@
 use Rattle.std.proofs.Common.{rules, ◌≡◌, ◌∙◌, ◌++◌, ◌∷◌, [], List, ap, codes, sym}
-use Rattle.am_routes.specs.declared.listed_route.ListedRoute.{ListedRoute}
 use Rattle.std.proofs.lemmas.Result.{IfOk-weaker}
 use Rattle.json.specs.Json.{boolean, string}
 use Rattle.json.specs.Token.{Token, end_object}
@@ -24,7 +23,7 @@ returns c =
     let part-5 : List Token = named (codes "group_by") (grouping_json route.group_by) in
     let step-5 : c.write_grouping.new.line ≡ c.texts.new.self ++ part-5 = search rules in
     let part-6 : List Token = named (codes "continue") (boolean route.continues) in
-    IfOk-weaker c.flag.result _ _ (λ _ last. and_then c.write_grouping.new.line c.flag.new.self part-6 (end_object ∷ []) (rw (ap (λ (one : ListedRoute). one.continues) (sym c.route.view_is)) last)
+    IfOk-weaker c.flag.result _ _ (λ _ last. and_then c.write_grouping.new.line c.flag.new.self part-6 (end_object ∷ []) last
     ∙ (and_then c.texts.new.self c.write_grouping.new.line part-5 _ step-5
     ∙ (and_then c.text-2.new.self c.texts.new.self part-4 _ step-4
     ∙ (and_then c.number-2.new.self c.text-2.new.self part-3 _ step-3

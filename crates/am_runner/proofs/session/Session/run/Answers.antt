@@ -2,11 +2,11 @@ use Rattle.std.proofs.Common.{refl, sym, subst}
 use Rattle.am_config.specs.RouteLists.{root_of}
 use Rattle.am_config.specs.declared.config.Config.{Config}
 use Rattle.am_script.specs.declared.command.Command.{Command}
-use Rattle.am_script.specs.declared.command.Command.TheVariants.{Get, Mutes, Stored, StoredPage}
+use Rattle.am_script.specs.declared.command.Command.TheVariants.{Get, Stored, StoredPage}
 use Rattle.am_runner.specs.Asking.{ShowsTree}
 use Rattle.am_runner.specs.Sessions.{Does, routes, route, setting_of}
 use Rattle.am_runner.specs.Unanswered.{not_done}
-use Rattle.am_runner.proofs.LostAnswers.{asked, kept, renamed}
+use Rattle.am_runner.proofs.LostAnswers.{asked, kept}
 use Rattle.am_runner.proofs.Results.{if_ok_map, on_err, on_err_map}
 use Rattle.am_runner.proofs.session.Session.run.Goals as goal
 
@@ -71,7 +71,7 @@ returns-in-Route-clause-unanswered g c = on_err c.ask_tree.result (λ safe. not_
 
 pub returns-in-Mutes-clause-unanswered : goal.returns-in-Mutes-clause-unanswered
 returns-in-Mutes-clause-unanswered g c =
-    on_err_map c.mutes.result c.mutes.ensures.unanswered (λ done safe. renamed _ _ _ _ _ (Mutes c.in-Mutes.name c.in-Mutes.at c.in-Mutes.labels) c.in-Mutes.is (done _ _))
+    on_err_map c.mutes.result c.mutes.ensures.err (λ is safe. kept _ _ _ _ _ is)
 
 pub returns-in-Leave-clause-unanswered : goal.returns-in-Leave-clause-unanswered
 returns-in-Leave-clause-unanswered g c = on_err_map c.leave.result c.leave.ensures.err (λ is safe. kept _ _ _ _ _ is)

@@ -1,4 +1,4 @@
-use Rattle.std.proofs.Common.{◌≡◌, ◌∙◌, ◌∷◌, ◌++◌, [], List, Ok, Option, IfSome, ap, sym, subst, length}
+use Rattle.std.proofs.Common.{◌≡◌, ◌∙◌, ◌∷◌, ◌++◌, [], List, Ok, ap, sym, subst, length}
 use Rattle.am_config.specs.declared.config.Config.{Config}
 use Rattle.am_provider.specs.Callers.{SeesCall}
 use Rattle.am_provider.specs.Headline.{AnswersSubscribe}
@@ -7,14 +7,14 @@ use Rattle.am_runner.specs.Consuming.{HasTaken, fresh_consumer}
 use Rattle.am_runner.specs.Reading.{OpenView}
 use Rattle.am_runner.specs.Sessions.{SessionView, Does, subscribe_refused}
 use Rattle.am_runner.specs.declared.answer.Answer.TheVariants.{Subscribed, SubscribeRefused}
-use Rattle.am_runner.specs.declared.consumer.Consumer.{Consumer}
+use Rattle.am_runner.specs.Consumers.{ConsumerView}
 use Rattle.am_script.specs.declared.command.Command.TheVariants.{Subscribe}
 use Rattle.am_runner.proofs.Named.{fresh_took, subscribed_so}
 use Rattle.am_runner.proofs.session.Session.subscribe.Goals as goal
 
 pub begin-requires-in-Ok-clause-fresh : goal.begin-requires-in-Ok-clause-fresh
 begin-requires-in-Ok-clause-fresh g c =
-    subst (λ (made : Option Consumer). IfSome made (HasTaken [])) (sym c.in_ok-consumer.ensures) (fresh_took c.config.result.now c.args.kind)
+    subst (λ (made : ConsumerView). HasTaken [] made) (sym c.in_ok-consumer.ensures) (fresh_took c.config.result.now c.args.kind)
 
 pub begin-requires-in-Ok-clause-unread : goal.begin-requires-in-Ok-clause-unread
 begin-requires-in-Ok-clause-unread g c = c.in-Ok.ensures.sees.answers.fresh.0

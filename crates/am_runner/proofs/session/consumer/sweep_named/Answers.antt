@@ -1,8 +1,7 @@
 use Rattle.std.proofs.Common.{◌∙◌, ◌∷◌, [], List, ap, sym, subst}
 use Rattle.std.specs.List.{slice_set}
-use Rattle.am_runner.specs.Consuming.{IsSwept, sweep_word}
-use Rattle.am_runner.specs.Reading.{Asks}
-use Rattle.am_runner.specs.Sessions.{SweepsNamed, IsOne, just, none_named}
+use Rattle.am_runner.specs.Consuming.{sweep_word}
+use Rattle.am_runner.specs.Sessions.{SweepsNamed, SweepsOne, IsOne, just, none_named}
 use Rattle.am_runner.specs.declared.answer.Answer.{Answer}
 use Rattle.am_runner.specs.declared.answer.Answer.TheVariants.{NotOpen}
 use Rattle.am_script.specs.declared.command.Verb.{Verb}
@@ -13,7 +12,7 @@ use Rattle.am_runner.proofs.session.consumer.sweep_named.Goals as goal
 pub returns-in_ok-make-in-Some-clause-sweeps : goal.returns-in_ok-make-in-Some-clause-sweeps
 returns-in_ok-make-in-Some-clause-sweeps g c =
     subst (λ (given : List Answer). SweepsNamed c.args.half c.args.name.now c.args.at c.args.opened.now given (slice_set c.args.opened.now c.in-Some.index c.sweep.new.self)) (sym c.filled.ensures)
-    (on_index c.args.name.now (sweep_word c.args.half) (λ before given after. IsOne (λ told. Asks (IsSwept c.args.at c.args.half) (NotOpen (sweep_word c.args.half)) before told after) given) c.args.opened.now c.in-Some.index c.index-opened-index.result c.sweep.new.self (_ ∷ [])
+    (on_index c.args.name.now (sweep_word c.args.half) (λ before given after. IsOne (λ one. SweepsOne c.args.half c.args.at before one after) given) c.args.opened.now c.in-Some.index c.index-opened-index.result c.sweep.new.self (_ ∷ [])
     (sym c.index_named.ensures ∙ c.in-Some.is) (just c.sweep.ensures))
 
 pub returns-in-None-clause-sweeps : goal.returns-in-None-clause-sweeps

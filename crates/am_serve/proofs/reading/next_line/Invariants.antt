@@ -1,6 +1,0 @@
-use Rattle.am_serve.proofs.Lines.{LineSoFar}
-use Rattle.am_serve.proofs.reading.next_line.Given as goal
-
--- the line's bytes so far were read, and none is a line feed
-abbrev pub invariant-loop-turn : goal.invariant-loop-turn
-invariant-loop-turn g l = LineSoFar (g.I.Read.remaining l.initial.input) l.line (g.I.Read.remaining l.input)
