@@ -7,7 +7,7 @@
 //! > journal order; one that was told 'closed' has taken them all; and no segment is freed that an
 //! > open cursor has not passed.
 //!
-//! `run_threads` starts the threads, and none runs a line before all are there. A thread has a pass and
+//! `run_whole` starts the threads, and none runs a line before all are there. A thread has a pass and
 //! the subscriptions that its lines opened (`Session`), each with a dispatcher, an inhibitor, both or
 //! neither, as its line asks. When the threads' lines are run is up to the `Turns` that the caller passes:
 //! one after another in the script's order (`InOrder`), or as the threads reach them (`Freely`). What comes
