@@ -1,5 +1,6 @@
 -- Facts about the words of specs/inside/Streams.antt: a text that is read token by token.
 use Rattle.std.proofs.Common.{◌≡◌, ◌∙◌, ℕ, ◌+◌, ◌≤◌, true, false, List, [], ◌∷◌, ◌++◌, length, Option, None, Some, refl, sym, ap, subst, arith, append_assoc, append-nil, Greater, nat_cmp}
+use Rattle.std.specs.Prelude.{⊤}
 use Rattle.std.specs.Prelude.{IfSome, MatchOption, option_and_then, option_map}
 use Rattle.std.specs.Ordering.{ordering_reverse}
 use Rattle.std.specs.Cmp.Lexicographic.{slice_cmp, nat_list_cmp_total}
@@ -29,7 +30,7 @@ pairs_of_texts (pair ∷ pairs) = ap (λ o. option_map (λ (rest : List (List �
 
 -- each name is before this one
 abbrev pub AreBefore : List ℕ → List (List ℕ × List ℕ) → Type 0
-AreBefore name [] = Unit {0}
+AreBefore name [] = ⊤
 AreBefore name (pair ∷ pairs) = IsBefore pair.0 name × AreBefore name pairs
 
 -- a name that is before none goes last

@@ -1,5 +1,6 @@
 -- Facts about the words of specs/ValidAlerts.antt: what the elements of a post are read as.
 use Rattle.std.proofs.Common.{◌≡◌, ◌≢◌, ℕ, ◌+◌, ◌<◌, ◌≤◌, List, [], ◌∷◌, ◌++◌, length, reverse, Option, None, Some, Result, Ok, Err, refl, sym, ap, subst, ◌∙◌, arith, All}
+use Rattle.std.specs.Prelude.{⊤}
 use Rattle.std.specs.Prelude.{codes, filter, option_and_then, option_map}
 use Rattle.std.specs.FinMap.{empty, get, get-from_entries}
 use Rattle.std.specs.FinMap.Entries.{find}
@@ -27,7 +28,7 @@ use Rattle.am_alert.specs.ValidAlerts.{IsWellFormed, indices_of, Rises}
 
 -- each pair has a value
 abbrev AreValued : List (List ℕ × List ℕ) → Type 0
-AreValued [] = Unit {0}
+AreValued [] = ⊤
 AreValued (pair ∷ pairs) = (pair.1 ≢ []) × AreValued pairs
 
 kept_valued : (pairs : List (List ℕ × List ℕ)) → AreValued (filter has_value pairs)

@@ -1,6 +1,6 @@
 -- Alerts from their parts, for who has no JSON of them (Alertmanager's `types.Alert`, of which
 -- `provider.Alerts`' Put takes a list).
-use Rattle.std.specs.Prelude.{◌≡◌, ◌≢◌, ℕ, ◌+◌, ◌<◌, ◌≤◌, List, [], ◌∷◌, length, filter, map, None, Some}
+use Rattle.std.specs.Prelude.{◌≡◌, ◌≢◌, ℕ, ◌+◌, ◌<◌, ◌≤◌, List, [], ◌∷◌, length, filter, map, None, Some, ⊤}
 use Rattle.std.specs.Prelude.{Result, Ok, Err}
 use Rattle.std.specs.FinMap.{get}
 use Rattle.am_labels.specs.LabelSets.{Labels, last_holds}
@@ -45,7 +45,7 @@ elements_from i (alert ∷ rest) = with_first i (element_from alert) (elements_f
 abbrev pub IsJudged : Alert → Result Alert PartsFault → Type 0
 IsJudged given (Ok alert) = (alert ≡ given) × (fault_of given ≡ None)
 IsJudged given (Err (parts_fault.Invalid f)) = fault_of given ≡ Some f
-IsJudged given (Err parts_fault.NoMemory) = Unit {0}
+IsJudged given (Err parts_fault.NoMemory) = ⊤
 
 -- what parts make: their alert if it has no fault (`types.Alert.Validate`, as for an alert of a post), else
 -- that fault

@@ -1,6 +1,6 @@
 -- The members of an element of a post, over the value that its JSON is (Alertmanager's `postableAlert`,
 -- API v2).
-use Rattle.std.specs.Prelude.{◌≡◌, ℕ, Bool, true, false, List, [], ◌∷◌, codes, filter}
+use Rattle.std.specs.Prelude.{◌≡◌, ℕ, Bool, true, false, List, [], ◌∷◌, codes, filter, ⊤}
 use Rattle.std.specs.Prelude.{Option, Some, None, option_map, option_and_then, Result, Ok, Err}
 use Rattle.std.specs.FinMap.{empty}
 use Rattle.serde_json.specs.Data.{Data, null, boolean, number, string, array, object}
@@ -88,4 +88,4 @@ postable_of d = do
 abbrev pub Reads : {X Y : Type 0} → (X → Y) → Result X MemberFault → Option Y → Type 0
 Reads view (Ok x) read = read ≡ Some (view x)
 Reads view (Err Bad) read = read ≡ None
-Reads view (Err NoMemory) read = Unit {0}
+Reads view (Err NoMemory) read = ⊤

@@ -1,6 +1,6 @@
 -- The alerts and faults of a post, over the value that its JSON is (Alertmanager's API v2,
 -- `postAlertsHandler`).
-use Rattle.std.specs.Prelude.{◌≡◌, ℕ, ◌+◌, ◌<◌, ◌≤◌, ◌⊎◌, ◌||◌, nat_eq, nat_lt, if◌then◌else◌, List, [], ◌∷◌}
+use Rattle.std.specs.Prelude.{◌≡◌, ℕ, ◌+◌, ◌<◌, ◌≤◌, ◌⊎◌, ◌||◌, nat_eq, nat_lt, if◌then◌else◌, List, [], ◌∷◌, ⊤}
 use Rattle.std.specs.Prelude.{length, Option, Some, None, option_map, is_none, unwrap_or, Result, Ok, Err}
 use Rattle.std.specs.Prelude.{IsUtf8}
 use Rattle.std.specs.FinMap.{contains_key, len}
@@ -138,7 +138,7 @@ abbrev pub ReadsEach : Result Post PostFault → Result Entries PostFault → Ty
 ReadsEach (Ok post) entries = entries ≡ Ok (post.valid, post.faults)
 ReadsEach (Err (fault.BadMember i)) entries = entries ≡ Err (fault.BadMember i)
 ReadsEach (Err (fault.OutOfRange i)) entries = entries ≡ Err (fault.OutOfRange i)
-ReadsEach (Err fault.NoMemory) entries = Unit {0}
+ReadsEach (Err fault.NoMemory) entries = ⊤
 ReadsEach (Err fault.NotJson) entries = ⊥
 ReadsEach (Err fault.NotAnArray) entries = ⊥
 ReadsEach (Err fault.TooMany) entries = ⊥

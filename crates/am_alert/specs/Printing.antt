@@ -13,20 +13,20 @@ zero_padded width n = replicate (width - length (decimal n)) 48 ++ decimal n
 -- an instant up to its second: `2024-01-01T10:00:00`
 abbrev pub second_text : CivilTime → List ℕ
 second_text p =
-    zero_padded 4 p.year ++ (45 ∷ zero_padded 2 p.month ++ (45 ∷ zero_padded 2 p.day
-    ++ (84 ∷ zero_padded 2 p.hour ++ (58 ∷ zero_padded 2 p.minute ++ (58 ∷ zero_padded 2 p.second)))))
+    zero_padded 4 p.year ++ codes "-" ++ zero_padded 2 p.month ++ codes "-" ++ zero_padded 2 p.day
+    ++ codes "T" ++ zero_padded 2 p.hour ++ codes ":" ++ zero_padded 2 p.minute ++ codes ":" ++ zero_padded 2 p.second
 
 -- a fraction of a second: nothing for a whole second, else a point and nine digits
 abbrev pub fraction_text : ℕ → List ℕ
-fraction_text nanosecond = if nanosecond == 0 then [] else 46 ∷ zero_padded 9 nanosecond
+fraction_text nanosecond = if nanosecond == 0 then [] else codes "." ++ zero_padded 9 nanosecond
 
 -- an instant in UTC, as RFC 3339 writes it: `2024-01-01T10:00:00Z`, `2024-01-01T10:00:00.500000000Z`
 abbrev pub moment_text : ℕ → List ℕ
-moment_text moment = second_text (parts_of moment) ++ (fraction_text (parts_of moment).nanosecond ++ 90 ∷ [])
+moment_text moment = second_text (parts_of moment) ++ fraction_text (parts_of moment).nanosecond ++ codes "Z"
 
 -- an alert: labels, start, end, whether the end was given, annotations
 abbrev pub alert_text : Alert → List ℕ
 alert_text alert =
-    labels_text alert.labels ++ (32 ∷ moment_text alert.start ++ (32 ∷ moment_text alert.end
-    ++ (32 ∷ (if alert.timeout then codes "timeout" else codes "given")
-    ++ (32 ∷ labels_text alert.annotations))))
+    labels_text alert.labels ++ codes " " ++ moment_text alert.start ++ codes " " ++ moment_text alert.end
+    ++ codes " " ++ (if alert.timeout then codes "timeout" else codes "given")
+    ++ codes " " ++ labels_text alert.annotations

@@ -1,5 +1,6 @@
 -- A seat is cut in two, or takes in another's; and the rule at the start.
 use Rattle.std.proofs.Common.{◌≡◌, ◌≢◌, ℕ, zero, suc, ◌*◌, ◌<◌, List, [], ◌∷◌, ◌++◌, replicate, length, get_or, set, sym, refl, ap, ◌∙◌, subst, ⊎_elim, arith, Option, Some, None, true, false, true≢false, length-set, length-append, ◌<◌}
+use Rattle.std.specs.Prelude.{⊤}
 use mathlib.Core.Option.{some, some-ne-none}
 use mathlib.Core.List.{IsPrefix}
 use lib.ListN.{get_elem?, length-map}
@@ -219,7 +220,7 @@ module _ {B K A : Type 0} (key : B → ℕ → K) where
       no_key k e = subst is_none e tt
         where
           is_none : Option K → Type 0
-          is_none None = Unit {0}
+          is_none None = ⊤
           is_none (Some y) = ⊥
 
       beyond : (j : ℕ) (u : View B K A) → j ≢ 0 → get_elem? (first_view places ∷ []) j ≡ some u → ⊥

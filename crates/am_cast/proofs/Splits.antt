@@ -1,5 +1,6 @@
 -- A seat that is cut in two, or takes in another's, leaves the core's state, and so does a look at what it knows.
 use Rattle.std.proofs.Common.{◌≡◌, ◌≢◌, ℕ, zero, suc, List, [], ◌∷◌, ◌++◌, length, set, refl, ap, ◌∙◌, Some, arith}
+use Rattle.std.specs.Prelude.{⊤}
 use mathlib.Core.Logic.{dite}
 use mathlib.Core.Option as maybe
 use mathlib.Core.Option.{none, some}
@@ -38,11 +39,11 @@ module _ {B K A : Type 0} where
       (λ ne. ap (λ (o : maybe.Option (View B K A)). poster_behind (view_or_blank o)) (set_else views id j left ne))
 
 module _ {B K A : Type 0} (key : B → ℕ → K) where
-  pub tells_as : (s : St B K A) (r : Ruled key s) (id : ℕ) (v : View B K A) → get_elem? s.views id ≡ some v → StateStays s r (set s.views id v ++ copied v ∷ []) (λ _. Unit {0})
+  pub tells_as : (s : St B K A) (r : Ruled key s) (id : ℕ) (v : View B K A) → get_elem? s.views id ≡ some v → StateStays s r (set s.views id v ++ copied v ∷ []) (λ _. ⊤)
   unfolding tells splits_to
   tells_as s r id v at = (tells key id v s r at, grind (arith, same_posters, cut_in_two))
 
-  pub deals_as : (s : St B K A) (r : Ruled key s) (id : ℕ) (w : View B K A) (v : LaneView B A) → w.lane ≡ Some v → get_elem? s.views id ≡ some w → StateStays s r (set s.views id (without_lane w) ++ only_lane w ∷ []) (λ _. Unit {0})
+  pub deals_as : (s : St B K A) (r : Ruled key s) (id : ℕ) (w : View B K A) (v : LaneView B A) → w.lane ≡ Some v → get_elem? s.views id ≡ some w → StateStays s r (set s.views id (without_lane w) ++ only_lane w ∷ []) (λ _. ⊤)
   unfolding deals splits_to
   deals_as s r id w v is at = (deals key id w v is s r at, grind (arith, same_posters, cut_in_two))
 

@@ -1,6 +1,6 @@
 -- What each kind of step is to the core of am_steps, on any table: it keeps the rule, its seat has what
 -- `Opens`, `Looks`, .. say, and the core's state goes through the events named.
-use Rattle.std.specs.Prelude.{◌≡◌, ◌≢◌, ℕ, suc, ◌+◌, ◌*◌, ◌/◌, ◌%◌, ◌^◌, ◌<◌, List, [], ◌∷◌, ◌++◌, slice_set}
+use Rattle.std.specs.Prelude.{◌≡◌, ◌≢◌, ℕ, suc, ◌+◌, ◌*◌, ◌/◌, ◌%◌, ◌^◌, ◌<◌, List, [], ◌∷◌, ◌++◌, slice_set, ⊤}
 use Rattle.std.specs.Prelude.{slice_index, length, Option, Some, None, true, false, ◌==◌}
 use mathlib.Core.Option.{none, some}
 use lib.ListN.{get_elem?}
@@ -177,14 +177,14 @@ module _ (B K A : Type 0) (key : B → ℕ → K) where
   abbrev pub TellsASeat : Type 0
   TellsASeat = (s : State (Option K) (View B K A)) (r : Ruled key s) (id : ℕ) (v : View B K A)
       → get_elem? s.views id ≡ some v → StateStays s r (slice_set s.views id v
-      ++ copied v ∷ []) (λ _. Unit {0})
+      ++ copied v ∷ []) (λ _. ⊤)
 
   -- the lane in a view gets its own seat: the state stays
   abbrev pub DealsALane : Type 0
   DealsALane = (s : State (Option K) (View B K A)) (r : Ruled key s) (id : ℕ) (w : View B K A)
       (v : LaneView B A)
       → w.lane ≡ Some v → get_elem? s.views id ≡ some w
-      → StateStays s r (slice_set s.views id (without_lane w) ++ only_lane w ∷ []) (λ _. Unit {0})
+      → StateStays s r (slice_set s.views id (without_lane w) ++ only_lane w ∷ []) (λ _. ⊤)
 
   -- the own places of a seat that is no poster's get a seat of their own: the state stays
   abbrev pub HandsOwnPlaces : Type 0

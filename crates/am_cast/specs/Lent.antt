@@ -1,6 +1,6 @@
 -- What an answer of `next` or `next_slice` says of the cursor. `Pending`, `Closed` and `Cut` are `Empty`,
 -- `Closed` and `Lagged` of tokio's `broadcast::Receiver::try_recv`, but a cut lane stays cut.
-use Rattle.std.specs.Prelude.{◌≡◌, ℕ, ◌+◌, ◌-◌, ◌≤◌, ◌<◌, ◌⊎◌, List, [], ◌∷◌, ◌++◌, Some, true, false}
+use Rattle.std.specs.Prelude.{◌≡◌, ℕ, ◌+◌, ◌-◌, ◌≤◌, ◌<◌, ◌⊎◌, List, [], ◌∷◌, ◌++◌, Some, true, false, ⊤}
 use Rattle.std.specs.Prelude.{drop, length, slice_get}
 use mathlib.Core.List.{IsPrefix}
 use Rattle.am_cast.specs.declared.batch_view.BatchView.{BatchView}
@@ -96,9 +96,9 @@ module _ {T P A : Type 0} where
   -- if nothing is left, all that the pass knew was seen
   abbrev pub LendsPast : List (BatchView T P) → CursorView T P A → Step T → Type 0
   LendsPast noted d step.Pending = IsPrefix noted d.lane.front
-  LendsPast noted d other = Unit {0}
+  LendsPast noted d other = ⊤
 
   -- the same of an answer without its item
   abbrev pub MovesPast : List (BatchView T P) → CursorView T P A → Moved → Type 0
   MovesPast noted d moved.Pending = IsPrefix noted d.lane.front
-  MovesPast noted d other = Unit {0}
+  MovesPast noted d other = ⊤

@@ -1,7 +1,7 @@
 -- The rule of the table: its words, its slots and its seats' views show one log. It is this project's own.
 -- Crossbeam's channel (`flavors/array.rs`) and tokio's `sync::broadcast` have such a ring of slots and a
 -- tail.
-use Rattle.std.specs.Prelude.{◌≡◌, ◌≢◌, ℕ, suc, ◌+◌, ◌*◌, ◌/◌, ◌%◌, ◌<◌, ◌≤◌, List, [], ◌∷◌, length}
+use Rattle.std.specs.Prelude.{◌≡◌, ◌≢◌, ℕ, suc, ◌+◌, ◌*◌, ◌/◌, ◌%◌, ◌<◌, ◌≤◌, List, [], ◌∷◌, length, ⊤}
 use Rattle.std.specs.Prelude.{replicate, slice_index, Option, Some, None, Bool, true, false}
 use mathlib.Core.Option.{some}
 use mathlib.Core.Option as maybe
@@ -154,12 +154,12 @@ pub record LaneOk {B K A : Type 0} (key : B → ℕ → K) (t : Tail B) (b : Acc
 
 -- the place isn't among these
 abbrev pub IsApart : {B : Type 0} → ℕ → List (Own B) → Type 0
-IsApart p [] = Unit {0}
+IsApart p [] = ⊤
 IsApart p (o ∷ os) = (o.place ≢ p) × IsApart p os
 
 -- no place is there twice
 abbrev pub Once : {B : Type 0} → List (Own B) → Type 0
-Once [] = Unit {0}
+Once [] = ⊤
 Once (o ∷ os) = IsApart o.place os × Once os
 
 -- these places are in the log, and are the seat's own
@@ -172,13 +172,13 @@ module _ {B K A : Type 0} (tail : Tail B) (seat : ℕ) (account : ℕ → Accoun
     (lane_seat : ℕ → ℕ) (j : ℕ) where
   -- the writer's part of a view, if it has one: the log and each lane's account, and the seat is the writer's
   abbrev pub HasWriter : Option (WriterView B K A) → Type 0
-  HasWriter None = Unit {0}
+  HasWriter None = ⊤
   HasWriter (Some q) = (q.tail ≡ tail) × (length q.accounts ≡ LANES)
       × ((l : ℕ) → l < LANES → get_elem? q.accounts l ≡ some (account l)) × (j ≡ seat)
 
   -- the lane's part of a view, if it has one: that lane as it is, not idle, and the seat is that lane's
   abbrev pub HasLane : Option (LaneView B A) → Type 0
-  HasLane None = Unit {0}
+  HasLane None = ⊤
   HasLane (Some v) = (v.number < LANES) × (lane v.number ≡ v) × (lane_seat v.number ≡ j)
       × ((account v.number).stand ≢ idle)
 

@@ -1,5 +1,5 @@
 -- Tables that steps make of a new one, one after the other. This project's own.
-use Rattle.std.specs.Prelude.{◌≡◌, ◌≢◌, ℕ, ◌<◌, List, [], ◌++◌, drop, length, slice_index, Option}
+use Rattle.std.specs.Prelude.{◌≡◌, ◌≢◌, ℕ, ◌<◌, List, [], ◌++◌, drop, length, slice_index, Option, ⊤}
 use mathlib.Core.Option.{some}
 use lib.ListN.{get_elem?}
 use Rattle.atomic_table.specs.Table.{State, opening, stepped}
@@ -24,14 +24,14 @@ module _ {B K A : Type 0} (key : B → ℕ → K) (places posters : ℕ) (seat_o
     -- an atomic step of the seat `id`, which is these events by the word that it finds
     steps : (es : List (event.Event B)) (s : State (Option K) (View B K A)) (r : Ruled key s) → ComesTo es s r
         → (slots id : ℕ) (me : SeatState B K A) (i : ℕ) (f : ℕ → ℕ) (found : ℕ → List (event.Event B))
-        → (allowed : AllowsAs key slots id me i f found (λ _ _. Unit {0}))
+        → (allowed : AllowsAs key slots id me i f found (λ _ _. ⊤))
         → (deep : length s.homes ≡ slots) (at : get_elem? s.views id ≡ some me.0)
         → (fits : slice_index s.words i < word_end)
         → ComesTo (es ++ found (slice_index s.words i)) (stepped s i (f (slice_index s.words i)) id me.1
         (allowed s r deep at fits).0 (allowed s r deep at fits).1) (allowed s r deep at fits).3.0
     -- a poster notes the log
     notes : (es : List (event.Event B)) (s : State (Option K) (View B K A)) (r : Ruled key s) → ComesTo es s r
-        → (slots id : ℕ) (me : SeatState B K A) (allowed : AllowsNote key slots id me (λ _ _. Unit {0}))
+        → (slots id : ℕ) (me : SeatState B K A) (allowed : AllowsNote key slots id me (λ _ _. ⊤))
         → (deep : length s.homes ≡ slots) (at : get_elem? s.views id ≡ some me.0)
         → (fits : slice_index s.words 0 < word_end)
         → (p : ℕ) → p < posters → seat_of p ≡ id → ((k : ℕ) → k ≢ p → seat_of k ≢ id)
@@ -40,7 +40,7 @@ module _ {B K A : Type 0} (key : B → ℕ → K) (places posters : ℕ) (seat_o
         (allowed s r deep at fits).0 (allowed s r deep at fits).1) (allowed s r deep at fits).3.0
     -- a seat that is no poster's does
     hears : (es : List (event.Event B)) (s : State (Option K) (View B K A)) (r : Ruled key s) → ComesTo es s r
-        → (slots id : ℕ) (me : SeatState B K A) (allowed : AllowsNote key slots id me (λ _ _. Unit {0}))
+        → (slots id : ℕ) (me : SeatState B K A) (allowed : AllowsNote key slots id me (λ _ _. ⊤))
         → (deep : length s.homes ≡ slots) (at : get_elem? s.views id ≡ some me.0)
         → (fits : slice_index s.words 0 < word_end) → ((k : ℕ) → seat_of k ≢ id)
         → ComesTo es (stepped s 0 (slice_index s.words 0) id me.1

@@ -1,5 +1,6 @@
 -- The last alerts, as a list that alerts are put into, one after another.
 use Rattle.std.proofs.Common.{◌≡◌, Bool, true, false, not, ◌||◌, cond, List, [], ◌∷◌, ◌++◌, map, filter, append_assoc, append-nil, refl, sym, ap, ◌∙◌, arith}
+use Rattle.std.specs.Prelude.{⊤}
 use Rattle.std.specs.List.{list_any, IsDistinct, AllByRecursion}
 use Rattle.std.proofs.lemmas.List.Elements.{filter-append}
 use Rattle.am_labels.specs.LabelSets.{Labels, same_labels}
@@ -19,7 +20,7 @@ set_last alert (old ∷ olds) = cond (same_labels alert.labels old.labels) (aler
 
 -- no label set has two alerts
 abbrev pub AreApart : List Alert → Type 0
-AreApart [] = Unit {0}
+AreApart [] = ⊤
 AreApart (alert ∷ alerts) = (has alert.labels alerts ≡ false) × AreApart alerts
 
 pub same_turned : (a b : Labels) → same_labels a b ≡ same_labels b a

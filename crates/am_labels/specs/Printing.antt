@@ -1,5 +1,5 @@
 -- How a label set is printed: `{name="value",other="value"}`, as Alertmanager prints one in its logs.
-use Rattle.std.specs.Prelude.{ℕ, Bool, false, ◌&&◌, ◌||◌, ◌==◌, if◌then◌else◌, nat_le}
+use Rattle.std.specs.Prelude.{ℕ, Bool, false, ◌&&◌, ◌||◌, ◌==◌, if◌then◌else◌, nat_le, codes}
 use Rattle.std.specs.Prelude.{List, [], ◌∷◌, ◌++◌, map}
 use Rattle.std.specs.List.{flat_map, list_all, join_with_byte}
 use Rattle.std.specs.FinMap.{entries}
@@ -8,9 +8,9 @@ use Rattle.am_labels.specs.LabelSets.{Labels}
 -- a byte inside quotes: `\"` for a quote, `\\` for a backslash, `\n` for a line feed, others stay
 abbrev pub escaped : ℕ → List ℕ
 escaped byte =
-    if byte == 34 then 92 ∷ 34 ∷ []
-    else (if byte == 92 then 92 ∷ 92 ∷ []
-    else (if byte == 10 then 92 ∷ 110 ∷ []
+    if byte == 34 then codes "\\\""
+    else (if byte == 92 then codes "\\\\"
+    else (if byte == 10 then codes "\\n"
     else byte ∷ []))
 
 -- a text inside quotes
@@ -19,7 +19,7 @@ escaped_all text = flat_map escaped text
 
 -- a text between quotes
 abbrev pub quoted : List ℕ → List ℕ
-quoted text = 34 ∷ escaped_all text ++ 34 ∷ []
+quoted text = codes "\"" ++ escaped_all text ++ codes "\""
 
 -- whether a byte may begin a name: a letter of ASCII, `_` or `:`
 abbrev pub is_name_start : ℕ → Bool
@@ -41,7 +41,7 @@ name_text name = if is_classic_name name then name else quoted name
 
 -- a name and its value: `name="value"`
 abbrev pub pair_text : List ℕ × List ℕ → List ℕ
-pair_text pair = name_text pair.0 ++ (61 ∷ quoted pair.1)
+pair_text pair = name_text pair.0 ++ codes "=" ++ quoted pair.1
 
 -- pairs with commas between
 abbrev pub pairs_text : List (List ℕ × List ℕ) → List ℕ
@@ -49,4 +49,4 @@ pairs_text pairs = join_with_byte 44 (map pair_text pairs)
 
 -- a label set: its pairs in byte order of names, in braces
 abbrev pub labels_text : Labels → List ℕ
-labels_text labels = 123 ∷ pairs_text (entries labels) ++ 125 ∷ []
+labels_text labels = codes "{" ++ pairs_text (entries labels) ++ codes "}"

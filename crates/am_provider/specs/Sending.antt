@@ -1,5 +1,5 @@
 -- What sending a batch out does to the log and to the poster's pass, or why it isn't sent.
-use Rattle.std.specs.Prelude.{◌≡◌, ℕ, ◌<◌, ◌≤◌, Bool, true, false, List, [], ◌∷◌, ◌++◌, length}
+use Rattle.std.specs.Prelude.{◌≡◌, ℕ, ◌<◌, ◌≤◌, Bool, true, false, List, [], ◌∷◌, ◌++◌, length, ⊤}
 use Rattle.std.specs.Prelude.{slice_index_or}
 use Rattle.am_alert.specs.declared.alert.Alert.{Alert}
 use Rattle.am_store.specs.declared.call.Call.{Call}
@@ -57,4 +57,4 @@ fault_as_put (publish.Full lane passed) = put_fault.Full lane passed
 -- it names one of the eight lanes, where it names one
 abbrev pub NamesALane : PublishFault → Type 0
 NamesALane (publish.Full lane passed) = lane < 8
-NamesALane fault = Unit {0}
+NamesALane fault = ⊤

@@ -1,5 +1,5 @@
 -- What a call of `next` or `next_slice` shows, and what it leaves (`provider.AlertIterator`'s Next).
-use Rattle.std.specs.Prelude.{◌≡◌, ◌<◌, ◌⊎◌, Bool, true, false, List, [], ◌∷◌, ◌++◌, length}
+use Rattle.std.specs.Prelude.{◌≡◌, ◌<◌, ◌⊎◌, Bool, true, false, List, [], ◌∷◌, ◌++◌, length, ⊤}
 use mathlib.Core.List.{IsPrefix}
 use Rattle.am_alert.specs.declared.alert.Alert.{Alert}
 use Rattle.am_cast.specs.Cursors.{GoesOn, HasCut}
@@ -66,4 +66,4 @@ ShowsSlice old slice.Cut new = Shows old step.Cut new
 -- where nothing is left, all that a pass knows of the log was shown
 abbrev pub ShowsPast : List Batch → Step → SubscriptionView → Type 0
 ShowsPast noted step.Pending new = IsPrefix noted new.cursor.lane.front
-ShowsPast noted other new = Unit {0}
+ShowsPast noted other new = ⊤

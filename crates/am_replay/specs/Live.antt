@@ -1,5 +1,5 @@
 -- A live run: what the lines so far answer is written, whatever comes later.
-use Rattle.std.specs.Prelude.{◌≡◌, ◌≢◌, ℕ, Bool, false, true, All, List, [], ◌∷◌, Option, Some, None}
+use Rattle.std.specs.Prelude.{◌≡◌, ◌≢◌, ℕ, Bool, false, true, All, List, [], ◌∷◌, Option, Some, None, ⊤}
 use Rattle.std.specs.Prelude.{Result, Ok, Err, String, string_bytes}
 use Rattle.std.specs.declared.alloc.Global.{Global}
 use Rattle.std.specs.Io.KnownBytes.{Appends, Keeps}
@@ -39,7 +39,7 @@ line_or_empty (Some bytes) = bytes
 
 -- what was read as the first line: nothing at the input's end
 abbrev pub IsFirstAs : Option (List ℕ) → Option InputLine → Type 0
-IsFirstAs None None = Unit {0}
+IsFirstAs None None = ⊤
 IsFirstAs (Some bytes) (Some line) = All (λ byte. byte ≢ 10) bytes × IsInputOf bytes line
 IsFirstAs bytes line = ⊥
 

@@ -47,7 +47,7 @@ counts_members counts = worded (codes "end")
 
 -- the last line in a form
 abbrev pub counts_line : Form → Counts → List ℕ
-counts_line Text counts = counts_text counts ++ 10 ∷ []
+counts_line Text counts = counts_text counts ++ codes "\n"
 counts_line Json counts = object_line (object (counts_members counts))
 
 -- what a run prints: the answers in the order of the script's lines, and the last line

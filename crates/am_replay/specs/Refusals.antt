@@ -17,10 +17,10 @@ first_line_too_large = record { number = 1; fault = TooLarge }
 
 -- a refused configuration
 abbrev pub refused_config : Form → ConfigFault → List ℕ
-refused_config Text fault = codes "config " ++ (config_code fault ++ 10 ∷ [])
+refused_config Text fault = codes "config " ++ (config_code fault ++ codes "\n")
 refused_config Json fault = object_line (object (refusing (codes "config") (config_code fault)))
 
 -- a refused script
 abbrev pub refused_script : Form → Refusal → List ℕ
-refused_script Text refusal = refusal_text refusal ++ 10 ∷ []
+refused_script Text refusal = refusal_text refusal ++ codes "\n"
 refused_script Json refusal = object_line (about_line refusal.number (fault_members refusal.fault))

@@ -1,5 +1,6 @@
 -- The list of what keys hold goes on update by update.
 use Rattle.std.proofs.Common.{◌≡◌, ◌≢◌, ℕ, zero, suc, ◌+◌, ◌<◌, ◌≤◌, Bool, true, false, cond, nat_eq, List, [], ◌∷◌, ◌++◌, length, take, drop, get_or, eq-eqb, Option, Some, None, is_none, refl, sym, ap, subst, ◌∙◌, arith, length-append}
+use Rattle.std.specs.Prelude.{⊤}
 use Rattle.std.proofs.lemmas.Grind.{common_steps}
 use Rattle.std.specs.Option.{option_map, option_and_then}
 use Rattle.std.specs.List.{cons_option, filter_map}
@@ -266,7 +267,7 @@ module _ {U K V : Type 0} (key_of : U → Option K) (held : K → List U → Opt
 
 -- each entry has what its update's key holds
 unfoldable pub AllHold : {U K V : Type 0} → (U → Option K) → (K → List U → Option V) → List U → List (U × V) → Type 0
-AllHold key_of held all [] = Unit {0}
+AllHold key_of held all [] = ⊤
 AllHold {U} {K} {V} key_of held all (entry ∷ entries) = ((key : K) × (key_of entry.0 ≡ Some key) × (held key all ≡ Some entry.1)) × AllHold key_of held all entries
 
 module _ {U K V : Type 0} (key_of : U → Option K) (held : K → List U → Option V) (all : List U) where

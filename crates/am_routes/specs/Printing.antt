@@ -14,7 +14,7 @@ indent (suc depth) = indent depth ++ codes "  "
 
 -- matchers with commas between, in braces (`Matchers.String`, pkg/labels/matcher.go)
 abbrev pub matchers_text : List (List ℕ) → List ℕ
-matchers_text matchers = 123 ∷ join_with_byte 44 matchers ++ 125 ∷ []
+matchers_text matchers = codes "{" ++ join_with_byte 44 matchers ++ codes "}"
 
 -- the names of labels with commas between
 abbrev pub names_text : List (List ℕ) → List ℕ
@@ -23,7 +23,7 @@ names_text names = join_with_byte 44 (map name_text names)
 -- by which labels a route groups, in brackets: `...` is all of them
 abbrev pub grouping_text : GroupBy → List ℕ
 grouping_text All = codes "[...]"
-grouping_text (Names names) = 91 ∷ names_text names ++ 93 ∷ []
+grouping_text (Names names) = codes "[" ++ names_text names ++ codes "]"
 
 -- whether a route has `continue`
 abbrev pub continue_text : Bool → List ℕ

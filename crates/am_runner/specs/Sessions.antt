@@ -1,5 +1,5 @@
 -- A thread's pass and its open subscriptions, and what each command of its lines does to them.
-use Rattle.std.specs.Prelude.{◌≡◌, ℕ, zero, suc, Bool, false, List, [], ◌∷◌, ◌++◌, map, length, position}
+use Rattle.std.specs.Prelude.{◌≡◌, ℕ, zero, suc, Bool, false, List, [], ◌∷◌, ◌++◌, map, length, position, ⊤}
 use Rattle.std.specs.Prelude.{slice_get, slice_set, remove, Option, Some, None, Ok, Err, if◌then◌else◌}
 use Rattle.std.specs.Option.{option_and_then, option_map}
 use Rattle.std.specs.Str.{bytes_eq}
@@ -264,10 +264,10 @@ pub data Does (config : Config) (setting : Setting) (old : SessionView)
   take_refused : {at : ℕ} {error : AllocError} {front : FrontView EntryView}
       → SeesCall old.front front (AnswersTake at (Err error))
       → Does config setting old (Take at) (answer.OutOfMemory verb.Take ∷ []) (record old { front = front })
-  closed : {front : FrontView EntryView} → SeesCall old.front front (AnswersClose {U = Unit {0}} (Ok tt))
+  closed : {front : FrontView EntryView} → SeesCall old.front front (AnswersClose {U = ⊤} (Ok tt))
       → Does config setting old Close (answer.CloseAccepted ∷ []) (record old { front = front })
   close_refused : {fault : CloseFault} {front : FrontView EntryView}
-      → SeesCall old.front front (AnswersClose {U = Unit {0}} (Err fault))
+      → SeesCall old.front front (AnswersClose {U = ⊤} (Err fault))
       → Does config setting old Close (answer.CloseRefused ∷ []) (record old { front = front })
   trimmed : {dropped : ℕ} {front : FrontView EntryView}
       → SeesCall old.front front (AnswersTrim {E = AllocError} (Ok dropped))

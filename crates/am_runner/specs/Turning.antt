@@ -1,5 +1,5 @@
 -- The order in which the turns of a script's threads are taken.
-use Rattle.std.specs.Prelude.{◌≡◌, ℕ, ◌<◌, Bool, true, false, if◌then◌else◌, List, [], ◌∷◌, ◌++◌, length}
+use Rattle.std.specs.Prelude.{◌≡◌, ℕ, ◌<◌, Bool, true, false, if◌then◌else◌, List, [], ◌∷◌, ◌++◌, length, ⊤}
 use Rattle.std.specs.Prelude.{slice_get, Option, Some, None}
 use Rattle.std.specs.List.{All}
 use mathlib.Core.List.{IsPrefix}
@@ -18,7 +18,7 @@ order_of ordered turns = if ordered then Some turns else None
 -- the turn of a number began with one front and ended with another. In an order it is at its number, and when
 -- it began, its caller had seen all that the callers of the earlier turns had seen at the ends of these
 abbrev pub IsTurn : Order → ℕ → FrontView EntryView → FrontView EntryView → Type 0
-IsTurn None at began ended = Unit {0}
+IsTurn None at began ended = ⊤
 IsTurn (Some turns) at began ended = (slice_get turns at ≡ Some ended)
     × ((earlier : ℕ) (turn : FrontView EntryView) → earlier < at → slice_get turns earlier ≡ Some turn
     → IsPrefix turn.seen began.seen)

@@ -63,4 +63,4 @@ fault_members why = worded (codes "refused") (member (codes "fault") (string (fa
 
 -- an object on a line of its own
 abbrev pub object_line : Json → List ℕ
-object_line it = print (json_tokens it) ++ 10 ∷ []
+object_line it = print (json_tokens it) ++ codes "\n"

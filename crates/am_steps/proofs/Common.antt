@@ -1,5 +1,6 @@
 -- Lists that grow at their end, and what else std lacks.
 use Rattle.std.proofs.Common.{◌≡◌, ℕ, zero, suc, ◌+◌, ◌≤◌, inl, inr, cond, nat_lt, List, [], ◌∷◌, ◌++◌, length, take, drop, slice_get, get_or, replicate, Option, Some, MatchOption, Vec, rules, refl, sym, ap, ◌∙◌, arith}
+use Rattle.std.specs.Prelude.{⊤}
 use Rattle.std.specs.Vec.{vec_len}
 use Rattle.std.proofs.lemmas.Bool.{cases_lt, lt-ltb, le-ltb}
 use Rattle.std.proofs.lemmas.List.{take_more, drop_all, length-take-le, get_or_default, get_or_past, length-replicate}
@@ -7,8 +8,8 @@ use Rattle.std.proofs.lemmas.Option.{slice_get_within, get_or_from_slice_get, Ma
 
 module _ {A : Type 0} where
   -- what holds of the value of an option
-  pub of_some : (o : Option A) (P : A → Type 0) → MatchOption o (Unit {0}) P → (x : A) → o ≡ Some x → P x
-  of_some o P h x e = MatchOption-at_some (Unit {0}) P x e h
+  pub of_some : (o : Option A) (P : A → Type 0) → MatchOption o ⊤ P → (x : A) → o ≡ Some x → P x
+  of_some o P h x e = MatchOption-at_some ⊤ P x e h
 
   pub take_more_at : (xs : List A) (n : ℕ) (x : A) → slice_get xs n ≡ Some x → take (n + 1) xs ≡ take n xs ++ x ∷ []
   take_more_at xs n x e = take_more xs n x (slice_get_within xs n x e) ∙ ap (λ y. take n xs ++ y ∷ []) (get_or_from_slice_get xs n x x e)

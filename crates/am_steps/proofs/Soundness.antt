@@ -1,5 +1,6 @@
 -- Each step keeps a state sound.
 use Rattle.std.proofs.Common.{◌≡◌, ℕ, ◌+◌, ◌-◌, ◌<◌, ◌≤◌, inl, inr, Bool, true, false, cond, ◌||◌, List, [], ◌∷◌, ◌++◌, length, take, drop, slice_get, Option, Some, None, MatchOption, refl, sym, ap, ◌∙◌, subst, arith, length-append}
+use Rattle.std.specs.Prelude.{⊤}
 use Rattle.std.proofs.lemmas.Bool.{false≢true, or_cases, cases_eq}
 use Rattle.std.proofs.lemmas.List.{take-append-le, drop-append-le, length-take}
 use Rattle.std.proofs.lemmas.List.Elements.{All-weaker, All-push}
@@ -18,7 +19,7 @@ use Rattle.am_steps.proofs.Common.{of_some, take_more_at, slice_get_append, drop
 module _ {X : Type 0} where
   -- a lane is within so many places of the log's end, unless it was cut
   abbrev Within : ℕ → ℕ → Lane X → Type 0
-  Within length places v = MatchOption (record_of v) (Unit {0}) (λ m. m.cut ≡ false → length - m.known ≤ places)
+  Within length places v = MatchOption (record_of v) ⊤ (λ m. m.cut ≡ false → length - m.known ≤ places)
 
   pub turned : (c d : Core X) (l : ℕ) (v : Lane X) → OnlyLane c l v d → IsSound c → IsLaneSound c.log c.closed v → Within (length c.log) c.places v → IsSound d
   turned c d l v t s good near =

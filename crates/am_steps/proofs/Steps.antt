@@ -1,5 +1,6 @@
 -- What a step tells of the states before and after it.
 use Rattle.std.proofs.Common.{◌≡◌, ℕ, ◌+◌, ◌<◌, inl, inr, Bool, true, false, cond, ◌||◌, List, [], ◌∷◌, ◌++◌, length, slice_get, Option, Some, MatchOption, refl, sym, ap, ◌∙◌, subst}
+use Rattle.std.specs.Prelude.{⊤}
 use Rattle.std.proofs.lemmas.Bool.{false≢true, cases_eq}
 use Rattle.std.proofs.lemmas.Option.{same_Some}
 use Rattle.am_steps.specs.declared.lane_record.LaneRecord.{LaneRecord}
@@ -157,7 +158,7 @@ module _ {X : Type 0} where
   abbrev pub EachRecord : (LaneRecord → Type 0) → Core X → Type 0
   EachRecord P c = (l : ℕ) (m : LaneRecord) → record_of (c.lane l) ≡ Some m → P m
 
-  pub each_record_lane : (P : LaneRecord → Type 0) (c d : Core X) (l : ℕ) (v : Lane X) → OnlyLane c l v d → EachRecord P c → MatchOption (record_of v) (Unit {0}) P → EachRecord P d
+  pub each_record_lane : (P : LaneRecord → Type 0) (c d : Core X) (l : ℕ) (v : Lane X) → OnlyLane c l v d → EachRecord P c → MatchOption (record_of v) ⊤ P → EachRecord P d
   each_record_lane P c d l v t all new k m = elim (cases_eq k l) [
     | inl e ↦ (λ is. of_some (record_of v) P new m (ap record_of (sym t.here) ∙ ap (λ i. record_of (d.lane i)) (sym e) ∙ is))
     | inr ne ↦ (λ is. all k m (ap record_of (sym (t.other k ne)) ∙ is))
@@ -166,7 +167,7 @@ module _ {X : Type 0} where
   pub each_record_same : (P : LaneRecord → Type 0) (c d : Core X) → ((l : ℕ) → d.lane l ≡ c.lane l) → EachRecord P c → EachRecord P d
   each_record_same P c d same all l m is = all l m (ap record_of (sym (same l)) ∙ is)
 
-  pub holds_with_record : (P : LaneRecord → Type 0) (v : Lane X) (n : LaneRecord) → P n → MatchOption (record_of (with_record n v)) (Unit {0}) P
+  pub holds_with_record : (P : LaneRecord → Type 0) (v : Lane X) (n : LaneRecord) → P n → MatchOption (record_of (with_record n v)) ⊤ P
   holds_with_record P Idle n p = tt
   holds_with_record P (Admitted m) n p = p
   holds_with_record P (Open m r) n p = p

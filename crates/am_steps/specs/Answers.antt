@@ -1,5 +1,5 @@
 -- What `State::apply` answers: this project's own.
-use Rattle.std.specs.Prelude.{◌≡◌, Bool, true, false, Some}
+use Rattle.std.specs.Prelude.{◌≡◌, Bool, true, false, Some, ⊤}
 use Rattle.am_steps.specs.declared.event.Event as event
 use Rattle.am_steps.specs.declared.event.Event.TheVariants as does
 use Rattle.am_steps.specs.States.{Core, StateView, core_of}
@@ -18,7 +18,7 @@ IsPossible {X} c event = (next : Core X) × Step c event next
 
 -- the event makes a list longer, and so asks for memory
 abbrev pub AsksMemory : {X : Type 0} → event.Event X → Type 0
-AsksMemory (does.Publish name) = Unit {0}
-AsksMemory (does.Pass lane) = Unit {0}
-AsksMemory (does.Note poster (Some post)) = Unit {0}
+AsksMemory (does.Publish name) = ⊤
+AsksMemory (does.Pass lane) = ⊤
+AsksMemory (does.Note poster (Some post)) = ⊤
 AsksMemory _ = ⊥

@@ -1,5 +1,5 @@
 -- Lists of events, each of which was possible when it came. They are this project's own.
-use Rattle.std.specs.Prelude.{ℕ, zero, suc, List, [], ◌∷◌, ◌++◌}
+use Rattle.std.specs.Prelude.{ℕ, zero, suc, List, [], ◌∷◌, ◌++◌, ⊤}
 use Rattle.am_steps.specs.declared.event.Event as event
 use Rattle.am_steps.specs.declared.event.Event.TheVariants as does
 use Rattle.am_steps.specs.States.{Core}
@@ -13,7 +13,7 @@ pub data LeadsTo {X : Type 0} : Core X → List (event.Event X) → Core X → T
 
 -- no event of the list cuts a lane
 abbrev pub HasNoCut : {X : Type 0} → List (event.Event X) → Type 0
-HasNoCut [] = Unit {0}
+HasNoCut [] = ⊤
 HasNoCut (does.Cut l ∷ es) = ⊥
 HasNoCut (_ ∷ es) = HasNoCut es
 

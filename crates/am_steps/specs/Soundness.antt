@@ -1,5 +1,5 @@
 -- What holds of every state that steps lead to: this project's own.
-use Rattle.std.specs.Prelude.{◌≡◌, ℕ, ◌-◌, ◌<◌, ◌≤◌, Bool, true, false, List, length, take, drop}
+use Rattle.std.specs.Prelude.{◌≡◌, ℕ, ◌-◌, ◌<◌, ◌≤◌, Bool, true, false, List, length, take, drop, ⊤}
 use Rattle.std.specs.Prelude.{Some, slice_get}
 use Rattle.std.specs.List.{All}
 use Rattle.am_steps.specs.declared.lane_record.LaneRecord.{LaneRecord}
@@ -27,7 +27,7 @@ module _ {X : Type 0} (log : List X) where
     -- an admitted lane starts within the log, and so does one that has left; an open one has a
     -- sound cursor
     abbrev pub IsLaneSound : Lane X → Type 0
-    IsLaneSound Idle = Unit {0}
+    IsLaneSound Idle = ⊤
     IsLaneSound (Admitted m) = (m.known ≡ m.start) × (m.start ≤ length log)
     IsLaneSound (Open m r) = IsCursorSound m r
     IsLaneSound (Left m) = (m.start ≤ m.known) × (m.known ≤ length log)

@@ -39,7 +39,7 @@
 -- A lane's record keeps whether its key is out, since a cut compares the whole word that was last
 -- found. A lane that left while cut, with a key in its hand, keeps that key's batch until it is
 -- retired.
-use Rattle.std.specs.Prelude.{◌≡◌, ◌≢◌, ℕ, ◌+◌, ◌-◌, ◌<◌, Bool, true, false, ◌||◌}
+use Rattle.std.specs.Prelude.{◌≡◌, ◌≢◌, ℕ, ◌+◌, ◌-◌, ◌<◌, Bool, true, false, ◌||◌, ⊤}
 use Rattle.std.specs.Prelude.{List, [], ◌∷◌, ◌++◌, length, Option, Some, None, slice_get, if◌then◌else◌}
 use Rattle.std.specs.List.{Contains}
 use Rattle.am_steps.specs.declared.lane_record.LaneRecord.{LaneRecord}
@@ -92,7 +92,7 @@ module _ {X : Type 0} where
 
   -- the post may become the poster's own
   abbrev pub MayOwn : List X → Poster X → Option (ℕ × X) → Type 0
-  MayOwn log v None = Unit {0}
+  MayOwn log v None = ⊤
   MayOwn log v (Some post) = (slice_get log post.0 ≡ Some post.1) × (Contains v.own post → ⊥)
 
   -- the own posts with one more, if there is one

@@ -1,5 +1,5 @@
 -- The stored alerts as a list that reports are absorbed into, one after another.
-use Rattle.std.specs.Prelude.{◌≡◌, ℕ, Bool, true, not, ◌&&◌, if◌then◌else◌, List, [], ◌∷◌, Option, Some, None}
+use Rattle.std.specs.Prelude.{◌≡◌, ℕ, Bool, true, not, ◌&&◌, if◌then◌else◌, List, [], ◌∷◌, Option, Some, None, ⊤}
 use Rattle.am_alert.specs.declared.alert.Alert.{Alert}
 use Rattle.am_labels.specs.LabelSets.{Labels, same_labels}
 use Rattle.am_alert.specs.Merging.{absorbed}
@@ -38,5 +38,5 @@ absent labels (old ∷ olds) = not (same_labels labels old.labels) && absent lab
 
 -- no two alerts have one label set
 abbrev pub AreDistinct : List Alert → Type 0
-AreDistinct [] = Unit {0}
+AreDistinct [] = ⊤
 AreDistinct (old ∷ olds) = (absent old.labels olds ≡ true) × AreDistinct olds

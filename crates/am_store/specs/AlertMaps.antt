@@ -1,5 +1,5 @@
 -- The store's map: its alerts in order, and what it was before a change (`store.Alerts` keeps such a map).
-use Rattle.std.specs.Prelude.{◌≡◌, ◌-◌, List, [], ◌∷◌, map, take, length}
+use Rattle.std.specs.Prelude.{◌≡◌, ◌-◌, List, [], ◌∷◌, map, take, length, ⊤}
 use Rattle.std.specs.Arc.{arc_value}
 use Rattle.std.specs.declared.sync.Arc.{Arc}
 use Rattle.std.specs.declared.alloc.Global.{Global}
@@ -15,7 +15,7 @@ stored_in entries = map (λ entry. arc_value entry.1) entries
 
 -- each alert is kept under its own label set
 abbrev pub AreKeptByLabels : List (Labels × Arc Alert Global) → Type 0
-AreKeptByLabels [] = Unit {0}
+AreKeptByLabels [] = ⊤
 AreKeptByLabels (entry ∷ entries) =
     (entry.0 ≡ (arc_value entry.1).labels) × AreKeptByLabels entries
 

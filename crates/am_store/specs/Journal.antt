@@ -1,6 +1,6 @@
 -- The journal of accepted calls: when its log is closed, which lanes are open, and which call may
 -- come next. Its first calls may have been dropped; what they left is kept in their place.
-use Rattle.std.specs.Prelude.{◌≡◌, ℕ, ◌+◌, ◌-◌, ◌^◌, ◌<◌, ◌≤◌, Bool, true, false, ◌||◌, if◌then◌else◌, nat_eq}
+use Rattle.std.specs.Prelude.{◌≡◌, ℕ, ◌+◌, ◌-◌, ◌^◌, ◌<◌, ◌≤◌, Bool, true, false, ◌||◌, if◌then◌else◌, nat_eq, ⊤}
 use Rattle.std.specs.Prelude.{List, [], ◌∷◌, ◌++◌, length, take, drop, slice_get, Some}
 use Rattle.std.specs.List.{All, count_by, list_any}
 use Rattle.am_alert.specs.declared.alert.Alert.{Alert}
@@ -151,7 +151,7 @@ AreAllIdle journal = (lane : ℕ) → lane < 8 → is_open journal lane ≡ fals
 -- subscription may
 abbrev pub MayFollow : JournalView → Call → Type 0
 MayFollow journal (Posted now alerts) = is_closed journal ≡ false
-MayFollow journal (Collected now) = Unit {0}
+MayFollow journal (Collected now) = ⊤
 MayFollow journal (Subscribed lane) = (is_closed journal ≡ false) × IsLowestIdle journal lane
 MayFollow journal (Left lane) = is_open journal lane ≡ true
 MayFollow journal Closed = is_closed journal ≡ false

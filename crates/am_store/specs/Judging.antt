@@ -1,6 +1,6 @@
 -- How a filter judges the reports of a post before they are stored (Alertmanager's `AlertStoreCallback`,
 -- whose PreStore may refuse an alert, as its limits do).
-use Rattle.std.specs.Prelude.{◌≡◌, ℕ, ◌+◌, Bool, if◌then◌else◌, is_none, List, [], ◌∷◌, take}
+use Rattle.std.specs.Prelude.{◌≡◌, ℕ, ◌+◌, Bool, if◌then◌else◌, is_none, List, [], ◌∷◌, take, ⊤}
 use Rattle.std.specs.Fn.{Called, Mut}
 use denote.Ref.{Bor}
 use Rattle.am_alert.specs.declared.alert.Alert.{Alert}
@@ -9,7 +9,7 @@ use Rattle.am_store.specs.AlertList.{lookup, absorb_into}
 
 -- what a filter is called with: a reference to an alert, and whether its label set is new
 abbrev pub Filter : Type 0 → Type 1
-Filter F = Mut F (Bor Alert × (Bool × Unit {0})) Bool
+Filter F = Mut F (Bor Alert × (Bool × ⊤)) Bool
 
 -- a filter, as it was, was shown this alert, and answered whether it accepts it
 pub record Judges {F : Type 0} (filter : Filter F) (was : F) (alert : Alert) (first accepts : Bool) (is : F)

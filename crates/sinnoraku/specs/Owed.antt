@@ -1,5 +1,5 @@
 -- What a reader that was given back had shown, and what it was owed.
-use Rattle.std.specs.Prelude.{◌≡◌, ℕ, true, List, [], ◌∷◌, ◌++◌, Some, length}
+use Rattle.std.specs.Prelude.{◌≡◌, ℕ, true, List, [], ◌∷◌, ◌++◌, Some, length, codes}
 use Rattle.std.specs.List.{flat_map}
 use Rattle.am_history.specs.Fronts.{FrontView, made_at}
 use Rattle.am_history.specs.declared.views.Made.{Made}
@@ -28,7 +28,7 @@ pub record ShowedItsDue (caller : FrontView EntryView) (ended : Ended) (alerts :
 
 -- alerts as text, a line each
 abbrev pub alert_lines : List Alert → List ℕ
-alert_lines alerts = flat_map (λ alert. alert_text alert ++ 10 ∷ []) alerts
+alert_lines alerts = flat_map (λ alert. alert_text alert ++ codes "\n") alerts
 
 -- a text is the lines of the alerts that a subscription had shown, as it was given back
 abbrev pub PrintsItsDue : FrontView EntryView → Ended → List ℕ → Type 0

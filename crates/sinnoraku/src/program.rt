@@ -16,7 +16,7 @@ use std::sync::Wait;
 
 /// What is done with a provider. `R` is what it needs of the runtime, as `Threads + Wait + Print`.
 pub trait Program<R> {
-    ghost use Rattle.std.specs.Prelude.{List};
+    ghost use Rattle.std.specs.Prelude.{List, ⊤};
     ghost use Rattle.am_history.specs.Fronts.{FrontView};
     ghost use Rattle.am_provider.specs.Histories.{EntryView};
     ghost use Rattle.sinnoraku.specs.declared.limits.Limits.{Limits};
@@ -25,7 +25,7 @@ pub trait Program<R> {
     type Outcome: Drop;
 
     // The outcome, by the provider's limits, and by what its clients have seen of the one history and made of it.
-    ghost comes_to: { Self → Limits → List (FrontView EntryView) → Self.Outcome → Type 0 } = { λ _ _ _ _. Unit {0} };
+    ghost comes_to: { Self → Limits → List (FrontView EntryView) → Self.Outcome → Type 0 } = { λ _ _ _ _. ⊤ };
 
     /// Runs with the clients of a new provider, in this thread.
     fn run<N: Recorded>(self, rt: &R, clients: &mut [Client<'_, N>]) -> Self::Outcome

@@ -19,7 +19,7 @@ use std::thread::Threads;
 
 /// What each caller of a provider does, in a thread of its own. `R` is what it needs of the runtime.
 pub trait Worker<R> {
-    ghost use Rattle.std.specs.Prelude.{ℕ, ◌<◌};
+    ghost use Rattle.std.specs.Prelude.{ℕ, ◌<◌, ⊤};
     ghost use Rattle.am_history.specs.Fronts.{FrontView};
     ghost use Rattle.am_provider.specs.Histories.{EntryView};
     ghost use Rattle.sinnoraku.specs.declared.limits.Limits.{Limits};
@@ -28,7 +28,7 @@ pub trait Worker<R> {
     type Outcome: Drop + Send;
 
     // The outcome of a client, by the provider's limits, by its index and by what it has seen of the one history.
-    ghost comes_to: { Self → Limits → ℕ → FrontView EntryView → Self.Outcome → Type 0 } = { λ _ _ _ _ _. Unit {0} };
+    ghost comes_to: { Self → Limits → ℕ → FrontView EntryView → Self.Outcome → Type 0 } = { λ _ _ _ _ _. ⊤ };
 
     /// Works with one client of a new provider. The others work at the same time.
     fn work<N: Recorded>(&self, rt: &R, index: usize, client: &mut Client<'_, N>) -> Self::Outcome

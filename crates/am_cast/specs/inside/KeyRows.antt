@@ -1,5 +1,5 @@
 -- Keys that came home, and wait in rows for the others of their segment. This project's own.
-use Rattle.std.specs.Prelude.{◌≡◌, ◌≢◌, ℕ, ◌%◌, ◌<◌, nat_eq, List, [], ◌∷◌, ◌++◌, length, Option, Some, None}
+use Rattle.std.specs.Prelude.{◌≡◌, ◌≢◌, ℕ, ◌%◌, ◌<◌, nat_eq, List, [], ◌∷◌, ◌++◌, length, Option, Some, None, ⊤}
 use Rattle.std.specs.Prelude.{cond, refl, slice_index_or}
 use Rattle.std.specs.Coded.{Coded, code_by, coded×, coded_list, coded_ℕ}
 use Rattle.am_segment.specs.Segments.{KeyView, coded_key, AreAllKeys, MayJoin}
@@ -39,12 +39,12 @@ module _ {X : Type 0} where
 
   -- no row is the place's
   abbrev pub HasNoRow : ℕ → List (RowView X) → Type 0
-  HasNoRow place [] = Unit {0}
+  HasNoRow place [] = ⊤
   HasNoRow place (r ∷ rs) = (r.place ≢ place) × HasNoRow place rs
 
   -- no two rows are one place's
   abbrev pub AreApart : List (RowView X) → Type 0
-  AreApart [] = Unit {0}
+  AreApart [] = ⊤
   AreApart (r ∷ rs) = HasNoRow r.place rs × AreApart rs
 
   -- a place's row may take the key, as one of several or as the last of all
@@ -63,7 +63,7 @@ module _ {X : Type 0} where
 
   -- each row's place has the remainder
   abbrev pub HaveRemainder : ℕ → ℕ → List (RowView X) → Type 0
-  HaveRemainder places n [] = Unit {0}
+  HaveRemainder places n [] = ⊤
   HaveRemainder places n (r ∷ rs) = (r.place % places ≡ n) × HaveRemainder places n rs
 
   -- a bucket without rows or memory

@@ -1,5 +1,5 @@
 -- How a cursor moves on, in the steps of one call.
-use Rattle.std.specs.Prelude.{◌≡◌, length, false}
+use Rattle.std.specs.Prelude.{◌≡◌, length, false, ⊤}
 use Rattle.am_cast.specs.declared.lends.Step.{Step}
 use Rattle.am_cast.specs.declared.lends.Step.TheVariants as step
 use Rattle.am_cast.specs.declared.lends.Moved.{Moved}
@@ -17,7 +17,7 @@ without_item step.Cut = moved.Cut
 -- no answer that waits for a look
 abbrev pub AreAllSeen : Moved → Type 0
 AreAllSeen moved.Pending = ⊥
-AreAllSeen other = Unit {0}
+AreAllSeen other = ⊤
 
 module _ {T P A : Type 0} where
   -- the same, of a call that tries to take a key
@@ -48,4 +48,4 @@ module _ {T P A : Type 0} where
   -- an item that is lent is the one in hand
   abbrev pub LendsInHand : CursorView T P A → Step T → Type 0
   LendsInHand c (step.Item x) = IsInHand c x.now
-  LendsInHand c other = Unit {0}
+  LendsInHand c other = ⊤

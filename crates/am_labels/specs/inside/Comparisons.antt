@@ -1,6 +1,6 @@
 -- What a comparison has of the operator and the value that it was made of. Only code of this crate cites
 -- it.
-use Rattle.std.specs.Prelude.{◌≡◌, ℕ, true, List, Result, Ok, Err}
+use Rattle.std.specs.Prelude.{◌≡◌, ℕ, true, List, Result, Ok, Err, ⊤}
 use Rattle.regex.specs.declared.string.regex.Regex.{Regex}
 use Rattle.regex.specs.Patterns.{default_config}
 use Rattle.regex.specs.Strings.{regex_source, regex_config, IsReadFromSource}
@@ -38,8 +38,8 @@ IsPatternOf value (Compiled regex) = IsRegexOf value regex
 
 -- a comparison by pattern has the pattern of its value
 abbrev pub IsComparisonWith : List ℕ → Comparison → Type 0
-IsComparisonWith value Equal = Unit {0}
-IsComparisonWith value NotEqual = Unit {0}
+IsComparisonWith value Equal = ⊤
+IsComparisonWith value NotEqual = ⊤
 IsComparisonWith value (MatchRegexp pattern) = IsPatternOf value pattern
 IsComparisonWith value (MatchNotRegexp pattern) = IsPatternOf value pattern
 
@@ -47,7 +47,7 @@ IsComparisonWith value (MatchNotRegexp pattern) = IsPatternOf value pattern
 abbrev pub IsComparisonOf : Operator → List ℕ → Result Comparison MatchFault → Type 0
 IsComparisonOf op value (Ok comparison) =
     (operator_of comparison ≡ op) × IsComparisonWith value comparison
-IsComparisonOf op value (Err NoMemory) = Unit {0}
+IsComparisonOf op value (Err NoMemory) = ⊤
 IsComparisonOf op value (Err BadName) = ⊥
 IsComparisonOf op value (Err NoOperator) = ⊥
 IsComparisonOf op value (Err BadQuote) = ⊥
@@ -56,7 +56,7 @@ IsComparisonOf op value (Err BadPattern) = (is_of_pattern op ≡ true) × MayBeR
 -- what reading the pattern of a value answers
 abbrev pub IsPatternReadOf : List ℕ → Result Pattern MatchFault → Type 0
 IsPatternReadOf value (Ok pattern) = IsPatternOf value pattern
-IsPatternReadOf value (Err NoMemory) = Unit {0}
+IsPatternReadOf value (Err NoMemory) = ⊤
 IsPatternReadOf value (Err BadName) = ⊥
 IsPatternReadOf value (Err NoOperator) = ⊥
 IsPatternReadOf value (Err BadQuote) = ⊥

@@ -1,6 +1,6 @@
 -- What the search of a prepared matcher has of the matcher's operator and value. Only code of this crate
 -- cites it.
-use Rattle.std.specs.Prelude.{◌≡◌, ◌<◌, ℕ, Bool, is_some, List, get_or}
+use Rattle.std.specs.Prelude.{◌≡◌, ◌<◌, ℕ, Bool, is_some, List, get_or, ⊤}
 use Rattle.std.specs.Str.{IsUtf8}
 use Rattle.regex.specs.Patterns.{find_str}
 use Rattle.regex.specs.Strings.{matcher_pattern}
@@ -33,7 +33,7 @@ SearchesFor value search =
 
 -- a search by pattern searches for its value
 abbrev pub IsSearchWith : List ℕ → Search → Type 0
-IsSearchWith value Equal = Unit {0}
-IsSearchWith value NotEqual = Unit {0}
+IsSearchWith value Equal = ⊤
+IsSearchWith value NotEqual = ⊤
 IsSearchWith value (MatchRegexp pattern) = SearchesFor value pattern
 IsSearchWith value (MatchNotRegexp pattern) = SearchesFor value pattern

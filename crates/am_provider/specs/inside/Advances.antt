@@ -1,5 +1,5 @@
 -- How a subscription moves on before its alert is lent.
-use Rattle.std.specs.Prelude.{◌≡◌, ℕ, ◌<◌, ◌+◌, ◌-◌, ◌^◌, ◌%◌, Bool, true, false, List, [], length}
+use Rattle.std.specs.Prelude.{◌≡◌, ℕ, ◌<◌, ◌+◌, ◌-◌, ◌^◌, ◌%◌, Bool, true, false, List, [], length, ⊤}
 use Rattle.std.specs.Prelude.{slice_get, Option, Some}
 use mathlib.Core.List.{IsPrefix}
 use Rattle.am_alert.specs.declared.alert.Alert.{Alert}
@@ -30,13 +30,13 @@ Advances old advance.Cut new = ShowsNone old old.closed_told new × IsCut old.cu
 -- where nothing is left, all that was noted of the log was seen
 abbrev pub AdvancesPast : List Batch → SubscriptionView → Advance → Type 0
 AdvancesPast noted new advance.Pending = IsPrefix noted new.cursor.lane.front
-AdvancesPast noted new other = Unit {0}
+AdvancesPast noted new other = ⊤
 
 -- what was advanced can be lent
 abbrev pub CanShow : Advance → SubscriptionView → Type 0
 CanShow advance.Opened s = (0 < s.shown) × (shown_items s.cursor ≡ [])
 CanShow advance.Logged s = s.cursor.lane.held ≡ true
-CanShow other s = Unit {0}
+CanShow other s = ⊤
 
 -- an answer lends the alert that was advanced to, or says why there is none
 abbrev pub IsShown : SubscriptionView → Advance → Step → Type 0
@@ -49,7 +49,7 @@ IsShown s other answer = ⊥
 
 -- what memory has of the opening after a move of the cursor: as before, unless the log showed an alert
 abbrev pub LetsGo : Moved → Option (List Alert) → Option (List Alert) → Type 0
-LetsGo moved.One was is = Unit {0}
+LetsGo moved.One was is = ⊤
 LetsGo other was is = is ≡ was
 
 -- a subscription's count, and whether it answered `Closed`, after a move of its cursor

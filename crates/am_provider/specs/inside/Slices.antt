@@ -1,5 +1,5 @@
 -- How a subscription moves on before many alerts are lent.
-use Rattle.std.specs.Prelude.{◌≡◌, ℕ, ◌<◌, ◌≤◌, true, false, [], drop, length}
+use Rattle.std.specs.Prelude.{◌≡◌, ℕ, ◌<◌, ◌≤◌, true, false, [], drop, length, ⊤}
 use Rattle.am_store.specs.Shared.{alerts_in}
 use Rattle.am_cast.specs.Cursors.{items_at, shown_items}
 use Rattle.am_cast.specs.Lent.{MovesSlice}
@@ -34,7 +34,7 @@ abbrev pub CanShowFrom : Advance → ℕ → SubscriptionView → Type 0
 CanShowFrom advance.Opened from s = (from ≤ length s.opening) × (shown_items s.cursor ≡ [])
 CanShowFrom advance.Logged from s =
     (s.cursor.lane.held ≡ true) × (from ≤ length (items_at s.cursor.lane.front s.cursor.lane.passed))
-CanShowFrom other from s = Unit {0}
+CanShowFrom other from s = ⊤
 
 -- an answer lends the alerts that were advanced to, or says why there are none
 abbrev pub IsSliceShown : SubscriptionView → Advance → ℕ → Slice → Type 0

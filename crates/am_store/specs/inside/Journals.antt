@@ -1,5 +1,5 @@
 -- How a dropped call is counted in the fields of a journal.
-use Rattle.std.specs.Prelude.{◌≡◌, ℕ, ◌+◌, ◌^◌, ◌<◌, ◌≤◌, [], ◌∷◌, ◌||◌, length, drop, count_by}
+use Rattle.std.specs.Prelude.{◌≡◌, ℕ, ◌+◌, ◌^◌, ◌<◌, ◌≤◌, [], ◌∷◌, ◌||◌, length, drop, count_by, ⊤}
 use Rattle.std.specs.VecDeque.{deque_capacity}
 use Rattle.am_store.specs.declared.journal.Journal.{Journal}
 use Rattle.am_store.specs.declared.call.Call.{Call}
@@ -11,11 +11,11 @@ use Rattle.am_store.specs.Broadcast.{batches_of, broadcast}
 
 -- a call's lane is one of the eight
 abbrev pub IsOnALane : Call → Type 0
-IsOnALane (Posted now alerts) = Unit {0}
-IsOnALane (Collected now) = Unit {0}
+IsOnALane (Posted now alerts) = ⊤
+IsOnALane (Collected now) = ⊤
 IsOnALane (Subscribed lane) = lane < 8
 IsOnALane (Left lane) = lane < 8
-IsOnALane Closed = Unit {0}
+IsOnALane Closed = ⊤
 
 -- one call more was counted among those that were dropped, and the rest stays
 pub record IsCounted (old : Journal) (call : Call) (new : Journal) : Type 0 where

@@ -1,5 +1,5 @@
 -- What an input's buffer gives of a line.
-use Rattle.std.specs.Prelude.{◌≡◌, ◌≢◌, ℕ, List, [], ◌∷◌, ◌++◌, All, Option, OnSome}
+use Rattle.std.specs.Prelude.{◌≡◌, ◌≢◌, ℕ, List, [], ◌∷◌, ◌++◌, All, Option, OnSome, codes}
 use Rattle.std.specs.Io.KnownBytes.{Consumes, IsAtEnd}
 use Rattle.am_runner.specs.live.Reading.{IsInputOf}
 use Rattle.am_runner.specs.declared.live.reading.InputLine.{InputLine}
@@ -8,7 +8,7 @@ use Rattle.am_runner.specs.declared.live.reading.Met.TheVariants.{LineFeed, End,
 
 -- what is read after a line's bytes, if that was met
 abbrev pub feed_of : Met → List ℕ
-feed_of LineFeed = 10 ∷ []
+feed_of LineFeed = codes "\n"
 feed_of End = []
 feed_of Neither = []
 
