@@ -1,5 +1,5 @@
 -- What is read of the text that a label set prints.
-use Rattle.std.proofs.Common.{◌≡◌, ◌≢◌, ◌∙◌, ℕ, ◌+◌, ◌<◌, Bool, true, false, cond, List, [], ◌∷◌, ◌++◌, length, map, refl, sym, ap, arith, append-nil, append_assoc}
+use Rattle.std.proofs.Common.{◌≡◌, ◌≢◌, ◌∙◌, ℕ, ◌<◌, Bool, true, false, cond, List, [], ◌∷◌, ◌++◌, length, map, refl, sym, ap, arith, append-nil, append_assoc}
 use Rattle.std.specs.List.{list_all, list_any, flat_map}
 use Rattle.std.specs.FinMap.{entries, same_entries_map}
 use Rattle.std.proofs.lemmas.Bool.{false≢true}
@@ -142,9 +142,7 @@ read_last text rest after name value read remains more reads none = λ labels sh
 no_pair_left : (all read left : List (List ℕ × List ℕ)) → all ≡ read ++ left → 125 ∷ [] ≡ pairs_text left ++ 125 ∷ [] → read ≡ all
 no_pair_left all read [] e f = grind (arith, append-nil)
 no_pair_left all read (pair ∷ left) e f =
-    let shown : length (pair_text pair) ≡ length (name_text pair.0) + length (61 ∷ quoted pair.1) = length-append (name_text pair.0) (61 ∷ quoted pair.1) in
-    let value : length (quoted pair.1) ≡ 1 + length (escaped_all pair.1 ++ 34 ∷ []) = refl in
-    absurd (omega (arith, shown, value, ap length (f ∙ split_first pair left), length-append (pair_text pair) (after_text left)))
+    absurd (omega (arith, ap length (f ∙ split_first pair left), length-append (pair_text pair) (after_text left), length-append (name_text pair.0) (61 ∷ quoted pair.1), length-append (escaped_all pair.1) (34 ∷ [])))
 
 -- at the end all was read
 pub all_read : (text rest : List ℕ) (read : List (List ℕ × List ℕ)) → Remains text read rest → rest ≡ 125 ∷ [] → (labels : Labels) → labels_text labels ≡ text → read ≡ entries labels

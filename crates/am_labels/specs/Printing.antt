@@ -41,7 +41,7 @@ name_text name = if is_classic_name name then name else quoted name
 
 -- a name and its value: `name="value"`
 abbrev pub pair_text : List ℕ × List ℕ → List ℕ
-pair_text pair = name_text pair.0 ++ codes "=" ++ quoted pair.1
+pair_text pair = name_text pair.0 ++ (codes "=" ++ quoted pair.1)
 
 -- pairs with commas between
 abbrev pub pairs_text : List (List ℕ × List ℕ) → List ℕ

@@ -1,8 +1,8 @@
 //! Names with values that lie one after another in one text.
 
-ghost use Rattle.std.specs.Prelude.{◌≡◌, ◌<◌, [], ◌∷◌, ◌++◌, get_or, IfErr, IfOk, IsTrue, length};
+ghost use Rattle.std.specs.Prelude.{◌≡◌, ◌<◌, [], ◌∷◌, ◌++◌, get_or, IfErr, IfOk, IsTrue, length, slice_range};
 ghost use Rattle.am_labels.specs.Texts.{same_text};
-ghost use Rattle.am_labels.specs.inside.Spans.{pairs_in, AreSpansOf};
+ghost use Rattle.am_labels.specs.inside.Spans.{pairs_in, AreSpansOf, IsSpanOf};
 
 use std::alloc::{AllocError, Global};
 use std::marker::Model;
@@ -10,9 +10,25 @@ use std::marker::Model;
 /// The place of a name and its value: the name from `start` to `middle`, the value from there to `end`.
 #[derive(Clone, Copy, Debug, Drop, PartialEq, Eq)]
 pub struct Span {
-    start: usize,
-    middle: usize,
-    end: usize,
+    start: u32,
+    middle: u32,
+    end: u32,
+}
+
+impl Span {
+    fn name(self, text: &str) -> &str
+        requires { IsSpanOf text.now self }
+        ensures { result.now ≡ slice_range text.now self.start self.middle }
+    {
+        &text[self.start as usize..self.middle as usize]
+    }
+
+    fn value(self, text: &str) -> &str
+        requires { IsSpanOf text.now self }
+        ensures { result.now ≡ slice_range text.now self.middle self.end }
+    {
+        &text[self.middle as usize..self.end as usize]
+    }
 }
 
 /// Names with values, seen by contracts as their list. It gives them one after another.
@@ -45,10 +61,7 @@ impl<'a> Iterator for Pairs<'a> {
     fn next(&mut self) -> Option<(&'a str, &'a str)> {
         let (span, others) = self.spans.split_first()?;
         self.spans = others;
-        Some((
-            &self.text[span.start..span.middle],
-            &self.text[span.middle..span.end],
-        ))
+        Some((span.name(self.text), span.value(self.text)))
     }
 }
 
@@ -84,8 +97,7 @@ impl<'a> Pairs<'a> {
     {
         let spans = self.spans;
         let span = spans[at];
-        span.middle - span.start == name.len()
-            && are_same(&self.text[span.start..span.middle], name)
+        (span.middle - span.start) as usize == name.len() && are_same(span.name(self.text), name)
     }
 
     /// One of those that are left.
@@ -95,10 +107,7 @@ impl<'a> Pairs<'a> {
     {
         let spans = self.spans;
         let span = spans[at];
-        (
-            &self.text[span.start..span.middle],
-            &self.text[span.middle..span.end],
-        )
+        (span.name(self.text), span.value(self.text))
     }
 }
 
@@ -154,18 +163,24 @@ impl PairBuffer {
         })
     }
 
-    /// Puts a name with its value after the others. If memory runs out, the pairs stay as they were.
+    /// Puts a name with its value after the others. If memory runs out, or the texts would take 4 GiB, the pairs stay as
+    /// they were.
     pub fn push(&mut self, name: &str, value: &str) -> Result<(), AllocError>
         ensures pushed { IfOk result (λ done. self.new ≡ self.old ++ (name.now, value.now) ∷ []) }
         ensures kept { IfErr result (λ fault. self.new ≡ self.old) }
     {
         self.spans.reserve(1)?;
-        let start = self.text.len();
+        let (start, middle) = (self.text.len(), self.text.len() + name.len());
+        let Ok(end) = u32::try_from(middle.saturating_add(value.len())) else {
+            return Err(AllocError);
+        };
         self.text.push_str(name)?;
-        let middle = self.text.len();
         self.text.push_str(value)?;
-        let end = self.text.len();
-        self.spans.push(Span { start, middle, end })?;
+        self.spans.push(Span {
+            start: start as u32,
+            middle: middle as u32,
+            end,
+        })?;
         Ok(())
     }
 

@@ -62,7 +62,7 @@ muted_text rule by = codes "muted rule " ++ (decimal rule ++ (codes " by " ++ la
 abbrev pub answer_text : Answer → List ℕ
 answer_text (answer.Posted valid place) = posted_text valid place
 answer_text (answer.Invalid index why) =
-    codes "invalid " ++ (decimal index ++ codes " " ++ invalid_code why)
+    codes "invalid " ++ (decimal index ++ (codes " " ++ invalid_code why))
 answer_text (answer.CutLane lane) = codes "cut lane " ++ decimal lane
 answer_text (answer.PostRefused why) = codes "post refused " ++ body_code why
 answer_text (answer.Subscribed lane opening) =
@@ -96,7 +96,7 @@ answer_text (answer.NotOpen word) = verb_text word ++ codes " none"
 
 -- an answer, after the number of its line
 abbrev pub answer_line : ℕ → Answer → List ℕ
-answer_line number one = decimal number ++ codes " " ++ answer_text one ++ codes "\n"
+answer_line number one = decimal number ++ (codes " " ++ (answer_text one ++ codes "\n"))
 
 -- the lines of the answers to one line of input
 abbrev pub answers_text : ℕ → List Answer → List ℕ

@@ -37,4 +37,4 @@ fault_text fault.TooLarge = codes "P3 TooLarge"
 -- a refused script
 abbrev pub refusal_text : Refusal → List ℕ
 refusal_text refusal =
-    codes "script line " ++ (decimal refusal.number ++ codes " " ++ fault_text refusal.fault)
+    codes "script line " ++ (decimal refusal.number ++ (codes " " ++ fault_text refusal.fault))

@@ -32,7 +32,7 @@ refusal_members why = worded (codes "refused") (member (codes "fault") (string w
 
 -- a refused line: its number and why, as an object followed by how many answers the line has
 abbrev pub refused_for : Form → ℕ → List ℕ → List ℕ
-refused_for Text number why = decimal number ++ codes " " ++ why ++ codes "\n"
+refused_for Text number why = decimal number ++ (codes " " ++ (why ++ codes "\n"))
 refused_for Json number why = object_line (about_line number (refusal_members why))
     ++ object_line (about_line number (count_members 1))
 
