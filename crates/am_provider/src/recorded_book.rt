@@ -1,40 +1,25 @@
 //! What lies under a provider's lock: the Book, and the history of its accepted calls, trims and compactions.
-//! Posts are in `recorded_book/post.rt`.
-//!
-//! Each call is made on the Book. If it was accepted, an entry is added to the history, and the caller's
-//! front sees all of it; if it was refused, the front sees what there is.
 
-ghost use Rattle.std.specs.Prelude.{◌≡◌, ◌↔◌, ◌+◌, ◌++◌, ◌∷◌, IsTrue, OnOk, None, [], length, map};
-ghost use Rattle.std.specs.List.{All};
+ghost use Rattle.std.specs.Prelude.{◌≡◌, ◌+◌, ◌++◌, ◌∷◌, IfOk, OnErr, OnOk, None, [], length};
 ghost use mathlib.Core.List.{IsPrefix};
 ghost use Rattle.am_history.specs.Fronts.{made_at};
-ghost use Rattle.am_provider.specs.Callers.{KnowsAllSent, SeesCall, SeesWhole};
-ghost use Rattle.am_provider.specs.Headline.{AnswersSubscribe, AnswersLeave, AnswersCollect};
-ghost use Rattle.am_provider.specs.Headline.{AnswersClose, AnswersTrim, AnswersStored, AnswersGet};
-ghost use Rattle.am_provider.specs.Headline.{AnswersTake, AnswersCompact, AnswersPage, AnswersVouch};
+ghost use Rattle.am_provider.specs.Callers.{SeesCall};
+ghost use Rattle.am_provider.specs.Headline.{AnswersCollect, AnswersPost};
 ghost use Rattle.am_provider.specs.Histories.{Accepted};
-ghost use Rattle.am_provider.specs.Rising.{IsRising};
-ghost use Rattle.am_provider.specs.Ending.{IsSettledFrom};
+ghost use Rattle.am_provider.specs.Posts.{AddsOwn};
 
-mod post;
-
-use crate::answers::{Ended, Page};
+use crate::answers::{Ended, Posted};
 use crate::book::Book;
-use crate::caller::{Caller, gather};
+use crate::caller::Caller;
 use crate::entry::Entry;
-use crate::faults::SubFault;
+use crate::faults::PutFault;
 use crate::feed::{Cast, Recorded};
-use crate::settled::Settled;
-use crate::subscription::Subscription;
-use am_alert::Moment;
-use am_cast::CloseFault;
-use am_history::{Front, History, HistoryTable};
-use am_labels::LabelSet;
-use am_store::{Call, LaneSet, SharedAlert, StoredAlerts};
+use am_alert::{Moment, Post};
+use am_history::{History, HistoryTable};
+use am_store::{Call, LaneSet};
 use std::alloc::AllocError;
 use std::marker::Model;
 use std::snapshot::Snapshot;
-use std::sync::Wait;
 
 /// A Book, and the history that its journal is what trims left of.
 pub(crate) struct RecordedBook<N: Recorded> {
@@ -61,81 +46,42 @@ impl<N: Recorded> Model for RecordedBook<N> {
 }
 
 impl<N: Recorded> RecordedBook<N> {
-    /// A new subscription.
-    pub(crate) fn subscribe<'a>(
+    /// Posts alerts that were read.
+    pub(crate) fn post(
         &mut self,
-        cast: &'a Cast<N>,
+        cast: &Cast<N>,
         table: &HistoryTable<Entry, N>,
         caller: &mut Caller<N>,
-    ) -> Result<Subscription<'a, N>, SubFault>
-        ensures sees { SeesCall caller.old.front caller.new.front (AnswersSubscribe result) }
-        ensures pass { caller.new.pass ≡ caller.old.pass }
+        post: Post,
+        now: Moment,
+    ) -> Result<Posted, PutFault>
+        ensures sees { SeesCall caller.old.front caller.new.front
+            (AnswersPost N.policy N.places now post result) }
+        ensures seen { IfOk result (λ posted. caller.new.front.seen
+            ≡ self.old.entries ++ Accepted (Call.Posted now post.valid) posted.cut None ∷ []) }
+        ensures unseen { OnErr result (caller.new.front.seen ≡ self.old.entries) }
+        ensures own { IfOk result (λ posted.
+            AddsOwn caller.old.pass now post.valid posted.place caller.new.pass) }
+        ensures err { OnErr result (caller.new.pass ≡ caller.old.pass) }
     {
         self.book.kept();
-        let made = match self.book.subscribe(cast) {
-            Ok(made) => made,
+        let posted = match self.book.post(cast, &mut caller.pass, post, now) {
+            Ok(posted) => posted,
             Err(fault) => {
                 self.history.show(table, &mut caller.front);
                 return Err(fault);
             }
         };
         self.book.kept();
-        let call = Call::Subscribed(made.lane());
         record(
             &mut self.history,
             table,
-            &call,
-            LaneSet::EMPTY,
+            self.book.last_call(),
+            posted.cut,
             None,
             caller,
         );
-        Ok(made)
-    }
-
-    /// Takes a subscription back.
-    pub(crate) fn leave(
-        &mut self,
-        cast: &Cast<N>,
-        table: &HistoryTable<Entry, N>,
-        caller: &mut Caller<N>,
-        subscription: Subscription<'_, N>,
-    ) -> Ended
-        ensures sees { SeesCall caller.old.front caller.new.front
-            (AnswersLeave subscription.entry result) }
-        ensures places { subscription.entry.cursor.lane.places ≡ N.places }
-        ensures pass { caller.new.pass ≡ caller.old.pass }
-    {
-        self.book.kept();
-        let call = Call::Left(subscription.lane());
-        let ended = self.book.leave(cast, subscription);
-        self.book.kept();
-        record(
-            &mut self.history,
-            table,
-            &call,
-            LaneSet::EMPTY,
-            Some(ended),
-            caller,
-        );
-        ended
-    }
-
-    /// Says of a subscription that goes on that it has taken its due.
-    pub(crate) fn vouch(
-        &mut self,
-        cast: &Cast<N>,
-        table: &HistoryTable<Entry, N>,
-        caller: &mut Caller<N>,
-        subscription: &mut Subscription<'_, N>,
-    )
-        ensures sees { SeesCall caller.old.front caller.new.front (AnswersVouch subscription.old) }
-        ensures places { subscription.old.cursor.lane.places ≡ N.places }
-        ensures pass { KnowsAllSent caller.old.pass caller.new.pass caller.new.front }
-        ensures same { subscription.new ≡ subscription.old }
-    {
-        self.book.kept();
-        self.history.show(table, &mut caller.front);
-        self.book.vouch(cast, &mut caller.pass, subscription);
+        Ok(posted)
     }
 
     /// Removes what is resolved.
@@ -169,191 +115,10 @@ impl<N: Recorded> RecordedBook<N> {
         );
         Ok(removed)
     }
-
-    /// The same, which answers what it removed.
-    pub(crate) fn take_resolved(
-        &mut self,
-        table: &HistoryTable<Entry, N>,
-        caller: &mut Caller<N>,
-        now: Moment,
-    ) -> Result<StoredAlerts, AllocError>
-        ensures sees { SeesCall caller.old.front caller.new.front (AnswersTake now result) }
-        ensures pass { caller.new.pass ≡ caller.old.pass }
-    {
-        self.book.kept();
-        let resolved = match self.book.resolved(now) {
-            Ok(resolved) => resolved,
-            Err(error) => {
-                self.history.show(table, &mut caller.front);
-                return Err(error);
-            }
-        };
-        match self.collect_resolved(table, caller, now) {
-            Ok(_) => Ok(resolved),
-            Err(error) => Err(error),
-        }
-    }
-
-    /// Ends the log.
-    pub(crate) fn close(
-        &mut self,
-        cast: &Cast<N>,
-        table: &HistoryTable<Entry, N>,
-        caller: &mut Caller<N>,
-    ) -> Result<(), CloseFault>
-        ensures sees { SeesCall caller.old.front caller.new.front (AnswersClose result) }
-        ensures pass { caller.new.pass ≡ caller.old.pass }
-    {
-        self.book.kept();
-        let Ok(()) = self.book.close(cast) else {
-            self.history.show(table, &mut caller.front);
-            return Err(CloseFault);
-        };
-        self.book.kept();
-        record(
-            &mut self.history,
-            table,
-            &Call::Closed,
-            LaneSet::EMPTY,
-            None,
-            caller,
-        );
-        Ok(())
-    }
-
-    /// Discards calls of the journal, and none of the history.
-    pub(crate) fn trim(
-        &mut self,
-        table: &HistoryTable<Entry, N>,
-        caller: &mut Caller<N>,
-    ) -> Result<u64, AllocError>
-        ensures sees { SeesCall caller.old.front caller.new.front (AnswersTrim result) }
-        ensures pass { caller.new.pass ≡ caller.old.pass }
-    {
-        let count = match self.book.trim() {
-            Ok(count) => count,
-            Err(error) => {
-                self.history.show(table, &mut caller.front);
-                return Err(error);
-            }
-        };
-        self.book.kept();
-        let entry = Entry::trimmed(count);
-        self.history
-            .push(table, &Snapshot::of(&entry), &mut caller.front);
-        Ok(count)
-    }
-
-    /// Takes calls of the journal out of memory, and none of the history.
-    pub(crate) fn compact(
-        &mut self,
-        table: &HistoryTable<Entry, N>,
-        caller: &mut Caller<N>,
-    ) -> Result<u64, AllocError>
-        ensures sees { SeesCall caller.old.front caller.new.front (AnswersCompact result) }
-        ensures pass { caller.new.pass ≡ caller.old.pass }
-    {
-        let count = match self.book.compact() {
-            Ok(count) => count,
-            Err(error) => {
-                self.history.show(table, &mut caller.front);
-                return Err(error);
-            }
-        };
-        let entry = Entry::compacted(count);
-        self.history
-            .push(table, &Snapshot::of(&entry), &mut caller.front);
-        Ok(count)
-    }
-
-    /// What is stored.
-    pub(crate) fn stored(
-        &mut self,
-        table: &HistoryTable<Entry, N>,
-        caller: &mut Caller<N>,
-    ) -> Result<StoredAlerts, AllocError>
-        ensures sees { SeesCall caller.old.front caller.new.front (AnswersStored result) }
-        ensures pass { caller.new.pass ≡ caller.old.pass }
-    {
-        self.book.kept();
-        self.history.show(table, &mut caller.front);
-        self.book.stored()
-    }
-
-    /// A page of what is stored.
-    pub(crate) fn stored_page(
-        &mut self,
-        table: &HistoryTable<Entry, N>,
-        caller: &mut Caller<N>,
-        from: u64,
-        most: u64,
-    ) -> Result<Page, AllocError>
-        ensures sees { SeesCall caller.old.front caller.new.front (AnswersPage from most result) }
-        ensures pass { caller.new.pass ≡ caller.old.pass }
-    {
-        self.book.kept();
-        self.history.show(table, &mut caller.front);
-        self.book.stored_page(from, most)
-    }
-
-    /// The stored alert of a label set.
-    pub(crate) fn get(
-        &mut self,
-        table: &HistoryTable<Entry, N>,
-        caller: &mut Caller<N>,
-        labels: &LabelSet,
-    ) -> Result<Option<SharedAlert>, AllocError>
-        ensures sees { SeesCall caller.old.front caller.new.front (AnswersGet labels.now result) }
-        ensures pass { caller.new.pass ≡ caller.old.pass }
-    {
-        self.book.kept();
-        self.history.show(table, &mut caller.front);
-        self.book.get(labels)
-    }
-
-    /// Shows all of the history to a caller and to an onlooker.
-    pub(crate) fn look(
-        &mut self,
-        table: &HistoryTable<Entry, N>,
-        caller: &mut Caller<N>,
-        onlooker: &mut Front<Entry, N>,
-    )
-        ensures sees { SeesWhole caller.old.front caller.new.front onlooker.old onlooker.new }
-        ensures pass { caller.new.pass ≡ caller.old.pass }
-    {
-        self.history.show(table, &mut caller.front);
-        self.history.show(table, onlooker);
-    }
-
-    /// Ends the Book, and with it its log.
-    pub(crate) fn settle<R: Wait>(
-        self,
-        rt: &R,
-        cast: Cast<N>,
-        table: &HistoryTable<Entry, N>,
-        callers: Vec<Caller<N>>,
-    ) -> Settled
-        ensures settled { IsSettledFrom (map (λ caller. caller.pass) callers.items)
-            (map (λ caller. caller.front) callers.items) result }
-        ensures rising { All (λ caller. IsRising caller.pass.own) callers.items }
-        ensures complete { IsTrue result.complete ↔ (length callers.items ≡ N.parts) }
-    {
-        let RecordedBook { book, mut history } = self;
-        book.kept();
-        let count = callers.len();
-        let passes = match gather(&cast, table, &mut history, callers) {
-            Some((passes, mut front)) => {
-                history.audit(table, &mut front);
-                Some(passes)
-            }
-            None => None,
-        };
-        book.settle_joined(rt, cast, passes, count)
-    }
 }
 
 // One entry more, for a call that was accepted.
-fn record<N: Recorded>(
+pub(crate) fn record<N: Recorded>(
     history: &mut History<Entry, N>,
     table: &HistoryTable<Entry, N>,
     call: &Call,

@@ -3,14 +3,14 @@ use Rattle.am_alert.specs.declared.alert.Alert.{Alert}
 use Rattle.am_provider.specs.Posts.{WasAskedBefore}
 use Rattle.am_provider.proofs.Answering.{judge_refusal, sees_none, sees_put_if, sees_put_if_refused}
 use Rattle.am_provider.proofs.Recording.{stored_whole}
-use Rattle.am_provider.proofs.recorded_book.RecordedBook.post_if.Goals as goal
+use Rattle.am_provider.proofs.provider.Provider.put_if.Goals as goal
 
 pub returns-in-Err-clause-answers : goal.returns-in-Err-clause-answers
 returns-in-Err-clause-answers g c =
-    let stored = stored_whole c.self.inside.book c.self.inside.history c.self.invariant.0 c.kept.ensures in (
-      sees_none c.args.caller.now.front c.show.new.to c.self.inside.history _ c.show.ensures.seen c.show.ensures.to (
+    let stored = stored_whole c.recorded.inside.book c.recorded.inside.history c.recorded.invariant.0 c.kept.ensures in (
+      sees_none c.args.caller.now.front c.show.new.to c.recorded.inside.history _ c.show.ensures.seen c.show.ensures.to (
         inl (
-          judge_refusal c.self.inside.book c.self.inside.history c.in-Err.fault c.self.invariant.0 c.in-Err.ensures.refused,
+          judge_refusal c.recorded.inside.book c.recorded.inside.history c.in-Err.fault c.recorded.invariant.0 c.in-Err.ensures.refused,
           subst (λ (olds : List Alert). WasAskedBefore g.F.FnMut c.args.accepts.now c.judge.new.accepts c.args.now olds c.args.post.valid c.in-Err.fault) stored c.in-Err.ensures.asked,
         ),
         refl,
@@ -18,15 +18,15 @@ returns-in-Err-clause-answers g c =
       refl,
     )
 
-pub returns-in-Ok-post-clause-answers : goal.returns-in-Ok-post-clause-answers
-returns-in-Ok-post-clause-answers g c =
+pub returns-clause-answers : goal.returns-clause-answers
+returns-clause-answers g c =
     let kept = c.in-Ok.judged.0 in
     let judged = c.in-Ok.ensures.judged in
-    let stored = stored_whole c.self.inside.book c.self.inside.history c.self.invariant.0 c.kept.ensures in (
+    let stored = stored_whole c.recorded.inside.book c.recorded.inside.history c.recorded.invariant.0 c.kept.ensures in (
       kept,
       c.in-Ok.ensures.faults,
       sees_put_if g.F.FnMut c.args.accepts.now c.judge.new.accepts g.N.Recorded.policy g.N.Recorded.places c.args.now c.args.post kept (record { posted = c.in-Ok-post.posted; refused = c.in-Ok.judged.1 })
-          c.args.caller.now.front c.post.new.caller.front c.self.inside.history c.self.inside.book.stored stored judged c.in-Ok-post.ensures.seen c.in-Ok-post.ensures.sees,
+          c.args.caller.now.front c.post.new.caller.front c.recorded.inside.history c.recorded.inside.book.stored stored judged c.in-Ok-post.ensures.seen c.in-Ok-post.ensures.sees,
       c.in-Ok-post.ensures.own,
     )
 
@@ -34,8 +34,8 @@ pub returns-in-Err-post-clause-answers : goal.returns-in-Err-post-clause-answers
 returns-in-Err-post-clause-answers g c =
     let kept = c.in-Ok.judged.0 in
     let judged = c.in-Ok.ensures.judged in
-    let stored = stored_whole c.self.inside.book c.self.inside.history c.self.invariant.0 c.kept.ensures in (
+    let stored = stored_whole c.recorded.inside.book c.recorded.inside.history c.recorded.invariant.0 c.kept.ensures in (
       sees_put_if_refused g.F.FnMut c.args.accepts.now c.judge.new.accepts g.N.Recorded.policy g.N.Recorded.places c.args.now c.args.post kept c.in-Ok.judged.1.items c.in-Err-post.fault
-          c.args.caller.now.front c.post.new.caller.front c.self.inside.history c.self.inside.book.stored stored judged c.in-Err-post.ensures.unseen c.in-Err-post.ensures.sees,
+          c.args.caller.now.front c.post.new.caller.front c.recorded.inside.history c.recorded.inside.book.stored stored judged c.in-Err-post.ensures.unseen c.in-Err-post.ensures.sees,
       c.in-Err-post.ensures.err,
     )

@@ -7,23 +7,23 @@ use Rattle.am_provider.specs.Histories.{Accepted, is_cut}
 use Rattle.am_provider.specs.inside.Records.{IsRecorded}
 use Rattle.am_provider.proofs.Answering.{due_whole, sees_called}
 use Rattle.am_provider.proofs.Recording.{cuts_one, lags_one, prefix_same, recorded_more, tells_of}
-use Rattle.am_provider.proofs.recorded_book.RecordedBook.leave.Goals as goal
+use Rattle.am_provider.proofs.provider.Provider.leave.Goals as goal
 
-pub invariant_of-self : goal.invariant_of-self
-invariant_of-self g c =
-    let old = c.self.inside.book in
+pub invariant_of-recorded : goal.invariant_of-recorded
+invariant_of-recorded g c =
+    let old = c.recorded.inside.book in
     let new = c.leave-ended.new.self in
-    let entries = c.self.inside.history in
+    let entries = c.recorded.inside.history in
     let left = c.leave-ended.ensures in
     let number = c.args.subscription.cursor.lane.number in
     let idles = left.lane in
     let begun = left.due.lane.begun in
     let low : old.journal.before ≤ c.leave-ended.result.at = omega (arith, begun, left.at) in (
       subst (IsRecorded g.N.Recorded.policy g.N.Recorded.places new) (sym (c.record.ensures.longer ∙ ap (λ lane. entries ++ Accepted (Left lane) 0 (Some c.leave-ended.result) ∷ []) c.lane.ensures))
-          (recorded_more old new entries (Left number) 0 (Some c.leave-ended.result) c.self.invariant.0 c.kept.ensures c.kept-2.ensures left.journal
+          (recorded_more old new entries (Left number) 0 (Some c.leave-ended.result) c.recorded.invariant.0 c.kept.ensures c.kept-2.ensures left.journal
           (prefix_same _ _ (ap (λ (t : Tail Batch). t.log) left.log)) left.limits
-          (cuts_one old new (Left number) 0 number (λ lane was. refl) (λ stands. omega (arith, idles, stands)) left.others) (lags_one old new entries (Left number) 0 (Some c.leave-ended.result) number c.self.invariant.0 (λ lane was. refl) left.others) (left.endings.0, left.endings.1, low) left.gone),
-      c.self.invariant.1,
+          (cuts_one old new (Left number) 0 number (λ lane was. refl) (λ stands. omega (arith, idles, stands)) left.others) (lags_one old new entries (Left number) 0 (Some c.leave-ended.result) number c.recorded.invariant.0 (λ lane was. refl) left.others) (left.endings.0, left.endings.1, low) left.gone),
+      c.recorded.invariant.1,
     )
 
 -- two that tell of one thing are one
@@ -35,16 +35,16 @@ one_flag false false told holds fails = refl
 
 pub returns-clause-sees : goal.returns-clause-sees
 returns-clause-sees g c =
-    let old = c.self.inside.book in
-    let entries = c.self.inside.history in
+    let old = c.recorded.inside.book in
+    let entries = c.recorded.inside.history in
     let left = c.leave-ended.ensures in
     let s = c.args.subscription in
     let number = s.cursor.lane.number in
-    let tells = tells_of old entries c.self.invariant.0 number (lane_low old.journal number s.at c.kept.ensures.journal.legal left.due.lane) in
+    let tells = tells_of old entries c.recorded.invariant.0 number (lane_low old.journal number s.at c.kept.ensures.journal.legal left.due.lane) in
     sees_called c.args.caller.now.front c.record.new.caller.front entries c.record.new.history (Left c.lane.result) (Left number) 0 (Some c.leave-ended.result) _
     (ap Left c.lane.ensures) c.record.ensures.longer c.record.ensures.known c.record.ensures.seen c.record.ensures.made c.record.ensures.looked
     (record {
-      due = due_whole old entries c.self.invariant.0 c.kept.ensures s left.due;
+      due = due_whole old entries c.recorded.invariant.0 c.kept.ensures s left.due;
       at = left.at;
       count = left.taken;
       closed = left.closed;
@@ -53,4 +53,4 @@ returns-clause-sees g c =
     })
 
 pub returns-clause-places : goal.returns-clause-places
-returns-clause-places g c = c.leave-ended.ensures.due.places ∙ c.self.invariant.0.limits.1
+returns-clause-places g c = c.leave-ended.ensures.due.places ∙ c.recorded.invariant.0.limits.1

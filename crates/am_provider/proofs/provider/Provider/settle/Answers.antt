@@ -15,14 +15,14 @@ use Rattle.am_provider.specs.Settling.{IsOwn, JoinedView, made_of, own_in, own_o
 use Rattle.am_provider.proofs.Recording.{owed_whole, stored_whole}
 use Rattle.am_provider.proofs.Leaving.{ended_whole, left_whole}
 use Rattle.am_provider.proofs.Trimming.{filter_all, posts_trimmed}
-use Rattle.am_provider.proofs.recorded_book.RecordedBook.settle.Goals.{in-None, in-Some}
-use Rattle.am_provider.proofs.recorded_book.RecordedBook.settle.Goals as goal
+use Rattle.am_provider.proofs.provider.Provider.settle.Goals.{in-None, in-Some}
+use Rattle.am_provider.proofs.provider.Provider.settle.Goals as goal
 
 pub returns-clause-settled : goal.returns-clause-settled
 returns-clause-settled g c =
-    let entries = c.self.inside.history in
-    let book = c.self.inside.book in
-    let of = c.self.invariant.0 in
+    let entries = c.recorded.inside.history in
+    let book = c.recorded.inside.book in
+    let of = c.recorded.invariant.0 in
     let settled = c.settle_joined.ensures.settled in
     let end = c.settle_joined.result in
     let passes = map (λ caller. caller.pass) c.args.callers.items in
@@ -68,7 +68,7 @@ returns-clause-settled g c =
               made = subst (λ list. AreMade list entries) made (subst (AreMade front.made) same audit.made);
               once = subst AreMadeOnce made audit.once;
               all = λ yes index inside.
-                  let parts : front.parts ≡ g.N.Timeline.holders = ap (λ (f : FrontView EntryView). f.parts) gathered.1 ∙ (many ∙ (sym long ∙ (complete.0 yes ∙ sym c.self.invariant.1.0))) in
+                  let parts : front.parts ≡ g.N.Timeline.holders = ap (λ (f : FrontView EntryView). f.parts) gathered.1 ∙ (many ∙ (sym long ∙ (complete.0 yes ∙ sym c.recorded.invariant.1.0))) in
                   subst (λ list. IsMade list index) made (audit.all parts index (subst (λ list. index < length list) (sym same) inside));
             };
           }
@@ -92,7 +92,7 @@ returns-clause-settled g c =
               seen = subst (All (λ (front : FrontView EntryView). IsPrefix front.seen entries)) (sym none) (λ k d h. absurd (omega arith));
               made = subst (λ list. AreMade (made_of list) entries) (sym none) (λ k m e. absurd (cc));
               once = subst (λ list. AreMadeOnce (made_of list)) (sym none) tt;
-              all = λ yes index inside. absurd (let some = complete.0 yes in let one = c.self.invariant.1.1 in omega (arith, long, nobody, some, one));
+              all = λ yes index inside. absurd (let some = complete.0 yes in let one = c.recorded.invariant.1.1 in omega (arith, long, nobody, some, one));
             };
           }
     ]
