@@ -43,10 +43,12 @@ use am_alert::Alerts;
 use am_cast::CloseFault;
 use am_labels::LabelSet;
 use am_store::lanes::{LANES, Lanes, OpenLane};
+use am_store::store::absorb::Change;
 use am_store::store::{AlertMap, share_all, share_of, share_page};
 use am_store::{Call, Journal, KeptJournal, SharedAlert, StoredAlerts};
 use std::alloc::{AllocError, Global};
 use std::marker::Model;
+use std::mem;
 use std::sync::ledger;
 
 // An entry of the journal, one to end each lane, and one to end the log.
@@ -68,6 +70,8 @@ pub struct Book<N: Origin> {
     posters: u32,
     // It counts the places of all passes.
     tally: ledger::Book<N>,
+    // What the last post replaced, for who drops it once the lock is given back.
+    replaced: Vec<Change>,
 }
 
 impl<N: Origin> Model for Book<N> {
@@ -206,6 +210,7 @@ impl<N: Origin> Book<N> {
             policy,
             posters,
             tally,
+            replaced: Vec::new(alloc),
         })
     }
 
@@ -246,6 +251,7 @@ impl<N: Origin> Book<N> {
             policy: _,
             posters,
             tally,
+            replaced: _,
         } = self;
         let (ended, early) = endings.into_held();
         Held {
@@ -318,6 +324,14 @@ impl<N: Origin> Book<N> {
         ensures { IsFaithful self.now }
     {
         let _ = &self.stored;
+    }
+
+    // What the last post replaced. It is given once.
+    pub(crate) fn take_replaced(&mut self) -> Vec<Change>
+        ensures { self.new ≡ self.old }
+    {
+        let alloc = *self.stored.allocator();
+        mem::replace(&mut self.replaced, Vec::new(alloc))
     }
 
     // The call that came last.

@@ -177,6 +177,7 @@ impl<N: Origin> Book<N> {
                 self.tally.add(&mut pass.share, 1);
                 self.journal.push(call);
                 self.posts += 1;
+                self.replaced = undo;
                 Ok(sent)
             }
             Err(fault) => {

@@ -54,10 +54,11 @@ impl<N: Recorded> Provider<N> {
             AddsOwn caller.old.pass now post.valid posted.place caller.new.pass) }
         ensures err { OnErr result (caller.new.pass ≡ caller.old.pass) }
     {
-        let answer = {
+        let (answer, _replaced) = {
             let recorded = &mut *self.lock(rt);
             gate.held(rt);
-            recorded.post(&self.cast, &self.table, caller, post, now)
+            let answer = recorded.post(&self.cast, &self.table, caller, post, now);
+            (answer, recorded.book.take_replaced())
         };
         self.waiters.wake();
         answer
@@ -82,7 +83,7 @@ impl<N: Recorded> Provider<N> {
             caller.old.pass caller.new.pass caller.old.front caller.new.front result }
         ensures callable { F.IsAlwaysCallable accepts.new }
     {
-        let done = {
+        let (done, _replaced) = {
             let recorded = &mut *self.lock(rt);
             gate.held(rt);
             recorded.book.kept();
@@ -93,10 +94,11 @@ impl<N: Recorded> Provider<N> {
                     return Err(fault);
                 }
             };
-            match recorded.post(&self.cast, &self.table, caller, accepted, now) {
-                Ok(posted) => PostedIf { posted, refused },
+            let posted = match recorded.post(&self.cast, &self.table, caller, accepted, now) {
+                Ok(posted) => posted,
                 Err(fault) => return Err(fault),
-            }
+            };
+            (PostedIf { posted, refused }, recorded.book.take_replaced())
         };
         self.waiters.wake();
         Ok(done)

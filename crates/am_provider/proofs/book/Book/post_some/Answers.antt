@@ -38,14 +38,14 @@ send_batch-requires-clause-some g c =
     omega (arith, c.requires.some, count, ap length same)
 
 -- what the log knows of a lane goes on through the harvest and the batch
-lanes_on : (g : Over) (c : goal.After-drop-undo g) (lane : ℕ) → lane < 8 → GoesOnAs (account_of c.self.inside.log lane) (account_of c.send_batch.new.writer lane)
+lanes_on : (g : Over) (c : goal.After-drop-self-inside g) (lane : ℕ) → lane < 8 → GoesOnAs (account_of c.self.inside.log lane) (account_of c.send_batch.new.writer lane)
 lanes_on g c lane small =
     let sent = c.in-Ok.ensures.sent in
     goes_on_twice (account_of c.self.inside.log lane) (account_of c.look_for_room.new.writer lane) (account_of c.send_batch.new.writer lane)
     (stays_as _ _ (c.look_for_room.ensures.harvested.each lane small)) (cut_as _ _ _ _ _ (sent.lanes lane small) (sent.cuts lane small))
 
-pub invariant_of-self-in-Ok-1 : goal.invariant_of-self-in-Ok-1
-invariant_of-self-in-Ok-1 g c =
+pub invariant_of-self-in-Ok : goal.invariant_of-self-in-Ok
+invariant_of-self-in-Ok g c =
     let kept = c.self.invariant.1 in
     let olds = stored_in c.self.inside.stored.entries in
     let valid = c.args.valid in
