@@ -70,8 +70,10 @@ pub struct Book<N: Origin> {
     posters: u32,
     // It counts the places of all passes.
     tally: ledger::Book<N>,
-    // What the last post replaced, for who drops it once the lock is given back.
+    // What the last post replaced, and the opening of the subscription that left last, as its lane and itself had it: for
+    // who drops them once the lock is given back.
     replaced: Vec<Change>,
+    left: Left,
 }
 
 impl<N: Origin> Model for Book<N> {
@@ -111,6 +113,9 @@ impl<N: Origin> Model for Book<N> {
       policy = b.policy;
     }) b.tally.total (length b.endings.endings + b.endings.room) × (b.posters ≡ N.parts) × (1 ≤ b.posters) × AreEndingsOf b.endings b.journal };
 }
+
+// The opening of a subscription that left, as its lane and itself had it.
+pub(crate) type Left = (Option<OpenLane>, Option<StoredAlerts>);
 
 // What memory has of a Book.
 pub(crate) struct Held<N: Origin> {
@@ -211,6 +216,7 @@ impl<N: Origin> Book<N> {
             posters,
             tally,
             replaced: Vec::new(alloc),
+            left: (None, None),
         })
     }
 
@@ -252,6 +258,7 @@ impl<N: Origin> Book<N> {
             posters,
             tally,
             replaced: _,
+            left: _,
         } = self;
         let (ended, early) = endings.into_held();
         Held {
@@ -332,6 +339,13 @@ impl<N: Origin> Book<N> {
     {
         let alloc = *self.stored.allocator();
         mem::replace(&mut self.replaced, Vec::new(alloc))
+    }
+
+    // The opening of the subscription that left last. It is given once.
+    pub(crate) fn take_left(&mut self) -> Left
+        ensures { self.new ≡ self.old }
+    {
+        mem::replace(&mut self.left, (None, None))
     }
 
     // The call that came last.

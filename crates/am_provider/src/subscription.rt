@@ -111,8 +111,9 @@ impl<'a, N: Origin> Subscription<'a, N> {
         }
     }
 
-    /// When it was subscribed, how many alerts it has shown, whether it answered `Closed`, and its cursor.
-    pub(crate) fn into_parts(self) -> (u64, u64, bool, Cursor<'a, N>)
+    /// When it was subscribed, how many alerts it has shown, whether it answered `Closed`, its cursor, and what memory has of
+    /// its opening.
+    pub(crate) fn into_parts(self) -> (u64, u64, bool, Cursor<'a, N>, Option<StoredAlerts>)
         ensures parts { (result.0 ≡ self.entry.at) × (result.2 ≡ self.entry.closed_told)
             × (result.3 ≡ self.entry.cursor) }
         ensures kept { IsSubscription self.entry result.1 }
@@ -121,14 +122,14 @@ impl<'a, N: Origin> Subscription<'a, N> {
         let Subscription {
             at,
             opening: _,
-            held: _,
+            held,
             stored: _,
             shown: _,
             cursor,
             closed_told,
             count,
         } = self;
-        (at, count, closed_told, cursor)
+        (at, count, closed_told, cursor, held)
     }
 
     /// The log's writer says of the cursor, which goes on, what it says of one that is given back.

@@ -19,6 +19,7 @@ use crate::subscription::Subscription;
 use am_store::Call;
 use am_store::lanes::{LANES, OpenLane, idle_lane};
 use am_store::store::share_all;
+use std::mem;
 use std::snapshot::Snapshot;
 
 impl<N: Origin> Book<N> {
@@ -86,7 +87,7 @@ impl<N: Origin> Book<N> {
         ensures stored { self.new.stored ≡ self.old.stored }
         ensures limits { HasSameLimits self.old self.new }
     {
-        let (at, taken, closed, cursor) = subscription.into_parts();
+        let (at, taken, closed, cursor, held) = subscription.into_parts();
         let lane = cursor.lane();
         let ended = Ended {
             at,
@@ -95,7 +96,7 @@ impl<N: Origin> Book<N> {
             cut: self.log.is_cut(lane),
         };
         self.log.retire(cast, cursor);
-        self.lanes[lane] = None;
+        self.left = (mem::replace(&mut self.lanes[lane], None), held);
         self.journal.push(Call::Left(lane as u32));
         self.endings.push(ended);
         ended

@@ -69,19 +69,22 @@ impl<N: Recorded> Provider<N> {
         ensures places { subscription.entry.cursor.lane.places ≡ N.places }
         ensures pass { caller.new.pass ≡ caller.old.pass }
     {
-        let recorded = &mut *self.lock(rt);
-        recorded.book.kept();
-        let call = Call::Left(subscription.lane());
-        let ended = recorded.book.leave(&self.cast, subscription);
-        recorded.book.kept();
-        record(
-            &mut recorded.history,
-            &self.table,
-            &call,
-            LaneSet::EMPTY,
-            Some(ended),
-            caller,
-        );
+        let (ended, _left) = {
+            let recorded = &mut *self.lock(rt);
+            recorded.book.kept();
+            let call = Call::Left(subscription.lane());
+            let ended = recorded.book.leave(&self.cast, subscription);
+            recorded.book.kept();
+            record(
+                &mut recorded.history,
+                &self.table,
+                &call,
+                LaneSet::EMPTY,
+                Some(ended),
+                caller,
+            );
+            (ended, recorded.book.take_left())
+        };
         ended
     }
 

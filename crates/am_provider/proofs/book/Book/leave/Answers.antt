@@ -61,7 +61,7 @@ invariant_of-self g c =
       kept_left _ _ _ _ _ s by.0 ended c.self.invariant.1 by.1 small journal refl r.tail
           (subst (λ (n : ℕ). (Rattle.am_cast.specs.Seats.account_of c.retire.new.self n).stand ≡ Rattle.am_cast.specs.Rule.idle) number r.lane.1)
           (λ other ne. r.others other (λ e. ne (e ∙ number)))
-          (ap (λ l. set c.self.inside.lanes l None) lane) refl ends.endings ends.early parts.0 (returns-clause-taken g c) parts.1
+          (ap (set c.self.inside.lanes c.lane-lane.result) c.replace.ensures.after ∙ ap (λ l. set c.self.inside.lanes l None) lane) refl ends.endings ends.early parts.0 (returns-clause-taken g c) parts.1
           c.push.ensures.gone.0 c.push.ensures.room (omega (arith, ap length ends.endings, length-append c.self.inside.endings.endings (ended ∷ []), ends.room)),
       c.self.invariant.2,
       c.self.invariant.3,

@@ -4,6 +4,7 @@ use Rattle.am_store.specs.declared.call.Call.TheVariants.{Left}
 use Rattle.am_store.proofs.Opens.{lane_low}
 use Rattle.am_provider.specs.Batches.{Batch}
 use Rattle.am_provider.specs.Histories.{Accepted, is_cut}
+use Rattle.am_provider.specs.BookView.{BookView}
 use Rattle.am_provider.specs.inside.Records.{IsRecorded}
 use Rattle.am_provider.proofs.Answering.{due_whole, sees_called}
 use Rattle.am_provider.proofs.Recording.{cuts_one, lags_one, prefix_same, recorded_more, tells_of}
@@ -19,10 +20,10 @@ invariant_of-recorded g c =
     let idles = left.lane in
     let begun = left.due.lane.begun in
     let low : old.journal.before ≤ c.leave-ended.result.at = omega (arith, begun, left.at) in (
-      subst (IsRecorded g.N.Recorded.policy g.N.Recorded.places new) (sym (c.record.ensures.longer ∙ ap (λ lane. entries ++ Accepted (Left lane) 0 (Some c.leave-ended.result) ∷ []) c.lane.ensures))
+      subst (λ (book : BookView). IsRecorded g.N.Recorded.policy g.N.Recorded.places book c.record.new.history) (sym c.take_left.ensures) (subst (IsRecorded g.N.Recorded.policy g.N.Recorded.places new) (sym (c.record.ensures.longer ∙ ap (λ lane. entries ++ Accepted (Left lane) 0 (Some c.leave-ended.result) ∷ []) c.lane.ensures))
           (recorded_more old new entries (Left number) 0 (Some c.leave-ended.result) c.recorded.invariant.0 c.kept.ensures c.kept-2.ensures left.journal
           (prefix_same _ _ (ap (λ (t : Tail Batch). t.log) left.log)) left.limits
-          (cuts_one old new (Left number) 0 number (λ lane was. refl) (λ stands. omega (arith, idles, stands)) left.others) (lags_one old new entries (Left number) 0 (Some c.leave-ended.result) number c.recorded.invariant.0 (λ lane was. refl) left.others) (left.endings.0, left.endings.1, low) left.gone),
+          (cuts_one old new (Left number) 0 number (λ lane was. refl) (λ stands. omega (arith, idles, stands)) left.others) (lags_one old new entries (Left number) 0 (Some c.leave-ended.result) number c.recorded.invariant.0 (λ lane was. refl) left.others) (left.endings.0, left.endings.1, low) left.gone)),
       c.recorded.invariant.1,
     )
 
