@@ -17,7 +17,8 @@ use crate::status::Status;
 use am_config::Config;
 use am_runner::{Form, RunFault};
 use am_script::{
-    Line, ScriptFault, WorkFault, config_line, read_input, read_script, script_advice, write_text,
+    Line, ScriptFault, WorkFault, config_line, read_input, read_script_in_threads, script_advice,
+    write_text,
 };
 use std::alloc::Global;
 use std::io::{BufReader, Read, Write};
@@ -163,7 +164,7 @@ fn printout_under<R: Threads + Wait + Sync>(
     ensures { IfOk result
         (λ printout. ComesTo arguments text.items printout.status (string_bytes printout.output)) }
 {
-    match take_lines(alloc, text) {
+    match take_lines(rt, alloc, text) {
         Ok(lines) => {
             let settings = Settings {
                 rt,
@@ -182,11 +183,15 @@ fn printout_under<R: Threads + Wait + Sync>(
 }
 
 // The lines of a script, whose text is let go; or why it is refused, and its text.
-fn take_lines(alloc: Global, text: Vec<u8>) -> Result<Vec<Line>, (ScriptFault, Vec<u8>)>
+fn take_lines<R: Threads + Sync>(
+    rt: &R,
+    alloc: Global,
+    text: Vec<u8>,
+) -> Result<Vec<Line>, (ScriptFault, Vec<u8>)>
     ensures read { IfOk result (λ lines. Checks 1 [] (lines_of text.items) (Ok lines.items)) }
     ensures refused { IfErr result (λ refused. IsRefused text.items refused.0) }
 {
-    match read_script(alloc, &text) {
+    match read_script_in_threads(rt, alloc, &text) {
         Ok(lines) => Ok(lines),
         Err(fault) => Err((fault, text)),
     }

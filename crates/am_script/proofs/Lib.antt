@@ -4,7 +4,7 @@ pub mod JsonLines
 pub mod Labels
 pub mod LineMembers
 pub mod Naming
-pub mod Checking
+pub mod Parts
 pub mod SingleLines
 pub mod Counting
 pub mod Inputs

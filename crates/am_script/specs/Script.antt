@@ -159,15 +159,3 @@ pub data Checks : ℕ → List Line → List (List ℕ) → Result (List Line) R
 abbrev pub IsRefused : List ℕ → ScriptFault → Type 0
 IsRefused text (Refused refusal) = Checks 1 [] (lines_of text) (Err refusal)
 IsRefused text NoMemory = ⊤
-
--- a correct line: what the lines after it answer, it answers too
-abbrev pub Continues : ℕ → List Line → List ℕ → List Line → Type 0
-Continues number earlier bytes later =
-    (rest : List (List ℕ)) (result : Result (List Line) Refusal)
-    → Checks (number + 1) later rest result → Checks number earlier (bytes ∷ rest) result
-
--- a faulty line: it answers whatever the lines after it are
-abbrev pub Stops : ℕ → List Line → List ℕ → ScriptFault → Type 0
-Stops number earlier bytes (Refused refusal) =
-    (rest : List (List ℕ)) → Checks number earlier (bytes ∷ rest) (Err refusal)
-Stops number earlier bytes NoMemory = ⊤

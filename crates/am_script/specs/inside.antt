@@ -3,4 +3,5 @@ pub mod Counting
 pub mod Intakes
 pub mod AlertTokens
 pub mod LineMembers
-pub mod Checking
+pub mod Parts
+pub mod Following

@@ -8,3 +8,9 @@ pub const MOST_LINES: u32 = 65_536;
 
 /// How many tries in a row an interrupted read or write gets: the first, and 1,000 more.
 pub(crate) const TRIES: u32 = 1_001;
+
+/// From how many bytes on a script's text is read in several threads.
+pub(crate) const SHORTEST_IN_THREADS: usize = 262_144;
+
+/// In how many threads at most.
+pub(crate) const MOST_READERS: usize = 8;

@@ -4,24 +4,51 @@
 //! frees it.
 
 ghost use Rattle.std.specs.Prelude.{◌≡◌, ◌++◌, ◌∷◌, [], List, if◌then◌else◌, is_none, Some};
-ghost use Rattle.std.specs.Prelude.{IfOk, OnErr};
+ghost use Rattle.std.specs.Prelude.{IfOk, OnErr, OnOk};
 ghost use Rattle.std.specs.Bool.{OnFalse, OnTrue};
 ghost use Rattle.std.specs.BTreeMap.{get, IsUnchanged, Updates};
 ghost use Rattle.am_script.specs.Names.{name_cmp, HoldsNames};
 ghost use Rattle.am_script.specs.Kinds.{is_some_dispatch, is_some_inhibit, is_some_notify};
 ghost use Rattle.am_script.specs.Script.{has_its_moment, is_well_named};
+ghost use Rattle.am_script.specs.inside.Following.{FollowsEach, FollowsLine};
 
 use crate::command::{Command, GivenMoment, Line};
 use crate::kind::Kind;
+use crate::script::{Fault, ScriptFault, refused};
 use crate::thread::Thread;
 use am_labels::Text;
-use std::alloc::AllocError;
+use std::alloc::{AllocError, Global};
 use std::collections::BTreeMap;
 
 type Names = BTreeMap<(Thread, Text), Kind>;
 
+// Whether the subscription of each line is the right one after the lines before it, or the first fault.
+pub(crate) fn follow_each(alloc: Global, lines: &[Line]) -> Result<(), ScriptFault>
+    ensures { FollowsEach [] lines.now result }
+{
+    let mut names = BTreeMap::new(alloc);
+    for line in lines {
+        follow_line(&mut names, line)?;
+    }
+    Ok(())
+}
+
+// The same of one line. The names then follow it.
+fn follow_line(names: &mut Names, line: &Line) -> Result<(), ScriptFault>
+    ensures { (earlier : List Line) → HoldsNames names.old earlier
+        → FollowsLine earlier line.now result × OnOk result (HoldsNames names.new (earlier ++ line.now ∷ [])) }
+{
+    if !has_its_moment(names, line)? {
+        return refused(line.number, Fault::BadLine);
+    }
+    if !follow(names, line)? {
+        return refused(line.number, Fault::BadName);
+    }
+    Ok(())
+}
+
 // Whether a line's name is the right one. The names then follow the line.
-pub(crate) fn follow(names: &mut Names, line: &Line) -> Result<bool, AllocError>
+fn follow(names: &mut Names, line: &Line) -> Result<bool, AllocError>
     ensures ok { IfOk result (λ fits. (earlier : List Line) → HoldsNames names.old earlier
         → (fits ≡ is_well_named earlier line.now)
         × HoldsNames names.new (if fits then earlier ++ line.now ∷ [] else earlier)) }
@@ -70,7 +97,7 @@ fn subscribe(names: &mut Names, name: (Thread, Text), kind: Kind) -> Result<bool
 }
 
 // Whether the `at` of `groups` is a moment where it is a member: if the name is subscribed with both consumers.
-pub(crate) fn has_its_moment(names: &Names, line: &Line) -> Result<bool, AllocError>
+fn has_its_moment(names: &Names, line: &Line) -> Result<bool, AllocError>
     ensures { IfOk result (λ has. (earlier : List Line) → HoldsNames names.now earlier
         → has ≡ has_its_moment earlier line.now) }
 {

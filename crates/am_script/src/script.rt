@@ -1,24 +1,17 @@
-//! The whole script: its lines, checked one after another before anything runs.
+//! The whole script, checked before anything runs: its lines, each by itself, and then their subscriptions in order.
 
-ghost use Rattle.std.specs.Prelude.{◌≡◌, ◌<◌, ◌≤◌, [], ◌∷◌, ◌++◌, length};
-ghost use Rattle.std.specs.Prelude.{true, false, Some, Ok, Err, IfOk, IfErr, OnOk, OnErr};
-ghost use Rattle.am_script.specs.Names.{HoldsNames};
+ghost use Rattle.std.specs.Prelude.{◌≡◌, ◌<◌, [], ◌∷◌, length, Some, Ok, Err, IfOk, IfErr};
 ghost use Rattle.am_script.specs.ScriptTexts.{fault_text, refusal_text};
-ghost use Rattle.am_script.specs.Script.{Checks, Continues, IsRefused, Stops};
-ghost use Rattle.am_script.specs.inside.Checking.{IsRefusedAfter};
-ghost use Rattle.am_script.specs.Script.{config_line, has_its_moment, is_well_named, lines_of};
+ghost use Rattle.am_script.specs.Script.{Checks, IsRefused, config_line, lines_of};
+ghost use Rattle.am_script.specs.inside.Parts.{AreFirstLines, bytes_of};
 
-use crate::command::{Line, LineFault};
-use crate::kind::Kind;
-use crate::limits::{LONGEST_LINE, MOST_LINES};
+use crate::command::Line;
+use crate::limits::{MOST_LINES, MOST_READERS, SHORTEST_IN_THREADS};
 use crate::line_feed::line_feed;
-use crate::line_reader::LineReader;
-use crate::names::{follow, has_its_moment};
-use crate::thread::Thread;
-use am_labels::Text;
+use crate::part::Part;
 use std::alloc::{AllocError, AllocFailed, Global};
-use std::collections::BTreeMap;
 use std::fmt;
+use std::thread::{Threads, available_parallelism};
 
 /// What is wrong with a line.
 #[derive(Clone, Copy, Debug, PartialEq, Eq)]
@@ -89,22 +82,45 @@ pub fn read_script(alloc: Global, text: &[u8]) -> Result<Vec<Line>, ScriptFault>
     ensures read { IfOk result (λ lines. Checks 1 [] (lines_of text.now) (Ok lines.items)) }
     ensures refused { IfErr result (IsRefused text.now) }
 {
-    let mut checked = Checked {
-        lines: Vec::new(alloc),
-        names: BTreeMap::new(alloc),
-    };
-    let mut reader = LineReader::new(alloc);
+    let lines = first_lines(alloc, text)?;
+    Part::read(alloc, 1, &lines).into_lines(alloc)
+}
+
+/// The same. The lines of a long text are read in as many threads as there are processors, up to eight.
+pub fn read_script_in_threads<R: Threads + Sync>(
+    rt: &R,
+    alloc: Global,
+    text: &[u8],
+) -> Result<Vec<Line>, ScriptFault>
+    ensures read { IfOk result (λ lines. Checks 1 [] (lines_of text.now) (Ok lines.items)) }
+    ensures refused { IfErr result (IsRefused text.now) }
+{
+    if text.len() < SHORTEST_IN_THREADS {
+        return read_script(alloc, text);
+    }
+    let lines = first_lines(alloc, text)?;
+    Part::read_in_threads(rt, alloc, threads_to_read(rt), 1, &lines).into_lines(alloc)
+}
+
+fn threads_to_read<R: Threads>(rt: &R) -> usize {
+    match available_parallelism(rt) {
+        Ok(processors) => processors.get().min(MOST_READERS),
+        Err(_) => 1,
+    }
+}
+
+// The first lines of a text: all, or one more than a script may have.
+fn first_lines(alloc: Global, text: &[u8]) -> Result<Vec<&[u8]>, AllocError>
+    ensures { IfOk result (λ lines. AreFirstLines text.now (bytes_of lines.items)) }
+{
+    let mut lines = Vec::new(alloc);
     let mut rest = text;
-    let mut number = 1;
-    while !rest.is_empty() {
-        let (bytes, after) = split_line(rest);
-        match checked.add(&mut reader, number, bytes) {
-            Ok(()) => number += 1,
-            Err(fault) => return Err(fault),
-        }
+    while !rest.is_empty() && lines.len() <= MOST_LINES as usize {
+        let (line, after) = split_line(rest);
+        lines.push(line)?;
         rest = after;
     }
-    Ok(checked.lines)
+    Ok(lines)
 }
 
 /// The first line of a script's text, without its line feed: its configuration.
@@ -129,60 +145,9 @@ fn split_line(text: &[u8]) -> (&[u8], &[u8])
     }
 }
 
-fn refused<T>(number: u32, fault: Fault) -> Result<T, ScriptFault>
+// The line of this number is refused.
+pub(crate) fn refused<T>(number: u32, fault: Fault) -> Result<T, ScriptFault>
     ensures { result ≡ Err (ScriptFault.Refused (record { number = number; fault = fault })) }
 {
     Err(ScriptFault::Refused(Refusal { number, fault }))
-}
-
-// The commands so far, and the names that are subscribed after them.
-#[derive(Drop)]
-struct Checked {
-    lines: Vec<Line>,
-    names: BTreeMap<(Thread, Text), Kind>,
-    ghost named: { HoldsNames names lines.items },
-}
-
-impl Checked {
-    // Checks the line of this number.
-    fn add(&mut self, reader: &mut LineReader, number: u32, bytes: &[u8]) -> Result<(), ScriptFault>
-        requires { 1 ≤ number }
-        ensures ok { OnOk result
-            (Continues number self.old.lines.items bytes.now self.new.lines.items) }
-        ensures within { OnOk result (number ≤ MOST_LINES) }
-        ensures err { IfErr result (Stops number self.old.lines.items bytes.now) }
-    {
-        if number > MOST_LINES || bytes.len() > LONGEST_LINE {
-            return refused(number, Fault::TooLarge);
-        }
-        if number <= 1 || bytes.is_empty() {
-            return Ok(());
-        }
-        match reader.read_line(number, bytes) {
-            Ok(line) => self.add_line(number, line),
-            Err(LineFault::BadLine) => refused(number, Fault::BadLine),
-            Err(LineFault::NoMemory) => Err(ScriptFault::NoMemory),
-        }
-    }
-
-    // Adds a line whose name and moment are the right ones.
-    fn add_line(&mut self, number: u32, line: Line) -> Result<(), ScriptFault>
-        ensures ok { OnOk result (self.new.lines.items ≡ self.old.lines.items ++ line ∷ []) }
-        ensures moment { OnOk result (has_its_moment self.old.lines.items line ≡ true) }
-        ensures named { OnOk result (is_well_named self.old.lines.items line ≡ true) }
-        ensures refused { IfErr result (IsRefusedAfter number self.old.lines.items line) }
-    {
-        self.lines.reserve(1)?;
-        if !has_its_moment(&self.names, &line)? {
-            return refused(number, Fault::BadLine);
-        }
-        match follow(&mut self.names, &line) {
-            Ok(true) => {
-                self.lines.push_reserved(line);
-                Ok(())
-            }
-            Ok(false) => refused(number, Fault::BadName),
-            Err(_) => Err(ScriptFault::NoMemory),
-        }
-    }
 }
