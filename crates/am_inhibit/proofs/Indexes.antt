@@ -5,7 +5,6 @@ use Rattle.std.specs.Cmp.Lexicographic.{pointwise_decides}
 use Rattle.std.specs.List.{slice_get, position, AllByRecursion, IsDistinct}
 use Rattle.std.specs.Option.{unwrap_or}
 use Rattle.std.specs.Map.{keys_of, values_of, lookup}
-use Rattle.std.proofs.lemmas.List.{length-map, length-take-le, drop_more, take_more, set_at, get_or_at, map-append}
 use Rattle.std.proofs.Math.Seq.{take-append_seam}
 use Rattle.indexmap.specs.IndexMap.{insert_entry, set_value_at}
 use Rattle.indexmap.proofs.MapLemmas.{Found-position, insert_entry-first}
@@ -72,21 +71,6 @@ back_one changes change [] index early is = absurd (omega arith)
 back_one [] change (first ∷ indexes) index early is = ap (λ i. index_before change i ∷ indexes) is
 back_one (one ∷ changes) change (first ∷ indexes) index early is = let rest = back_one changes change indexes index in grind arith
 
--- one more of a list, as a function leaves it
-pub map_more : {A : Type 0} (f : A → A) (olds now : List A) (at : ℕ) (x : A) → at < length olds → now ≡ map f (take at olds) ++ drop at olds → x ≡ get_or now at x
-    → set now at (f x) ≡ map f (take (at + 1) olds) ++ drop (at + 1) olds
-map_more f olds now at x early are is =
-    let front = map f (take at olds) in
-    let next = get_or olds at x in
-    let long : length front ≡ at = length-map (take at olds) f ∙ length-take-le at olds (omega arith) in
-    let split : now ≡ front ++ next ∷ drop (at + 1) olds = are ∙ ap (λ l. front ++ l) (drop_more olds at x early) in
-    let here : x ≡ next = is ∙ (ap (λ l. get_or l at x) split ∙ get_or_at front next (drop (at + 1) olds) x at long) in
-    ap (λ l. set l at (f x)) split
-    ∙ (set_at front next (drop (at + 1) olds) (f x) at long
-    ∙ (ap (λ y. front ++ f y ∷ drop (at + 1) olds) here
-    ∙ (sym (append_assoc front (f next ∷ []) (drop (at + 1) olds))
-    ∙ ap (λ l. l ++ drop (at + 1) olds) (sym (ap (map f) (take_more olds at x early) ∙ map-append f (take at olds) (next ∷ []))))))
-
 -- ---- what is listed
 
 pub same_are : (a b : List (List ℕ)) → same_values a b ≡ true → a ≡ b
@@ -95,25 +79,8 @@ same_are a b e = (pointwise_decides (pointwise_decides unsigned_Decides) a b).0 
 pub sources_listed-with : (wanted values : List (List ℕ)) (source : Source) (entries : SourceEntries) → sources_listed wanted (with_source values source entries) ≡ sources_listed wanted entries ++ cond (same_values wanted values) (source ∷ []) []
 sources_listed-with wanted values source [] = grind arith
 sources_listed-with wanted values source (entry ∷ entries) =
-    by_bool {P = sources_listed wanted (with_source values source (entry ∷ entries)) ≡ sources_listed wanted (entry ∷ entries) ++ cond (same_values wanted values) (source ∷ []) []} (same_values values entry.0)
-    (λ t.
-    let own : same_values wanted values ≡ same_values wanted entry.0 = ap (same_values wanted) (same_are values entry.0 t) in
-    ap (λ b. sources_listed wanted (cond b ((entry.0, entry.1 ++ source ∷ []) ∷ entries) (entry ∷ with_source values source entries))) t
-    ∙ (elim (same_values wanted entry.0) as (λ b. unwrap_or (cond b (Some (entry.1 ++ source ∷ [])) (lookup (same_values wanted) entries)) [] ≡ unwrap_or (cond b (Some entry.1) (lookup (same_values wanted) entries)) [] ++ cond b (source ∷ []) []) [ true ↦ refl | false ↦ sym (append-nil (sources_listed wanted entries)) ]
-    ∙ ap (λ b. sources_listed wanted (entry ∷ entries) ++ cond b (source ∷ []) []) (sym own)))
-    (λ f.
-    ap (λ b. sources_listed wanted (cond b ((entry.0, entry.1 ++ source ∷ []) ∷ entries) (entry ∷ with_source values source entries))) f
-    ∙ by_bool {P = sources_listed wanted (entry ∷ with_source values source entries) ≡ sources_listed wanted (entry ∷ entries) ++ cond (same_values wanted values) (source ∷ []) []} (same_values wanted entry.0)
-    (λ here.
-    let other : same_values wanted values ≡ false = ap (λ l. same_values l values) (same_are wanted entry.0 here) ∙ (values_equiv.symm entry.0 values ∙ f) in
-    ap (λ b. unwrap_or (cond b (Some entry.1) (lookup (same_values wanted) (with_source values source entries))) []) here
-    ∙ (sym (append-nil entry.1)
-    ∙ (ap (λ b. entry.1 ++ cond b (source ∷ []) []) (sym other)
-    ∙ ap (λ b. unwrap_or (cond b (Some entry.1) (lookup (same_values wanted) entries)) [] ++ cond (same_values wanted values) (source ∷ []) []) (sym here))))
-    (λ away.
-    ap (λ b. unwrap_or (cond b (Some entry.1) (lookup (same_values wanted) (with_source values source entries))) []) away
-    ∙ (sources_listed-with wanted values source entries
-    ∙ ap (λ b. unwrap_or (cond b (Some entry.1) (lookup (same_values wanted) entries)) [] ++ cond (same_values wanted values) (source ∷ []) []) (sym away))))
+    let rest = sources_listed-with wanted values source entries in
+    grind (arith, same_are, values_equiv, append-nil)
 
 sources_listed-labels : (rule : InhibitRule) (values : List (List ℕ)) (at : ℕ) (labels : Labels) (entries : SourceEntries)
     → sources_listed values (with_labels rule at labels entries) ≡ sources_listed values entries ++ cond (all_admitted rule.source labels && same_values values (values_for rule.equal labels)) (source_of rule at labels ∷ []) []
@@ -137,10 +104,8 @@ distinct-with : (values : List (List ℕ)) (source : Source) (entries : SourceEn
 unfolding IsDistinct
 distinct-with values source [] distinct = (tt, tt)
 distinct-with values source (entry ∷ entries) distinct =
-    let after = λ (b : Bool). cond b ((entry.0, entry.1 ++ source ∷ []) ∷ entries) (entry ∷ with_source values source entries) in
-    by_bool {P = IsDistinct same_values (keys_of (after (same_values values entry.0)))} (same_values values entry.0)
-    (λ t. subst (λ b. IsDistinct same_values (keys_of (after b))) (sym t) distinct)
-    (λ f. subst (λ b. IsDistinct same_values (keys_of (after b))) (sym f) (none-with entry.0 values source entries (values_equiv.symm entry.0 values ∙ f) distinct.0, distinct-with values source entries distinct.1))
+    let rest = distinct-with values source entries in
+    grind (arith, none-with, values_equiv)
 
 -- ---- one alert more
 

@@ -1,16 +1,18 @@
 -- The alerts that are kept after takes and sweeps.
-use Rattle.std.proofs.Common.{◌≡◌, ◌⊎◌, inl, inr, Bool, true, false, not, cond, List, [], ◌∷◌, ◌++◌, map, filter, fold, Option, Some, None, append_assoc, append-nil, refl, sym, ap, ◌∙◌, arith}
+use Rattle.std.proofs.Common.{◌≡◌, ◌⊎◌, inl, inr, Bool, true, false, not, cond, List, [], ◌∷◌, ◌++◌, map, filter, fold, Option, Some, None, refl, sym, ap, subst, ◌∙◌, arith}
 use Rattle.std.proofs.Common.{ℕ}
-use Rattle.std.specs.List.{find}
+use Rattle.std.specs.List.{find, IsDistinct}
+use Rattle.std.proofs.lemmas.List.{map-append}
 use Rattle.std.specs.Option.{option_map, option_and_then}
 use Rattle.am_labels.specs.LabelSets.{Labels, same_labels}
 use Rattle.am_labels.specs.LabelLaws.{labels_decide, labels_equiv}
 use Rattle.am_alert.specs.declared.alert.Alert.{Alert}
 use Rattle.am_alert.specs.Merging.{is_resolved_at, unless_resolved, unresolved}
-use Rattle.am_inhibit.specs.LastAlerts.{last_alerts}
+use Rattle.am_keyed.specs.Keyed.{with_alert}
+use Rattle.am_inhibit.specs.LastAlerts.{label_sets, first_alerts, last_of, last_alerts}
 use Rattle.am_inhibit.specs.KeptAlerts.{InhibitorEvent, Take, Sweep, lasting, before_others, kept_alerts, after_event, held_after}
 use Rattle.am_inhibit.proofs.Cases.{by_bool, by_option}
-use Rattle.am_inhibit.proofs.LastAlerts.{has, set_last, AreApart, same_turned, same_along, has_no_sources, apart_less, map_more, last_alerts-push, last_alerts-apart}
+use Rattle.am_inhibit.proofs.LastAlerts.{has, AreApart, same_turned, same_along, has-without, apart_less, apart_distinct}
 
 -- alerts of other label sets
 abbrev pub without : Labels → List Alert → List Alert
@@ -107,35 +109,35 @@ kept_apart [] = tt
 kept_apart (Sweep now ∷ events) = kept_apart events
 kept_apart (Take alert ∷ events) =
     let later = kept_alerts events in
-    elim (lasting events alert) as (λ o. AreApart (before_others o later)) [ None ↦ kept_apart events | Some last ↦ (has_no_sources last.labels later, apart_less (λ (other : Alert). not (same_labels last.labels other.labels)) later (kept_apart events)) ]
+    elim (lasting events alert) as (λ o. AreApart (before_others o later)) [ None ↦ kept_apart events | Some last ↦ (has-without last.labels later, apart_less (λ (other : Alert). not (same_labels last.labels other.labels)) later (kept_apart events)) ]
 
 -- ---- one take more
 
-without-same : (next : Alert) (alerts : List Alert) → without next.labels (set_last next alerts) ≡ without next.labels alerts
+without-same : (next : Alert) (alerts : List Alert) → without next.labels (with_alert next alerts) ≡ without next.labels alerts
 without-same next [] = ap (λ b. cond (not b) (next ∷ []) []) (labels_equiv.refl next.labels)
-without-same next (old ∷ olds) = let rest = without-same next olds in grind (arith, set_last, labels_equiv)
+without-same next (old ∷ olds) = let rest = without-same next olds in grind (arith, labels_equiv)
 
-without-other : (labels : Labels) (next : Alert) (alerts : List Alert) → same_labels labels next.labels ≡ false → without labels (set_last next alerts) ≡ set_last next (without labels alerts)
+without-other : (labels : Labels) (next : Alert) (alerts : List Alert) → same_labels labels next.labels ≡ false → without labels (with_alert next alerts) ≡ with_alert next (without labels alerts)
 without-other labels next [] unlike = ap (λ b. cond (not b) (next ∷ []) []) unlike
 without-other labels next (old ∷ olds) unlike =
     let rest = without-other labels next olds in
-    grind (arith, set_last, labels_decide)
+    grind (arith, labels_decide)
 
-pub kept-take : (events : List InhibitorEvent) (next : Alert) → kept_alerts (events ++ Take next ∷ []) ≡ set_last next (kept_alerts events)
+pub kept-take : (events : List InhibitorEvent) (next : Alert) → kept_alerts (events ++ Take next ∷ []) ≡ with_alert next (kept_alerts events)
 unfolding next_or_last
 kept-take [] next = refl
 kept-take (Sweep now ∷ events) next = kept-take events next
 kept-take (Take alert ∷ events) next =
     let later = kept_alerts events in
     let after = kept_alerts (events ++ Take next ∷ []) in
-    let rest : after ≡ set_last next later = kept-take events next in
-    let goal_of = λ (o : Option Alert). set_last next (before_others o later) in
+    let rest : after ≡ with_alert next later = kept-take events next in
+    let goal_of = λ (o : Option Alert). with_alert next (before_others o later) in
     ap (λ o. before_others o after) (lasting-take events next alert)
     ∙ by_option {P = before_others (option_map (next_or_last next) (lasting events alert)) after ≡ goal_of (lasting events alert)} (lasting events alert)
     (λ gone. ap (λ o. before_others (option_map (next_or_last next) o) after) gone ∙ (rest ∙ sym (ap goal_of gone)))
     (λ last lasts.
-    let set = λ (b : Bool). before_others (Some (cond b next last)) (set_last next later) in
-    let put = λ (b : Bool). cond b (next ∷ without last.labels later) (last ∷ set_last next (without last.labels later)) in
+    let set = λ (b : Bool). before_others (Some (cond b next last)) (with_alert next later) in
+    let put = λ (b : Bool). cond b (next ∷ without last.labels later) (last ∷ with_alert next (without last.labels later)) in
     let turned : same_labels next.labels last.labels ≡ same_labels last.labels next.labels = same_turned next.labels last.labels in
     ap (λ o. before_others (option_map (next_or_last next) o) after) lasts
     ∙ (ap (before_others (Some (next_or_last next last))) rest
@@ -146,9 +148,6 @@ kept-take (Take alert ∷ events) next =
     ∙ (ap (λ l. next ∷ without l later) (sym ((labels_decide last.labels next.labels).0 t)) ∙ sym (ap put (turned ∙ t)))))
     (λ f. ap set f ∙ (ap (λ l. last ∷ l) (without-other last.labels next later f) ∙ sym (ap put (turned ∙ f))))
     ∙ sym (ap goal_of lasts))))
-
-pub kept_goes_on : (events : List InhibitorEvent) (next : Alert) → kept_alerts (events ++ Take next ∷ []) ≡ last_alerts (kept_alerts events ++ next ∷ [])
-kept_goes_on events next = grind (arith, kept-take, last_alerts-push, set_last, last_alerts-apart, kept_apart)
 
 -- ---- one sweep more
 
@@ -200,11 +199,57 @@ kept-sweep (Take alert ∷ events) now =
 
 -- ---- takes alone
 
-taken_last : (done rest : List Alert) → kept_alerts (map Take done) ≡ last_alerts done → kept_alerts (map Take (done ++ rest)) ≡ last_alerts (done ++ rest)
-taken_last done [] e = ap (λ l. kept_alerts (map Take l)) (append-nil done) ∙ (e ∙ ap last_alerts (sym (append-nil done)))
-taken_last done (next ∷ rest) e =
-    let other = taken_last (done ++ next ∷ []) rest in
-    grind (arith, append_assoc, map_more, kept-take, set_last, last_alerts-push)
+lasting-takes : (alerts : List Alert) (alert : Alert) → lasting (map Take alerts) alert ≡ Some (last_of alerts alert)
+lasting-takes [] alert = refl
+lasting-takes (next ∷ alerts) alert = lasting-takes alerts (cond (same_labels alert.labels next.labels) next alert)
+
+last_of-labels : (alerts : List Alert) (alert : Alert) → (last_of alerts alert).labels ≡ alert.labels
+last_of-labels alerts alert = lasting-labels (map Take alerts) alert (last_of alerts alert) (lasting-takes alerts alert)
+
+last-others : (first : Alert) (alerts others : List Alert) → map (last_of (first ∷ alerts)) (without first.labels others) ≡ without first.labels (map (last_of alerts) others)
+last-others first alerts [] = refl
+last-others first alerts (other ∷ others) = let rest = last-others first alerts others in grind (arith, same_turned, last_of-labels)
 
 pub kept_without_sweeps : (given : List Alert) → kept_alerts (map Take given) ≡ last_alerts given
-kept_without_sweeps given = taken_last [] given refl
+kept_without_sweeps [] = refl
+kept_without_sweeps (alert ∷ given) =
+    let last = last_of given alert in
+    let first : last ≡ last_of (alert ∷ given) alert = grind arith in
+    ap (λ o. before_others o (kept_alerts (map Take given))) (lasting-takes given alert)
+    ∙ (ap (before_others (Some last)) (kept_without_sweeps given)
+    ∙ (ap (λ l. last ∷ without l (last_alerts given)) (last_of-labels given alert)
+    ∙ (ap (λ l. last ∷ l) (sym (last-others alert given (first_alerts given)))
+    ∙ ap (λ a. a ∷ map (last_of (alert ∷ given)) (without alert.labels (first_alerts given))) first)))
+
+pub last_alerts-push : (alerts : List Alert) (next : Alert) → last_alerts (alerts ++ next ∷ []) ≡ with_alert next (last_alerts alerts)
+last_alerts-push alerts next =
+    sym (kept_without_sweeps (alerts ++ next ∷ []))
+    ∙ (ap kept_alerts (map-append Take alerts (next ∷ [])) ∙ (kept-take (map Take alerts) next ∙ ap (with_alert next) (kept_without_sweeps alerts)))
+
+pub last_alerts_apart : (alerts : List Alert) → AreApart (last_alerts alerts)
+last_alerts_apart alerts = subst AreApart (kept_without_sweeps alerts) (kept_apart (map Take alerts))
+
+last_of-own : (alerts : List Alert) (alert : Alert) → has alert.labels alerts ≡ false → last_of alerts alert ≡ alert
+last_of-own [] alert none = refl
+last_of-own (next ∷ alerts) alert none = let rest = last_of-own alerts alert in grind arith
+
+-- alerts of which no two are of one label set
+pub last_alerts-apart : (alerts : List Alert) → AreApart alerts → last_alerts alerts ≡ alerts
+last_alerts-apart [] apart = refl
+last_alerts-apart (alert ∷ alerts) apart =
+    sym (kept_without_sweeps (alert ∷ alerts))
+    ∙ (ap (λ o. before_others o (kept_alerts (map Take alerts))) (lasting-takes alerts alert ∙ ap Some (last_of-own alerts alert apart.0))
+    ∙ (ap (before_others (Some alert)) (kept_without_sweeps alerts ∙ last_alerts-apart alerts apart.1) ∙ ap (λ l. alert ∷ l) (without-none alert.labels alerts apart.0)))
+
+pub last_alerts-distinct : (alerts : List Alert) → IsDistinct same_labels (label_sets alerts) → last_alerts alerts ≡ alerts
+last_alerts-distinct alerts distinct = last_alerts-apart alerts (apart_distinct alerts distinct)
+
+-- one alert more
+pub with_alert-last : (alerts : List Alert) (next : Alert) → IsDistinct same_labels (label_sets alerts) → with_alert next alerts ≡ last_alerts (alerts ++ next ∷ [])
+with_alert-last alerts next distinct = ap (with_alert next) (sym (last_alerts-distinct alerts distinct)) ∙ sym (last_alerts-push alerts next)
+
+pub last_alerts-twice : (alerts : List Alert) → last_alerts (last_alerts alerts) ≡ last_alerts alerts
+last_alerts-twice alerts = last_alerts-apart (last_alerts alerts) (last_alerts_apart alerts)
+
+pub kept_goes_on : (events : List InhibitorEvent) (next : Alert) → kept_alerts (events ++ Take next ∷ []) ≡ last_alerts (kept_alerts events ++ next ∷ [])
+kept_goes_on events next = grind (arith, kept-take, last_alerts-push, last_alerts-apart, kept_apart)

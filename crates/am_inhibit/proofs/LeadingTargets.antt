@@ -38,31 +38,17 @@ pub found-past : (now : ℕ) (alerts : List Alert) (sources : List Source)
     → find (source_inhibits true now alerts) sources ≡ find (source_inhibits true now alerts) (drop (leading_targets sources) sources)
 found-past now alerts [] = refl
 found-past now alerts (source ∷ sources) =
-    let test = source_inhibits true now alerts in
-    let later = λ (n : ℕ). find test (drop n (source ∷ sources)) in
-    let count = λ (b : Bool). cond b (1 + leading_targets sources) 0 in
-    by_bool {P = find test (source ∷ sources) ≡ later (count source.is_target)} source.is_target
-    (λ t.
-    let next : suc (leading_targets sources) ≡ 1 + leading_targets sources = omega arith in
-    find-no test source sources (both_mute_none now alerts source t)
-    ∙ (found-past now alerts sources ∙ (ap later next ∙ ap (λ b. later (count b)) (sym t))))
-    (λ f. ap (λ b. later (count b)) (sym f))
+    let rest = found-past now alerts sources in
+    let one : suc (leading_targets sources) ≡ 1 + leading_targets sources = omega arith in
+    let next = ap (λ n. drop n (source ∷ sources)) one in
+    grind (arith, both_mute_none)
 
 -- and they count as examined
 pub counted-past : (now : ℕ) (alerts : List Alert) (sources : List Source)
     → leading_targets sources + count_to (source_inhibits true now alerts) (drop (leading_targets sources) sources) ≡ count_to (source_inhibits true now alerts) sources
 counted-past now alerts [] = refl
 counted-past now alerts (source ∷ sources) =
-    let test = source_inhibits true now alerts in
-    let later = λ (n : ℕ). n + count_to test (drop n (source ∷ sources)) in
-    let count = λ (b : Bool). cond b (1 + leading_targets sources) 0 in
-    by_bool {P = later (count source.is_target) ≡ count_to test (source ∷ sources)} source.is_target
-    (λ t.
-    let next : 1 + leading_targets sources ≡ suc (leading_targets sources) = omega arith in
     let rest = counted-past now alerts sources in
-    let one : later (suc (leading_targets sources)) ≡ 1 + count_to test sources = omega (arith, rest) in
-    ap (λ b. later (count b)) t
-    ∙ (ap later next ∙ (one ∙ sym (count_to-no test source sources (both_mute_none now alerts source t)))))
-    (λ f.
-    let none : later 0 ≡ count_to test (source ∷ sources) = omega arith in
-    ap (λ b. later (count b)) f ∙ none)
+    let one : suc (leading_targets sources) ≡ 1 + leading_targets sources = omega arith in
+    let next = ap (λ n. drop n (source ∷ sources)) one in
+    grind (arith, both_mute_none, count_to-no)

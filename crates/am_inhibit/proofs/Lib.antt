@@ -1,7 +1,6 @@
 pub mod Cases
 pub mod LastAlerts
 pub mod KeptAlerts
-pub mod AlertEntries
 pub mod Counting
 pub mod Indexes
 pub mod Searching

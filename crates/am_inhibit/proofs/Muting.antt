@@ -9,10 +9,10 @@ use Rattle.am_alert.specs.declared.alert.Alert.{Alert}
 use Rattle.am_config.specs.declared.inhibit_rule.InhibitRule.{InhibitRule}
 use Rattle.am_inhibit.specs.LastAlerts.{last_alerts}
 use Rattle.am_inhibit.specs.Muting.{Candidate, rule_candidates, candidates, candidate_inhibits, muted, candidates_seen}
-use Rattle.am_inhibit.proofs.LastAlerts.{set_last, last_alerts-push, last_alerts-twice}
+use Rattle.am_inhibit.proofs.KeptAlerts.{last_alerts-push, last_alerts-twice}
 
 pub last_alerts_go_on : (given : List Alert) (alert : Alert) → last_alerts (last_alerts given ++ alert ∷ []) ≡ last_alerts (given ++ alert ∷ [])
-last_alerts_go_on given alert = grind (arith, last_alerts-push, set_last, last_alerts-twice)
+last_alerts_go_on given alert = grind (arith, last_alerts-push, last_alerts-twice)
 
 pub last_alerts_decide : (given : List Alert) (rules : List InhibitRule) (labels : Labels) (now : ℕ)
     → (muted (last_alerts given) rules labels now ≡ muted given rules labels now) × (candidates_seen (last_alerts given) rules labels now ≡ candidates_seen given rules labels now)

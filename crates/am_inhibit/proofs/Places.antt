@@ -44,9 +44,9 @@ distinct-swept : (places : List (Option ℕ)) (entries : SourceEntries) → IsDi
 unfolding IsDistinct
 distinct-swept places [] distinct = tt
 distinct-swept places (entry ∷ entries) distinct =
-    let here : List (List ℕ) × List Source = (entry.0, moved_sources places entry.1) in
     let rest = distinct-swept places entries distinct.1 in
-    elim (has_no_sources (moved_sources places entry.1)) as (λ b. IsDistinct same_values (keys_of (cond (not b) (here ∷ swept_entries places entries) (swept_entries places entries)))) [ true ↦ rest | false ↦ (none-swept places entry.0 entries distinct.0, rest) ]
+    let none = none-swept places entry.0 entries distinct.0 in
+    grind arith
 
 -- what isn't listed isn't listed after a sweep
 unlisted-swept : (places : List (Option ℕ)) (wanted : List (List ℕ)) (entries : SourceEntries) → AllByRecursion (λ other. same_values wanted other ≡ false) (keys_of entries) → sources_listed wanted (swept_entries places entries) ≡ []
@@ -57,23 +57,11 @@ sources_listed-swept : (places : List (Option ℕ)) (wanted : List (List ℕ)) (
 unfolding IsDistinct
 sources_listed-swept places wanted [] distinct = refl
 sources_listed-swept places wanted (entry ∷ entries) distinct =
-    let here = moved_sources places entry.1 in
-    let after = swept_entries places entries in
-    let old = λ (b : Bool). moved_sources places (unwrap_or (cond b (Some entry.1) (lookup (same_values wanted) entries)) []) in
-    let new = λ (b : Bool). unwrap_or (cond b (Some here) (lookup (same_values wanted) after)) [] in
-    let kept = λ (b : Bool). cond (not b) ((entry.0, here) ∷ after) after in
-    by_bool {P = sources_listed wanted (kept (has_no_sources here)) ≡ old (same_values wanted entry.0)} (same_values wanted entry.0)
-    (λ t.
-    by_bool {P = sources_listed wanted (kept (has_no_sources here)) ≡ old (same_values wanted entry.0)} (has_no_sources here)
-    (λ none.
-    ap (λ b. sources_listed wanted (kept b)) none
-    ∙ (ap (λ w. sources_listed w after) (same_are wanted entry.0 t)
-    ∙ (unlisted-swept places entry.0 entries distinct.0
-    ∙ (sym (none_is here none) ∙ ap old (sym t)))))
-    (λ some. ap (λ b. sources_listed wanted (kept b)) some ∙ (ap new t ∙ ap old (sym t))))
-    (λ f.
-    elim (has_no_sources here) as (λ b. sources_listed wanted (kept b) ≡ sources_listed wanted after) [ true ↦ refl | false ↦ ap new f ]
-    ∙ (sources_listed-swept places wanted entries distinct.1 ∙ ap old (sym f)))
+    let rest = sources_listed-swept places wanted entries distinct.1 in
+    let none = unlisted-swept places entry.0 entries distinct.0 in
+    let empty = none_is (moved_sources places entry.1) in
+    let same = same_are wanted entry.0 in
+    grind arith
 
 -- ---- the indexes of all rules
 
@@ -105,12 +93,8 @@ moved-retained T f places says [] kept h = h
 moved-retained T f places says (source ∷ sources) kept h =
     let said = says source h.0 h.1 h.2 h.3 in
     let rest = moved-retained T f places says sources h.4 (subst (λ g. RetainsInTurn T g sources h.4) said.1.1 h.5) in
-    let is = moved places source in
-    h.6
-    ∙ (ap (λ b. cond b (h.2 ∷ h.4) h.4) said.0
-    ∙ (ap (λ s. cond (is_some is) (s ∷ h.4) h.4) said.1.0
-    ∙ (elim is as (λ o. cond (is_some o) (unwrap_or o source ∷ h.4) h.4 ≡ cons_option o h.4) [ None ↦ refl | Some new ↦ refl ]
-    ∙ ap (cons_option is) rest)))
+    let is = h.6 in
+    grind arith
 
 -- where each call moves the sources of an entry, and says whether some are left, the entries are swept
 pub entries-retained : {F : Type 0} (T : F → List (List ℕ) → List Source → Bool → List Source → F → Type 0) (f : F) (places : List (Option ℕ))

@@ -1,5 +1,5 @@
 -- A search through the rules finds the first candidate that mutes the target.
-use Rattle.std.proofs.Common.{◌≡◌, ℕ, zero, suc, ◌<◌, Bool, List, [], ◌∷◌, ◌++◌, map, filter, length, Option, Some, None, refl, sym, ap, ◌∙◌, arith}
+use Rattle.std.proofs.Common.{◌≡◌, ℕ, zero, suc, ◌<◌, Bool, List, [], ◌∷◌, ◌++◌, map, filter, length, Option, Some, None, refl, sym, ap, subst, ◌∙◌, arith}
 use Rattle.std.specs.List.{find, slice_get}
 use Rattle.std.specs.Option.{option_map, option_and_then, option_or}
 use Rattle.std.proofs.lemmas.List.Folds.{find-append}
@@ -7,8 +7,10 @@ use Rattle.std.proofs.lemmas.Option.{slice_get-map}
 use Rattle.am_alert.specs.declared.alert.Alert.{Alert}
 use Rattle.am_labels.specs.LabelSets.{Labels}
 use Rattle.am_config.specs.declared.inhibit_rule.InhibitRule.{InhibitRule}
-use Rattle.am_inhibit.specs.LastAlerts.{label_sets}
-use Rattle.am_inhibit.specs.Muting.{is_candidate, inhibits, Candidate, rule_candidates, candidate_inhibits, count_to}
+use Rattle.am_inhibit.specs.declared.inhibitor.Muting.{Muting}
+use Rattle.am_inhibit.specs.LastAlerts.{label_sets, last_alerts}
+use Rattle.am_inhibit.specs.Muting.{is_candidate, inhibits, Candidate, rule_candidates, candidate_inhibits, candidates_seen, count_to, muted}
+use Rattle.am_inhibit.specs.inside.Searches.{candidates_from, first_muted, StandsFor}
 
 -- an alert as a candidate of a rule
 abbrev pub candidate_of : ℕ → InhibitRule → Alert → Candidate
@@ -50,3 +52,12 @@ got_within (x ∷ xs) (suc at) early = got_within xs at (omega arith)
 
 pub label_set_at : (alerts : List Alert) (at : ℕ) (alert : Alert) → slice_get alerts at ≡ Some alert → slice_get (label_sets alerts) at ≡ Some alert.labels
 label_set_at alerts at alert got = slice_get-map (λ (a : Alert). a.labels) alerts at ∙ ap (option_map (λ (a : Alert). a.labels)) got
+
+-- ---- the alerts that are searched, if no two are of one label set
+
+pub muted_among : (alerts : List Alert) (rules : List InhibitRule) (labels : Labels) (now : ℕ) (muting : Option Muting) → last_alerts alerts ≡ alerts → StandsFor alerts muting (first_muted labels now (candidates_from 0 labels alerts rules))
+    → StandsFor alerts muting (muted alerts rules labels now)
+muted_among alerts rules labels now muting last found = subst (λ l. StandsFor alerts muting (first_muted labels now (candidates_from 0 labels l rules))) (sym last) found
+
+pub seen_among : (alerts : List Alert) (rules : List InhibitRule) (labels : Labels) (now : ℕ) → last_alerts alerts ≡ alerts → candidates_seen alerts rules labels now ≡ count_to (candidate_inhibits labels now) (candidates_from 0 labels alerts rules)
+seen_among alerts rules labels now last = ap (λ l. count_to (candidate_inhibits labels now) (candidates_from 0 labels l rules)) last

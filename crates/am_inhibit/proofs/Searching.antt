@@ -64,30 +64,11 @@ pub found-first : (rule : InhibitRule) (labels : Labels) (is_source : Bool) (now
     ≡ find (inhibits rule labels now) (filter (is_candidate rule labels) rest)
 found-first rule labels is_source now alerts is at [] e = refl
 found-first rule labels is_source now alerts is at (alert ∷ rest) e =
-    let test = source_inhibits is_source now alerts in
-    let source = source_of rule at alert.labels in
-    let more = sources_from rule (values_for rule.equal labels) (at + 1) (label_sets rest) in
-    let others = filter (is_candidate rule labels) rest in
-    let answer = λ (sources : List Source). option_and_then (slice_get alerts) (option_map (λ (s : Source). s.at) (find test sources)) in
     let next = drop_next alerts at alert rest e in
-    let later : answer more ≡ find (inhibits rule labels now) others = found-first rule labels is_source now alerts is (at + 1) rest next.1 in
-    ap (λ b. answer (cond b (source ∷ more) more)) (chosen rule labels is_source alert is)
-    ∙ by_bool {P = answer (cond (is_candidate rule labels alert) (source ∷ more) more) ≡ find (inhibits rule labels now) (cond (is_candidate rule labels alert) (alert ∷ others) others)} (is_candidate rule labels alert)
-    (λ t.
-    let matches : all_admitted rule.source alert.labels ≡ true = (both_of (all_admitted rule.source alert.labels) (agree_on rule.equal labels alert.labels) (both_of (all_admitted rule.target labels) (all_admitted rule.source alert.labels && agree_on rule.equal labels alert.labels) t).1).0 in
-    let same : test source ≡ inhibits rule labels now alert = same_test rule labels is_source now alerts at alert is next.0 matches in
-    ap (λ b. answer (cond b (source ∷ more) more)) t
-    ∙ (by_bool {P = answer (source ∷ more) ≡ find (inhibits rule labels now) (alert ∷ others)} (inhibits rule labels now alert)
-    (λ passes.
-    ap (λ o. option_and_then (slice_get alerts) (option_map (λ (s : Source). s.at) o)) (find-yes test source more (same ∙ passes))
-    ∙ (next.0 ∙ sym (find-yes (inhibits rule labels now) alert others passes)))
-    (λ fails.
-    ap (λ o. option_and_then (slice_get alerts) (option_map (λ (s : Source). s.at) o)) (find-no test source more (same ∙ fails))
-    ∙ (later ∙ sym (find-no (inhibits rule labels now) alert others fails)))
-    ∙ sym (ap (λ b. find (inhibits rule labels now) (cond b (alert ∷ others) others)) t)))
-    (λ f.
-    ap (λ b. answer (cond b (source ∷ more) more)) f
-    ∙ (later ∙ sym (ap (λ b. find (inhibits rule labels now) (cond b (alert ∷ others) others)) f)))
+    let later = found-first rule labels is_source now alerts is (at + 1) rest next.1 in
+    let choice = chosen rule labels is_source alert is in
+    let test = same_test rule labels is_source now alerts at alert is next.0 in
+    grind (arith, both_of)
 
 -- and as many come before it
 pub looked-count : (rule : InhibitRule) (labels : Labels) (is_source : Bool) (now : ℕ) (alerts : List Alert) → Target rule labels is_source → (at : ℕ) (rest : List Alert) → drop at alerts ≡ rest
@@ -95,27 +76,11 @@ pub looked-count : (rule : InhibitRule) (labels : Labels) (is_source : Bool) (no
     ≡ count_to (inhibits rule labels now) (filter (is_candidate rule labels) rest)
 looked-count rule labels is_source now alerts is at [] e = refl
 looked-count rule labels is_source now alerts is at (alert ∷ rest) e =
-    let test = source_inhibits is_source now alerts in
-    let source = source_of rule at alert.labels in
-    let more = sources_from rule (values_for rule.equal labels) (at + 1) (label_sets rest) in
-    let others = filter (is_candidate rule labels) rest in
     let next = drop_next alerts at alert rest e in
-    let later : count_to test more ≡ count_to (inhibits rule labels now) others = looked-count rule labels is_source now alerts is (at + 1) rest next.1 in
-    ap (λ b. count_to test (cond b (source ∷ more) more)) (chosen rule labels is_source alert is)
-    ∙ by_bool {P = count_to test (cond (is_candidate rule labels alert) (source ∷ more) more) ≡ count_to (inhibits rule labels now) (cond (is_candidate rule labels alert) (alert ∷ others) others)} (is_candidate rule labels alert)
-    (λ t.
-    let matches : all_admitted rule.source alert.labels ≡ true = (both_of (all_admitted rule.source alert.labels) (agree_on rule.equal labels alert.labels) (both_of (all_admitted rule.target labels) (all_admitted rule.source alert.labels && agree_on rule.equal labels alert.labels) t).1).0 in
-    let same : test source ≡ inhibits rule labels now alert = same_test rule labels is_source now alerts at alert is next.0 matches in
-    ap (λ b. count_to test (cond b (source ∷ more) more)) t
-    ∙ (by_bool {P = count_to test (source ∷ more) ≡ count_to (inhibits rule labels now) (alert ∷ others)} (inhibits rule labels now alert)
-    (λ passes. count_to-yes test source more (same ∙ passes) ∙ sym (count_to-yes (inhibits rule labels now) alert others passes))
-    (λ fails.
-    count_to-no test source more (same ∙ fails)
-    ∙ (ap (λ n. 1 + n) later ∙ sym (count_to-no (inhibits rule labels now) alert others fails)))
-    ∙ sym (ap (λ b. count_to (inhibits rule labels now) (cond b (alert ∷ others) others)) t)))
-    (λ f.
-    ap (λ b. count_to test (cond b (source ∷ more) more)) f
-    ∙ (later ∙ sym (ap (λ b. count_to (inhibits rule labels now) (cond b (alert ∷ others) others)) f)))
+    let later = looked-count rule labels is_source now alerts is (at + 1) rest next.1 in
+    let choice = chosen rule labels is_source alert is in
+    let test = same_test rule labels is_source now alerts at alert is next.0 in
+    grind (arith, both_of)
 
 -- each source stands for an alert
 within : (rule : InhibitRule) (values : List (List ℕ)) (at : ℕ) (sets : List Labels) (end : ℕ) → at + length sets ≤ end → AllByRecursion (λ (source : Source). source.at < end) (sources_from rule values at sets)

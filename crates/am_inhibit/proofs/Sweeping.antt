@@ -10,12 +10,13 @@ use Rattle.am_labels.specs.LabelLaws.{labels_decide, labels_equiv}
 use Rattle.am_alert.specs.declared.alert.Alert.{Alert}
 use Rattle.am_alert.specs.Merging.{is_resolved_at, unless_resolved, unresolved}
 use Rattle.am_config.specs.declared.inhibit_rule.InhibitRule.{InhibitRule}
+use Rattle.am_keyed.specs.Keyed.{with_alert}
 use Rattle.am_inhibit.specs.LastAlerts.{last_alerts}
 use Rattle.am_inhibit.specs.KeptAlerts.{InhibitorEvent, Take, Sweep, kept_alerts, after_event, takes_removed}
 use Rattle.am_inhibit.specs.Muting.{is_candidate, inhibits, Candidate, rule_candidates, candidates, candidate_inhibits, candidates_seen, count_to, muted}
 use Rattle.am_inhibit.proofs.Cases.{by_bool}
-use Rattle.am_inhibit.proofs.LastAlerts.{has, set_last, AreApart, same_turned, last_alerts-apart}
-use Rattle.am_inhibit.proofs.KeptAlerts.{alert_of, kept_is_held, kept_apart, kept-take, kept-sweep, filters_commute}
+use Rattle.am_inhibit.proofs.LastAlerts.{has, AreApart, same_turned}
+use Rattle.am_inhibit.proofs.KeptAlerts.{alert_of, last_alerts-apart, kept_is_held, kept_apart, kept-take, kept-sweep, filters_commute}
 use Rattle.am_inhibit.proofs.RuleSearch.{candidate_of}
 
 not_true : (b : Bool) → not b ≡ true → b ≡ false
@@ -65,18 +66,17 @@ find-all labels now number (rule ∷ rules) keep alerts ended =
 
 -- what the alerts become by one more event
 abbrev kept_by : List Alert → InhibitorEvent → List Alert
-kept_by alerts (Take alert) = set_last alert alerts
+kept_by alerts (Take alert) = with_alert alert alerts
 kept_by alerts (Sweep now) = unresolved now alerts
 
 kept_along : (events more : List InhibitorEvent) → kept_alerts (events ++ more) ≡ fold kept_by (kept_alerts events) more
 kept_along events [] = ap kept_alerts (append-nil events)
-kept_along events (event ∷ more) =
-    ap kept_alerts (sym (append_assoc events (event ∷ []) more))
-    ∙ (kept_along (events ++ event ∷ []) more ∙ ap (λ l. fold kept_by l more) (one_more event))
-  where
-    one_more : (event : InhibitorEvent) → kept_alerts (events ++ event ∷ []) ≡ kept_by (kept_alerts events) event
-    one_more (Take alert) = kept-take events alert
-    one_more (Sweep now) = kept-sweep events now
+kept_along events (Take alert ∷ more) =
+    let rest = kept_along (events ++ Take alert ∷ []) more in
+    grind (arith, append_assoc, kept-take)
+kept_along events (Sweep now ∷ more) =
+    let rest = kept_along (events ++ Sweep now ∷ []) more in
+    grind (arith, append_assoc, kept-sweep)
 
 module _ (swept : ℕ) (removed : Labels → Bool) where
   -- whether an alert isn't of a label set that was removed
@@ -87,11 +87,11 @@ module _ (swept : ℕ) (removed : Labels → Bool) where
   abbrev AreEnded : List Alert → Type 0
   AreEnded alerts = AllByRecursion (λ (alert : Alert). removed alert.labels ≡ true → is_resolved_at swept alert ≡ true) alerts
 
-  still-set : (next : Alert) (alerts : List Alert) → removed next.labels ≡ false → filter still (set_last next alerts) ≡ set_last next (filter still alerts)
+  still-set : (next : Alert) (alerts : List Alert) → removed next.labels ≡ false → filter still (with_alert next alerts) ≡ with_alert next (filter still alerts)
   still-set next [] kept = ap (λ b. cond (not b) (next ∷ []) []) kept
-  still-set next (old ∷ olds) kept = let rest = still-set next olds in grind (arith, set_last, labels_decide)
+  still-set next (old ∷ olds) kept = let rest = still-set next olds in grind (arith, labels_decide)
 
-  ended-set : (next : Alert) (alerts : List Alert) → removed next.labels ≡ false → AreEnded alerts → AreEnded (set_last next alerts)
+  ended-set : (next : Alert) (alerts : List Alert) → removed next.labels ≡ false → AreEnded alerts → AreEnded (with_alert next alerts)
   ended-set next [] kept ended = ((λ gone. absurd (true≢false (sym gone ∙ kept))), tt)
   ended-set next (old ∷ olds) kept ended = let rest = ended-set next olds in grind arith
 
@@ -109,8 +109,8 @@ module _ (swept : ℕ) (removed : Labels → Bool) where
       → (fold kept_by (filter still alerts) more ≡ filter still (fold kept_by alerts more)) × AreEnded (fold kept_by alerts more)
   still_along [] alerts none ended = (refl, ended)
   still_along (Take next ∷ more) alerts none ended =
-      let rest = still_along more (set_last next alerts) in
-      grind (arith, or_none, set_last, ended-set, still-set)
+      let rest = still_along more (with_alert next alerts) in
+      grind (arith, or_none, ended-set, still-set)
   still_along (Sweep now ∷ more) alerts none ended =
       let later = still_along more (unresolved now alerts) none (ended-filter (λ (alert : Alert). not (is_resolved_at now alert)) alerts ended) in
       (ap (λ l. fold kept_by l more) (filters_commute (λ (alert : Alert). not (is_resolved_at now alert)) still alerts) ∙ later.0, later.1)
@@ -221,10 +221,7 @@ spared_at_first : (swept : ℕ) (held : Option Alert) → Spared swept (option_a
 unfolding Spared
 spared_at_first swept None = inl refl
 spared_at_first swept (Some alert) =
-    let P = λ (b : Bool). Spared swept (cond b None (Some alert)) (Some alert) in
-    by_bool {P = P (is_resolved_at swept alert)} (is_resolved_at swept alert)
-    (λ t. inr (ap (λ b. cond b None (Some alert)) t, alert, refl, t))
-    (λ f. inl (ap (λ b. cond b None (Some alert)) f))
+    elim (is_resolved_at swept alert) as (λ b. is_resolved_at swept alert ≡ b → Spared swept (cond b None (Some alert)) (Some alert)) [ true ↦ λ e. inr (refl, alert, refl, e) | false ↦ λ e. inl refl ] refl
 
 spared_later : (labels : Labels) (swept : ℕ) (more : List InhibitorEvent) (one other : Option Alert) → Spared swept one other → Spared swept (fold (after_event labels) one more) (fold (after_event labels) other more)
 unfolding Spared
@@ -293,20 +290,12 @@ any-spared swept test events more fire =
     same_tests (list_any test one) (list_any test other)
     (λ some.
     let it = passing_of test one (kept_apart (events ++ Sweep swept ∷ more)) some in
-    elim (spared_at_last it.alert.labels swept events more) [
-      | inl same ↦ any_of test other it.alert (sym same ∙ it.found) it.passes
-      | inr gone ↦ absurd (let no : None ≡ Some it.alert = sym gone.0 ∙ it.found in (cc))
-    ])
+    let spared = spared_at_last it.alert.labels swept events more in
+    grind (arith, any_of))
     (λ some.
     let it = passing_of test other (kept_apart (events ++ more)) some in
-    elim (spared_at_last it.alert.labels swept events more) [
-      | inl same ↦ any_of test one it.alert (same ∙ it.found) it.passes
-      | inr gone ↦ absurd (
-          let e : Some gone.1 ≡ Some it.alert = sym gone.2 ∙ it.found in
-          let same : gone.1 ≡ it.alert = (cc) in
-          let no : true ≡ false = sym gone.3 ∙ (ap (is_resolved_at swept) same ∙ fire it.alert it.passes) in (cc)
-          )
-    ])
+    let spared = spared_at_last it.alert.labels swept events more in
+    grind (arith, any_of))
 
 -- ---- the rule that mutes
 

@@ -1,10 +1,13 @@
 //! The inhibitor: which targets the alerts that it was given mute.
 //!
+//! The last alerts of all label sets are kept, also of those that are no source of any rule: contracts
+//! see what was taken, whatever the rules are.
+//!
 //! A sweep moves alerts to lower indexes and needs a number for each, and takes no memory: `take`
 //! reserves 16 bytes a label set. `mutes` copies the target's values, since a map can't be asked by
 //! borrowed ones here.
 
-ghost use Rattle.std.specs.Prelude.{◌≡◌, ◌<◌, ◌≤◌, [], ◌∷◌, ◌++◌, None, Some, All, map, min, length, position};
+ghost use Rattle.std.specs.Prelude.{◌≡◌, ◌<◌, ◌≤◌, false, [], ◌∷◌, ◌++◌, Some, All, map, min, length};
 ghost use Rattle.std.specs.Prelude.{IfOk, OnOk, OnErr, vec_capacity};
 ghost use Rattle.am_inhibit.specs.Muting.{candidate_inhibits, count_to};
 ghost use Rattle.am_alert.specs.Merging.{unresolved};
@@ -14,10 +17,10 @@ ghost use Rattle.am_inhibit.specs.inside.Indexes.{empty_indexes, rules_indexed};
 ghost use Rattle.am_inhibit.specs.inside.Places.{index_swept, new_places};
 ghost use Rattle.am_inhibit.specs.inside.Searches.{candidates_from, first_muted, StandsFor};
 
-use crate::last_alerts::LastAlerts;
 use crate::source_index::{SourceChange, SourceIndex};
 use am_alert::{Alert, Moment};
 use am_config::InhibitRules;
+use am_keyed::KeyedAlerts;
 use am_labels::LabelSet;
 use std::alloc::{AllocError, Global};
 use std::fmt;
@@ -46,7 +49,7 @@ pub struct Inhibitor<'r> {
     rules: &'r InhibitRules,
     // One for each rule, in their order.
     indexes: Vec<SourceIndex<'r>>,
-    alerts: LastAlerts,
+    alerts: KeyedAlerts,
     // The new index of each alert in a sweep. It has room for all, so that a sweep takes no memory.
     places: Vec<Option<usize>>,
     looked: u64,
@@ -72,7 +75,7 @@ impl<'r> Model for Inhibitor<'r> {
 impl<'r> Inhibitor<'r> {
     ghost use Rattle.std.specs.Prelude.{⊤, slice_get};
     ghost use Rattle.std.specs.Borrow.{sem};
-    ghost use Rattle.std.specs.List.{count_by};
+    ghost use Rattle.std.specs.List.{count_by, list_any};
     ghost use Rattle.std.specs.Option.{option_map};
     ghost use Rattle.am_alert.specs.Merging.{is_resolved_at};
     ghost use Rattle.am_inhibit.specs.contracts.inhibitor.Inhibitor.{the_row};
@@ -93,7 +96,7 @@ impl<'r> Inhibitor<'r> {
         Ok(Inhibitor {
             rules,
             indexes: prepare_each(alloc, rules)?,
-            alerts: LastAlerts::new(alloc),
+            alerts: KeyedAlerts::new(alloc),
             places: Vec::new(alloc),
             looked: 0,
         })
@@ -106,10 +109,11 @@ impl<'r> Inhibitor<'r> {
             ≡ record self.old { alerts = last_alerts (self.old.alerts ++ alert.now ∷ []) }) }
         ensures err { OnErr result (self.new ≡ self.old) }
     {
-        match self.alerts.index_of(&alert.labels) {
-            Some(at) => self.alerts.replace(at, alert),
-            None => self.begin(alert),
+        if !self.alerts.contains(&alert.labels) {
+            return self.begin(alert);
         }
+        let _older = self.alerts.keep(alert)?;
+        Ok(())
     }
 
     /// Whether a target is muted: by which rule, and by the alert of which label set. The lowest rule
@@ -144,7 +148,7 @@ impl<'r> Inhibitor<'r> {
         note_places(&mut self.places, self.alerts.as_slice(), now);
         sweep_all(&mut self.indexes, &self.places);
         self.places.clear();
-        self.alerts.sweep(now)
+        self.alerts.remove(&now) as u64
     }
 
     /// How many sources the last `mutes` examined: those that the rules name for the target and that
@@ -179,7 +183,7 @@ impl<'r> Inhibitor<'r> {
 
     // Takes the first alert of a label set.
     fn begin(&mut self, alert: &Alert) -> Result<(), AllocError>
-        requires { position (same_labels alert.now.labels) (label_sets self.old.alerts) ≡ None }
+        requires { list_any (same_labels alert.now.labels) (label_sets self.old.alerts) ≡ false }
         ensures taken { OnOk result (self.new
             ≡ record self.old { alerts = last_alerts (self.old.alerts ++ alert.now ∷ []) }) }
         ensures err { OnErr result (self.new ≡ self.old) }
@@ -188,8 +192,8 @@ impl<'r> Inhibitor<'r> {
         let at = self.alerts.as_slice().len();
         self.places.reserve(at + 1)?;
         let changes = add_to_all(alloc, &mut self.indexes, &alert.labels, at)?;
-        match self.alerts.push(alert) {
-            Ok(()) => Ok(()),
+        match self.alerts.keep(alert) {
+            Ok(_added) => Ok(()),
             Err(error) => {
                 undo_all(&mut self.indexes, changes);
                 Err(error)

@@ -31,7 +31,6 @@
 
 mod equal_values;
 mod inhibitor;
-mod last_alerts;
 pub mod laws;
 mod source;
 mod source_index;

@@ -1,26 +1,34 @@
 -- The map of a dispatcher's groups, seen as the list of its groups.
-use Rattle.std.proofs.Common.{◌≡◌, ℕ, zero, suc, ◌+◌, ◌<◌, Bool, true, false, not, ◌&&◌, nat_eq, List, [], ◌∷◌, ◌++◌, map, filter, length, take, drop, set, get_or, Option, Some, None, is_some, refl, sym, ap, ◌∙◌, arith}
+use Rattle.std.proofs.Common.{◌≡◌, ℕ, zero, suc, ◌+◌, ◌<◌, Bool, true, false, not, ◌&&◌, nat_eq, List, [], ◌∷◌, ◌++◌, map, filter, length, take, drop, set, get_or, Option, Some, None, is_some, refl, sym, ap, ◌∙◌, arith, ◌-◌, length-append}
 use Rattle.std.specs.List.{slice_get, position, list_all, count_by}
 use Rattle.std.specs.Map.{keys_of, values_of}
 use Rattle.std.specs.Map as map_of
 use Rattle.std.proofs.lemmas.Bool.Decides.{Decides-eqb}
 use Rattle.std.specs.Prelude.{Result, Ok, Err, OnErr}
 use Rattle.std.proofs.lemmas.List.Sums.{length-filter}
-use Rattle.std.proofs.lemmas.List.{length-map, drop_more, take_more, set_at, length-take-le, map-append, append_assoc, get_or_at}
+use Rattle.std.proofs.lemmas.List.{length-map, drop_more, length-take-le, get_or_at}
+use Rattle.std.proofs.lemmas.List.Edits.{map_over_more}
+use Rattle.std.proofs.Math.Seq.{take-append_seam}
 use Rattle.indexmap.specs.IndexMap.{insert_entry, set_value_at}
 use Rattle.indexmap.proofs.MapLemmas.{Found-position, insert_entry-first}
 use Rattle.am_labels.specs.LabelSets.{Labels, same_labels}
 use Rattle.am_labels.specs.LabelLaws.{labels_decide}
 use Rattle.am_alert.specs.declared.alert.Alert.{Alert}
 use Rattle.am_alert.specs.Merging.{is_resolved_at, unresolved}
+use Rattle.am_keyed.specs.declared.keyed.Change.{Change}
+use Rattle.am_keyed.specs.Keyed.{with_alert, before_alert}
 use Rattle.am_routes.specs.declared.dispatcher.GroupKey.{GroupKey}
-use Rattle.am_routes.specs.declared.group.AlertChange.{AlertChange}
 use Rattle.am_routes.specs.RouteAnswers.{Node}
 use Rattle.am_routes.specs.Groups.{GroupView, is_empty, removed_groups}
-use Rattle.am_routes.specs.inside.GroupLists.{alerts_with, joined, with_members, with_member, swept, without_resolved}
+use Rattle.am_routes.specs.inside.GroupLists.{joined, with_members, with_member, swept, without_resolved}
 use Rattle.am_routes.specs.inside.GroupMaps.{groups_in, AreKeyedByGroups}
-use Rattle.am_routes.specs.Undoing.{alerts_before, all_before, changed_back, groups_before}
+use Rattle.am_routes.specs.Undoing.{all_before, changed_back, groups_before}
 use Rattle.am_routes.specs.declared.dispatcher.GroupChange.{GroupChange}
+
+pub take_last : {A : Type 0} (xs : List A) (x : A) → take (length (xs ++ x ∷ []) - 1) (xs ++ x ∷ []) ≡ xs
+take_last xs x =
+    let all : length (xs ++ x ∷ []) - 1 ≡ length xs = omega (arith, length-append xs (x ∷ [])) in
+    ap (λ n. take n (xs ++ x ∷ [])) all ∙ take-append_seam xs (x ∷ [])
 
 -- whether two keys are the same
 abbrev pub same_key : GroupKey → GroupKey → Bool
@@ -45,7 +53,7 @@ member_begins node labels alert key (entry ∷ entries) of kept none =
 
 -- where a group has the key, the alert is put into it
 pub member_joins : (node : Node) (labels : Labels) (alert : Alert) (key : GroupKey) (group : GroupView) (entries : List (GroupKey × GroupView)) → IsKeyOf node labels key → AreKeyedByGroups entries → map_of.lookup (same_key key) entries ≡ Some group
-    → groups_in (insert_entry same_key entries key (record group { alerts = alerts_with alert group.alerts })) ≡ with_member node labels alert (groups_in entries)
+    → groups_in (insert_entry same_key entries key (record group { alerts = with_alert alert group.alerts })) ≡ with_member node labels alert (groups_in entries)
 member_joins node labels alert key group [] of kept found = absurd (cc)
 member_joins node labels alert key group (entry ∷ entries) of kept found =
     let rest = member_joins node labels alert key group entries in
@@ -73,19 +81,19 @@ written_kept (entry ∷ entries) zero old new got route labels kept = grind arit
 written_kept (entry ∷ entries) (suc at) old new got route labels kept = (kept.0, written_kept entries at old new got route labels kept.1)
 
 -- what a group was, where its alerts are put back
-pub change_undone : (entries : List (GroupKey × GroupView)) (at : ℕ) (old : GroupView) (alerts : List Alert) (change : AlertChange) → slice_get (values_of entries) at ≡ Some old → alerts_before change alerts ≡ old.alerts
+pub change_undone : (entries : List (GroupKey × GroupView)) (at : ℕ) (old : GroupView) (alerts : List Alert) (change : Change Alert) → slice_get (values_of entries) at ≡ Some old → before_alert change alerts ≡ old.alerts
     → changed_back at change (groups_in (set_value_at entries at (record old { alerts = alerts }))) ≡ groups_in entries
 change_undone [] at old alerts change got before = refl
 change_undone (entry ∷ entries) zero old alerts change got before = grind arith
 change_undone (entry ∷ entries) (suc at) old alerts change got before = ap (λ rest. entry.1 ∷ rest) (change_undone entries at old alerts change got before)
 
-pub change_back : (entries : List (GroupKey × GroupView)) (at : ℕ) (old : GroupView) (change : AlertChange) → slice_get (values_of entries) at ≡ Some old
-    → groups_in (set_value_at entries at (record old { alerts = alerts_before change old.alerts })) ≡ changed_back at change (groups_in entries)
+pub change_back : (entries : List (GroupKey × GroupView)) (at : ℕ) (old : GroupView) (change : Change Alert) → slice_get (values_of entries) at ≡ Some old
+    → groups_in (set_value_at entries at (record old { alerts = before_alert change old.alerts })) ≡ changed_back at change (groups_in entries)
 change_back [] at old change got = refl
 change_back (entry ∷ entries) zero old change got = grind arith
 change_back (entry ∷ entries) (suc at) old change got = ap (λ rest. entry.1 ∷ rest) (change_back entries at old change got)
 
-pub change_nowhere : (groups : List GroupView) (at : ℕ) (change : AlertChange) → None ≡ slice_get groups at → groups ≡ changed_back at change groups
+pub change_nowhere : (groups : List GroupView) (at : ℕ) (change : Change Alert) → None ≡ slice_get groups at → groups ≡ changed_back at change groups
 change_nowhere [] at change past = refl
 change_nowhere (group ∷ groups) zero change past = absurd (let no : None ≡ Some group = past in (cc))
 change_nowhere (group ∷ groups) (suc at) change past = ap (λ rest. group ∷ rest) (change_nowhere groups at change past)
@@ -122,14 +130,9 @@ resolved_more now groups all at group early are is =
     let front = map (without_resolved now) (take at all) in
     let next = get_or all at group in
     let long : length front ≡ at = length-map (take at all) (without_resolved now) ∙ length-take-le at all (omega arith) in
-    let split : groups ≡ front ++ next ∷ drop (at + 1) all = are ∙ ap (λ l. front ++ l) (drop_more all at group early) in
-    let here : group ≡ next = is ∙ (ap (λ l. get_or l at group) split ∙ get_or_at front next (drop (at + 1) all) group at long) in (
-      ap (λ l. set l at (without_resolved now group)) split
-          ∙ (set_at front next (drop (at + 1) all) (without_resolved now group) at long
-          ∙ (ap (λ g. front ++ without_resolved now g ∷ drop (at + 1) all) here
-          ∙ (sym (append_assoc front (without_resolved now next ∷ []) (drop (at + 1) all))
-          ∙ ap (λ l. l ++ drop (at + 1) all) (sym (ap (map (without_resolved now)) (take_more all at group early) ∙ map-append (without_resolved now) (take at all) (next ∷ [])))))),
-      here,
+    let split : groups ≡ front ++ next ∷ drop (at + 1) all = are ∙ ap (λ l. front ++ l) (drop_more all at group early) in (
+      map_over_more (without_resolved now) all groups at group early are is,
+      is ∙ (ap (λ l. get_or l at group) split ∙ get_or_at front next (drop (at + 1) all) group at long),
     )
 
 -- what is swept: what is resolved goes, then what is empty

@@ -10,12 +10,13 @@ use Rattle.am_alert.specs.declared.alert.Alert.{Alert}
 use Rattle.am_alert.specs.Merging.{unless_resolved, unresolved}
 use Rattle.am_labels.specs.LabelSets.{Labels, same_labels}
 use Rattle.am_labels.specs.LabelLaws.{labels_decide}
+use Rattle.am_keyed.specs.Keyed.{with_alert}
 use Rattle.am_config.specs.Routes.{Forest}
 use Rattle.am_routes.specs.RouteAnswers.{Node, answer_of}
 use Rattle.am_config.specs.GroupLabels.{group_labels}
 use Rattle.am_routes.specs.InOrder.{in_order}
 use Rattle.am_routes.specs.Groups.{DispatchEvent, Take, Sweep, GroupUpdate, Join, Resolve, joins, updates_of_event, group_updates, GroupIdentity, same_group, group_key, label_set, after_group_update, held_in, alerts_of_group, some_of, members, group_of, groups_after, groups_of}
-use Rattle.am_routes.specs.inside.GroupLists.{alerts_with, with_member, with_members, swept}
+use Rattle.am_routes.specs.inside.GroupLists.{with_member, with_members, swept}
 use Rattle.am_routes.proofs.Cases.{by_bool}
 use Rattle.am_routes.proofs.InOrder.{GoesByKeys, put, in_order-each, in_order-own, AllHold, in_order_hold}
 
@@ -109,7 +110,7 @@ unfolding is_of
 own_is_of key labels update e = ap (λ o. option_map_or (λ own. same_labels labels own) o false) e ∙ (labels_decide labels labels).1 refl
 
 values_put : (key : GroupIdentity) (all : List GroupUpdate) (alert : Alert) (update : GroupUpdate) (entries : List (GroupUpdate × Alert)) → AllHold (label_set key) (held_in key) all entries
-    → map (λ (entry : GroupUpdate × Alert). entry.1) (put (is_of key alert.labels) (λ held. alert) update entries) ≡ alerts_with alert (map (λ (entry : GroupUpdate × Alert). entry.1) entries)
+    → map (λ (entry : GroupUpdate × Alert). entry.1) (put (is_of key alert.labels) (λ held. alert) update entries) ≡ with_alert alert (map (λ (entry : GroupUpdate × Alert). entry.1) entries)
 unfolding put AllHold is_of
 values_put key all alert update [] hold = refl
 values_put key all alert update (entry ∷ entries) hold =
@@ -117,7 +118,7 @@ values_put key all alert update (entry ∷ entries) hold =
     grind (arith, held_own, put)
 
 alerts_own : (key : GroupIdentity) (all : List GroupUpdate) (node : Node) (labels : Labels) (alert : Alert) → same_group key (record { route = node.number; labels = labels }) ≡ true
-    → alerts_of_group key (all ++ Join node labels alert ∷ []) ≡ alerts_with alert (alerts_of_group key all)
+    → alerts_of_group key (all ++ Join node labels alert ∷ []) ≡ with_alert alert (alerts_of_group key all)
 alerts_own key all node labels alert own =
     let update = Join node labels alert in
     let is : label_set key update ≡ Some alert.labels = ap (λ b. cond b (Some alert.labels) None) own in
@@ -170,12 +171,12 @@ own_is_in key update e = ap (λ o. option_map_or (λ own. same_group key own) o 
 
 with_one : Alert → Option (List Alert) → List Alert
 with_one alert None = alert ∷ []
-with_one alert (Some alerts) = alerts_with alert alerts
+with_one alert (Some alerts) = with_alert alert alerts
 
-some_with : (alert : Alert) (alerts : List Alert) → some_of (alerts_with alert alerts) ≡ Some (with_one alert (some_of alerts))
+some_with : (alert : Alert) (alerts : List Alert) → some_of (with_alert alert alerts) ≡ Some (with_one alert (some_of alerts))
 unfolding with_one
 some_with alert [] = refl
-some_with alert (old ∷ olds) = elim (same_labels alert.labels old.labels) as (λ b. some_of (cond b (alert ∷ olds) (old ∷ alerts_with alert olds)) ≡ Some (cond b (alert ∷ olds) (old ∷ alerts_with alert olds))) [ true ↦ refl | false ↦ refl ]
+some_with alert (old ∷ olds) = elim (same_labels alert.labels old.labels) as (λ b. some_of (cond b (alert ∷ olds) (old ∷ with_alert alert olds)) ≡ Some (cond b (alert ∷ olds) (old ∷ with_alert alert olds))) [ true ↦ refl | false ↦ refl ]
 
 groups_put : (node : Node) (labels : Labels) (alert : Alert) (entries : List (GroupUpdate × List Alert))
     → filter_map group_of (put (is_in (record { route = node.number; labels = labels })) (with_one alert) (Join node labels alert) entries) ≡ with_member node labels alert (filter_map group_of entries)

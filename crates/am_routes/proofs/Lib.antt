@@ -6,5 +6,4 @@ pub mod Searching
 pub mod Listings
 pub mod Joins
 pub mod RouteAnswers
-pub mod GroupEntries
 pub mod GroupMaps

@@ -3,6 +3,7 @@ pub use Rattle.am_labels.specs.Matchers
 pub use Rattle.am_labels.specs.MatcherTexts
 pub use Rattle.am_alert.specs.Alerts
 pub use Rattle.am_alert.specs.Merging
+pub use Rattle.am_keyed.specs.Keyed
 pub use Rattle.am_config.specs.Routes
 pub use Rattle.am_config.specs.RouteLists
 pub use Rattle.am_config.specs.GroupLabels

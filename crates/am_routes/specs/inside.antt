@@ -2,6 +2,5 @@
 pub mod ChildIndexes
 pub mod Searches
 pub mod GroupLists
-pub mod GroupChanges
 pub mod GroupMaps
 pub mod DispatcherCodes

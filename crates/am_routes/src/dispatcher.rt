@@ -12,11 +12,12 @@ ghost use Rattle.am_routes.specs.inside.GroupLists.{joined, with_members, withou
 ghost use Rattle.am_routes.specs.Undoing.{all_before, groups_before};
 ghost use Rattle.am_routes.specs.inside.GroupMaps.{groups_in, AreKeyedByGroups};
 
-use crate::group::{AlertChange, Group};
+use crate::group::Group;
 use crate::matching::{FoundRoute, PreparedTree};
 use crate::route_id::RouteId;
 use am_alert::{Alert, Moment};
 use am_config::RouteTree;
+use am_keyed::Change;
 use am_labels::LabelSet;
 use indexmap::IndexMap;
 use std::alloc::{AllocError, Global};
@@ -39,7 +40,7 @@ pub(crate) enum GroupChange {
     /// It began a group, the last one.
     Begun,
     /// It changed the group at this index.
-    Changed(usize, AlertChange),
+    Changed(usize, Change<Alert>),
 }
 
 /// What an alert that was taken changed, kept to undo it.

@@ -5,15 +5,10 @@ use Rattle.std.specs.List.{filter_map}
 use Rattle.am_alert.specs.declared.alert.Alert.{Alert}
 use Rattle.am_alert.specs.Merging.{unresolved}
 use Rattle.am_labels.specs.LabelSets.{Labels, same_labels}
+use Rattle.am_keyed.specs.Keyed.{with_alert}
 use Rattle.am_routes.specs.RouteAnswers.{Node}
 use Rattle.am_config.specs.GroupLabels.{group_labels}
 use Rattle.am_routes.specs.Groups.{GroupView, some_of}
-
--- alerts with one more: it replaces that of its label set, or is added at the end
-abbrev pub alerts_with : Alert → List Alert → List Alert
-alerts_with alert [] = alert ∷ []
-alerts_with alert (old ∷ olds) =
-    if same_labels alert.labels old.labels then alert ∷ olds else old ∷ alerts_with alert olds
 
 -- the group of a route and labels
 abbrev pub is_group : Node → Labels → GroupView → Bool
@@ -25,7 +20,7 @@ with_member node labels alert [] =
     record { route = node.number; receiver = node.route.receiver; labels = labels; alerts = alert ∷ [] } ∷ []
 with_member node labels alert (group ∷ groups) =
     if is_group node labels group
-    then record group { alerts = alerts_with alert group.alerts } ∷ groups
+    then record group { alerts = with_alert alert group.alerts } ∷ groups
     else group ∷ with_member node labels alert groups
 
 -- groups with an alert put into one of a route

@@ -1,7 +1,8 @@
 use Rattle.std.proofs.Common.{◌≡◌, ◌<◌, ◌++◌, ◌∷◌, [], length, set, get_or, sym, ap, ◌∙◌, arith, length-append, length-set, get_or-set_same}
 use Rattle.std.proofs.lemmas.List.{set-get_or, set-set}
+use Rattle.std.proofs.lemmas.List.Edits.{map_over_more}
 use Rattle.am_inhibit.specs.inside.Indexes.{index_with, index_before, indexes_before}
-use Rattle.am_inhibit.proofs.Indexes.{back_one, map_more}
+use Rattle.am_inhibit.proofs.Indexes.{back_one}
 use Rattle.am_inhibit.proofs.inhibitor.add_to_all.Goals as goal
 
 pub loop-index-preserved : goal.loop-index-preserved
@@ -29,7 +30,7 @@ loop-index-preserved c =
     ap (λ n. set after n (index_before change new)) count
     ∙ (ap (set after at) back ∙ (set-set indexes at new old ∙ (ap (set indexes at) is ∙ set-get_or indexes at old))) in
     record {
-      added = ap (set indexes at) made ∙ map_more f olds indexes at old early c.loop-index.invariant.added is;
+      added = ap (set indexes at) made ∙ map_over_more f olds indexes at old early c.loop-index.invariant.added is;
       before = ap (λ l. indexes_before l after) pushed
           ∙ (sym (back_one changes change after new first got) ∙ (ap (indexes_before changes) undone ∙ c.loop-index.invariant.before));
       count = ap length pushed ∙ omega (arith, length-append changes (change ∷ []), count);

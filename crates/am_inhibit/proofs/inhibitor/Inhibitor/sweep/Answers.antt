@@ -14,8 +14,8 @@ invariant_of-self c =
     let alerts = c.self.inside.alerts in
     let items = c.self.inside.indexes.items in
     let f = index_swept (new_places 0 now alerts) in
-    let places = c.deref.ensures.value ∙ (c.note_places.ensures.places ∙ ap (new_places 0 now) c.as_slice.ensures.alerts) in
+    let places = c.deref.ensures.value ∙ (c.note_places.ensures.places ∙ ap (new_places 0 now) c.as_slice.ensures.values) in
     let are = are_indexes-swept rules_now now alerts items c.self.invariant.0 in
     let both = length-filter_both (is_resolved_at now) (λ (alert : Alert). not (is_resolved_at now alert)) (λ alert. refl) alerts in
-    let left = ap length c.sweep.ensures.kept in
+    let left = ap length c.remove.ensures.left in
     grind (arith, common_steps)

@@ -1,0 +1,37 @@
+-- Values with keys, as a list that values are put into, one after another.
+use Rattle.std.specs.Prelude.{◌≡◌, ℕ, Bool, List, [], ◌∷◌, ◌-◌, if◌then◌else◌, map, take, length}
+use Rattle.std.specs.Map.{keys_of, values_of}
+use Rattle.am_alert.specs.declared.alert.Alert.{Alert}
+use Rattle.am_labels.specs.LabelSets.{same_labels}
+use Rattle.am_keyed.specs.declared.keyed.Change.{Change}
+use Rattle.am_keyed.specs.declared.keyed.Change.TheVariants.{Added, Replaced}
+
+-- each value of a map has its own key there
+pub record AreOwnKeys {K V : Type 0} (key : V → K) (entries : List (K × V)) : Type 0 where
+  pub keys : keys_of entries ≡ map key (values_of entries)
+
+module _ {K V : Type 0} (eq : K → K → Bool) (key : V → K) where
+  -- values with one more: it replaces that of its key, or is added at the end
+  abbrev pub with_value : V → List V → List V
+  with_value value [] = value ∷ []
+  with_value value (old ∷ olds) =
+      if eq (key value) (key old) then value ∷ olds else old ∷ with_value value olds
+
+  -- values with one put back in the place of its key
+  abbrev pub with_old : V → List V → List V
+  with_old before [] = []
+  with_old before (value ∷ values) =
+      if eq (key before) (key value) then before ∷ values else value ∷ with_old before values
+
+  -- values before their last change
+  abbrev pub before_change : Change V → List V → List V
+  before_change Added values = take (length values - 1) values
+  before_change (Replaced before) values = with_old before values
+
+-- alerts with one more: it replaces that of its label set, or is added at the end
+abbrev pub with_alert : Alert → List Alert → List Alert
+with_alert = with_value same_labels (λ alert. alert.labels)
+
+-- alerts before their last change
+abbrev pub before_alert : Change Alert → List Alert → List Alert
+before_alert = before_change same_labels (λ alert. alert.labels)
