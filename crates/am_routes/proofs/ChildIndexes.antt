@@ -13,7 +13,6 @@ use Rattle.am_routes.specs.declared.child_entry.ChildEntry.{ChildEntry}
 use Rattle.am_routes.specs.declared.name_index.NameIndex.{NameIndex}
 use Rattle.am_routes.specs.Looking.{is_equal, first_equality, may_match}
 use Rattle.am_routes.specs.inside.ChildIndexes.{ChildView, children_from, offsets_from, child_entry_of, entries_from, has_no_routes, filings, places_from, is_unfiled, is_filed, indexes_kept, has_name, is_found, is_kept, is_met, IsFirstFrom, earlier, without, places_left, IsIndexOf, AreLeftOf}
-use Rattle.am_routes.proofs.Cases.{by_bool}
 
 -- ---- places
 
@@ -130,10 +129,7 @@ left_passed test n (suc k) (x ∷ xs) fails = left_passed test n k xs fails
 
 not_first : (n : ℕ) (places : List ℕ) → ((i d : ℕ) → i < length places → n + 1 ≤ get_or places i d) → without n places ≡ places
 not_first n [] above = refl
-not_first n (place ∷ places) above =
-    let up : n + 1 ≤ place = above 0 0 (omega arith) in
-    let differs : nat_eq place n ≡ false = grind arith in
-    ap (λ b. cond b places (place ∷ places)) differs
+not_first n (place ∷ places) above = let up : n + 1 ≤ place = above 0 0 (omega arith) in grind arith
 
 left_without : {X : Type 0} (test : X → Bool) (n k : ℕ) (xs : List X) → without n (places_from test n (drop k xs)) ≡ places_from test (n + 1) (drop (suc k) xs)
 left_without test n zero [] = refl
@@ -217,26 +213,9 @@ met_by : (labels : Labels) (m : MatcherView) (indexes : List NameIndex)
     → list_any (λ index. is_filed index.name.now (value_of labels index.name.now) (Some m)) indexes ≡ (has_name m.name indexes && bytes_eq (value_of labels m.name) m.value)
 met_by labels m [] = refl
 met_by labels m (index ∷ indexes) =
-    by_bool {P = list_any (λ (index : NameIndex). is_filed index.name.now (value_of labels index.name.now) (Some m)) (index ∷ indexes) ≡ (has_name m.name (index ∷ indexes) && bytes_eq (value_of labels m.name) m.value)} (bytes_eq m.name index.name.now)
-    (λ t.
-    let same : m.name ≡ index.name.now = (bytes_decides m.name index.name.now).0 t in
-    let value : bytes_eq (value_of labels index.name.now) m.value ≡ bytes_eq (value_of labels m.name) m.value = ap (λ name. bytes_eq (value_of labels name) m.value) (sym same) in
     let rest = met_by labels m indexes in
-    ap (λ b. (b && bytes_eq (value_of labels index.name.now) m.value) || list_any (λ (index : NameIndex). is_filed index.name.now (value_of labels index.name.now) (Some m)) indexes) t
-    ∙ (ap (λ b. b || list_any (λ (index : NameIndex). is_filed index.name.now (value_of labels index.name.now) (Some m)) indexes) value
-    ∙ (ap (λ b. bytes_eq (value_of labels m.name) m.value || b) rest
-    ∙ (absorbed (has_name m.name indexes) (bytes_eq (value_of labels m.name) m.value)
-    ∙ sym (ap (λ b. (b || has_name m.name indexes) && bytes_eq (value_of labels m.name) m.value) t)))))
-    (λ f.
-    let rest = met_by labels m indexes in
-    ap (λ b. (b && bytes_eq (value_of labels index.name.now) m.value) || list_any (λ (index : NameIndex). is_filed index.name.now (value_of labels index.name.now) (Some m)) indexes) f
-    ∙ (rest ∙ sym (ap (λ b. (b || has_name m.name indexes) && bytes_eq (value_of labels m.name) m.value) f)))
-  where
-    absorbed : (a b : Bool) → (b || (a && b)) ≡ b
-    absorbed true true = refl
-    absorbed true false = refl
-    absorbed false true = refl
-    absorbed false false = refl
+    let same = bytes_decides m.name index.name.now in
+    grind arith
 
 admitted_equal : (labels : Labels) (m : MatcherView) → is_equal m.operator ≡ true → admitted m labels ≡ bytes_eq (value_of labels m.name) m.value
 admitted_equal labels m is = grind arith
@@ -272,11 +251,6 @@ pub entry-at : (offset : ℕ) (rs : List Route) (at : ℕ) (r : Route) (own : �
 entry-at offset [] at r own d early is comes = absurd (omega arith)
 entry-at offset (one ∷ rs) zero r own d early is comes = grind arith
 entry-at offset (one ∷ rs) (suc at) r own d early is comes = entry-at (offset + 1 + count_of one.children) rs at r own d (omega arith) is comes
-
-pub get_or-default : {X : Type 0} (xs : List X) (i : ℕ) (d e : X) → i < length xs → get_or xs i d ≡ get_or xs i e
-get_or-default [] i d e early = absurd (omega arith)
-get_or-default (x ∷ xs) zero d e early = refl
-get_or-default (x ∷ xs) (suc i) d e early = get_or-default xs i d e (omega arith)
 
 pub length-entries : (offset : ℕ) (rs : List Route) → length (entries_from offset (forest_of rs)) ≡ length rs
 length-entries offset [] = refl
@@ -324,14 +298,10 @@ named-push name indexes index is = search (rules, list_any-push, right_holds)
 -- what is found stays found with an index more
 found_more : (indexes : List NameIndex) (index : NameIndex) (all : List (Option MatcherView)) → list_all (is_found indexes) all ≡ true → list_all (is_found (indexes ++ index ∷ [])) all ≡ true
 found_more indexes index [] found = refl
-found_more indexes index (filing ∷ all) found =
-    let first : is_found indexes filing ≡ true = all_get (is_found indexes) (filing ∷ all) 0 filing found refl in
-    let rest : list_all (is_found indexes) all ≡ true = sym (ap (λ b. b && list_all (is_found indexes) all) first) ∙ found in
-    ap (λ b. b && list_all (is_found (indexes ++ index ∷ [])) all) (still filing first) ∙ found_more indexes index all rest
-  where
-    still : (filing : Option MatcherView) → is_found indexes filing ≡ true → is_found (indexes ++ index ∷ []) filing ≡ true
-    still None is = refl
-    still (Some m) is = named-more m.name indexes index is
+found_more indexes index (None ∷ all) found = found_more indexes index all found
+found_more indexes index (Some m ∷ all) found =
+    let rest = found_more indexes index all in
+    grind (arith, named-more)
 
 -- a route whose name is found already
 pub found-step : (indexes : List NameIndex) (rs : List Route) (i : ℕ) (r : Route) → i < length rs → r ≡ get_or rs i r → list_all (is_found indexes) (filings (forest_of (take i rs))) ≡ true → is_found indexes (first_equality r.matchers) ≡ true

@@ -164,13 +164,3 @@ all_before_last (first ∷ changes) change groups = ap (groups_before first) (al
 pub members_last : (nodes : List Node) (node : Node) (alert : Alert) (groups : List GroupView) → with_members (nodes ++ node ∷ []) alert groups ≡ joined node alert (with_members nodes alert groups)
 members_last [] node alert groups = refl
 members_last (first ∷ nodes) node alert groups = members_last nodes node alert (joined first alert groups)
-
-pub got_at : {A : Type 0} (xs : List A) (at : ℕ) (x : A) → slice_get xs at ≡ Some x → x ≡ get_or xs at x
-got_at [] at x got = refl
-got_at (y ∷ xs) zero x got = (cc)
-got_at (y ∷ xs) (suc at) x got = got_at xs at x got
-
-pub length-written : (entries : List (GroupKey × GroupView)) (at : ℕ) (group : GroupView) → length (set_value_at entries at group) ≡ length entries
-length-written [] at group = refl
-length-written (entry ∷ entries) zero group = refl
-length-written (entry ∷ entries) (suc at) group = ap suc (length-written entries at group)

@@ -1,5 +1,5 @@
 -- The groups go on alert by alert and sweep by sweep.
-use Rattle.std.proofs.Common.{◌≡◌, ◌≢◌, ℕ, Bool, true, false, ◌&&◌, cond, List, [], ◌∷◌, ◌++◌, map, fold, Option, Some, None, refl, sym, ap, subst, ◌∙◌, arith, rules}
+use Rattle.std.proofs.Common.{◌≡◌, ◌≢◌, ℕ, Bool, true, false, ◌&&◌, cond, List, [], ◌∷◌, ◌++◌, map, fold, Option, Some, None, refl, sym, ap, ◌∙◌, arith, rules}
 use Rattle.std.specs.Option.{option_map, option_and_then, option_map_or, IfSome}
 use Rattle.std.specs.Bool.{Decides}
 use Rattle.std.specs.List.{filter_map}
@@ -95,7 +95,7 @@ own_from key labels held (update ∷ all) own = own_from key labels (after_group
 
 held_own : (key : GroupIdentity) (labels : Labels) (all : List GroupUpdate) (alert : Alert) → held_in key labels all ≡ Some alert → alert.labels ≡ labels
 unfolding Own
-held_own key labels all alert e = let own : Own labels (held_in key labels all) = own_from key labels None all tt in subst (λ o. IfSome o (λ alert. alert.labels ≡ labels)) e own
+held_own key labels all alert e = let own = own_from key labels None all tt in grind arith
 
 -- whether an update of the group is of the label set
 is_of : GroupIdentity → Labels → GroupUpdate → Bool
@@ -107,7 +107,7 @@ is_of_own key labels update e = grind (arith, labels_decide)
 
 own_is_of : (key : GroupIdentity) (labels : Labels) (update : GroupUpdate) → label_set key update ≡ Some labels → is_of key labels update ≡ true
 unfolding is_of
-own_is_of key labels update e = ap (λ o. option_map_or (λ own. same_labels labels own) o false) e ∙ (labels_decide labels labels).1 refl
+own_is_of key labels update e = grind (arith, labels_decide)
 
 values_put : (key : GroupIdentity) (all : List GroupUpdate) (alert : Alert) (update : GroupUpdate) (entries : List (GroupUpdate × Alert)) → AllHold (label_set key) (held_in key) all entries
     → map (λ (entry : GroupUpdate × Alert). entry.1) (put (is_of key alert.labels) (λ held. alert) update entries) ≡ with_alert alert (map (λ (entry : GroupUpdate × Alert). entry.1) entries)
@@ -121,12 +121,8 @@ alerts_own : (key : GroupIdentity) (all : List GroupUpdate) (node : Node) (label
     → alerts_of_group key (all ++ Join node labels alert ∷ []) ≡ with_alert alert (alerts_of_group key all)
 alerts_own key all node labels alert own =
     let update = Join node labels alert in
-    let is : label_set key update ≡ Some alert.labels = ap (λ b. cond b (Some alert.labels) None) own in
-    let here : GroupIdentity = record { route = node.number; labels = labels } in
-    let held : held_in key alert.labels (all ++ update ∷ []) ≡ Some alert =
-    held_last key alert.labels all update
-    ∙ (ap (λ b. cond (b && same_labels alert.labels alert.labels) (Some alert) (held_in key alert.labels all)) own
-    ∙ ap (λ b. cond b (Some alert) (held_in key alert.labels all)) ((labels_decide alert.labels alert.labels).1 refl)) in
+    let is : label_set key update ≡ Some alert.labels = grind arith in
+    let held : held_in key alert.labels (all ++ update ∷ []) ≡ Some alert = grind (arith, held_last, labels_decide) in
     ap (map (λ (entry : GroupUpdate × Alert). entry.1))
     (in_order-own (label_set key) (held_in key) no_more (label_sets key) same_labels labels_decide (is_of key alert.labels) alert.labels (is_of_own key alert.labels) (λ held. alert) all update is held (own_is_of key alert.labels))
     ∙ values_put key all alert update (in_order (label_set key) (held_in key) all) (in_order_hold (label_set key) (held_in key) all)
@@ -167,7 +163,7 @@ is_in_own key (Resolve now) e = absurd (cc)
 
 own_is_in : (key : GroupIdentity) (update : GroupUpdate) → group_key update ≡ Some key → is_in key update ≡ true
 unfolding is_in
-own_is_in key update e = ap (λ o. option_map_or (λ own. same_group key own) o false) e ∙ (group_decides key key).1 refl
+own_is_in key update e = grind (arith, group_decides)
 
 with_one : Alert → Option (List Alert) → List Alert
 with_one alert None = alert ∷ []
@@ -176,7 +172,7 @@ with_one alert (Some alerts) = with_alert alert alerts
 some_with : (alert : Alert) (alerts : List Alert) → some_of (with_alert alert alerts) ≡ Some (with_one alert (some_of alerts))
 unfolding with_one
 some_with alert [] = refl
-some_with alert (old ∷ olds) = elim (same_labels alert.labels old.labels) as (λ b. some_of (cond b (alert ∷ olds) (old ∷ with_alert alert olds)) ≡ Some (cond b (alert ∷ olds) (old ∷ with_alert alert olds))) [ true ↦ refl | false ↦ refl ]
+some_with alert (old ∷ olds) = grind arith
 
 groups_put : (node : Node) (labels : Labels) (alert : Alert) (entries : List (GroupUpdate × List Alert))
     → filter_map group_of (put (is_in (record { route = node.number; labels = labels })) (with_one alert) (Join node labels alert) entries) ≡ with_member node labels alert (filter_map group_of entries)

@@ -12,7 +12,7 @@ use Rattle.am_config.specs.Routes.{RouteView, Forest, no_routes, route, count_of
 use Rattle.am_config.specs.RouteLists.{route_view, forest_of}
 use Rattle.am_routes.specs.RouteAnswers.{Node, own_answer, joined_with, answer_of}
 use Rattle.am_routes.specs.Looking.{first_equality, may_match, looked_from, routes_looked_at}
-use Rattle.am_routes.specs.inside.ChildIndexes.{ChildView, children_from, filings, drop_routes, offset_at, child_view_of, IsChildOf, IsNextChild, has_no_routes, other_matchers}
+use Rattle.am_routes.specs.inside.ChildIndexes.{ChildView, children_from, filings, drop_routes, offset_at, child_view_of, IsChildOf, IsNextChild, other_matchers}
 use Rattle.am_routes.specs.inside.Searches.{in_pre_order, levels_of, BeginAt}
 use Rattle.am_routes.proofs.ChildIndexes.{filed-fails, same-along}
 

@@ -6,7 +6,8 @@ use Rattle.am_config.specs.RouteLists.{forest_of}
 use Rattle.am_routes.specs.declared.child_entry.ChildEntry.{ChildEntry}
 use Rattle.am_routes.specs.Looking.{may_match}
 use Rattle.am_routes.specs.inside.ChildIndexes.{entries_from, filings, CandidatesView, IsFirstFrom}
-use Rattle.am_routes.proofs.ChildIndexes.{child-at, get_or-default, length-filings, length-entries, left-after, seen}
+use Rattle.std.proofs.lemmas.List.{get_or_default}
+use Rattle.am_routes.proofs.ChildIndexes.{child-at, length-filings, length-entries, left-after, seen}
 use Rattle.am_routes.proofs.candidates.Candidates.next.Goals as goal
 
 within : (v : CandidatesView) (rs : List Route) (at : ℕ) → forest_of rs ≡ v.routes → IsFirstFrom (may_match v.labels) v.from (filings v.routes) (Some at) → at < length rs
@@ -56,6 +57,6 @@ returns-clause-next c =
     let long : at < length entries = omega (arith, ap length c.self.invariant.0, length-entries 1 rs) in
     let none : ChildEntry = record { offset = 0; is_settled = false; is_leaf = false; continues = false } in
     let own = get_or entries at none in
-    let comes : own ≡ get_or (entries_from 1 (forest_of rs)) at own = get_or-default entries at none own long ∙ ap (λ l. get_or l at own) c.self.invariant.0 in
+    let comes : own ≡ get_or (entries_from 1 (forest_of rs)) at own = get_or_default entries at none own long ∙ ap (λ l. get_or l at own) c.self.invariant.0 in
     let one = child-at 1 rs at r own early c.index-self-at.is comes in
     grind (arith, common_steps, seen)
