@@ -1,7 +1,7 @@
 -- The alerts and faults of a post, over the value that its JSON is (Alertmanager's API v2,
 -- `postAlertsHandler`).
-use Rattle.std.specs.Prelude.{◌≡◌, ℕ, ◌+◌, ◌<◌, ◌≤◌, ◌⊎◌, ◌||◌, nat_eq, nat_lt, if◌then◌else◌, List, [], ◌∷◌, ⊤}
-use Rattle.std.specs.Prelude.{length, Option, Some, None, option_map, is_none, unwrap_or, Result, Ok, Err}
+use Rattle.std.specs.Prelude.{◌≡◌, ℕ, ◌+◌, ◌<◌, ◌≤◌, ◌⊎◌, ◌||◌, nat_eq, nat_lt, if◌then◌else◌, List, [], ◌∷◌}
+use Rattle.std.specs.Prelude.{length, Option, Some, None, option_map, is_none, unwrap_or, Result, Ok, Err, ⊤}
 use Rattle.std.specs.Prelude.{IsUtf8}
 use Rattle.std.specs.FinMap.{contains_key, len}
 use Rattle.serde_json.specs.Data.{Data, array, Items, no_items, item}

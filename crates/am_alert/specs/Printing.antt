@@ -23,7 +23,8 @@ fraction_text nanosecond = if nanosecond == 0 then [] else codes "." ++ zero_pad
 
 -- an instant in UTC, as RFC 3339 writes it: `2024-01-01T10:00:00Z`, `2024-01-01T10:00:00.500000000Z`
 abbrev pub moment_text : ℕ → List ℕ
-moment_text moment = second_text (parts_of moment) ++ (fraction_text (parts_of moment).nanosecond ++ codes "Z")
+moment_text moment =
+    second_text (parts_of moment) ++ (fraction_text (parts_of moment).nanosecond ++ codes "Z")
 
 -- an alert: labels, start, end, whether the end was given, annotations
 abbrev pub alert_text : Alert → List ℕ

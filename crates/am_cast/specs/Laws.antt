@@ -1,7 +1,7 @@
 -- What each kind of step is to the core of am_steps, on any table: it keeps the rule, its seat has what
 -- `Opens`, `Looks`, .. say, and the core's state goes through the events named.
-use Rattle.std.specs.Prelude.{◌≡◌, ◌≢◌, ℕ, suc, ◌+◌, ◌*◌, ◌/◌, ◌%◌, ◌^◌, ◌<◌, List, [], ◌∷◌, ◌++◌, slice_set, ⊤}
-use Rattle.std.specs.Prelude.{slice_index, length, Option, Some, None, true, false, ◌==◌}
+use Rattle.std.specs.Prelude.{◌≡◌, ◌≢◌, ℕ, suc, ◌+◌, ◌*◌, ◌/◌, ◌%◌, ◌^◌, ◌<◌, List, [], ◌∷◌, ◌++◌, slice_set}
+use Rattle.std.specs.Prelude.{slice_index, length, Option, Some, None, true, false, ◌==◌, ⊤}
 use mathlib.Core.Option.{none, some}
 use lib.ListN.{get_elem?}
 use prog.Atomic.{either}

@@ -1,6 +1,6 @@
 -- Keys that came home, and wait in rows for the others of their segment. This project's own.
-use Rattle.std.specs.Prelude.{◌≡◌, ◌≢◌, ℕ, ◌%◌, ◌<◌, nat_eq, List, [], ◌∷◌, ◌++◌, length, Option, Some, None, ⊤}
-use Rattle.std.specs.Prelude.{cond, refl, slice_index_or}
+use Rattle.std.specs.Prelude.{◌≡◌, ◌≢◌, ℕ, ◌%◌, ◌<◌, nat_eq, List, [], ◌∷◌, ◌++◌, length, Option, Some, None}
+use Rattle.std.specs.Prelude.{cond, refl, slice_index_or, ⊤}
 use Rattle.std.specs.Coded.{Coded, code_by, coded×, coded_list, coded_ℕ}
 use Rattle.am_segment.specs.Segments.{KeyView, coded_key, AreAllKeys, MayJoin}
 use Rattle.am_cast.specs.declared.limits.TheConstants.{LANES}
