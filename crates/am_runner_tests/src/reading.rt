@@ -9,10 +9,8 @@ use std::thread::Threads;
 // How many lines a script has here. The first is the configuration.
 const LINES: u32 = 1_600;
 
-// Lines near the ends of parts, whether there are two threads to read or up to eight.
-const PLACES: [u32; 14] = [
-    2, 3, 200, 201, 202, 400, 401, 800, 801, 802, 1_000, 1_200, 1_201, LINES,
-];
+// Lines at the ends of parts, if there are two, three or four threads to read.
+const PLACES: [u32; 5] = [2, 800, 801, 1_201, LINES];
 
 const GET: &str =
     r#"{"do":"get","thread":0,"labels":{"alertname":"HighLatency","instance":"10.0.0.1:9090","job":"api","namespace":"team-1","pod":"server-1","service":"frontend","severity":"page"}}"#;
@@ -89,11 +87,17 @@ fn empty_lines_are_counted_and_the_last_may_end(rt: HostRuntime) -> Result<(), F
 }
 
 #[test]
-fn a_fault_is_found_in_each_part(rt: HostRuntime) -> Result<(), Fail> {
-    let alloc = rt.alloc();
+fn a_lines_own_fault_is_found_in_each_part(rt: HostRuntime) -> Result<(), Fail> {
     for place in PLACES {
-        assert!(rt; is_refused(&rt, alloc, &[(place, NOT_JSON)], place, Fault::BadLine)?);
-        assert!(rt; is_refused(&rt, alloc, &[(place, LEAVE)], place, Fault::BadName)?);
+        assert!(rt; is_refused(&rt, rt.alloc(), &[(place, NOT_JSON)], place, Fault::BadLine)?);
+    }
+    Ok(())
+}
+
+#[test]
+fn a_names_fault_is_found_in_each_part(rt: HostRuntime) -> Result<(), Fail> {
+    for place in PLACES {
+        assert!(rt; is_refused(&rt, rt.alloc(), &[(place, LEAVE)], place, Fault::BadName)?);
     }
     Ok(())
 }

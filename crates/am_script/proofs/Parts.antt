@@ -1,11 +1,11 @@
 -- Reading the lines of a script one after another and part by part, and following their subscriptions.
-use Rattle.std.proofs.Common.{◌≡◌, ℕ, suc, ◌+◌, ◌<◌, ◌≤◌, true, false, List, [], ◌∷◌, ◌++◌, length, drop, get_or, Bor, add-one, Option, Some, None, Result, Ok, Err, is_err, IsOk, IsErr, refl, ap, sym, subst, ◌∙◌, append_assoc, arith}
+use Rattle.std.proofs.Common.{◌≡◌, ℕ, suc, ◌+◌, ◌<◌, ◌≤◌, false, List, [], ◌∷◌, ◌++◌, length, drop, get_or, Bor, add-one, Option, Some, None, Result, Ok, Err, is_err, IsOk, IsErr, refl, ap, sym, subst, ◌∙◌, append_assoc, arith}
 use Rattle.std.proofs.Math.Logic.{⊎_elim}
 use Rattle.std.proofs.Math.Seq.{drop-cons}
 use Rattle.std.proofs.lemmas.List.{append-nil}
 use Rattle.am_alert.specs.declared.body.Body.{Body}
 use Rattle.serde_json.specs.Data.{Data}
-use Rattle.am_script.specs.Commands.{IsLineOf, command_for, line_of, posted_body, thread_of, verb_at}
+use Rattle.am_script.specs.Commands.{command_for, line_of, posted_body, thread_of, verb_at}
 use Rattle.am_script.specs.Members.{◌>>=◌}
 use Rattle.am_script.specs.Script.{Checks, IsRefused, Misfits, lines_of}
 use Rattle.am_script.specs.Script as script
@@ -25,25 +25,39 @@ use Rattle.am_script.specs.inside.Parts.{AddsLine, AreFirstLines, HasFault, Read
 abbrev End : Type 0
 End = Result (Unit {0}) ScriptFault
 
+-- the item at an index, and those after it
+pub next_item : {X : Type 0} (items : List X) (i : ℕ) (x : X) → i < length items → x ≡ get_or items i x → drop i items ≡ x ∷ drop (i + 1) items
+next_item {X} items i x within is = rw add-one (drop-cons items i x within ∙ ap (λ (y : X). y ∷ drop (suc i) items) (sym is))
+
+next_bytes : (lines : List (Bor (List ℕ))) (i : ℕ) (d : Bor (List ℕ)) → i < length lines → bytes_of (drop i lines) ≡ (get_or lines i d).now ∷ bytes_of (drop (i + 1) lines)
+next_bytes lines i d within = rw add-one (ap bytes_of (drop-cons lines i d within))
+
 -- lines that are read one after another
 module _ (first : ℕ) (all : List (List ℕ)) where
   -- what reading the lines from here on answers, reading all lines answers behind these commands
   abbrev pub GoesOn : ℕ → List (List ℕ) → List Line → Type 0
   GoesOn number rest lines = (more : List Line) (end : End) → ReadsLines number rest more end → ReadsLines first all (lines ++ more) end
 
-  pub line_added : (number : ℕ) (bytes : List ℕ) (rest : List (List ℕ)) (old new : List Line) → GoesOn number (bytes ∷ rest) old → AddsLine number bytes old new (Ok tt) → GoesOn (number + 1) rest new
-  line_added number bytes rest old new so_far added = λ more end reads.
+  added : (number : ℕ) (bytes : List ℕ) (rest : List (List ℕ)) (old new : List Line) → GoesOn number (bytes ∷ rest) old → AddsLine number bytes old new (Ok tt) → GoesOn (number + 1) rest new
+  added number bytes rest old new so_far adds = λ more end reads.
       ⊎_elim
       (λ blank. subst (λ (ls : List Line). ReadsLines first all (ls ++ more) end) (sym blank.0) (so_far more end (skipped blank.1 reads)))
       (λ one.
       subst (λ (ls : List Line). ReadsLines first all ls end)
       (sym (ap (λ (ls : List Line). ls ++ more) one.1 ∙ append_assoc old (one.0 ∷ []) more))
       (so_far (one.0 ∷ more) end (command one.2 reads)))
-      added
+      adds
 
-  pub line_faulty : (number : ℕ) (bytes : List ℕ) (rest : List (List ℕ)) (old new : List Line) (fault : ScriptFault) → GoesOn number (bytes ∷ rest) old → AddsLine number bytes old new (Err fault) → ReadsLines first all new (Err fault)
-  line_faulty number bytes rest old new fault so_far stopped =
-      subst (λ (ls : List Line). ReadsLines first all ls (Err fault)) (append-nil old ∙ sym stopped.0) (so_far [] (Err fault) (faulty stopped.1))
+  -- the line at an index
+  module _ (number : ℕ) (lines : List (Bor (List ℕ))) (i : ℕ) (within : i < length lines) (d : Bor (List ℕ)) (old new : List Line) (so_far : GoesOn number (bytes_of (drop i lines)) old) where
+    here : GoesOn number ((get_or lines i d).now ∷ bytes_of (drop (i + 1) lines)) old
+    here = subst (λ (ls : List (List ℕ)). GoesOn number ls old) (next_bytes lines i d within) so_far
+
+    pub line_added : AddsLine number (get_or lines i d).now old new (Ok tt) → GoesOn (number + 1) (bytes_of (drop (i + 1) lines)) new
+    line_added adds = added number (get_or lines i d).now (bytes_of (drop (i + 1) lines)) old new here adds
+
+    pub line_faulty : (fault : ScriptFault) → AddsLine number (get_or lines i d).now old new (Err fault) → ReadsLines first all new (Err fault)
+    line_faulty fault stops = subst (λ (ls : List Line). ReadsLines first all ls (Err fault)) (append-nil old ∙ sym stops.0) (here [] (Err fault) (faulty stops.1))
 
   pub all_read : (number : ℕ) (lines : List Line) → GoesOn number [] lines → ReadsLines first all lines (Ok tt)
   all_read number lines so_far = subst (λ (ls : List Line). ReadsLines first all ls (Ok tt)) (append-nil lines) (so_far [] (Ok tt) ended)
@@ -174,10 +188,3 @@ misfit_first text lines end NoMemory reads follows = tt
 pub fault_first : (text : List ℕ) (lines : List Line) (fault : ScriptFault) → ReadsLines 1 (lines_of text) lines (Err fault) → FollowsEach [] lines (Ok tt) → IsRefused text fault
 fault_first text lines (Refused refusal) reads follows = answers reads [] (Ok tt) follows
 fault_first text lines NoMemory reads follows = tt
-
--- the item at an index, and those after it
-pub next_item : {X : Type 0} (items : List X) (i : ℕ) (x : X) → i < length items → x ≡ get_or items i x → drop i items ≡ x ∷ drop (i + 1) items
-next_item {X} items i x within is = rw add-one (drop-cons items i x within ∙ ap (λ (y : X). y ∷ drop (suc i) items) (sym is))
-
-pub next_bytes : (lines : List (Bor (List ℕ))) (i : ℕ) (d : Bor (List ℕ)) → i < length lines → bytes_of (drop i lines) ≡ (get_or lines i d).now ∷ bytes_of (drop (i + 1) lines)
-next_bytes lines i d within = rw add-one (ap bytes_of (drop-cons lines i d within))

@@ -4,7 +4,8 @@
 //! The first line is the configuration, which am_config reads. Each later line is one JSON object,
 //! one command of one thread. A script is checked whole: the limits of its lines, then each line's
 //! members, then whether its subscription exists and has the kind that the command needs. The first
-//! fault in the order of lines refuses it.
+//! fault in the order of lines refuses it. `read_script_in_threads` reads the lines of a long text in
+//! several threads, and answers the same.
 //!
 //! Reading ends at the input's end, or at the first excess over a limit, so that no input takes more
 //! memory than a script may. A failed write has written a prefix of the text. An interrupted read or

@@ -1,6 +1,6 @@
--- What a part of a script's lines says, each line by itself: its command or its fault, whatever is subscribed.
-use Rattle.std.specs.Prelude.{◌≡◌, ◌⊎◌, ◌<◌, ◌≤◌, ◌+◌, ℕ, List, [], ◌∷◌, ◌++◌, length, map, Option, Some, None}
-use Rattle.std.specs.Prelude.{Result, Ok, Err, ⊤}
+-- What some lines of a script say, each by itself: its command or its fault, whatever is subscribed.
+use Rattle.std.specs.Prelude.{◌≡◌, ◌⊎◌, ◌<◌, ◌≤◌, ◌+◌, ℕ, List, [], ◌∷◌, ◌++◌, length, map}
+use Rattle.std.specs.Prelude.{Option, Some, None, Result, Ok, Err, ⊤}
 use denote.Ref.{Bor}
 use Rattle.am_script.specs.Commands.{IsLineOf}
 use Rattle.am_script.specs.Script.{IsSkipped, IsTooLarge, IsWithinLimits, lines_of}

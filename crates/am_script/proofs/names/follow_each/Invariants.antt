@@ -1,4 +1,4 @@
-use Rattle.std.proofs.Common.{List, Result, [], take, drop}
+use Rattle.std.proofs.Common.{Result, [], take, drop}
 use Rattle.am_script.specs.Names.{HoldsNames}
 use Rattle.am_script.specs.declared.script.ScriptFault.{ScriptFault}
 use Rattle.am_script.specs.inside.Following.{FollowsEach}

@@ -1,6 +1,5 @@
-use Rattle.std.proofs.Common.{[], Ok, ℕ, Bor, List, subst}
+use Rattle.std.proofs.Common.{ℕ, Bor, List, subst}
 use Rattle.std.proofs.lemmas.Result.{MatchResult-weaker}
-use Rattle.am_script.specs.Script.{Checks, IsRefused, lines_of}
 use Rattle.am_script.specs.inside.Parts.{IsPart, bytes_of}
 use Rattle.am_script.proofs.Parts.{text_read}
 use Rattle.am_script.proofs.script.read_script_in_threads.Goals as goal
