@@ -1,5 +1,6 @@
 -- Reading the lines of a script one after another and part by part, and following their subscriptions.
 use Rattle.std.proofs.Common.{◌≡◌, ℕ, suc, ◌+◌, ◌<◌, ◌≤◌, false, List, [], ◌∷◌, ◌++◌, length, drop, get_or, Bor, add-one, Option, Some, None, Result, Ok, Err, is_err, IsOk, IsErr, refl, ap, sym, subst, ◌∙◌, append_assoc, arith}
+use Rattle.std.specs.Result.{result_and}
 use Rattle.std.proofs.Math.Logic.{⊎_elim}
 use Rattle.std.proofs.Math.Seq.{drop-cons}
 use Rattle.std.proofs.lemmas.List.{append-nil}
@@ -177,14 +178,23 @@ answers {number = n} {end = end} (command {bytes = bytes} {rest = rest} {line = 
     stepped n earlier (earlier ++ line ∷ []) bytes rest (λ result checks. script.command one.0.0 one.0.1 one.0.2 one.1 fit.0 fit.1 checks) (earlier ++ line ∷ lines) end followed
     (subst (λ (ls : List Line). Answers (n + 1) (earlier ++ line ∷ []) rest ls end followed) (append_assoc earlier (line ∷ []) lines) (answers reads (earlier ++ line ∷ []) followed follows))
 
--- the answer for a text
-pub fits_all : (text : List ℕ) (lines : List Line) → ReadsLines 1 (lines_of text) lines (Ok tt) → FollowsEach [] lines (Ok tt) → Checks 1 [] (lines_of text) (Ok lines)
-fits_all text lines reads follows = answers reads [] (Ok tt) follows
+-- the answer for a text: the first fault of both, or all commands
+refused_as : (text : List ℕ) (lines : List Line) (end followed : End) (fault : ScriptFault) → Answers 1 [] (lines_of text) lines end followed → result_and followed end ≡ Err fault → IsRefused text fault
+refused_as text lines end followed NoMemory answer is = tt
+refused_as text lines end (Err (Refused first)) (Refused refusal) answer is = let same : first ≡ refusal = cc in subst (λ (r : Refusal). Checks 1 [] (lines_of text) (Err r)) same answer
+refused_as text lines end (Err NoMemory) (Refused refusal) answer is = absurd (cc)
+refused_as text lines (Err (Refused first)) (Ok v) (Refused refusal) answer is = let same : first ≡ refusal = cc in subst (λ (r : Refusal). Checks 1 [] (lines_of text) (Err r)) same answer
+refused_as text lines (Err NoMemory) (Ok v) (Refused refusal) answer is = absurd (cc)
+refused_as text lines (Ok w) (Ok v) (Refused refusal) answer is = absurd (cc)
 
-pub misfit_first : (text : List ℕ) (lines : List Line) (end : End) (fault : ScriptFault) → ReadsLines 1 (lines_of text) lines end → FollowsEach [] lines (Err fault) → IsRefused text fault
-misfit_first text lines end (Refused refusal) reads follows = answers reads [] (Err (Refused refusal)) follows
-misfit_first text lines end NoMemory reads follows = tt
+read_as : (text : List ℕ) (lines : List Line) (end followed : End) → Answers 1 [] (lines_of text) lines end followed → result_and followed end ≡ Ok tt → Checks 1 [] (lines_of text) (Ok lines)
+read_as text lines end (Err fault) answer is = absurd (cc)
+read_as text lines (Err fault) (Ok v) answer is = absurd (cc)
+read_as text lines (Ok w) (Ok v) answer is = answer
 
-pub fault_first : (text : List ℕ) (lines : List Line) (fault : ScriptFault) → ReadsLines 1 (lines_of text) lines (Err fault) → FollowsEach [] lines (Ok tt) → IsRefused text fault
-fault_first text lines (Refused refusal) reads follows = answers reads [] (Ok tt) follows
-fault_first text lines NoMemory reads follows = tt
+module _ (text : List ℕ) (lines : List Line) (end followed : End) (reads : ReadsLines 1 (lines_of text) lines end) (follows : FollowsEach [] lines followed) where
+  pub text_refused : (fault : ScriptFault) → result_and followed end ≡ Err fault → IsRefused text fault
+  text_refused fault is = refused_as text lines end followed fault (answers reads [] followed follows) is
+
+  pub text_fits : result_and followed end ≡ Ok tt → Checks 1 [] (lines_of text) (Ok lines)
+  text_fits is = read_as text lines end followed (answers reads [] followed follows) is

@@ -115,8 +115,7 @@ impl Part {
         ensures refused { IfErr result (λ fault. (text : List ℕ) → IsPart 1 (lines_of text) self
             → IsRefused text fault) }
     {
-        follow_each(alloc, &self.lines)?;
-        self.end?;
+        follow_each(alloc, &self.lines).and(self.end)?;
         Ok(self.lines)
     }
 }
