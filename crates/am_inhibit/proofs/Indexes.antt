@@ -1,9 +1,8 @@
 -- The sources of rules by their values, as label sets are added and additions undone.
-use Rattle.std.proofs.Common.{◌≡◌, ℕ, zero, suc, ◌+◌, ◌-◌, ◌<◌, Bool, true, false, ◌&&◌, cond, List, [], ◌∷◌, ◌++◌, map, length, take, drop, set, get_or, Some, None, refl, sym, ap, subst, ◌∙◌, arith, append_assoc, append-nil, length-append}
+use Rattle.std.proofs.Common.{◌≡◌, ℕ, zero, suc, ◌+◌, ◌-◌, ◌<◌, true, false, ◌&&◌, cond, List, [], ◌∷◌, ◌++◌, map, length, take, set, get_or, Some, None, refl, sym, ap, ◌∙◌, arith, append-nil, length-append}
 use Rattle.std.specs.Cmp.{unsigned_Decides}
 use Rattle.std.specs.Cmp.Lexicographic.{pointwise_decides}
 use Rattle.std.specs.List.{slice_get, position, AllByRecursion, IsDistinct}
-use Rattle.std.specs.Option.{unwrap_or}
 use Rattle.std.specs.Map.{keys_of, values_of, lookup}
 use Rattle.std.proofs.Math.Seq.{take-append_seam}
 use Rattle.indexmap.specs.IndexMap.{insert_entry, set_value_at}
@@ -15,7 +14,6 @@ use Rattle.am_inhibit.specs.declared.source.Source.{Source}
 use Rattle.am_inhibit.specs.declared.source_index.SourceChange.{SourceChange}
 use Rattle.am_inhibit.specs.inside.Sources.{same_values, values_equiv}
 use Rattle.am_inhibit.specs.inside.Indexes.{SourceEntries, IndexView, values_of as values_for, source_of, with_source, with_labels, sources_listed, sources_from, IsSourceIndexOf, AreSourceIndexesOf, empty_indexes, rules_indexed, index_with, left_back, index_before, indexes_before}
-use Rattle.am_inhibit.proofs.Cases.{by_bool}
 
 pub take_last : {A : Type 0} (xs : List A) (x : A) → take (length (xs ++ x ∷ []) - 1) (xs ++ x ∷ []) ≡ xs
 take_last xs x =

@@ -11,7 +11,7 @@ use Rattle.am_alert.specs.Merging.{is_resolved_at, unless_resolved, unresolved}
 use Rattle.am_keyed.specs.Keyed.{with_alert}
 use Rattle.am_inhibit.specs.LastAlerts.{label_sets, first_alerts, last_of, last_alerts}
 use Rattle.am_inhibit.specs.KeptAlerts.{InhibitorEvent, Take, Sweep, lasting, before_others, kept_alerts, after_event, held_after}
-use Rattle.am_inhibit.proofs.Cases.{by_bool, by_option}
+use Rattle.am_inhibit.proofs.Cases.{by_bool}
 use Rattle.am_inhibit.proofs.LastAlerts.{has, AreApart, same_turned, same_along, has-without, apart_less, apart_distinct}
 
 -- alerts of other label sets
@@ -80,29 +80,17 @@ alert_of-without labels other (alert ∷ alerts) unlike =
 pub kept_is_held : (labels : Labels) (events : List InhibitorEvent) → alert_of labels (kept_alerts events) ≡ held_after labels events
 kept_is_held labels [] = refl
 kept_is_held labels (Sweep now ∷ events) = kept_is_held labels events
-kept_is_held labels (Take alert ∷ events) =
-    let later = kept_alerts events in
-    let rest = kept_is_held labels events in
-    let held = λ (b : Bool). fold (after_event labels) (cond b (Some alert) None) events in
-    by_option {P = alert_of labels (before_others (lasting events alert) later) ≡ held (same_labels labels alert.labels)} (lasting events alert)
-    (λ gone.
-    ap (λ o. alert_of labels (before_others o later)) gone
-    ∙ (rest
-    ∙ by_bool {P = fold (after_event labels) None events ≡ held (same_labels labels alert.labels)} (same_labels labels alert.labels)
-    (λ t. sym (ap held t ∙ held_gone labels events alert (sym ((labels_decide labels alert.labels).0 t)) gone))
-    (λ f. sym (ap held f))))
-    (λ last lasts.
-    let own : last.labels ≡ alert.labels = lasting-labels events alert last lasts in
-    let found = λ (b : Bool). cond b (Some last) (alert_of labels (without last.labels later)) in
-    ap (λ o. alert_of labels (before_others o later)) lasts
-    ∙ by_bool {P = found (same_labels labels last.labels) ≡ held (same_labels labels alert.labels)} (same_labels labels alert.labels)
-    (λ t.
-    ap found (ap (same_labels labels) own ∙ t)
-    ∙ sym (ap held t ∙ held_lasting labels events alert last (sym ((labels_decide labels alert.labels).0 t)) lasts))
-    (λ f.
-    let unlike : same_labels labels last.labels ≡ false = ap (same_labels labels) own ∙ f in
-    ap found unlike
-    ∙ (alert_of-without labels last.labels later (same_turned last.labels labels ∙ unlike) ∙ (rest ∙ sym (ap held f)))))
+kept_is_held labels (Take alert ∷ events) = by_last (lasting events alert) refl (kept_is_held labels events)
+  where
+    by_last : (o : Option Alert) → lasting events alert ≡ o → alert_of labels (kept_alerts events) ≡ held_after labels events → alert_of labels (before_others o (kept_alerts events)) ≡ held_after labels (Take alert ∷ events)
+    by_last None gone rest = grind (arith, held_gone, labels_decide)
+    by_last (Some last) lasts rest =
+        let own = lasting-labels events alert last lasts in
+        let decide = labels_decide labels alert.labels in
+        let turned = same_turned last.labels labels in
+        let held = held_lasting labels events alert last in
+        let others = alert_of-without labels last.labels (kept_alerts events) in
+        grind arith
 
 pub kept_apart : (events : List InhibitorEvent) → AreApart (kept_alerts events)
 kept_apart [] = tt
@@ -128,26 +116,17 @@ unfolding next_or_last
 kept-take [] next = refl
 kept-take (Sweep now ∷ events) next = kept-take events next
 kept-take (Take alert ∷ events) next =
-    let later = kept_alerts events in
-    let after = kept_alerts (events ++ Take next ∷ []) in
-    let rest : after ≡ with_alert next later = kept-take events next in
-    let goal_of = λ (o : Option Alert). with_alert next (before_others o later) in
-    ap (λ o. before_others o after) (lasting-take events next alert)
-    ∙ by_option {P = before_others (option_map (next_or_last next) (lasting events alert)) after ≡ goal_of (lasting events alert)} (lasting events alert)
-    (λ gone. ap (λ o. before_others (option_map (next_or_last next) o) after) gone ∙ (rest ∙ sym (ap goal_of gone)))
-    (λ last lasts.
-    let set = λ (b : Bool). before_others (Some (cond b next last)) (with_alert next later) in
-    let put = λ (b : Bool). cond b (next ∷ without last.labels later) (last ∷ with_alert next (without last.labels later)) in
-    let turned : same_labels next.labels last.labels ≡ same_labels last.labels next.labels = same_turned next.labels last.labels in
-    ap (λ o. before_others (option_map (next_or_last next) o) after) lasts
-    ∙ (ap (before_others (Some (next_or_last next last))) rest
-    ∙ (by_bool {P = set (same_labels last.labels next.labels) ≡ put (same_labels next.labels last.labels)} (same_labels last.labels next.labels)
-    (λ t.
-    ap set t
-    ∙ (ap (λ l. next ∷ l) (without-same next later)
-    ∙ (ap (λ l. next ∷ without l later) (sym ((labels_decide last.labels next.labels).0 t)) ∙ sym (ap put (turned ∙ t)))))
-    (λ f. ap set f ∙ (ap (λ l. last ∷ l) (without-other last.labels next later f) ∙ sym (ap put (turned ∙ f))))
-    ∙ sym (ap goal_of lasts))))
+    ap (λ o. before_others o (kept_alerts (events ++ Take next ∷ []))) (lasting-take events next alert)
+    ∙ (ap (before_others (option_map (next_or_last next) (lasting events alert))) (kept-take events next) ∙ by_last (lasting events alert) (kept_alerts events))
+  where
+    by_last : (o : Option Alert) (later : List Alert) → before_others (option_map (next_or_last next) o) (with_alert next later) ≡ with_alert next (before_others o later)
+    by_last None later = refl
+    by_last (Some last) later =
+        let decide = labels_decide last.labels next.labels in
+        let turned = same_turned next.labels last.labels in
+        let same = without-same next later in
+        let other = without-other last.labels next later in
+        grind arith
 
 -- ---- one sweep more
 
@@ -171,31 +150,22 @@ pub kept-sweep : (events : List InhibitorEvent) (now : ℕ) → kept_alerts (eve
 kept-sweep [] now = refl
 kept-sweep (Sweep before ∷ events) now = kept-sweep events now
 kept-sweep (Take alert ∷ events) now =
-    let later = kept_alerts events in
-    let after = kept_alerts (events ++ Sweep now ∷ []) in
-    let rest : after ≡ unresolved now later = kept-sweep events now in
-    let goal_of = λ (o : Option Alert). unresolved now (before_others o later) in
-    ap (λ o. before_others o after) (lasting-sweep events now alert)
-    ∙ by_option {P = before_others (option_and_then (unless_resolved now) (lasting events alert)) after ≡ goal_of (lasting events alert)} (lasting events alert)
-    (λ gone. ap (λ o. before_others (option_and_then (unless_resolved now) o) after) gone ∙ (rest ∙ sym (ap goal_of gone)))
-    (λ last lasts.
-    let left = λ (b : Bool). before_others (cond b None (Some last)) (unresolved now later) in
-    let kept = λ (b : Bool). cond (not b) (last ∷ unresolved now (without last.labels later)) (unresolved now (without last.labels later)) in
-    let own : last.labels ≡ alert.labels = lasting-labels events alert last lasts in
-    let is : alert_of last.labels later ≡ fold (after_event alert.labels) None events = kept_is_held last.labels events ∙ ap (λ l. held_after l events) own in
-    let found : (alert_of last.labels later ≡ None) ⊎ (alert_of last.labels later ≡ Some last) = elim (held_or alert.labels events alert) [
-      | inl missing ↦ inl (is ∙ missing)
-      | inr same ↦ inr (is ∙ (same ∙ held_lasting alert.labels events alert last refl lasts))
-    ] in
-    ap (λ o. before_others (option_and_then (unless_resolved now) o) after) lasts
-    ∙ (ap (before_others (unless_resolved now last)) rest
-    ∙ (by_bool {P = left (is_resolved_at now last) ≡ kept (is_resolved_at now last)} (is_resolved_at now last)
-    (λ t. ap left t ∙ (resolved_gone now last later (kept_apart events) t found ∙ sym (ap kept t)))
-    (λ f.
-    ap left f
-    ∙ (ap (λ l. last ∷ l) (filters_commute (λ (other : Alert). not (same_labels last.labels other.labels)) (λ (other : Alert). not (is_resolved_at now other)) later)
-    ∙ sym (ap kept f)))
-    ∙ sym (ap goal_of lasts))))
+    ap (λ o. before_others o (kept_alerts (events ++ Sweep now ∷ []))) (lasting-sweep events now alert)
+    ∙ (ap (before_others (option_and_then (unless_resolved now) (lasting events alert))) (kept-sweep events now) ∙ by_last (lasting events alert) refl)
+  where
+    by_last : (o : Option Alert) → lasting events alert ≡ o → before_others (option_and_then (unless_resolved now) o) (unresolved now (kept_alerts events)) ≡ unresolved now (before_others o (kept_alerts events))
+    by_last None gone = refl
+    by_last (Some last) lasts =
+        let later = kept_alerts events in
+        let left = λ (b : Bool). before_others (cond b None (Some last)) (unresolved now later) in
+        let is : alert_of last.labels later ≡ held_after alert.labels events = kept_is_held last.labels events ∙ ap (λ l. held_after l events) (lasting-labels events alert last lasts) in
+        let found : (alert_of last.labels later ≡ None) ⊎ (alert_of last.labels later ≡ Some last) = elim (held_or alert.labels events alert) [
+          | inl missing ↦ inl (is ∙ missing)
+          | inr same ↦ inr (is ∙ (same ∙ held_lasting alert.labels events alert last refl lasts))
+        ] in
+        by_bool {P = left (is_resolved_at now last) ≡ unresolved now (before_others (Some last) later)} (is_resolved_at now last)
+        (λ t. let gone = resolved_gone now last later (kept_apart events) t found in ap left t ∙ grind arith)
+        (λ f. ap left f ∙ grind (arith, filters_commute))
 
 -- ---- takes alone
 

@@ -1,6 +1,6 @@
 -- The leading sources that match the target side too: how many there are as sources come and go, and that they
 -- mute no target that is on both sides.
-use Rattle.std.proofs.Common.{◌≡◌, ◌≢◌, ℕ, zero, suc, ◌+◌, min, Bool, true, false, cond, List, [], ◌∷◌, ◌++◌, length, take, drop, refl, sym, ap, ◌∙◌, arith}
+use Rattle.std.proofs.Common.{◌≡◌, ◌≢◌, ℕ, zero, suc, ◌+◌, min, true, false, cond, List, [], ◌∷◌, ◌++◌, length, take, drop, refl, ap, arith}
 use Rattle.std.specs.List.{find}
 use Rattle.std.proofs.lemmas.Bool.{eq-eqb, ne_eqb}
 use Rattle.std.proofs.lemmas.List.Folds.{prefix_len-append}
@@ -9,8 +9,7 @@ use Rattle.am_inhibit.specs.declared.source.Source.{Source}
 use Rattle.am_inhibit.specs.Muting.{count_to}
 use Rattle.am_inhibit.specs.inside.Indexes.{source_inhibits}
 use Rattle.am_inhibit.specs.inside.LeadingTargets.{leading_targets}
-use Rattle.am_inhibit.proofs.Cases.{by_bool}
-use Rattle.am_inhibit.proofs.Counting.{count_to-no, find-no}
+use Rattle.am_inhibit.proofs.Counting.{count_to-no}
 
 -- ---- how many there are
 

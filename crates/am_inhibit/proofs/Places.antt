@@ -1,8 +1,8 @@
 -- What a sweep leaves of the indexes: those of the alerts that stay.
-use Rattle.std.proofs.Common.{◌≡◌, ℕ, ◌+◌, Bool, true, false, not, cond, List, [], ◌∷◌, ◌++◌, map, length, drop, Option, Some, None, is_some, refl, sym, ap, subst, ◌∙◌, arith}
-use Rattle.std.specs.List.{cons_option, AllByRecursion, IsDistinct}
+use Rattle.std.proofs.Common.{◌≡◌, ℕ, ◌+◌, Bool, true, false, not, cond, List, [], ◌∷◌, ◌++◌, map, length, drop, Option, Some, None, is_some, refl, subst, arith}
+use Rattle.std.specs.List.{AllByRecursion, IsDistinct}
 use Rattle.std.specs.List.Retain.{RetainsInTurn}
-use Rattle.std.specs.Map.{keys_of, lookup}
+use Rattle.std.specs.Map.{keys_of}
 use Rattle.std.specs.Map.Calls.{RetainsPairs}
 use Rattle.std.specs.Option.{unwrap_or}
 use Rattle.am_alert.specs.declared.alert.Alert.{Alert}
@@ -14,7 +14,6 @@ use Rattle.am_alert.specs.Merging.{unresolved}
 use Rattle.am_inhibit.specs.inside.Sources.{same_values}
 use Rattle.am_inhibit.specs.inside.Indexes.{SourceEntries, IndexView, sources_listed, sources_from, IsSourceIndexOf, AreSourceIndexesOf}
 use Rattle.am_inhibit.specs.inside.Places.{new_places, moved, moved_sources, has_no_sources, swept_entries, index_swept}
-use Rattle.am_inhibit.proofs.Cases.{by_bool}
 use Rattle.am_inhibit.proofs.Indexes.{same_are, are_mapped}
 use Rattle.am_inhibit.proofs.Searching.{drop_next}
 

@@ -1,5 +1,5 @@
 -- The sources that an index lists for a target are those that come into question.
-use Rattle.std.proofs.Common.{◌≡◌, ℕ, zero, suc, ◌+◌, ◌<◌, ◌≤◌, Bool, true, false, ◌&&◌, cond, List, [], ◌∷◌, map, filter, length, drop, Some, refl, sym, ap, ◌∙◌, arith}
+use Rattle.std.proofs.Common.{◌≡◌, ℕ, zero, suc, ◌+◌, ◌<◌, ◌≤◌, Bool, true, false, ◌&&◌, List, [], ◌∷◌, map, filter, length, drop, Some, refl, ap, arith}
 use Rattle.std.specs.List.{slice_get, find, All, AllByRecursion}
 use Rattle.std.specs.Option.{option_map, option_and_then}
 use Rattle.std.proofs.lemmas.List.Elements.{All-from_recursion}
@@ -13,8 +13,6 @@ use Rattle.am_inhibit.specs.LastAlerts.{label_sets}
 use Rattle.am_inhibit.specs.Muting.{agree_on, is_candidate, inhibits, count_to}
 use Rattle.am_inhibit.specs.inside.Sources.{same_values}
 use Rattle.am_inhibit.specs.inside.Indexes.{IndexView, values_of as values_for, source_of, sources_listed, sources_from, IsSourceIndexOf, source_inhibits}
-use Rattle.am_inhibit.proofs.Cases.{by_bool}
-use Rattle.am_inhibit.proofs.Counting.{count_to-yes, count_to-no, find-yes, find-no}
 
 -- what is listed for a target's values are the sources among the label sets that agree with it
 pub listed_are : (index : IndexView) (labels : Labels) (sets : List Labels) (names values : List (List ℕ)) → IsSourceIndexOf sets index → names ≡ index.rule.equal → values ≡ map (value_of labels) names
@@ -89,3 +87,12 @@ within rule values at (labels ∷ sets) end e = let rest = within rule values (a
 
 pub all_within : (rule : InhibitRule) (values : List (List ℕ)) (sets : List Labels) (end : ℕ) → length sets ≤ end → All (λ (source : Source). source.at < end) (sources_from rule values 0 sets)
 all_within rule values sets end e = All-from_recursion (λ (source : Source). source.at < end) (sources_from rule values 0 sets) (within rule values 0 sets end (omega arith))
+
+-- the same of all alerts
+pub found-all : (rule : InhibitRule) (labels : Labels) (is_source : Bool) (now : ℕ) (alerts : List Alert) → Target rule labels is_source
+    → option_and_then (slice_get alerts) (option_map (λ (source : Source). source.at) (find (source_inhibits is_source now alerts) (sources_from rule (values_for rule.equal labels) 0 (label_sets alerts)))) ≡ find (inhibits rule labels now) (filter (is_candidate rule labels) alerts)
+found-all rule labels is_source now alerts is = found-first rule labels is_source now alerts is 0 alerts refl
+
+pub looked-all : (rule : InhibitRule) (labels : Labels) (is_source : Bool) (now : ℕ) (alerts : List Alert) → Target rule labels is_source
+    → count_to (source_inhibits is_source now alerts) (sources_from rule (values_for rule.equal labels) 0 (label_sets alerts)) ≡ count_to (inhibits rule labels now) (filter (is_candidate rule labels) alerts)
+looked-all rule labels is_source now alerts is = looked-count rule labels is_source now alerts is 0 alerts refl

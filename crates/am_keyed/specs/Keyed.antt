@@ -1,5 +1,5 @@
 -- Values with keys, as a list that values are put into, one after another.
-use Rattle.std.specs.Prelude.{◌≡◌, ℕ, Bool, List, [], ◌∷◌, ◌-◌, if◌then◌else◌, map, take, length}
+use Rattle.std.specs.Prelude.{◌≡◌, Bool, List, [], ◌∷◌, ◌-◌, if◌then◌else◌, map, take, length}
 use Rattle.std.specs.Map.{keys_of, values_of}
 use Rattle.am_alert.specs.declared.alert.Alert.{Alert}
 use Rattle.am_labels.specs.LabelSets.{same_labels}

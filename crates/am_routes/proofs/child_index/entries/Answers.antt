@@ -1,8 +1,7 @@
 use Rattle.std.proofs.Common.{◌≡◌, ◌<◌, length, get_or, sym, ap, ◌∙◌, arith, rules}
-use Rattle.std.proofs.lemmas.List.{take_all, take_more}
+use Rattle.std.proofs.lemmas.List.{take_all, take_more, get_or_default}
 use Rattle.am_config.specs.RouteLists.{forest_of}
 use Rattle.am_routes.specs.inside.ChildIndexes.{entries_from, offsets_from}
-use Rattle.std.proofs.lemmas.List.{get_or_default}
 use Rattle.am_routes.proofs.ChildIndexes.{entry-at, length-entries, length-offsets}
 use Rattle.am_routes.proofs.child_index.entries.Goals as goal
 
