@@ -3,7 +3,6 @@ use Rattle.std.proofs.Common.{◌≡◌, ℕ, ◌+◌, List, [], ◌∷◌, ◌+
 use Rattle.std.specs.List.{find, flat_map, enumerate_from}
 use Rattle.std.specs.Option.{option_map}
 use Rattle.std.proofs.lemmas.List.Folds.{find-append}
-use Rattle.std.specs.Option.{option_or}
 use Rattle.am_labels.specs.LabelSets.{Labels}
 use Rattle.am_alert.specs.declared.alert.Alert.{Alert}
 use Rattle.am_config.specs.declared.inhibit_rule.InhibitRule.{InhibitRule}
@@ -37,10 +36,6 @@ all_others labels now alerts number (rule ∷ rules) =
     let test = candidate_inhibits labels now in
     let rest = all_others labels now alerts (number + 1) rules in
     grind (arith, find-append)
-  where
-    by_answer : (one other : Option Candidate) (candidate : Candidate) → option_or one other ≡ Some candidate → (one ≡ Some candidate → ⊥) → (other ≡ Some candidate → ⊥) → ⊥
-    by_answer None other candidate e here there = there e
-    by_answer (Some x) other candidate e here there = here e
 
 pub no_alert_mutes_itself : (given : List Alert) (rules : List InhibitRule) (labels : Labels) (now number : ℕ) → muted given rules labels now ≡ Some (number, labels) → ⊥
 no_alert_mutes_itself given rules labels now number answer =

@@ -223,22 +223,20 @@ spared_at_first swept None = inl refl
 spared_at_first swept (Some alert) =
     elim (is_resolved_at swept alert) as (λ b. is_resolved_at swept alert ≡ b → Spared swept (cond b None (Some alert)) (Some alert)) [ true ↦ λ e. inr (refl, alert, refl, e) | false ↦ λ e. inl refl ] refl
 
-spared_later : (labels : Labels) (swept : ℕ) (more : List InhibitorEvent) (one other : Option Alert) → Spared swept one other → Spared swept (fold (after_event labels) one more) (fold (after_event labels) other more)
+spared_once : (labels : Labels) (swept : ℕ) (event : InhibitorEvent) (one other : Option Alert) → Spared swept one other → Spared swept (after_event labels one event) (after_event labels other event)
 unfolding Spared
+spared_once labels swept event one other (inl same) = inl (ap (λ o. after_event labels o event) same)
+spared_once labels swept (Take next) one other (inr gone) =
+    elim (same_labels labels next.labels) as (λ b. Spared swept (cond b (Some next) one) (cond b (Some next) other)) [ true ↦ inl refl | false ↦ inr gone ]
+spared_once labels swept (Sweep now) one other (inr (none, alert, is, ended)) =
+    let after = option_and_then (unless_resolved now) in
+    let left = elim (is_resolved_at now alert) as (λ b. Spared swept None (cond b None (Some alert))) [ true ↦ inl refl | false ↦ inr (refl, alert, refl, ended) ] in
+    subst (λ o. Spared swept (after one) (after o)) (sym is) (subst (λ o. Spared swept (after o) (after (Some alert))) (sym none) left)
+
+spared_later : (labels : Labels) (swept : ℕ) (more : List InhibitorEvent) (one other : Option Alert) → Spared swept one other → Spared swept (fold (after_event labels) one more) (fold (after_event labels) other more)
 spared_later labels swept [] one other spared = spared
-spared_later labels swept (Take next ∷ more) one other spared =
-    let step = λ (b : Bool) (held : Option Alert). cond b (Some next) held in
-    spared_later labels swept more (after_event labels one (Take next)) (after_event labels other (Take next))
-    (elim (same_labels labels next.labels) as (λ b. Spared swept (step b one) (step b other)) [ true ↦ inl refl | false ↦ spared ])
-spared_later labels swept (Sweep now ∷ more) one other (inl same) =
-    spared_later labels swept more (after_event labels one (Sweep now)) (after_event labels other (Sweep now)) (inl (ap (option_and_then (unless_resolved now)) same))
-spared_later labels swept (Sweep now ∷ more) one other (inr (none, alert, is, ended)) =
-    let left : option_and_then (unless_resolved now) one ≡ None = ap (option_and_then (unless_resolved now)) none in
-    let after : option_and_then (unless_resolved now) other ≡ cond (is_resolved_at now alert) None (Some alert) = ap (option_and_then (unless_resolved now)) is in
-    spared_later labels swept more (option_and_then (unless_resolved now) one) (option_and_then (unless_resolved now) other)
-    (by_bool {P = Spared swept (option_and_then (unless_resolved now) one) (option_and_then (unless_resolved now) other)} (is_resolved_at now alert)
-    (λ t. inl (left ∙ sym (after ∙ ap (λ b. cond b None (Some alert)) t)))
-    (λ f. inr (left, alert, after ∙ ap (λ b. cond b None (Some alert)) f, ended)))
+spared_later labels swept (event ∷ more) one other spared =
+    spared_later labels swept more (after_event labels one event) (after_event labels other event) (spared_once labels swept event one other spared)
 
 held_along : (labels : Labels) (events more : List InhibitorEvent) (held : Option Alert) → fold (after_event labels) held (events ++ more) ≡ fold (after_event labels) (fold (after_event labels) held events) more
 held_along labels [] more held = refl
@@ -249,27 +247,18 @@ spared_at_last labels swept events more = grind (arith, alert_of, kept_is_held, 
 
 -- ---- whether an alert passes a test
 
-has-alert_of : (labels : Labels) (alert : Alert) (alerts : List Alert) → alert_of labels alerts ≡ Some alert → has labels alerts ≡ true
-has-alert_of labels alert [] found = absurd (cc)
-has-alert_of labels alert (first ∷ alerts) found = let rest = has-alert_of labels alert alerts in grind arith
-
 -- an alert that passes, found by its label set
-record Passing (test : Alert → Bool) (alerts : List Alert) : Type 0 where
+record Passing (test : Alert → Bool) (all : List Alert) : Type 0 where
   alert : Alert
-  found : alert_of alert.labels alerts ≡ Some alert
+  found : alert_of alert.labels all ≡ Some alert
   passes : test alert ≡ true
 
-passing_of : (test : Alert → Bool) (alerts : List Alert) → AreApart alerts → list_any test alerts ≡ true → Passing test alerts
-passing_of test [] apart some = absurd (let no : false ≡ true = some in (cc))
-passing_of test (first ∷ alerts) apart some =
-    by_bool {P = Passing test (first ∷ alerts)} (test first)
-    (λ t. record { alert = first; found = ap (λ b. cond b (Some first) (alert_of first.labels alerts)) (labels_equiv.refl first.labels); passes = t })
-    (λ f.
-    let rest = passing_of test alerts apart.1 (sym (ap (λ b. b || list_any test alerts) f) ∙ some) in
-    by_bool {P = Passing test (first ∷ alerts)} (same_labels rest.alert.labels first.labels)
-    (λ here.
-    absurd (let no : true ≡ false = sym (has-alert_of rest.alert.labels rest.alert alerts rest.found) ∙ (ap (λ l. has l alerts) ((labels_decide rest.alert.labels first.labels).0 here) ∙ apart.0) in (cc)))
-    (λ away. record { alert = rest.alert; found = ap (λ b. cond b (Some first) (alert_of rest.alert.labels alerts)) away ∙ rest.found; passes = rest.passes }))
+passing_of : (test : Alert → Bool) (all alerts : List Alert) → AreFound all alerts → list_any test alerts ≡ true → Passing test all
+passing_of test all [] found some = absurd (let no : false ≡ true = some in (cc))
+passing_of test all (first ∷ alerts) found some =
+    by_bool {P = Passing test all} (test first)
+    (λ t. record { alert = first; found = found.0; passes = t })
+    (λ f. passing_of test all alerts found.1 (sym (ap (λ b. b || list_any test alerts) f) ∙ some))
 
 any_of : (test : Alert → Bool) (alerts : List Alert) (alert : Alert) → alert_of alert.labels alerts ≡ Some alert → test alert ≡ true → list_any test alerts ≡ true
 any_of test [] alert found passes = absurd (cc)
@@ -289,11 +278,11 @@ any-spared swept test events more fire =
     let other = kept_alerts (events ++ more) in
     same_tests (list_any test one) (list_any test other)
     (λ some.
-    let it = passing_of test one (kept_apart (events ++ Sweep swept ∷ more)) some in
+    let it = passing_of test one one (found_all one (kept_apart (events ++ Sweep swept ∷ more))) some in
     let spared = spared_at_last it.alert.labels swept events more in
     grind (arith, any_of))
     (λ some.
-    let it = passing_of test other (kept_apart (events ++ more)) some in
+    let it = passing_of test other other (found_all other (kept_apart (events ++ more))) some in
     let spared = spared_at_last it.alert.labels swept events more in
     grind (arith, any_of))
 

@@ -8,7 +8,8 @@ use Rattle.std.proofs.lemmas.Map.Made.{is_some-lookup}
 use Rattle.std.proofs.Math.Seq.{take-append_seam}
 use Rattle.indexmap.specs.IndexMap.{insert_entry, set_value_at}
 use Rattle.indexmap.proofs.MapLemmas.{Found-position, insert_entry-first}
-use Rattle.am_keyed.specs.Keyed.{AreOwnKeys, with_value, with_old}
+use Rattle.am_keyed.specs.Keyed.{with_value, with_old}
+use Rattle.am_keyed.specs.inside.Entries.{AreOwnKeys}
 
 module _ {K V : Type 0} (key : V → K) where
   pub head_kept : (entry : K × V) (entries : List (K × V)) → AreOwnKeys key (entry ∷ entries) → entry.0 ≡ key entry.1

@@ -1,14 +1,9 @@
 -- Values with keys, as a list that values are put into, one after another.
-use Rattle.std.specs.Prelude.{◌≡◌, Bool, List, [], ◌∷◌, ◌-◌, if◌then◌else◌, map, take, length}
-use Rattle.std.specs.Map.{keys_of, values_of}
+use Rattle.std.specs.Prelude.{Bool, List, [], ◌∷◌, ◌-◌, if◌then◌else◌, take, length}
 use Rattle.am_alert.specs.declared.alert.Alert.{Alert}
 use Rattle.am_labels.specs.LabelSets.{same_labels}
 use Rattle.am_keyed.specs.declared.keyed.Change.{Change}
 use Rattle.am_keyed.specs.declared.keyed.Change.TheVariants.{Added, Replaced}
-
--- each value of a map has its own key there
-pub record AreOwnKeys {K V : Type 0} (key : V → K) (entries : List (K × V)) : Type 0 where
-  pub keys : keys_of entries ≡ map key (values_of entries)
 
 module _ {K V : Type 0} (eq : K → K → Bool) (key : V → K) where
   -- values with one more: it replaces that of its key, or is added at the end

@@ -18,6 +18,7 @@ pub trait HasKey<K: PartialEq> {
     fn key(&self) -> &K
         ensures { result.now ≡ key self.now };
 
+    // Keys that are equal are the same.
     ghost same: { (a b : K) → K.eq a b ≡ true → a ≡ b };
 }
 
@@ -50,7 +51,7 @@ impl<K: Eq + Hash, V: HasKey<K>> Model for Keyed<K, V> {
     ghost use Rattle.std.specs.Prelude.{List};
     ghost use Rattle.std.specs.Coded.{coded_list};
     ghost use Rattle.std.specs.Map.{values_of};
-    ghost use Rattle.am_keyed.specs.Keyed.{AreOwnKeys};
+    ghost use Rattle.am_keyed.specs.inside.Entries.{AreOwnKeys};
 
     ghost Value = { List V };
 

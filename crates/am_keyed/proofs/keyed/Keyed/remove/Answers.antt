@@ -4,7 +4,7 @@ use Rattle.std.proofs.lemmas.List.Sums.{length-filter}
 use Rattle.std.proofs.lemmas.List.Filters.{length-filter_both}
 use Rattle.std.proofs.lemmas.Map.Entries.{length-values_of}
 use Rattle.indexmap.proofs.CallerLemmas.{filter-RetainsPairs}
-use Rattle.am_keyed.specs.Keyed.{AreOwnKeys}
+use Rattle.am_keyed.specs.inside.Entries.{AreOwnKeys}
 use Rattle.am_keyed.proofs.Entries.{values-filtered, still_filtered}
 use Rattle.am_keyed.proofs.keyed.Keyed.remove.Given.{Over}
 use Rattle.am_keyed.proofs.keyed.Keyed.remove.Goals as goal
