@@ -63,12 +63,10 @@ fn each_line_is_read_once(rt: HostRuntime) -> Result<(), Fail> {
     let alloc = rt.alloc();
     let text = script(alloc, &[])?;
     let lines = read_script_in_threads(&rt, alloc, text.as_bytes())?;
-    let mut number = 1;
-    for line in &lines {
-        number += 1;
+    assert_eq!(rt; lines.len(), 1_599);
+    for (line, number) in lines.iter().zip(2..LINES + 1) {
         assert_eq!(rt; line.number, number);
     }
-    assert_eq!(rt; number, LINES);
     let alone = read_script(alloc, text.as_bytes())?;
     assert!(rt; printed(alloc, &lines)? == printed(alloc, &alone)?);
     Ok(())

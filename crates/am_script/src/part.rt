@@ -43,7 +43,7 @@ impl Part {
         part
     }
 
-    /// The same, in as many threads at once.
+    /// The same, by this many threads, each of which reads a part.
     pub(crate) fn read_in_threads<R: Threads + Sync>(
         rt: &R,
         alloc: Global,

@@ -86,7 +86,7 @@ pub fn read_script(alloc: Global, text: &[u8]) -> Result<Vec<Line>, ScriptFault>
     Part::read(alloc, 1, &lines).into_lines(alloc)
 }
 
-/// The same. The lines of a long text are read in as many threads as there are processors, up to eight.
+/// The same. The lines of a long text are read by as many threads as there are processors, up to eight.
 pub fn read_script_in_threads<R: Threads + Sync>(
     rt: &R,
     alloc: Global,
@@ -102,6 +102,7 @@ pub fn read_script_in_threads<R: Threads + Sync>(
     Part::read_in_threads(rt, alloc, threads_to_read(rt), 1, &lines).into_lines(alloc)
 }
 
+// As many as there are processors, or one if that isn't known.
 fn threads_to_read<R: Threads>(rt: &R) -> usize {
     match available_parallelism(rt) {
         Ok(processors) => processors.get().min(MOST_READERS),
