@@ -8,7 +8,7 @@ use Rattle.am_labels.specs.LabelSets.{Labels, same_labels}
 use Rattle.am_labels.specs.LabelLaws.{labels_decide, labels_equiv}
 use Rattle.am_alert.specs.declared.alert.Alert.{Alert}
 use Rattle.am_alert.specs.Merging.{is_resolved_at, unless_resolved, unresolved}
-use Rattle.am_keyed.specs.Keyed.{with_alert}
+use Rattle.am_keyed.specs.Keyed.{with_last_alert}
 use Rattle.am_inhibit.specs.LastAlerts.{label_sets, first_alerts, last_of, last_alerts}
 use Rattle.am_inhibit.specs.KeptAlerts.{InhibitorEvent, Take, Sweep, lasting, before_others, kept_alerts, after_event, held_after}
 use Rattle.am_inhibit.proofs.Cases.{by_bool}
@@ -101,17 +101,17 @@ kept_apart (Take alert ∷ events) =
 
 -- ---- one take more
 
-without-same : (next : Alert) (alerts : List Alert) → without next.labels (with_alert next alerts) ≡ without next.labels alerts
+without-same : (next : Alert) (alerts : List Alert) → without next.labels (with_last_alert next alerts) ≡ without next.labels alerts
 without-same next [] = ap (λ b. cond (not b) (next ∷ []) []) (labels_equiv.refl next.labels)
 without-same next (old ∷ olds) = let rest = without-same next olds in grind (arith, labels_equiv)
 
-without-other : (labels : Labels) (next : Alert) (alerts : List Alert) → same_labels labels next.labels ≡ false → without labels (with_alert next alerts) ≡ with_alert next (without labels alerts)
+without-other : (labels : Labels) (next : Alert) (alerts : List Alert) → same_labels labels next.labels ≡ false → without labels (with_last_alert next alerts) ≡ with_last_alert next (without labels alerts)
 without-other labels next [] unlike = ap (λ b. cond (not b) (next ∷ []) []) unlike
 without-other labels next (old ∷ olds) unlike =
     let rest = without-other labels next olds in
     grind (arith, labels_decide)
 
-pub kept-take : (events : List InhibitorEvent) (next : Alert) → kept_alerts (events ++ Take next ∷ []) ≡ with_alert next (kept_alerts events)
+pub kept-take : (events : List InhibitorEvent) (next : Alert) → kept_alerts (events ++ Take next ∷ []) ≡ with_last_alert next (kept_alerts events)
 unfolding next_or_last
 kept-take [] next = refl
 kept-take (Sweep now ∷ events) next = kept-take events next
@@ -119,7 +119,7 @@ kept-take (Take alert ∷ events) next =
     ap (λ o. before_others o (kept_alerts (events ++ Take next ∷ []))) (lasting-take events next alert)
     ∙ (ap (before_others (option_map (next_or_last next) (lasting events alert))) (kept-take events next) ∙ by_last (lasting events alert) (kept_alerts events))
   where
-    by_last : (o : Option Alert) (later : List Alert) → before_others (option_map (next_or_last next) o) (with_alert next later) ≡ with_alert next (before_others o later)
+    by_last : (o : Option Alert) (later : List Alert) → before_others (option_map (next_or_last next) o) (with_last_alert next later) ≡ with_last_alert next (before_others o later)
     by_last None later = refl
     by_last (Some last) later =
         let decide = labels_decide last.labels next.labels in
@@ -191,10 +191,10 @@ kept_without_sweeps (alert ∷ given) =
     ∙ (ap (λ l. last ∷ l) (sym (last-others alert given (first_alerts given)))
     ∙ ap (λ a. a ∷ map (last_of (alert ∷ given)) (without alert.labels (first_alerts given))) first)))
 
-pub last_alerts-push : (alerts : List Alert) (next : Alert) → last_alerts (alerts ++ next ∷ []) ≡ with_alert next (last_alerts alerts)
+pub last_alerts-push : (alerts : List Alert) (next : Alert) → last_alerts (alerts ++ next ∷ []) ≡ with_last_alert next (last_alerts alerts)
 last_alerts-push alerts next =
     sym (kept_without_sweeps (alerts ++ next ∷ []))
-    ∙ (ap kept_alerts (map-append Take alerts (next ∷ [])) ∙ (kept-take (map Take alerts) next ∙ ap (with_alert next) (kept_without_sweeps alerts)))
+    ∙ (ap kept_alerts (map-append Take alerts (next ∷ [])) ∙ (kept-take (map Take alerts) next ∙ ap (with_last_alert next) (kept_without_sweeps alerts)))
 
 pub last_alerts_apart : (alerts : List Alert) → AreApart (last_alerts alerts)
 last_alerts_apart alerts = subst AreApart (kept_without_sweeps alerts) (kept_apart (map Take alerts))
@@ -215,8 +215,8 @@ pub last_alerts-distinct : (alerts : List Alert) → IsDistinct same_labels (lab
 last_alerts-distinct alerts distinct = last_alerts-apart alerts (apart_distinct alerts distinct)
 
 -- one alert more
-pub with_alert-last : (alerts : List Alert) (next : Alert) → IsDistinct same_labels (label_sets alerts) → with_alert next alerts ≡ last_alerts (alerts ++ next ∷ [])
-with_alert-last alerts next distinct = ap (with_alert next) (sym (last_alerts-distinct alerts distinct)) ∙ sym (last_alerts-push alerts next)
+pub with_last_alert-last : (alerts : List Alert) (next : Alert) → IsDistinct same_labels (label_sets alerts) → with_last_alert next alerts ≡ last_alerts (alerts ++ next ∷ [])
+with_last_alert-last alerts next distinct = ap (with_last_alert next) (sym (last_alerts-distinct alerts distinct)) ∙ sym (last_alerts-push alerts next)
 
 pub last_alerts-twice : (alerts : List Alert) → last_alerts (last_alerts alerts) ≡ last_alerts alerts
 last_alerts-twice alerts = last_alerts-apart (last_alerts alerts) (last_alerts_apart alerts)

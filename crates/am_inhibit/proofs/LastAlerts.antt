@@ -5,7 +5,7 @@ use Rattle.std.specs.List.{list_any, IsDistinct, AllByRecursion}
 use Rattle.am_labels.specs.LabelSets.{Labels, same_labels}
 use Rattle.am_labels.specs.LabelLaws.{labels_decide, labels_equiv}
 use Rattle.am_alert.specs.declared.alert.Alert.{Alert}
-use Rattle.am_keyed.specs.Keyed.{with_alert}
+use Rattle.am_keyed.specs.Keyed.{with_last_alert}
 use Rattle.am_inhibit.specs.LastAlerts.{label_sets}
 
 -- whether a label set has an alert
@@ -37,9 +37,9 @@ apart_less test [] apart = tt
 apart_less test (alert ∷ alerts) apart = let rest = apart_less test alerts in grind (arith, has_less)
 
 -- a new label set's alert stands last
-pub with_alert-new : (next : Alert) (alerts : List Alert) → has next.labels alerts ≡ false → with_alert next alerts ≡ alerts ++ next ∷ []
-with_alert-new next [] none = refl
-with_alert-new next (alert ∷ alerts) none = let rest = with_alert-new next alerts in grind arith
+pub with_last_alert-new : (next : Alert) (alerts : List Alert) → has next.labels alerts ≡ false → with_last_alert next alerts ≡ alerts ++ next ∷ []
+with_last_alert-new next [] none = refl
+with_last_alert-new next (alert ∷ alerts) none = let rest = with_last_alert-new next alerts in grind arith
 
 -- label sets that are distinct
 pub apart_distinct : (alerts : List Alert) → IsDistinct same_labels (label_sets alerts) → AreApart alerts
@@ -52,10 +52,10 @@ apart_distinct (alert ∷ alerts) distinct = (none_of alert.labels alerts distin
     none_of labels (alert ∷ alerts) all = ap (λ b. b || has labels alerts) all.0 ∙ none_of labels alerts all.1
 
 -- the label sets stay where an alert is put in the place of its label set's
-pub label_sets-kept : (next : Alert) (alerts : List Alert) → has next.labels alerts ≡ true → label_sets (with_alert next alerts) ≡ label_sets alerts
+pub label_sets-kept : (next : Alert) (alerts : List Alert) → has next.labels alerts ≡ true → label_sets (with_last_alert next alerts) ≡ label_sets alerts
 label_sets-kept next [] there = absurd (let no : false ≡ true = there in (cc))
 label_sets-kept next (alert ∷ alerts) there = let rest = label_sets-kept next alerts in grind (arith, labels_decide)
 
-pub length-kept : (next : Alert) (alerts : List Alert) → has next.labels alerts ≡ true → length (with_alert next alerts) ≡ length alerts
+pub length-kept : (next : Alert) (alerts : List Alert) → has next.labels alerts ≡ true → length (with_last_alert next alerts) ≡ length alerts
 length-kept next [] there = absurd (let no : false ≡ true = there in (cc))
 length-kept next (alert ∷ alerts) there = let rest = length-kept next alerts in grind arith

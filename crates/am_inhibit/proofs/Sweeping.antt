@@ -10,7 +10,7 @@ use Rattle.am_labels.specs.LabelLaws.{labels_decide, labels_equiv}
 use Rattle.am_alert.specs.declared.alert.Alert.{Alert}
 use Rattle.am_alert.specs.Merging.{is_resolved_at, unless_resolved, unresolved}
 use Rattle.am_config.specs.declared.inhibit_rule.InhibitRule.{InhibitRule}
-use Rattle.am_keyed.specs.Keyed.{with_alert}
+use Rattle.am_keyed.specs.Keyed.{with_last_alert}
 use Rattle.am_inhibit.specs.LastAlerts.{last_alerts}
 use Rattle.am_inhibit.specs.KeptAlerts.{InhibitorEvent, Take, Sweep, kept_alerts, after_event, takes_removed}
 use Rattle.am_inhibit.specs.Muting.{is_candidate, inhibits, Candidate, rule_candidates, candidates, candidate_inhibits, candidates_seen, count_to, muted}
@@ -66,7 +66,7 @@ find-all labels now number (rule ∷ rules) keep alerts ended =
 
 -- what the alerts become by one more event
 abbrev kept_by : List Alert → InhibitorEvent → List Alert
-kept_by alerts (Take alert) = with_alert alert alerts
+kept_by alerts (Take alert) = with_last_alert alert alerts
 kept_by alerts (Sweep now) = unresolved now alerts
 
 kept_along : (events more : List InhibitorEvent) → kept_alerts (events ++ more) ≡ fold kept_by (kept_alerts events) more
@@ -87,11 +87,11 @@ module _ (swept : ℕ) (removed : Labels → Bool) where
   abbrev AreEnded : List Alert → Type 0
   AreEnded alerts = AllByRecursion (λ (alert : Alert). removed alert.labels ≡ true → is_resolved_at swept alert ≡ true) alerts
 
-  still-set : (next : Alert) (alerts : List Alert) → removed next.labels ≡ false → filter still (with_alert next alerts) ≡ with_alert next (filter still alerts)
+  still-set : (next : Alert) (alerts : List Alert) → removed next.labels ≡ false → filter still (with_last_alert next alerts) ≡ with_last_alert next (filter still alerts)
   still-set next [] kept = ap (λ b. cond (not b) (next ∷ []) []) kept
   still-set next (old ∷ olds) kept = let rest = still-set next olds in grind (arith, labels_decide)
 
-  ended-set : (next : Alert) (alerts : List Alert) → removed next.labels ≡ false → AreEnded alerts → AreEnded (with_alert next alerts)
+  ended-set : (next : Alert) (alerts : List Alert) → removed next.labels ≡ false → AreEnded alerts → AreEnded (with_last_alert next alerts)
   ended-set next [] kept ended = ((λ gone. absurd (true≢false (sym gone ∙ kept))), tt)
   ended-set next (old ∷ olds) kept ended = let rest = ended-set next olds in grind arith
 
@@ -109,7 +109,7 @@ module _ (swept : ℕ) (removed : Labels → Bool) where
       → (fold kept_by (filter still alerts) more ≡ filter still (fold kept_by alerts more)) × AreEnded (fold kept_by alerts more)
   still_along [] alerts none ended = (refl, ended)
   still_along (Take next ∷ more) alerts none ended =
-      let rest = still_along more (with_alert next alerts) in
+      let rest = still_along more (with_last_alert next alerts) in
       grind (arith, or_none, ended-set, still-set)
   still_along (Sweep now ∷ more) alerts none ended =
       let later = still_along more (unresolved now alerts) none (ended-filter (λ (alert : Alert). not (is_resolved_at now alert)) alerts ended) in

@@ -2,8 +2,8 @@
 use Rattle.std.specs.Prelude.{Bool, List, [], ◌∷◌, ◌-◌, if◌then◌else◌, take, length}
 use Rattle.am_alert.specs.declared.alert.Alert.{Alert}
 use Rattle.am_labels.specs.LabelSets.{same_labels}
-use Rattle.am_keyed.specs.declared.keyed.Change.{Change}
-use Rattle.am_keyed.specs.declared.keyed.Change.TheVariants.{Added, Replaced}
+use Rattle.am_keyed.specs.declared.keyed.KeyChange.{KeyChange}
+use Rattle.am_keyed.specs.declared.keyed.KeyChange.TheVariants.{Added, Replaced}
 
 module _ {K V : Type 0} (eq : K → K → Bool) (key : V → K) where
   -- values with one more: it replaces that of its key, or is added at the end
@@ -19,14 +19,14 @@ module _ {K V : Type 0} (eq : K → K → Bool) (key : V → K) where
       if eq (key before) (key value) then before ∷ values else value ∷ with_old before values
 
   -- values before their last change
-  abbrev pub before_change : Change V → List V → List V
+  abbrev pub before_change : KeyChange V → List V → List V
   before_change Added values = take (length values - 1) values
   before_change (Replaced before) values = with_old before values
 
 -- alerts with one more: it replaces that of its label set, or is added at the end
-abbrev pub with_alert : Alert → List Alert → List Alert
-with_alert = with_value same_labels (λ alert. alert.labels)
+abbrev pub with_last_alert : Alert → List Alert → List Alert
+with_last_alert = with_value same_labels (λ alert. alert.labels)
 
 -- alerts before their last change
-abbrev pub before_alert : Change Alert → List Alert → List Alert
+abbrev pub before_alert : KeyChange Alert → List Alert → List Alert
 before_alert = before_change same_labels (λ alert. alert.labels)

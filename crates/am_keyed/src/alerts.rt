@@ -2,15 +2,15 @@
 
 ghost use Rattle.std.specs.Prelude.{◌≡◌, IfOk, OnOk, OnErr};
 ghost use Rattle.am_alert.specs.Merging.{is_resolved_at};
-ghost use Rattle.am_keyed.specs.Keyed.{with_alert, before_alert};
+ghost use Rattle.am_keyed.specs.Keyed.{with_last_alert, before_alert};
 
-use crate::keyed::{Change, HasKey, Keyed, Removes};
+use crate::keyed::{HasKey, KeyChange, KeyedList, Removes};
 use am_alert::{Alert, Moment};
 use am_labels::LabelSet;
 use std::alloc::AllocError;
 
 /// Of each label set its last alert.
-pub type KeyedAlerts = Keyed<LabelSet, Alert>;
+pub type KeyedAlerts = KeyedList<LabelSet, Alert>;
 
 impl HasKey<LabelSet> for Alert {
     ghost use Rattle.am_labels.specs.LabelLaws.{labels_decide};
@@ -24,10 +24,10 @@ impl HasKey<LabelSet> for Alert {
     }
 }
 
-impl Keyed<LabelSet, Alert> {
+impl KeyedList<LabelSet, Alert> {
     /// Replaces the alert of its label set by a clone, or adds that at the end.
-    pub fn keep(&mut self, alert: &Alert) -> Result<Change<Alert>, AllocError>
-        ensures kept { OnOk result (self.new ≡ with_alert alert.now self.old) }
+    pub fn keep(&mut self, alert: &Alert) -> Result<KeyChange<Alert>, AllocError>
+        ensures kept { OnOk result (self.new ≡ with_last_alert alert.now self.old) }
         ensures undo { IfOk result (λ change. before_alert change self.new ≡ self.old) }
         ensures err { OnErr result (self.new ≡ self.old) }
     {

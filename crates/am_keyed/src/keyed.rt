@@ -33,7 +33,7 @@ pub trait Removes<V> {
 
 /// What a value changed, kept to undo it.
 #[derive(Drop)]
-pub enum Change<V> {
+pub enum KeyChange<V> {
     /// It began its key, the last one.
     Added,
     /// Its key had this value.
@@ -43,11 +43,11 @@ pub enum Change<V> {
 /// Of each key its last value, in the order in which the keys came, seen by contracts as the list of the
 /// values.
 #[derive(Drop)]
-pub struct Keyed<K: Eq + Hash, V: HasKey<K>> {
+pub struct KeyedList<K: Eq + Hash, V: HasKey<K>> {
     values: IndexMap<K, V>,
 }
 
-impl<K: Eq + Hash, V: HasKey<K>> Model for Keyed<K, V> {
+impl<K: Eq + Hash, V: HasKey<K>> Model for KeyedList<K, V> {
     ghost use Rattle.std.specs.Prelude.{List};
     ghost use Rattle.std.specs.Coded.{coded_list};
     ghost use Rattle.std.specs.Map.{values_of};
@@ -62,11 +62,11 @@ impl<K: Eq + Hash, V: HasKey<K>> Model for Keyed<K, V> {
     ghost invariant = { λ a. AreOwnKeys V.key a.values.entries };
 }
 
-impl<K: Eq + Hash + Drop, V: HasKey<K> + Drop> Keyed<K, V> {
-    pub fn new(alloc: Global) -> Keyed<K, V>
+impl<K: Eq + Hash + Drop, V: HasKey<K> + Drop> KeyedList<K, V> {
+    pub fn new(alloc: Global) -> KeyedList<K, V>
         ensures { result ≡ [] }
     {
-        Keyed {
+        KeyedList {
             values: IndexMap::new(alloc),
         }
     }
@@ -94,29 +94,29 @@ impl<K: Eq + Hash + Drop, V: HasKey<K> + Drop> Keyed<K, V> {
     }
 
     /// Replaces the value of its key, or adds it at the end.
-    pub fn put(&mut self, key: K, value: V) -> Result<Change<V>, AllocError>
+    pub fn put(&mut self, key: K, value: V) -> Result<KeyChange<V>, AllocError>
         requires { key ≡ V.key value }
         ensures put { OnOk result (self.new ≡ with_value K.eq V.key value self.old) }
         ensures undo { IfOk result (λ change. before_change K.eq V.key change self.new ≡ self.old) }
         ensures err { OnErr result (self.new ≡ self.old) }
     {
         match self.index_of(&key) {
-            Some(at) => Ok(Change::Replaced(self.replace(at, value))),
+            Some(at) => Ok(KeyChange::Replaced(self.replace(at, value))),
             None => {
                 self.values.insert(key, value)?;
-                Ok(Change::Added)
+                Ok(KeyChange::Added)
             }
         }
     }
 
     /// Undoes the last change.
     #[tactic(auto, using(crate::proofs::Entries::undo_laws))]
-    pub fn undo(&mut self, change: Change<V>)
+    pub fn undo(&mut self, change: KeyChange<V>)
         ensures { self.new ≡ before_change K.eq V.key change self.old }
     {
         match change {
-            Change::Added => self.values.truncate(self.values.len().saturating_sub(1)),
-            Change::Replaced(before) => {
+            KeyChange::Added => self.values.truncate(self.values.len().saturating_sub(1)),
+            KeyChange::Replaced(before) => {
                 if let Some(at) = self.index_of(before.key()) {
                     let _newer = self.replace(at, before);
                 }

@@ -1,6 +1,6 @@
 //! Lists in which no two values have one key.
 //!
-//! A [`Keyed`] keeps of each key its last value, in the order in which the keys came. It finds a key without a
+//! A [`KeyedList`] keeps of each key its last value, in the order in which the keys came. It finds a key without a
 //! walk. What a value changed can be undone, so that a caller who runs out of memory halfway leaves no trace.
 //! Contracts see it as the list of its values, and never its map: [`HasKey`] says what a value's key is, and
 //! [`Removes`] which values go.
@@ -12,4 +12,4 @@ mod alerts;
 mod keyed;
 
 pub use alerts::KeyedAlerts;
-pub use keyed::{Change, HasKey, Keyed, Removes};
+pub use keyed::{HasKey, KeyChange, KeyedList, Removes};

@@ -15,8 +15,8 @@ use Rattle.am_labels.specs.LabelSets.{Labels, same_labels}
 use Rattle.am_labels.specs.LabelLaws.{labels_decide}
 use Rattle.am_alert.specs.declared.alert.Alert.{Alert}
 use Rattle.am_alert.specs.Merging.{is_resolved_at, unresolved}
-use Rattle.am_keyed.specs.declared.keyed.Change.{Change}
-use Rattle.am_keyed.specs.Keyed.{with_alert, before_alert}
+use Rattle.am_keyed.specs.declared.keyed.KeyChange.{KeyChange}
+use Rattle.am_keyed.specs.Keyed.{with_last_alert, before_alert}
 use Rattle.am_routes.specs.declared.dispatcher.GroupKey.{GroupKey}
 use Rattle.am_routes.specs.RouteAnswers.{Node}
 use Rattle.am_routes.specs.Groups.{GroupView, is_empty, removed_groups}
@@ -53,7 +53,7 @@ member_begins node labels alert key (entry ∷ entries) of kept none =
 
 -- where a group has the key, the alert is put into it
 pub member_joins : (node : Node) (labels : Labels) (alert : Alert) (key : GroupKey) (group : GroupView) (entries : List (GroupKey × GroupView)) → IsKeyOf node labels key → AreKeyedByGroups entries → map_of.lookup (same_key key) entries ≡ Some group
-    → groups_in (insert_entry same_key entries key (record group { alerts = with_alert alert group.alerts })) ≡ with_member node labels alert (groups_in entries)
+    → groups_in (insert_entry same_key entries key (record group { alerts = with_last_alert alert group.alerts })) ≡ with_member node labels alert (groups_in entries)
 member_joins node labels alert key group [] of kept found = absurd (cc)
 member_joins node labels alert key group (entry ∷ entries) of kept found =
     let rest = member_joins node labels alert key group entries in
@@ -81,19 +81,19 @@ written_kept (entry ∷ entries) zero old new got route labels kept = grind arit
 written_kept (entry ∷ entries) (suc at) old new got route labels kept = (kept.0, written_kept entries at old new got route labels kept.1)
 
 -- what a group was, where its alerts are put back
-pub change_undone : (entries : List (GroupKey × GroupView)) (at : ℕ) (old : GroupView) (alerts : List Alert) (change : Change Alert) → slice_get (values_of entries) at ≡ Some old → before_alert change alerts ≡ old.alerts
+pub change_undone : (entries : List (GroupKey × GroupView)) (at : ℕ) (old : GroupView) (alerts : List Alert) (change : KeyChange Alert) → slice_get (values_of entries) at ≡ Some old → before_alert change alerts ≡ old.alerts
     → changed_back at change (groups_in (set_value_at entries at (record old { alerts = alerts }))) ≡ groups_in entries
 change_undone [] at old alerts change got before = refl
 change_undone (entry ∷ entries) zero old alerts change got before = grind arith
 change_undone (entry ∷ entries) (suc at) old alerts change got before = ap (λ rest. entry.1 ∷ rest) (change_undone entries at old alerts change got before)
 
-pub change_back : (entries : List (GroupKey × GroupView)) (at : ℕ) (old : GroupView) (change : Change Alert) → slice_get (values_of entries) at ≡ Some old
+pub change_back : (entries : List (GroupKey × GroupView)) (at : ℕ) (old : GroupView) (change : KeyChange Alert) → slice_get (values_of entries) at ≡ Some old
     → groups_in (set_value_at entries at (record old { alerts = before_alert change old.alerts })) ≡ changed_back at change (groups_in entries)
 change_back [] at old change got = refl
 change_back (entry ∷ entries) zero old change got = grind arith
 change_back (entry ∷ entries) (suc at) old change got = ap (λ rest. entry.1 ∷ rest) (change_back entries at old change got)
 
-pub change_nowhere : (groups : List GroupView) (at : ℕ) (change : Change Alert) → None ≡ slice_get groups at → groups ≡ changed_back at change groups
+pub change_nowhere : (groups : List GroupView) (at : ℕ) (change : KeyChange Alert) → None ≡ slice_get groups at → groups ≡ changed_back at change groups
 change_nowhere [] at change past = refl
 change_nowhere (group ∷ groups) zero change past = absurd (let no : None ≡ Some group = past in (cc))
 change_nowhere (group ∷ groups) (suc at) change past = ap (λ rest. group ∷ rest) (change_nowhere groups at change past)

@@ -10,7 +10,7 @@ use Rattle.am_alert.specs.declared.alert.Alert.{Alert}
 use Rattle.am_alert.specs.Merging.{unless_resolved, unresolved}
 use Rattle.am_labels.specs.LabelSets.{Labels, same_labels}
 use Rattle.am_labels.specs.LabelLaws.{labels_decide}
-use Rattle.am_keyed.specs.Keyed.{with_alert}
+use Rattle.am_keyed.specs.Keyed.{with_last_alert}
 use Rattle.am_config.specs.Routes.{Forest}
 use Rattle.am_routes.specs.RouteAnswers.{Node, answer_of}
 use Rattle.am_config.specs.GroupLabels.{group_labels}
@@ -110,7 +110,7 @@ unfolding is_of
 own_is_of key labels update e = grind (arith, labels_decide)
 
 values_put : (key : GroupIdentity) (all : List GroupUpdate) (alert : Alert) (update : GroupUpdate) (entries : List (GroupUpdate × Alert)) → AllHold (label_set key) (held_in key) all entries
-    → map (λ (entry : GroupUpdate × Alert). entry.1) (put (is_of key alert.labels) (λ held. alert) update entries) ≡ with_alert alert (map (λ (entry : GroupUpdate × Alert). entry.1) entries)
+    → map (λ (entry : GroupUpdate × Alert). entry.1) (put (is_of key alert.labels) (λ held. alert) update entries) ≡ with_last_alert alert (map (λ (entry : GroupUpdate × Alert). entry.1) entries)
 unfolding put AllHold is_of
 values_put key all alert update [] hold = refl
 values_put key all alert update (entry ∷ entries) hold =
@@ -118,7 +118,7 @@ values_put key all alert update (entry ∷ entries) hold =
     grind (arith, held_own, put)
 
 alerts_own : (key : GroupIdentity) (all : List GroupUpdate) (node : Node) (labels : Labels) (alert : Alert) → same_group key (record { route = node.number; labels = labels }) ≡ true
-    → alerts_of_group key (all ++ Join node labels alert ∷ []) ≡ with_alert alert (alerts_of_group key all)
+    → alerts_of_group key (all ++ Join node labels alert ∷ []) ≡ with_last_alert alert (alerts_of_group key all)
 alerts_own key all node labels alert own =
     let update = Join node labels alert in
     let is : label_set key update ≡ Some alert.labels = grind arith in
@@ -167,9 +167,9 @@ own_is_in key update e = grind (arith, group_decides)
 
 with_one : Alert → Option (List Alert) → List Alert
 with_one alert None = alert ∷ []
-with_one alert (Some alerts) = with_alert alert alerts
+with_one alert (Some alerts) = with_last_alert alert alerts
 
-some_with : (alert : Alert) (alerts : List Alert) → some_of (with_alert alert alerts) ≡ Some (with_one alert (some_of alerts))
+some_with : (alert : Alert) (alerts : List Alert) → some_of (with_last_alert alert alerts) ≡ Some (with_one alert (some_of alerts))
 unfolding with_one
 some_with alert [] = refl
 some_with alert (old ∷ olds) = grind arith

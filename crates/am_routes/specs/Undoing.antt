@@ -1,7 +1,7 @@
 -- What undoing the last alert that a dispatcher took gives, by the changes that it made.
 use Rattle.std.specs.Prelude.{ℕ, zero, suc, ◌-◌, List, [], ◌∷◌, take, length}
 use Rattle.am_alert.specs.declared.alert.Alert.{Alert}
-use Rattle.am_keyed.specs.declared.keyed.Change.{Change}
+use Rattle.am_keyed.specs.declared.keyed.KeyChange.{KeyChange}
 use Rattle.am_keyed.specs.Keyed.{before_alert}
 use Rattle.am_routes.specs.declared.dispatcher.GroupChange.{GroupChange}
 use Rattle.am_routes.specs.declared.dispatcher.GroupChange.TheVariants.{Begun, Changed}
@@ -9,7 +9,7 @@ use Rattle.am_routes.specs.declared.dispatcher.Noted.{Noted}
 use Rattle.am_routes.specs.Groups.{DispatcherView, GroupView}
 
 -- groups before the last change of the one at an index
-abbrev pub changed_back : ℕ → Change Alert → List GroupView → List GroupView
+abbrev pub changed_back : ℕ → KeyChange Alert → List GroupView → List GroupView
 changed_back at change [] = []
 changed_back zero change (group ∷ groups) =
     record group { alerts = before_alert change group.alerts } ∷ groups

@@ -17,7 +17,7 @@ use crate::matching::{FoundRoute, PreparedTree};
 use crate::route_id::RouteId;
 use am_alert::{Alert, Moment};
 use am_config::RouteTree;
-use am_keyed::Change;
+use am_keyed::KeyChange;
 use am_labels::LabelSet;
 use indexmap::IndexMap;
 use std::alloc::{AllocError, Global};
@@ -40,7 +40,7 @@ pub(crate) enum GroupChange {
     /// It began a group, the last one.
     Begun,
     /// It changed the group at this index.
-    Changed(usize, Change<Alert>),
+    Changed(usize, KeyChange<Alert>),
 }
 
 /// What an alert that was taken changed, kept to undo it.

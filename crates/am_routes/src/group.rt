@@ -2,13 +2,13 @@
 
 ghost use Rattle.std.specs.Prelude.{◌≡◌, [], ◌∷◌, IfOk, OnErr, count_by};
 ghost use Rattle.am_alert.specs.Merging.{is_resolved_at, unresolved};
-ghost use Rattle.am_keyed.specs.Keyed.{with_alert, before_alert};
+ghost use Rattle.am_keyed.specs.Keyed.{with_last_alert, before_alert};
 ghost use Rattle.am_routes.specs.Groups.{is_empty};
 
 use crate::matching::FoundRoute;
 use crate::route_id::RouteId;
 use am_alert::{Alert, Moment};
-use am_keyed::{Change, KeyedAlerts};
+use am_keyed::{KeyChange, KeyedAlerts};
 use am_labels::LabelSet;
 use std::alloc::{AllocError, Global};
 use std::fmt;
@@ -101,9 +101,9 @@ impl<'t> Group<'t> {
     }
 
     /// Replaces the last alert of an alert's label set by it, or adds it at the end.
-    pub(crate) fn put(&mut self, alert: &Alert) -> Result<Change<Alert>, AllocError>
+    pub(crate) fn put(&mut self, alert: &Alert) -> Result<KeyChange<Alert>, AllocError>
         ensures put { IfOk result (λ _.
-            self.new ≡ record self.old { alerts = with_alert alert.now self.old.alerts }) }
+            self.new ≡ record self.old { alerts = with_last_alert alert.now self.old.alerts }) }
         ensures undo { IfOk result
             (λ change. before_alert change self.new.alerts ≡ self.old.alerts) }
         ensures err { OnErr result (self.new ≡ self.old) }
@@ -112,7 +112,7 @@ impl<'t> Group<'t> {
     }
 
     /// Undoes the last change.
-    pub(crate) fn undo(&mut self, change: Change<Alert>)
+    pub(crate) fn undo(&mut self, change: KeyChange<Alert>)
         ensures { self.new ≡ record self.old { alerts = before_alert change self.old.alerts } }
     {
         self.alerts.undo(change);

@@ -21,7 +21,7 @@ use Rattle.am_script.specs.declared.script.ScriptFault.{ScriptFault}
 use Rattle.am_script.specs.declared.script.ScriptFault.TheVariants.{Refused, NoMemory}
 use Rattle.am_script.specs.inside.Following.{FollowsEach, FollowsLine}
 use Rattle.am_script.specs.inside.Following as following
-use Rattle.am_script.specs.inside.Parts.{AddsLine, AreFirstLines, HasFault, ReadsLine, ReadsLines, bytes_of, ended, out_of_memory, faulty, skipped, command}
+use Rattle.am_script.specs.inside.Parts.{AddsLine, AreFirstLines, HasFault, ReadsLine, ReadsLines, bytes_of_lines, ended, out_of_memory, faulty, skipped, command}
 
 abbrev End : Type 0
 End = Result (Unit {0}) ScriptFault
@@ -30,8 +30,8 @@ End = Result (Unit {0}) ScriptFault
 pub next_item : {X : Type 0} (items : List X) (i : ℕ) (x : X) → i < length items → x ≡ get_or items i x → drop i items ≡ x ∷ drop (i + 1) items
 next_item {X} items i x within is = rw add-one (drop-cons items i x within ∙ ap (λ (y : X). y ∷ drop (suc i) items) (sym is))
 
-next_bytes : (lines : List (Bor (List ℕ))) (i : ℕ) (d : Bor (List ℕ)) → i < length lines → bytes_of (drop i lines) ≡ (get_or lines i d).now ∷ bytes_of (drop (i + 1) lines)
-next_bytes lines i d within = rw add-one (ap bytes_of (drop-cons lines i d within))
+next_bytes : (lines : List (Bor (List ℕ))) (i : ℕ) (d : Bor (List ℕ)) → i < length lines → bytes_of_lines (drop i lines) ≡ (get_or lines i d).now ∷ bytes_of_lines (drop (i + 1) lines)
+next_bytes lines i d within = rw add-one (ap bytes_of_lines (drop-cons lines i d within))
 
 -- lines that are read one after another
 module _ (first : ℕ) (all : List (List ℕ)) where
@@ -50,12 +50,12 @@ module _ (first : ℕ) (all : List (List ℕ)) where
       adds
 
   -- the line at an index
-  module _ (number : ℕ) (lines : List (Bor (List ℕ))) (i : ℕ) (within : i < length lines) (d : Bor (List ℕ)) (old new : List Line) (so_far : GoesOn number (bytes_of (drop i lines)) old) where
-    here : GoesOn number ((get_or lines i d).now ∷ bytes_of (drop (i + 1) lines)) old
+  module _ (number : ℕ) (lines : List (Bor (List ℕ))) (i : ℕ) (within : i < length lines) (d : Bor (List ℕ)) (old new : List Line) (so_far : GoesOn number (bytes_of_lines (drop i lines)) old) where
+    here : GoesOn number ((get_or lines i d).now ∷ bytes_of_lines (drop (i + 1) lines)) old
     here = subst (λ (ls : List (List ℕ)). GoesOn number ls old) (next_bytes lines i d within) so_far
 
-    pub line_added : AddsLine number (get_or lines i d).now old new (Ok tt) → GoesOn (number + 1) (bytes_of (drop (i + 1) lines)) new
-    line_added adds = added number (get_or lines i d).now (bytes_of (drop (i + 1) lines)) old new here adds
+    pub line_added : AddsLine number (get_or lines i d).now old new (Ok tt) → GoesOn (number + 1) (bytes_of_lines (drop (i + 1) lines)) new
+    line_added adds = added number (get_or lines i d).now (bytes_of_lines (drop (i + 1) lines)) old new here adds
 
     pub line_faulty : (fault : ScriptFault) → AddsLine number (get_or lines i d).now old new (Err fault) → ReadsLines first all new (Err fault)
     line_faulty fault stops = subst (λ (ls : List Line). ReadsLines first all ls (Err fault)) (append-nil old ∙ sym stops.0) (here [] (Err fault) (faulty stops.1))

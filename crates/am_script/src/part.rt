@@ -4,7 +4,7 @@
 ghost use Rattle.std.specs.Prelude.{◌≡◌, ◌<◌, ◌+◌, ◌^◌, ◌++◌, [], ℕ, List, Ok, IfOk, IfErr, length};
 ghost use Rattle.std.specs.Thread.{IsSync};
 ghost use Rattle.am_script.specs.Script.{Checks, IsRefused, lines_of};
-ghost use Rattle.am_script.specs.inside.Parts.{AddsLine, AreFirstLines, IsPart, ReadsLine, bytes_of};
+ghost use Rattle.am_script.specs.inside.Parts.{AddsLine, AreFirstLines, IsPart, ReadsLine, bytes_of_lines};
 
 use crate::command::{Line, LineFault};
 use crate::limits::{LONGEST_LINE, MOST_LINES};
@@ -16,18 +16,18 @@ use std::thread::{Threads, join};
 
 /// The commands of some lines up to their first fault, and whether there is one.
 #[derive(Drop)]
-pub(crate) struct Part {
+pub(crate) struct ScriptPart {
     lines: Vec<Line>,
     end: Result<(), ScriptFault>,
 }
 
-impl Part {
+impl ScriptPart {
     /// Reads lines, the first of which has this number.
-    pub(crate) fn read(alloc: Global, first: u32, lines: &[&[u8]]) -> Part
+    pub(crate) fn read(alloc: Global, first: u32, lines: &[&[u8]]) -> ScriptPart
         requires { (0 < first) × (first + length lines.now < 2 ^ 32) }
-        ensures { IsPart first (bytes_of lines.now) result }
+        ensures { IsPart first (bytes_of_lines lines.now) result }
     {
-        let mut part = Part {
+        let mut part = ScriptPart {
             lines: Vec::new(alloc),
             end: Ok(()),
         };
@@ -50,12 +50,12 @@ impl Part {
         threads: usize,
         first: u32,
         lines: &[&[u8]],
-    ) -> Part
+    ) -> ScriptPart
         requires { (0 < first) × (first + length lines.now < 2 ^ 32) }
-        ensures { IsPart first (bytes_of lines.now) result }
+        ensures { IsPart first (bytes_of_lines lines.now) result }
     {
         if threads < 2 {
-            return Part::read(alloc, first, lines);
+            return ScriptPart::read(alloc, first, lines);
         }
         let (front, back) = lines.split_at(lines.len() / 2);
         let next = first + front.len() as u32;
@@ -63,14 +63,14 @@ impl Part {
         let own = threads - others;
         let (part, rest) = join(
             rt,
-            || -> Part
+            || -> ScriptPart
                 requires { IsSync R.row × (0 < first) × (first + length front.now < 2 ^ 32) }
-                ensures { IsPart first (bytes_of front.entry.now) result }
-            { Part::read_in_threads(rt, alloc, others, first, front) },
-            || -> Part
+                ensures { IsPart first (bytes_of_lines front.entry.now) result }
+            { ScriptPart::read_in_threads(rt, alloc, others, first, front) },
+            || -> ScriptPart
                 requires { IsSync R.row × (0 < next) × (next + length back.now < 2 ^ 32) }
-                ensures { IsPart next (bytes_of back.entry.now) result }
-            { Part::read_in_threads(rt, alloc, own, next, back) },
+                ensures { IsPart next (bytes_of_lines back.entry.now) result }
+            { ScriptPart::read_in_threads(rt, alloc, own, next, back) },
         );
         part.followed_by(rest)
     }
@@ -89,7 +89,7 @@ impl Part {
     }
 
     // Both, one after the other.
-    fn followed_by(mut self, mut rest: Part) -> Part
+    fn followed_by(mut self, mut rest: ScriptPart) -> ScriptPart
         ensures { (first : ℕ) (front back : List (List ℕ)) → IsPart first front self
             → IsPart (first + length front) back rest → IsPart first (front ++ back) result }
     {
@@ -97,11 +97,11 @@ impl Part {
             return self;
         }
         match self.lines.append(&mut rest.lines) {
-            Ok(()) => Part {
+            Ok(()) => ScriptPart {
                 lines: self.lines,
                 end: rest.end,
             },
-            Err(_) => Part {
+            Err(_) => ScriptPart {
                 lines: self.lines,
                 end: Err(ScriptFault::NoMemory),
             },

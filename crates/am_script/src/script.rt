@@ -3,12 +3,12 @@
 ghost use Rattle.std.specs.Prelude.{◌≡◌, ◌<◌, [], ◌∷◌, length, Some, Ok, Err, IfOk, IfErr};
 ghost use Rattle.am_script.specs.ScriptTexts.{fault_text, refusal_text};
 ghost use Rattle.am_script.specs.Script.{Checks, IsRefused, config_line, lines_of};
-ghost use Rattle.am_script.specs.inside.Parts.{AreFirstLines, bytes_of};
+ghost use Rattle.am_script.specs.inside.Parts.{AreFirstLines, bytes_of_lines};
 
 use crate::command::Line;
 use crate::limits::{MOST_LINES, MOST_READERS, SHORTEST_IN_THREADS};
 use crate::line_feed::line_feed;
-use crate::part::Part;
+use crate::part::ScriptPart;
 use std::alloc::{AllocError, AllocFailed, Global};
 use std::fmt;
 use std::thread::{Threads, available_parallelism};
@@ -83,7 +83,7 @@ pub fn read_script(alloc: Global, text: &[u8]) -> Result<Vec<Line>, ScriptFault>
     ensures refused { IfErr result (IsRefused text.now) }
 {
     let lines = first_lines(alloc, text)?;
-    Part::read(alloc, 1, &lines).into_lines(alloc)
+    ScriptPart::read(alloc, 1, &lines).into_lines(alloc)
 }
 
 /// The same. The lines of a long text are read by as many threads as there are processors, up to eight.
@@ -99,7 +99,7 @@ pub fn read_script_in_threads<R: Threads + Sync>(
         return read_script(alloc, text);
     }
     let lines = first_lines(alloc, text)?;
-    Part::read_in_threads(rt, alloc, threads_to_read(rt), 1, &lines).into_lines(alloc)
+    ScriptPart::read_in_threads(rt, alloc, threads_to_read(rt), 1, &lines).into_lines(alloc)
 }
 
 // As many as there are processors, or one if that isn't known.
@@ -112,7 +112,7 @@ fn threads_to_read<R: Threads>(rt: &R) -> usize {
 
 // The first lines of a text: all, or one more than a script may have.
 fn first_lines(alloc: Global, text: &[u8]) -> Result<Vec<&[u8]>, AllocError>
-    ensures { IfOk result (λ lines. AreFirstLines text.now (bytes_of lines.items)) }
+    ensures { IfOk result (λ lines. AreFirstLines text.now (bytes_of_lines lines.items)) }
 {
     let mut lines = Vec::new(alloc);
     let mut rest = text;

@@ -5,7 +5,7 @@ use Rattle.std.specs.List.{filter_map}
 use Rattle.am_alert.specs.declared.alert.Alert.{Alert}
 use Rattle.am_alert.specs.Merging.{unresolved}
 use Rattle.am_labels.specs.LabelSets.{Labels, same_labels}
-use Rattle.am_keyed.specs.Keyed.{with_alert}
+use Rattle.am_keyed.specs.Keyed.{with_last_alert}
 use Rattle.am_routes.specs.RouteAnswers.{Node}
 use Rattle.am_config.specs.GroupLabels.{group_labels}
 use Rattle.am_routes.specs.Groups.{GroupView, some_of}
@@ -20,7 +20,7 @@ with_member node labels alert [] =
     record { route = node.number; receiver = node.route.receiver; labels = labels; alerts = alert ∷ [] } ∷ []
 with_member node labels alert (group ∷ groups) =
     if is_group node labels group
-    then record group { alerts = with_alert alert group.alerts } ∷ groups
+    then record group { alerts = with_last_alert alert group.alerts } ∷ groups
     else group ∷ with_member node labels alert groups
 
 -- groups with an alert put into one of a route

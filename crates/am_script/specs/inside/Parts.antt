@@ -7,15 +7,15 @@ use Rattle.am_script.specs.Script.{IsSkipped, IsTooLarge, IsWithinLimits, lines_
 use Rattle.am_script.specs.declared.command.Line.{Line}
 use Rattle.am_script.specs.declared.command.LineFault.TheVariants as line_fault
 use Rattle.am_script.specs.declared.limits.TheConstants.{MOST_LINES}
-use Rattle.am_script.specs.declared.part.Part.{Part}
+use Rattle.am_script.specs.declared.part.ScriptPart.{ScriptPart}
 use Rattle.am_script.specs.declared.script.Fault.{Fault}
 use Rattle.am_script.specs.declared.script.Fault.TheVariants.{BadLine, BadName, TooLarge}
 use Rattle.am_script.specs.declared.script.ScriptFault.{ScriptFault}
 use Rattle.am_script.specs.declared.script.ScriptFault.TheVariants.{Refused, NoMemory}
 
 -- the bytes of lines
-abbrev pub bytes_of : List (Bor (List ℕ)) → List (List ℕ)
-bytes_of lines = map (λ line. line.now) lines
+abbrev pub bytes_of_lines : List (Bor (List ℕ)) → List (List ℕ)
+bytes_of_lines lines = map (λ line. line.now) lines
 
 -- the first lines of a text: all, or one more than a script may have
 pub record AreFirstLines (text : List ℕ) (lines : List (List ℕ)) : Type 0 where
@@ -58,7 +58,7 @@ pub data ReadsLines : ℕ → List (List ℕ) → List Line → Result (Unit {0}
       → ReadsLines number (bytes ∷ rest) (line ∷ lines) end
 
 -- a part is what reading these lines answers
-abbrev pub IsPart : ℕ → List (List ℕ) → Part → Type 0
+abbrev pub IsPart : ℕ → List (List ℕ) → ScriptPart → Type 0
 IsPart first bytes part = ReadsLines first bytes part.lines.items part.end
 
 -- one line was read: its command is the last, if it has one, or nothing was added

@@ -8,7 +8,7 @@ use Rattle.indexmap.specs.IndexMap.{insert_entry, set_value_at}
 use Rattle.indexmap.proofs.CallerLemmas.{insert_entry-new}
 use Rattle.am_labels.specs.LabelSets.{Labels}
 use Rattle.am_alert.specs.declared.alert.Alert.{Alert}
-use Rattle.am_keyed.specs.Keyed.{with_alert}
+use Rattle.am_keyed.specs.Keyed.{with_last_alert}
 use Rattle.am_routes.specs.declared.dispatcher.GroupKey.{GroupKey}
 use Rattle.am_routes.specs.RouteAnswers.{Node}
 use Rattle.am_config.specs.GroupLabels.{group_labels}
@@ -39,7 +39,7 @@ returns-in_ok-change-in-Some-clause-joined c =
     let found : position (same_key key) (keys_of entries) ≡ Some c.in-Some.at = sym c.in-Some.ensures.index in
     let there : map_of.lookup (same_key key) entries ≡ Some group = sym c.in-Some.ensures.value ∙ c.index_mut.ensures.value in
     ap (λ g. groups_in (set_value_at entries c.in-Some.at g)) c.in_ok-change-in-Some.ensures.put
-    ∙ (ap groups_in (group_written entries key (record group { alerts = with_alert alert group.alerts }) c.in-Some.at found)
+    ∙ (ap groups_in (group_written entries key (record group { alerts = with_last_alert alert group.alerts }) c.in-Some.at found)
     ∙ member_joins node labels alert key group entries of c.requires there)
 
 pub returns-in_ok-change-in-Some-clause-undo : goal.returns-in_ok-change-in-Some-clause-undo

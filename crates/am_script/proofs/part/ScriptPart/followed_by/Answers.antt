@@ -3,7 +3,7 @@ use Rattle.am_script.specs.declared.command.Line.{Line}
 use Rattle.am_script.specs.declared.script.ScriptFault.TheVariants.{NoMemory}
 use Rattle.am_script.specs.inside.Parts.{ReadsLines}
 use Rattle.am_script.proofs.Parts.{cut_short, joined, stopped, without_fault}
-use Rattle.am_script.proofs.part.Part.followed_by.Goals as goal
+use Rattle.am_script.proofs.part.ScriptPart.followed_by.Goals as goal
 
 pub returns-then-is_err : goal.returns-then-is_err
 returns-then-is_err c = λ first front back this next. stopped this (sym c.if-is_err.ensures.value) back

@@ -2,7 +2,7 @@ use Rattle.std.proofs.Common.{◌≡◌, [], List, Err, sym, subst, ◌∙◌, r
 use Rattle.am_script.specs.declared.command.Line.{Line}
 use Rattle.am_script.specs.inside.Following.{FollowsEach}
 use Rattle.am_script.proofs.Parts.{text_fits, text_refused}
-use Rattle.am_script.proofs.part.Part.into_lines.Goals as goal
+use Rattle.am_script.proofs.part.ScriptPart.into_lines.Goals as goal
 
 pub returns-in_err-and-clause-refused : goal.returns-in_err-and-clause-refused
 returns-in_err-and-clause-refused c =

@@ -5,8 +5,8 @@ use Rattle.std.specs.Map.{keys_of}
 use Rattle.indexmap.specs.IndexMap.{insert_entry, set_value_at}
 use Rattle.indexmap.proofs.MapLemmas.{Found-position}
 use Rattle.am_keyed.proofs.Entries.{values-inserted, still_kept, found-kept, written_at}
-use Rattle.am_keyed.proofs.keyed.Keyed.replace.Given.{Over}
-use Rattle.am_keyed.proofs.keyed.Keyed.replace.Goals as goal
+use Rattle.am_keyed.proofs.keyed.KeyedList.replace.Given.{Over}
+use Rattle.am_keyed.proofs.keyed.KeyedList.replace.Goals as goal
 
 found : (g : Over) (c : goal.After-self-1 g) → position (g.K.PartialEq.eq (g.V.HasKey.key c.args.value)) (keys_of c.self.inside.values.entries) ≡ Some c.args.at
 found g c = grind (arith, common_steps)

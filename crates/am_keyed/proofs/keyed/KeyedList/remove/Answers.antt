@@ -6,8 +6,8 @@ use Rattle.std.proofs.lemmas.Map.Entries.{length-values_of}
 use Rattle.indexmap.proofs.CallerLemmas.{filter-RetainsPairs}
 use Rattle.am_keyed.specs.inside.Entries.{AreOwnKeys}
 use Rattle.am_keyed.proofs.Entries.{values-filtered, still_filtered}
-use Rattle.am_keyed.proofs.keyed.Keyed.remove.Given.{Over}
-use Rattle.am_keyed.proofs.keyed.Keyed.remove.Goals as goal
+use Rattle.am_keyed.proofs.keyed.KeyedList.remove.Given.{Over}
+use Rattle.am_keyed.proofs.keyed.KeyedList.remove.Goals as goal
 
 stays : (g : Over) (c : goal.After-len g) → g.row.V.Denot → Bool
 stays g c value = not (g.R.Removes.is_removed c.args.which.now value)

@@ -1,7 +1,7 @@
 use Rattle.std.proofs.Common.{arith}
 use Rattle.std.proofs.lemmas.Grind.{common_steps}
 use Rattle.am_keyed.proofs.Entries.{values-inserted, still_kept, put_back, added_back}
-use Rattle.am_keyed.proofs.keyed.Keyed.put.Goals as goal
+use Rattle.am_keyed.proofs.keyed.KeyedList.put.Goals as goal
 
 pub invariant_of-self-in-None : goal.invariant_of-self-in-None
 invariant_of-self-in-None g c = grind (arith, common_steps, still_kept)
