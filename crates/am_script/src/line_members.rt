@@ -1,48 +1,52 @@
-//! The members of a line, read as its text is read: what a post or a put carries is read with no value of JSON
-//! between.
+//! The members of a line, read as its text is read, with no value of JSON between.
 //!
-//! It reads lines as programs write them, whose other members are texts or digits. Of any other line it answers
-//! nothing, and then the line is read as a value.
+//! It reads lines as programs write them. Of a line with a member of another name, or one whose member isn't what it
+//! is read as, it answers nothing, and then the line is read as a value.
 
-ghost use Rattle.std.specs.Prelude.{◌≡◌, ◌<◌, ℕ, List, Option, IfOk, IfSome, IsTrue, Ok, Some, length};
-ghost use Rattle.serde_json.specs.Data.{Members, no_members, object, number, unsigned};
+ghost use Rattle.std.specs.Prelude.{◌≡◌, ◌<◌, IfOk, IfSome, IsTrue, Ok, Some, length, option_and_then};
+ghost use Rattle.serde_json.specs.Data.{Members, no_members, object, unsigned};
+ghost use Rattle.serde_json.specs.Find.{as_number, as_str, as_u64};
 ghost use Rattle.serde_json.specs.Read.{number_of};
-ghost use Rattle.serde_json.specs.View.{view};
-ghost use Rattle.am_alert.specs.Tokens.{IsValueOf};
-ghost use Rattle.am_alert.specs.declared.alert.Alert.{Alert};
-ghost use Rattle.am_alert.specs.declared.body.Body.{Body as BodyView};
-ghost use Rattle.am_script.specs.Commands.{IsLineFrom, ReadsCommand, command_for, command_of};
-ghost use Rattle.am_script.specs.inside.LineMembers.{AreAhead, AreSplit, AreMembersOfLine, IsObjectOf, AddsMember};
+ghost use Rattle.am_alert.specs.Tokens.{AreNextAlerts};
+ghost use Rattle.am_alert.specs.TimeTexts.{time_of};
+ghost use Rattle.am_script.specs.Commands.{IsLineFrom, ReadsCommand, command_of, unless_empty, verb_of, within};
+ghost use Rattle.am_script.specs.inside.LineMembers.{AreAhead, AreMembersOfLine, IsNextAs, IsObjectOf, AddsMember};
 
-use crate::command::{Command, Line, LineFault, Verb};
-use crate::line_reader::command_for;
-use crate::members::{moment_at, thread_at, verb_at};
+use crate::command::{Command, Line, Verb};
+use crate::kind::Kind;
+use crate::members::verb_of;
 use crate::put_alerts::PutAlerts;
-use am_alert::{Body, UnjudgedAlert};
-use am_labels::PairBuffer;
+use crate::thread::Thread;
+use am_alert::{Body, Moment, TimeFault, UnjudgedAlert, read_time};
+use am_labels::{PairBuffer, Text};
 use json::{Reader, Scratch, Token};
-use serde_json::{Map, Value};
 use std::alloc::{AllocError, Global};
 
 // How deep the arrays and objects in a line's members may nest: one level less than in a text.
 const MEMBER_DEPTH: usize = 126;
 
-/// What was read of a line's members.
+/// What was read of a line's members. Of those of one name the last holds.
 #[derive(Debug, Drop)]
 pub(crate) struct LineMembers {
-    pub(crate) body: Option<Body>,
-    pub(crate) alerts: Option<PutAlerts>,
-    pub(crate) others: Map<String, Value>,
+    verb: Option<Verb>,
+    thread: Option<Thread>,
+    at: Option<Moment>,
+    name: Option<Text>,
+    body: Option<Body>,
+    alerts: Option<PutAlerts>,
 }
 
 impl LineMembers {
-    fn new(alloc: Global) -> LineMembers
+    fn new() -> LineMembers
         ensures { AreMembersOfLine result no_members }
     {
         LineMembers {
+            verb: None,
+            thread: None,
+            at: None,
+            name: None,
             body: None,
             alerts: None,
-            others: Map::new(alloc),
         }
     }
 
@@ -69,7 +73,7 @@ impl LineMembers {
     }
 
     // Whether a member is read.
-    fn take(
+    fn read_member(
         &mut self,
         alloc: Global,
         reader: &mut Reader<'_>,
@@ -80,43 +84,43 @@ impl LineMembers {
             → AddsMember MEMBER_DEPTH name.now reader.old reader.new self.old self.new) }
         ensures shorter { IfOk result (λ read. IsTrue read → length reader.new < length reader.old) }
     {
-        if name == "body" {
-            let Some(body) = Body::read_next(alloc, reader, pairs, MEMBER_DEPTH)? else {
-                return Ok(false);
-            };
-            self.body = Some(body);
-            Ok(true)
-        } else if name == "alerts" {
-            let Some(alerts) = UnjudgedAlert::read_next(alloc, reader, pairs, MEMBER_DEPTH)? else {
-                return Ok(false);
-            };
-            self.alerts = Some(PutAlerts::new(alerts));
-            Ok(true)
-        } else {
-            let Some(value) = plain_value(alloc, reader)? else {
-                return Ok(false);
-            };
-            let key = String::from_str(alloc, name)?;
-            drop(self.others.insert(key, value)?);
-            Ok(true)
+        match name {
+            "do" => {
+                self.verb = next_verb(reader);
+                Ok(self.verb.is_some())
+            }
+            "thread" => {
+                self.thread = next_thread(reader);
+                Ok(self.thread.is_some())
+            }
+            "at" => {
+                self.at = next_moment(reader)?;
+                Ok(self.at.is_some())
+            }
+            "sub" => {
+                self.name = next_name(alloc, reader)?;
+                Ok(self.name.is_some())
+            }
+            "body" => {
+                self.body = Body::read_next(alloc, reader, pairs, MEMBER_DEPTH)?;
+                Ok(self.body.is_some())
+            }
+            "alerts" => {
+                self.alerts = next_alerts(alloc, reader, pairs)?;
+                Ok(self.alerts.is_some())
+            }
+            _ => Ok(false),
         }
     }
 
-    /// The line of this number, or that it isn't read here.
-    pub(crate) fn into_line(self, alloc: Global, number: u32) -> Result<Line, LineFault>
-        ensures { IfOk result (λ line. (members : Members) → AreMembersOfLine self members
+    /// The line of this number, taken out of its members, or that it isn't read here.
+    pub(crate) fn take_line(&mut self, number: u32) -> Option<Line>
+        ensures { IfSome result (λ line. (members : Members) → AreMembersOfLine self.old members
             → IsLineFrom number (object members) (Ok line)) }
     {
-        let LineMembers {
-            body,
-            alerts,
-            others,
-        } = self;
-        let value = Value::Object(others);
-        let thread = thread_at(&value)?;
-        let verb = verb_at(&value)?;
-        let command = command_with(alloc, value, body, alerts, verb)?;
-        Ok(Line {
+        let thread = self.thread?;
+        let command = self.take_command()?;
+        Some(Line {
             number,
             thread,
             command,
@@ -124,19 +128,65 @@ impl LineMembers {
     }
 
     /// The command, whichever thread is named or none, or that it isn't read here.
-    pub(crate) fn into_command(self, alloc: Global) -> Result<Command, LineFault>
-        ensures { IfOk result (λ command. (members : Members) → AreMembersOfLine self members
+    pub(crate) fn take_command(&mut self) -> Option<Command>
+        ensures { IfSome result (λ command. (members : Members) → AreMembersOfLine self.old members
             → ReadsCommand (object members) (Ok command) (λ body. command_of body (object members))) }
     {
-        let LineMembers {
-            body,
-            alerts,
-            others,
-        } = self;
-        let value = Value::Object(others);
-        let verb = verb_at(&value)?;
-        let command = command_with(alloc, value, body, alerts, verb)?;
-        Ok(command)
+        let verb = self.verb?;
+        match verb {
+            Verb::Post => Some(Command::Post {
+                at: self.at?,
+                body: self.body.take()?,
+            }),
+            Verb::Put => Some(Command::Put {
+                at: self.at?,
+                alerts: self.alerts.take()?,
+            }),
+            Verb::Collect => Some(Command::Collect { at: self.at? }),
+            Verb::Take => Some(Command::Take { at: self.at? }),
+            Verb::Close => Some(Command::Close),
+            Verb::Trim => Some(Command::Trim),
+            Verb::Compact => Some(Command::Compact),
+            Verb::Stored => Some(Command::Stored),
+            Verb::Routes => Some(Command::Routes),
+            Verb::Subscribe | Verb::Read | Verb::Leave => self.take_named(verb),
+            Verb::Sweep | Verb::Forget => self.take_dropping(verb),
+            // These have members that aren't read here, or may lack one.
+            Verb::Groups | Verb::Mutes | Verb::Get | Verb::Route => None,
+        }
+    }
+
+    // The command of a verb that needs a subscription's name alone.
+    fn take_named(&mut self, verb: Verb) -> Option<Command>
+        ensures { IfSome result (λ command. (members : Members) → AreMembersOfLine self.old members
+            → self.old.verb ≡ Some verb
+            → ReadsCommand (object members) (Ok command) (λ body. command_of body (object members))) }
+    {
+        let name = self.name.take()?;
+        match verb {
+            Verb::Subscribe => Some(Command::Subscribe {
+                name,
+                kind: Kind::Plain,
+            }),
+            Verb::Read => Some(Command::Read { name, max: 1 }),
+            Verb::Leave => Some(Command::Leave { name }),
+            _ => None,
+        }
+    }
+
+    // The command of a verb by which a consumer drops what is resolved.
+    fn take_dropping(&mut self, verb: Verb) -> Option<Command>
+        ensures { IfSome result (λ command. (members : Members) → AreMembersOfLine self.old members
+            → self.old.verb ≡ Some verb
+            → ReadsCommand (object members) (Ok command) (λ body. command_of body (object members))) }
+    {
+        let at = self.at?;
+        let name = self.name.take()?;
+        match verb {
+            Verb::Sweep => Some(Command::Sweep { name, at }),
+            Verb::Forget => Some(Command::Forget { name, at }),
+            _ => None,
+        }
     }
 }
 
@@ -148,7 +198,7 @@ fn read_members(
 ) -> Result<Option<LineMembers>, AllocError>
     ensures { IfOk result (λ read. IfSome read (AreAhead MEMBER_DEPTH reader.old reader.new)) }
 {
-    let mut line = LineMembers::new(alloc);
+    let mut line = LineMembers::new();
     'members: loop {
         let Ok(key) = reader.next_key() else {
             return Ok(None);
@@ -156,76 +206,87 @@ fn read_members(
         let Some(name) = key else {
             return Ok(Some(line));
         };
-        if !line.take(alloc, reader, pairs, name)? {
+        if !line.read_member(alloc, reader, pairs, name)? {
             return Ok(None);
         }
     }
 }
 
-// The next value, if it is a text or a digit.
-fn plain_value(alloc: Global, reader: &mut Reader<'_>) -> Result<Option<Value>, AllocError>
-    ensures read { IfOk result (λ read. IfSome read
-        (λ value. (depth : ℕ) → IsValueOf depth reader.old reader.new (view value))) }
+// The verb that comes next, if it is one.
+fn next_verb(reader: &mut Reader<'_>) -> Option<Verb>
+    ensures read { IfSome result (IsNextAs (λ d. option_and_then verb_of (as_str d)) reader.old reader.new) }
+    ensures shorter { IfSome result (λ _. length reader.new < length reader.old) }
+{
+    match reader.next() {
+        Some(Token::String(word)) => verb_of(word),
+        _ => None,
+    }
+}
+
+// The thread that comes next, if it is one.
+fn next_thread(reader: &mut Reader<'_>) -> Option<Thread>
+    ensures read { IfSome result
+        (IsNextAs (λ d. option_and_then (within 0 7) (option_and_then as_u64 (as_number d))) reader.old reader.new) }
+    ensures shorter { IfSome result (λ _. length reader.new < length reader.old) }
+{
+    match reader.next() {
+        Some(Token::Number(text)) => match digit_of(text) {
+            Some(digit) if digit < 8 => Some(Thread::new(digit)),
+            _ => None,
+        },
+        _ => None,
+    }
+}
+
+// The digit that a number's text is.
+fn digit_of(text: &str) -> Option<u32>
+    ensures { IfSome result (λ digit. number_of text.now ≡ Some (unsigned digit)) }
+{
+    match text.as_bytes() {
+        [byte] if byte.is_ascii_digit() => Some(u32::from(*byte - b'0')),
+        _ => None,
+    }
+}
+
+// The moment that comes next, if it is one and isn't absent.
+fn next_moment(reader: &mut Reader<'_>) -> Result<Option<Moment>, AllocError>
+    ensures read { IfOk result (λ read. IfSome read (IsNextAs
+        (λ d. option_and_then (λ time. time) (option_and_then time_of (as_str d))) reader.old reader.new)) }
     ensures shorter { IfOk result (λ read. IfSome read (λ _. length reader.new < length reader.old)) }
 {
     match reader.next() {
-        Some(Token::String(text)) => Ok(Some(Value::try_from_str(alloc, text)?)),
-        Some(Token::Number(text)) => match digit_of(text) {
-            Some(digit) => Ok(Some(Value::from(digit))),
-            None => Ok(None),
+        Some(Token::String(text)) => match read_time(text) {
+            Ok(moment) => Ok(moment),
+            Err(TimeFault::NoMemory) => Err(AllocError),
+            Err(_) => Ok(None),
         },
         _ => Ok(None),
     }
 }
 
-// The digit that a number's text is.
-fn digit_of(text: &str) -> Option<u64>
-    ensures { IfSome result (λ digit. number_of text.now ≡ Some (unsigned digit)) }
+// The name that comes next, if it is a text and isn't empty.
+fn next_name(alloc: Global, reader: &mut Reader<'_>) -> Result<Option<Text>, AllocError>
+    ensures read { IfOk result (λ read. IfSome read
+        (IsNextAs (λ d. option_and_then unless_empty (as_str d)) reader.old reader.new)) }
+    ensures shorter { IfOk result (λ read. IfSome read (λ _. length reader.new < length reader.old)) }
 {
-    match text.as_bytes() {
-        [byte] if byte.is_ascii_digit() => Some(u64::from(*byte - b'0')),
-        _ => None,
+    match reader.next() {
+        Some(Token::String(text)) if !text.is_empty() => Ok(Some(Text::from_str(alloc, text)?)),
+        _ => Ok(None),
     }
 }
 
-// The command of a verb, by the body or the alerts that it carries and the other members.
-fn command_with(
+// The alerts of a put that come next, if they are written as `types.Alert` is.
+fn next_alerts(
     alloc: Global,
-    others: Value,
-    body: Option<Body>,
-    alerts: Option<PutAlerts>,
-    verb: Verb,
-) -> Result<Command, LineFault>
-    ensures { IfOk result (λ command. (members : Members) → AreSplit body alerts (view others) members
-        → ReadsCommand (object members) (Ok command) (λ body. command_for body (object members) verb)) }
+    reader: &mut Reader<'_>,
+    pairs: &mut PairBuffer,
+) -> Result<Option<PutAlerts>, AllocError>
+    ensures read { IfOk result (λ read. IfSome read (AreNextAlerts MEMBER_DEPTH reader.old reader.new)) }
+    ensures shorter { IfOk result (λ read. IfSome read (λ _. length reader.new < length reader.old)) }
 {
-    match verb {
-        Verb::Post => post_with(&others, body),
-        Verb::Put => put_with(&others, alerts),
-        _ => Ok(command_for(alloc, others, verb)?),
+    match UnjudgedAlert::read_next(alloc, reader, pairs, MEMBER_DEPTH)? {
+        Some(alerts) => Ok(Some(PutAlerts::new(alerts))),
+        None => Ok(None),
     }
-}
-
-fn post_with(others: &Value, body: Option<Body>) -> Result<Command, LineFault>
-    ensures { IfOk result (λ command. (alerts : Option (List Alert)) (members : Members)
-        → AreSplit body alerts (view others.now) members
-        → ReadsCommand (object members) (Ok command) (λ body. command_for body (object members) Verb.Post)) }
-{
-    let Some(body) = body else {
-        return Err(LineFault::BadLine);
-    };
-    let at = moment_at(others, "at")?;
-    Ok(Command::Post { at, body })
-}
-
-fn put_with(others: &Value, alerts: Option<PutAlerts>) -> Result<Command, LineFault>
-    ensures { IfOk result (λ command. (body : Option BodyView) (members : Members)
-        → AreSplit body alerts (view others.now) members
-        → ReadsCommand (object members) (Ok command) (λ body. command_for body (object members) Verb.Put)) }
-{
-    let Some(alerts) = alerts else {
-        return Err(LineFault::BadLine);
-    };
-    let at = moment_at(others, "at")?;
-    Ok(Command::Put { at, alerts })
 }

@@ -1,7 +1,7 @@
 //! Reading the command of a line. A line that is written as programs write it is read token by token, any other by
 //! the value that its JSON is: its members, in their order.
 
-ghost use Rattle.std.specs.Prelude.{IfOk, IsUtf8, Ok};
+ghost use Rattle.std.specs.Prelude.{IfOk, IfSome, IsUtf8, Ok};
 ghost use Rattle.serde_json.specs.View.{view};
 ghost use Rattle.am_script.specs.Commands.{command_for, command_of, page_of};
 ghost use Rattle.am_script.specs.Commands.{IsCommandOf, IsLineFrom, IsLineOf, ReadsCommand};
@@ -18,7 +18,7 @@ use am_alert::Body;
 use am_labels::PairBuffer;
 use json::Scratch;
 use serde_json::Value;
-use std::alloc::Global;
+use std::alloc::{AllocError, Global};
 use std::fmt;
 
 /// Reads lines one after another. The memory that reading one takes is kept for the next: 16 KiB, and as much as
@@ -45,10 +45,9 @@ impl LineReader {
     pub fn read_line(&mut self, number: u32, bytes: &[u8]) -> Result<Line, LineFault>
         ensures { IsLineOf number bytes.now result }
     {
-        match self.line_from_tokens(number, bytes) {
-            Ok(line) => Ok(line),
-            Err(LineFault::NoMemory) => Err(LineFault::NoMemory),
-            Err(LineFault::BadLine) => line_from_value(self.alloc, number, bytes),
+        match self.line_from_tokens(number, bytes)? {
+            Some(line) => Ok(line),
+            None => line_from_value(self.alloc, number, bytes),
         }
     }
 
@@ -56,40 +55,38 @@ impl LineReader {
     pub fn read_command(&mut self, bytes: &[u8]) -> Result<Command, LineFault>
         ensures { IsCommandOf bytes.now result }
     {
-        match self.command_from_tokens(bytes) {
-            Ok(command) => Ok(command),
-            Err(LineFault::NoMemory) => Err(LineFault::NoMemory),
-            Err(LineFault::BadLine) => command_from_value(self.alloc, bytes),
+        match self.command_from_tokens(bytes)? {
+            Some(command) => Ok(command),
+            None => command_from_value(self.alloc, bytes),
         }
     }
 
     // A line that is written as programs write it. Of another it says nothing.
-    fn line_from_tokens(&mut self, number: u32, bytes: &[u8]) -> Result<Line, LineFault>
-        ensures { IfOk result (λ line. IsLineOf number bytes.now (Ok line)) }
+    fn line_from_tokens(&mut self, number: u32, bytes: &[u8]) -> Result<Option<Line>, AllocError>
+        ensures { IfOk result (λ read. IfSome read (λ line. IsLineOf number bytes.now (Ok line))) }
     {
-        let members = self.members_of(bytes)?;
-        let line = members.into_line(self.alloc, number)?;
-        Ok(line)
+        match self.members_of(bytes)? {
+            Some(mut members) => Ok(members.take_line(number)),
+            None => Ok(None),
+        }
     }
 
     // The same of its command.
-    fn command_from_tokens(&mut self, bytes: &[u8]) -> Result<Command, LineFault>
-        ensures { IfOk result (λ command. IsCommandOf bytes.now (Ok command)) }
+    fn command_from_tokens(&mut self, bytes: &[u8]) -> Result<Option<Command>, AllocError>
+        ensures { IfOk result (λ read. IfSome read (λ command. IsCommandOf bytes.now (Ok command))) }
     {
-        let members = self.members_of(bytes)?;
-        let command = members.into_command(self.alloc)?;
-        Ok(command)
+        match self.members_of(bytes)? {
+            Some(mut members) => Ok(members.take_command()),
+            None => Ok(None),
+        }
     }
 
-    fn members_of(&mut self, bytes: &[u8]) -> Result<LineMembers, LineFault>
-        ensures { IfOk result (λ members. IsUtf8 bytes.now × IsObjectOf bytes.now members) }
+    fn members_of(&mut self, bytes: &[u8]) -> Result<Option<LineMembers>, AllocError>
+        ensures { IfOk result (λ read. IfSome read (λ members. IsUtf8 bytes.now × IsObjectOf bytes.now members)) }
     {
-        let Ok(text) = str::from_utf8(bytes) else {
-            return Err(LineFault::BadLine);
-        };
-        match LineMembers::read(self.alloc, text, &mut self.scratch, &mut self.pairs)? {
-            Some(members) => Ok(members),
-            None => Err(LineFault::BadLine),
+        match str::from_utf8(bytes) {
+            Ok(text) => LineMembers::read(self.alloc, text, &mut self.scratch, &mut self.pairs),
+            Err(_) => Ok(None),
         }
     }
 }
@@ -138,7 +135,7 @@ fn command_of(alloc: Global, value: Value) -> Result<Command, LineFault>
     command_for(alloc, value, verb)
 }
 
-pub(crate) fn command_for(alloc: Global, value: Value, verb: Verb) -> Result<Command, LineFault>
+fn command_for(alloc: Global, value: Value, verb: Verb) -> Result<Command, LineFault>
     ensures { ReadsCommand (view value) result
         (λ body. command_for body (view value) verb) }
 {

@@ -58,7 +58,7 @@ pub(crate) fn verb_at(value: &Value) -> Result<Verb, LineFault>
     }
 }
 
-fn verb_of(text: &str) -> Option<Verb>
+pub(crate) fn verb_of(text: &str) -> Option<Verb>
     ensures { result ≡ verb_of text.now }
 {
     match text {

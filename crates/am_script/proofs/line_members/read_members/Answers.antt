@@ -23,9 +23,9 @@ members-preserved c =
     let p = value 126 in
     let name = c.in-Some.name.now in
     let s = c.next_key.new.self in
-    let r = c.take.new.reader in
+    let r = c.read_member.new.reader in
     let named : read_key l.reader ≡ Some (Some name, s) = grind arith in
-    let takes : AddsMember 126 name s r l.line c.take.new.self = search rules in
+    let takes : AddsMember 126 name s r l.line c.read_member.new.self = search rules in
     let shorter : length r < length s = search rules in
     let less = read_key-shorter l.reader (Some name) s named in (
       put name takes.0 l.invariant.0,
