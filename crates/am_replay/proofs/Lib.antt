@@ -1,4 +1,2 @@
-pub mod GivenArguments
-pub mod Options
 pub mod Replays
 pub mod Lives

@@ -13,19 +13,19 @@ use Rattle.am_script.specs.Script.{config_line, first_of, lines_of}
 use Rattle.am_script.specs.declared.limits.TheConstants.{LONGEST_LINE}
 use Rattle.am_provider.specs.declared.answers.Counts.{Counts}
 use Rattle.am_runner.specs.Sessions.{Setting}
-use Rattle.am_runner.specs.declared.form.Form.{Form}
-use Rattle.am_runner.specs.declared.form.Form.TheVariants as forms
+use Rattle.am_script.specs.declared.form.Form.{Form}
+use Rattle.am_script.specs.declared.form.Form.TheVariants as forms
 use Rattle.am_runner.specs.live.Reading.{IsNext, IsNextAs}
 use Rattle.am_runner.specs.declared.live.reading.InputLine.{InputLine}
 use Rattle.am_runner.specs.declared.live.reading.InputLine.TheVariants as input_line
-use Rattle.am_replay.specs.FirstLines.{IsFirstLine}
-use Rattle.am_replay.specs.declared.first_line.FirstLine.TheVariants as first_line
+use Rattle.am_command_line.specs.FirstLines.{IsFirstLine}
+use Rattle.am_command_line.specs.declared.first_line.FirstLine.TheVariants as first_line
 use Rattle.am_replay.specs.Live.{IsEnd, IsFirstAs, IsLive, IsLived, IsRefusedAs, IsWritten, LivesUnder, line_or_empty, lived, last_line_cut_short, no_memory, not_written, refused, refusal_cut_short}
 use Rattle.am_replay.specs.Printing.{counts_line, counts_members, counts_text}
-use Rattle.am_replay.specs.declared.arguments.Arguments.{Arguments}
-use Rattle.am_replay.specs.declared.first_line.FirstLine.{FirstLine}
-use Rattle.am_replay.specs.declared.status.Status.{Status}
-use Rattle.am_replay.specs.declared.status.Status.TheVariants.{Done, BadArguments, Refused, CallOutOfMemory, OutOfMemory, NoThread, ReadFailed, WriteFailed}
+use Rattle.am_command_line.specs.declared.arguments.Arguments.{Arguments}
+use Rattle.am_command_line.specs.declared.first_line.FirstLine.{FirstLine}
+use Rattle.am_command_line.specs.declared.status.Status.{Status}
+use Rattle.am_command_line.specs.declared.status.Status.TheVariants.{Done, BadArguments, Refused, CallOutOfMemory, OutOfMemory, NoThread, ReadFailed, WriteFailed}
 
 -- the first line, as it was read
 pub read_as_first : (old new : Option (List ℕ)) (line : Option InputLine) → IsNextAs old line new → (bytes : Option (List ℕ)) × IsFirstAs bytes line × IsNext old bytes new

@@ -3,20 +3,20 @@ use Rattle.std.proofs.Common.{◌≡◌, ℕ, Bool, List, [], true, false, Optio
 use Rattle.std.specs.Io.KnownBytes.{Appends, Keeps}
 use Rattle.am_provider.specs.declared.settled.Settled.{Settled}
 use Rattle.am_runner.specs.Sessions.{setting_of}
-use Rattle.am_replay.specs.declared.arguments.Arguments.{Arguments}
+use Rattle.am_command_line.specs.declared.arguments.Arguments.{Arguments}
 use Rattle.am_replay.specs.Printing.{transcript_text, ran_out_of_memory}
 use Rattle.am_replay.specs.Replays.{ComesTo, IsPrinted, IsReplay, no_config, ran, refused, runs_in_order, status_of, too_long}
 use Rattle.am_replay.specs.Runs.{IsRun}
 use Rattle.am_config.specs.declared.config.Config.{Config}
-use Rattle.am_replay.specs.FirstLines.{IsFirstLine}
-use Rattle.am_replay.specs.declared.first_line.FirstLine.TheVariants.{Read}
+use Rattle.am_command_line.specs.FirstLines.{IsFirstLine}
+use Rattle.am_command_line.specs.declared.first_line.FirstLine.TheVariants.{Read}
 use Rattle.am_replay.specs.declared.transcript.Transcript.{Transcript}
 use Rattle.am_script.specs.Inputs.{IsReadOf}
 use Rattle.am_script.specs.Outputs.{AppendsBeginning}
 use Rattle.am_script.specs.Script.{Checks, lines_of}
 use Rattle.am_script.specs.declared.command.Line.{Line}
-use Rattle.am_replay.specs.declared.status.Status.{Status}
-use Rattle.am_replay.specs.declared.status.Status.TheVariants.{Refused, WriteFailed}
+use Rattle.am_command_line.specs.declared.status.Status.{Status}
+use Rattle.am_command_line.specs.declared.status.Status.TheVariants.{Refused, WriteFailed}
 
 pub if_ok_both : {T E : Type 0} {P Q S : T → Type 0} (r : Result T E) → IfOk r P → IfOk r Q → ((x : T) → P x → Q x → S x) → IfOk r S
 if_ok_both (Ok x) one two f = f x one two

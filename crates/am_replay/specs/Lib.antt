@@ -1,12 +1,5 @@
-pub mod Arguments
-pub mod ArgumentsFaults
-pub mod ConfigCodes
-pub mod FirstLines
 pub mod Live
-pub mod Options
 pub mod Printing
 pub mod Programs
-pub mod Refusals
 pub mod Replays
 pub mod Runs
-pub mod Statuses

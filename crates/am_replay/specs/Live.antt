@@ -9,23 +9,23 @@ use Rattle.am_provider.specs.Ending.{IsSettledFrom}
 use Rattle.am_provider.specs.declared.answers.Counts.{Counts}
 use Rattle.am_provider.specs.declared.settled.Settled.{Settled}
 use Rattle.am_runner.specs.Sessions.{Setting, SessionView, LeavesAll, new_session, setting_of}
-use Rattle.am_runner.specs.declared.form.Form.{Form}
+use Rattle.am_script.specs.declared.form.Form.{Form}
 use Rattle.am_runner.specs.live.Reading.{IsNext, IsInputOf}
 use Rattle.am_runner.specs.live.Serving.{IsServed, IsServedInPart}
 use Rattle.am_runner.specs.live.Standing.{RunView, new_run}
 use Rattle.am_runner.specs.declared.live.reading.InputLine.{InputLine}
-use Rattle.am_replay.specs.FirstLines.{IsFirstLine}
+use Rattle.am_command_line.specs.FirstLines.{IsFirstLine}
 use Rattle.am_replay.specs.Printing.{counts_line}
-use Rattle.am_replay.specs.Refusals.{first_line_too_large, refused_config, refused_script}
+use Rattle.am_command_line.specs.Refusals.{first_line_too_large, refused_config, refused_script}
 use Rattle.am_replay.specs.Runs.{AreCountsOf}
-use Rattle.am_replay.specs.declared.arguments.Arguments.{Arguments}
-use Rattle.am_replay.specs.declared.arguments.Mode.{Mode}
-use Rattle.am_replay.specs.declared.arguments.Mode.TheVariants.{Follow}
-use Rattle.am_replay.specs.declared.first_line.FirstLine.{FirstLine}
-use Rattle.am_replay.specs.declared.first_line.FirstLine.TheVariants as first_line
-use Rattle.am_replay.specs.declared.status.Status.{Status}
-use Rattle.am_replay.specs.declared.status.Status.TheVariants.{Done, Refused, OutOfMemory, ReadFailed}
-use Rattle.am_replay.specs.declared.status.Status.TheVariants.{WriteFailed}
+use Rattle.am_command_line.specs.declared.arguments.Arguments.{Arguments}
+use Rattle.am_command_line.specs.declared.arguments.Mode.{Mode}
+use Rattle.am_command_line.specs.declared.arguments.Mode.TheVariants.{Follow}
+use Rattle.am_command_line.specs.declared.first_line.FirstLine.{FirstLine}
+use Rattle.am_command_line.specs.declared.first_line.FirstLine.TheVariants as first_line
+use Rattle.am_command_line.specs.declared.status.Status.{Status}
+use Rattle.am_command_line.specs.declared.status.Status.TheVariants.{Done, Refused, OutOfMemory, ReadFailed}
+use Rattle.am_command_line.specs.declared.status.Status.TheVariants.{WriteFailed}
 
 -- whether reads go on in a mode
 abbrev pub is_following : Mode → Bool

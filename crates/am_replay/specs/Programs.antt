@@ -2,15 +2,17 @@
 use Rattle.std.specs.Prelude.{ℕ, List, Option}
 use Rattle.std.specs.Io.KnownBytes.{Appends, Keeps}
 use Rattle.am_script.specs.Outputs.{AppendsBeginning}
-use Rattle.am_replay.specs.Arguments.{AreArgumentsOf, AreRefused}
+use Rattle.am_command_line.specs.Arguments.{AreArgumentsOf, AreRefused}
 use Rattle.am_replay.specs.Live.{IsLive}
 use Rattle.am_replay.specs.Replays.{IsReplay}
-use Rattle.am_replay.specs.declared.arguments.Arguments.{Arguments}
-use Rattle.am_replay.specs.declared.arguments.Mode.{Mode}
-use Rattle.am_replay.specs.declared.arguments.Mode.TheVariants.{Ordered, Free, Live, Follow}
-use Rattle.am_replay.specs.declared.status.Status.{Status}
-use Rattle.am_replay.specs.declared.status.Status.TheVariants.{Done, BadArguments, Refused, CallOutOfMemory}
-use Rattle.am_replay.specs.declared.status.Status.TheVariants.{OutOfMemory, NoThread, ReadFailed, WriteFailed}
+use Rattle.am_command_line.specs.declared.arguments.Arguments.{Arguments}
+use Rattle.am_command_line.specs.declared.arguments.Mode.{Mode}
+use Rattle.am_command_line.specs.declared.arguments.Mode.TheVariants.{Ordered, Free, Live, Follow}
+use Rattle.am_command_line.specs.declared.status.Status.{Status}
+use Rattle.am_command_line.specs.declared.status.Status.TheVariants.{Done, BadArguments, Refused}
+use Rattle.am_command_line.specs.declared.status.Status.TheVariants.{CallOutOfMemory}
+use Rattle.am_command_line.specs.declared.status.Status.TheVariants.{OutOfMemory, NoThread, ReadFailed}
+use Rattle.am_command_line.specs.declared.status.Status.TheVariants.{WriteFailed}
 
 -- what clap has to say of arguments is printed, or a beginning of it where a write failed
 abbrev pub IsTelling : List ℕ → Option (List ℕ) → Status → Option (List ℕ) → Type 0

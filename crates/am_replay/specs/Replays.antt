@@ -6,9 +6,9 @@ use Rattle.am_script.specs.Inputs.{IsReadOf}
 use Rattle.am_replay.specs.Printing.{ran_out_of_memory, transcript_text}
 use Rattle.am_runner.specs.Sessions.{setting_of}
 use Rattle.am_replay.specs.Runs.{IsRun}
-use Rattle.am_replay.specs.declared.arguments.Arguments.{Arguments}
-use Rattle.am_replay.specs.declared.arguments.Mode.{Mode}
-use Rattle.am_replay.specs.declared.arguments.Mode.TheVariants.{Ordered}
+use Rattle.am_command_line.specs.declared.arguments.Arguments.{Arguments}
+use Rattle.am_command_line.specs.declared.arguments.Mode.{Mode}
+use Rattle.am_command_line.specs.declared.arguments.Mode.TheVariants.{Ordered}
 use Rattle.am_replay.specs.declared.transcript.Transcript.{Transcript}
 use Rattle.am_provider.specs.declared.settled.Settled.{Settled}
 use Rattle.am_script.specs.Script.{Checks, lines_of}
@@ -16,13 +16,15 @@ use Rattle.am_script.specs.declared.command.Line.{Line}
 use Rattle.am_script.specs.declared.script.Refusal.{Refusal}
 use Rattle.am_config.specs.declared.config.Config.{Config}
 use Rattle.am_config.specs.declared.fault.ConfigFault.{ConfigFault}
-use Rattle.am_replay.specs.FirstLines.{IsFirstLine}
-use Rattle.am_replay.specs.Refusals.{first_line_too_large, refused_config, refused_script}
-use Rattle.am_replay.specs.declared.first_line.FirstLine.TheVariants.{TooLong}
-use Rattle.am_replay.specs.declared.first_line.FirstLine.TheVariants as first_line
-use Rattle.am_replay.specs.declared.status.Status.{Status}
-use Rattle.am_replay.specs.declared.status.Status.TheVariants.{Done, BadArguments, Refused, CallOutOfMemory}
-use Rattle.am_replay.specs.declared.status.Status.TheVariants.{OutOfMemory, NoThread, ReadFailed, WriteFailed}
+use Rattle.am_command_line.specs.FirstLines.{IsFirstLine}
+use Rattle.am_command_line.specs.Refusals.{first_line_too_large, refused_config, refused_script}
+use Rattle.am_command_line.specs.declared.first_line.FirstLine.TheVariants.{TooLong}
+use Rattle.am_command_line.specs.declared.first_line.FirstLine.TheVariants as first_line
+use Rattle.am_command_line.specs.declared.status.Status.{Status}
+use Rattle.am_command_line.specs.declared.status.Status.TheVariants.{Done, BadArguments, Refused}
+use Rattle.am_command_line.specs.declared.status.Status.TheVariants.{CallOutOfMemory}
+use Rattle.am_command_line.specs.declared.status.Status.TheVariants.{OutOfMemory, NoThread, ReadFailed}
+use Rattle.am_command_line.specs.declared.status.Status.TheVariants.{WriteFailed}
 
 -- how a script that was run ends: it says whether some call was out of memory
 abbrev pub status_of : Bool → Status

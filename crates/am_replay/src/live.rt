@@ -4,25 +4,22 @@
 //! apart, since its signature gives the runtime and the provider one lifetime, as a context lent as `&mut` has.
 
 ghost use Rattle.std.specs.Prelude.{◌≡◌, ℕ, List, ◌++◌, ◌∷◌, [], Option, IfOk, OnErr, OnOk, string_bytes};
-ghost use Rattle.am_replay.specs.FirstLines.{IsFirstLine};
+ghost use Rattle.am_command_line.specs.FirstLines.{IsFirstLine};
 ghost use Rattle.am_replay.specs.Live.{IsEnd, IsFailure, IsFirstAs, IsLive, IsWritten, LivesUnder, is_following, line_or_empty};
 ghost use Rattle.am_runner.specs.Sessions.{LeavesAll, setting_of};
 ghost use Rattle.am_runner.specs.live.Serving.{IsServed, IsServedInPart};
 ghost use Rattle.am_runner.specs.live.Standing.{RunView, new_run};
 ghost use Rattle.am_provider.specs.PartsOf.{AreOf};
 
-use crate::advice::fault_advice;
-use crate::arguments::{Arguments, Mode};
-use crate::first_line::FirstLine;
-use crate::refusals::{FIRST_LINE_TOO_LARGE, advise, refused_config, refused_script};
-use crate::status::Status;
 use crate::transcript::counts_line;
+use am_command_line::{
+    Arguments, FIRST_LINE_TOO_LARGE, FirstLine, Mode, Status, advise, fault_advice, refused_config,
+    refused_script,
+};
 use am_config::Config;
 use am_provider::{Caller, Counts, Parts, Provider, Recorded};
-use am_runner::{
-    Context, Form, Freely, InputLine, LiveRun, PreparedConfig, Session, next_line, serve,
-};
-use am_script::{WorkFault, script_advice, write_text};
+use am_runner::{Context, Freely, InputLine, LiveRun, PreparedConfig, Session, next_line, serve};
+use am_script::{Form, WorkFault, script_advice, write_text};
 use std::alloc::{AllocError, Global};
 use std::io::{BufRead, Write};
 use std::marker::Brand;

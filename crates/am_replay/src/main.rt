@@ -4,19 +4,13 @@
 //! It reads and prints, and decides nothing about alerts.
 #![tactic(auto)]
 
-mod advice;
-mod arguments;
-mod config_code;
-mod first_line;
 mod live;
 mod program;
-mod refusals;
 mod script_run;
-mod status;
 mod transcript;
 
 use crate::program::run;
-use crate::status::Status;
+use am_command_line::Status;
 use am_script::write_text;
 use std::env;
 use std::io::ErrorKind;

@@ -2,23 +2,22 @@
 
 ghost use Rattle.std.specs.Prelude.{◌≡◌, [], Ok, IfOk, IfErr, map, string_bytes};
 ghost use Rattle.am_script.specs.Script.{Checks, IsRefused, lines_of};
-ghost use Rattle.am_replay.specs.FirstLines.{IsFirstLine};
+ghost use Rattle.am_command_line.specs.FirstLines.{IsFirstLine};
 ghost use Rattle.am_replay.specs.Printing.{ran_out_of_memory, transcript_text};
 ghost use Rattle.am_replay.specs.Programs.{IsProgram, IsRunAs, IsTelling};
 ghost use Rattle.am_replay.specs.Replays.{ComesTo, IsReplay, status_of};
 
-use crate::advice::fault_advice;
-use crate::arguments::{Arguments, ArgumentsFault, Mode};
-use crate::first_line::FirstLine;
 use crate::live::live;
-use crate::refusals::{FIRST_LINE_TOO_LARGE, advise, refused_config, refused_script};
 use crate::script_run::{Ran, Settings, run_script};
-use crate::status::Status;
+use am_command_line::{
+    Arguments, ArgumentsFault, FIRST_LINE_TOO_LARGE, FirstLine, Mode, Status, advise, fault_advice,
+    refused_config, refused_script,
+};
 use am_config::Config;
-use am_runner::{Form, RunFault};
+use am_runner::RunFault;
 use am_script::{
-    Line, ScriptFault, WorkFault, config_line, read_input, read_script_in_threads, script_advice,
-    write_text,
+    Form, Line, ScriptFault, WorkFault, config_line, read_input, read_script_in_threads,
+    script_advice, write_text,
 };
 use std::alloc::Global;
 use std::io::{BufReader, Read, Write};

@@ -5,8 +5,8 @@ ghost use Rattle.am_runner.specs.Sessions.{setting_of};
 ghost use Rattle.am_replay.specs.Replays.{runs_in_order};
 ghost use Rattle.am_replay.specs.Runs.{IsRun};
 
-use crate::arguments::{Arguments, Mode};
 use crate::transcript::Transcript;
+use am_command_line::{Arguments, Mode};
 use am_config::Config;
 use am_provider::Settled;
 use am_runner::{Freely, InOrder, LogLimits, RunFault, Turns, WholeRun, run_whole};

@@ -10,8 +10,8 @@ ghost use Rattle.am_replay.specs.Printing.{counts_line, counts_text, given_at, l
 ghost use Rattle.am_replay.specs.Printing.{ran_out_of_memory, transcript_text};
 
 use am_provider::Counts;
-use am_runner::{Answer, Form, write_answers};
-use am_script::{JsonLine, Line, Thread};
+use am_runner::{Answer, write_answers};
+use am_script::{Form, JsonLine, Line, Thread};
 use std::alloc::{AllocError, Global};
 use std::fmt;
 

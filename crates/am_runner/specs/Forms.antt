@@ -3,8 +3,8 @@ use Rattle.std.specs.Prelude.{ℕ, List}
 use Rattle.am_runner.specs.Printing.{answers_text}
 use Rattle.am_runner.specs.PrintingJson.{objects_text}
 use Rattle.am_runner.specs.declared.answer.Answer.{Answer}
-use Rattle.am_runner.specs.declared.form.Form.{Form}
-use Rattle.am_runner.specs.declared.form.Form.TheVariants.{Text, Json}
+use Rattle.am_script.specs.declared.form.Form.{Form}
+use Rattle.am_script.specs.declared.form.Form.TheVariants.{Text, Json}
 
 -- what is printed of the answers to the line of input with this number
 abbrev pub answers_printed : Form → ℕ → List Answer → List ℕ

@@ -11,8 +11,7 @@ use Rattle.am_routes.specs.declared.listed_route.ListedRoute.{ListedRoute}
 use Rattle.am_routes.specs.declared.matched_route.MatchedRoute.{MatchedRoute}
 use Rattle.am_runner.specs.Codes.{body_code, closed_code, invalid_code, subscribe_code}
 use Rattle.am_script.specs.JsonLines.{about_line, alert_members, decimal_json, labels_json, object_line}
-use Rattle.am_script.specs.JsonLines.{texts_json}
-use Rattle.am_script.specs.JsonLines.{worded}
+use Rattle.am_script.specs.JsonLines.{refusing, texts_json, worded}
 use Rattle.am_script.specs.ScriptTexts.{verb_text}
 use Rattle.am_script.specs.declared.command.Verb.{Verb}
 use Rattle.am_script.specs.declared.command.Verb.TheVariants as verb
@@ -28,11 +27,6 @@ showing word alert = worded word (member (codes "alert") (object (alert_members 
 -- an answer that has a number
 abbrev pub counting : List ℕ → List ℕ → ℕ → Members
 counting word name n = worded word (member name (decimal_json n) no_members)
-
--- a call that was refused, and why
-abbrev pub refusing : List ℕ → List ℕ → Members
-refusing call why = worded (codes "refused")
-    (member (codes "do") (string call) (member (codes "fault") (string why) no_members))
 
 -- the place of a post's batch in the log, if it has one
 abbrev pub place_json : Option ℕ → Json

@@ -9,13 +9,12 @@ ghost use Rattle.am_runner.specs.Printing.{matched_text, page_text, posted_text,
 
 use crate::answer_json::write_objects;
 use crate::codes::{BodyCode, CLOSED, InvalidCode, SubscribeCode};
-use crate::form::Form;
 use crate::room_for_answer::RoomForAnswer;
 use am_alert::{Alert, AlertFault, PostFault};
 use am_labels::{LabelSet, Quoted, Text};
 use am_provider::{BodyFault, PutFault, SubFault};
 use am_routes::{ListedRoute, MatchedRoute, Swept};
-use am_script::Verb;
+use am_script::{Form, Verb};
 use std::alloc::{AllocError, Global};
 use std::fmt;
 

@@ -4,11 +4,11 @@ ghost use Rattle.std.specs.Prelude.{◌≡◌, ◌++◌, ◌∷◌, [], IfSome, 
 ghost use Rattle.json.specs.Token.{end_object};
 ghost use Rattle.json.specs.Tree.{members_tokens};
 ghost use Rattle.am_script.specs.ScriptTexts.{verb_text};
-ghost use Rattle.am_script.specs.JsonLines.{about_line, named, object_line};
+ghost use Rattle.am_script.specs.JsonLines.{about_line, named, object_line, refusing};
 ghost use Rattle.am_runner.specs.PrintingJson.{answer_members, count_members, counting, group_members};
 ghost use Rattle.am_runner.specs.PrintingJson.{grouping_json, invalid_members, left_members, listed_members};
 ghost use Rattle.am_runner.specs.PrintingJson.{matched_members, muted_members, not_open_members, objects_text};
-ghost use Rattle.am_runner.specs.PrintingJson.{page_members, posted_members, refusing, showing};
+ghost use Rattle.am_runner.specs.PrintingJson.{page_members, posted_members, showing};
 ghost use Rattle.am_runner.specs.PrintingJson.{subscribed_members, swept_members};
 
 use crate::answer::{Answer, GroupHead, PageHead};

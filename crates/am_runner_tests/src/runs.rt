@@ -2,10 +2,8 @@
 
 use am_config::{Config, ConfigFault};
 use am_provider::{Counts, Ended, Settled};
-use am_runner::{
-    Answer, Form, InOrder, LogLimits, RunFault, Turns, WholeRun, run_whole, write_answers,
-};
-use am_script::{Line, ScriptFault, config_line, read_script};
+use am_runner::{Answer, InOrder, LogLimits, RunFault, Turns, WholeRun, run_whole, write_answers};
+use am_script::{Form, Line, ScriptFault, config_line, read_script};
 use am_store::Call;
 use std::alloc::{AllocError, AllocFailed, Global};
 use std::sync::Wait;

@@ -53,6 +53,11 @@ alert_members alert =
 abbrev pub worded : List ℕ → Members → Members
 worded word own = member (codes "answer") (string word) own
 
+-- what was asked for was refused, and why
+abbrev pub refusing : List ℕ → List ℕ → Members
+refusing asked why = worded (codes "refused")
+    (member (codes "do") (string asked) (member (codes "fault") (string why) no_members))
+
 -- an object about a line of input: the line's number, and then the other members
 abbrev pub about_line : ℕ → Members → Json
 about_line line others = object (member (codes "line") (decimal_json line) others)

@@ -24,6 +24,7 @@
 
 mod advice;
 mod command;
+mod form;
 mod input;
 mod json_line;
 mod kind;
@@ -45,6 +46,7 @@ mod work_fault;
 
 pub use advice::{config_advice, script_advice};
 pub use command::{Command, GivenMoment, Line, LineFault, Verb};
+pub use form::Form;
 pub use input::{CHUNK, read_input};
 pub use json_line::{JsonLine, write_fault};
 pub use kind::Kind;

@@ -5,7 +5,7 @@ use Rattle.std.specs.Io.BufRead.{drop_through}
 use Rattle.am_config.specs.declared.config.Config.{Config}
 use Rattle.am_script.proofs.Outputs.{appends_more, appends_none}
 use Rattle.am_runner.specs.Sessions.{Setting}
-use Rattle.am_runner.specs.declared.form.Form.{Form}
+use Rattle.am_script.specs.declared.form.Form.{Form}
 use Rattle.am_runner.specs.live.Answering.{Answers}
 use Rattle.am_runner.specs.live.Standing.{RunView}
 use Rattle.am_runner.specs.live.Reading.{BeginsWith, IsNext, no_lines}

@@ -15,8 +15,8 @@ use Rattle.am_script.specs.declared.script.Fault.{Fault}
 use Rattle.am_script.specs.declared.script.Fault.TheVariants.{BadLine, BadName, TooLarge}
 use Rattle.am_script.specs.JsonLines.{about_line, object_line, worded}
 use Rattle.am_runner.specs.PrintingJson.{count_members}
-use Rattle.am_runner.specs.declared.form.Form.{Form}
-use Rattle.am_runner.specs.declared.form.Form.TheVariants.{Text, Json}
+use Rattle.am_script.specs.declared.form.Form.{Form}
+use Rattle.am_script.specs.declared.form.Form.TheVariants.{Text, Json}
 use Rattle.am_runner.specs.Reading.{OpenView}
 use Rattle.am_runner.specs.Sessions.{Setting, SessionView, Does, has_notifier, index_named}
 use Rattle.am_runner.specs.Unanswered.{IsUnanswered}

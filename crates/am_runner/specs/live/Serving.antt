@@ -4,7 +4,7 @@ use Rattle.std.specs.Io.KnownBytes.{Appends}
 use Rattle.am_config.specs.declared.config.Config.{Config}
 use Rattle.am_runner.specs.Compacting.{Compacts}
 use Rattle.am_runner.specs.Sessions.{Setting, SessionView}
-use Rattle.am_runner.specs.declared.form.Form.{Form}
+use Rattle.am_script.specs.declared.form.Form.{Form}
 use Rattle.am_runner.specs.live.Answering.{Answers}
 use Rattle.am_runner.specs.live.Standing.{RunView}
 use Rattle.am_runner.specs.live.Reading.{BeginsWith}

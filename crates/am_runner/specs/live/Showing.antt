@@ -12,8 +12,8 @@ use Rattle.am_runner.specs.Printing.{answer_text}
 use Rattle.am_runner.specs.PrintingJson.{answer_members, count_members}
 use Rattle.am_runner.specs.declared.answer.Answer.{Answer}
 use Rattle.am_runner.specs.declared.answer.Answer.TheVariants as answer
-use Rattle.am_runner.specs.declared.form.Form.{Form}
-use Rattle.am_runner.specs.declared.form.Form.TheVariants.{Text, Json}
+use Rattle.am_script.specs.declared.form.Form.{Form}
+use Rattle.am_script.specs.declared.form.Form.TheVariants.{Text, Json}
 use Rattle.am_runner.specs.live.Known.{Known, IsShownAt}
 
 -- whether an answer says that there is nothing more for now

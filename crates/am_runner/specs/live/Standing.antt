@@ -9,7 +9,7 @@ use Rattle.am_script.specs.declared.command.Command.TheVariants.{Leave, Read}
 use Rattle.am_runner.specs.Answers.{is_item}
 use Rattle.am_runner.specs.Sessions.{Setting, SessionView, Does}
 use Rattle.am_runner.specs.declared.answer.Answer.{Answer}
-use Rattle.am_runner.specs.declared.form.Form.{Form}
+use Rattle.am_script.specs.declared.form.Form.{Form}
 use Rattle.am_runner.specs.live.Known.{Known}
 use Rattle.am_runner.specs.live.Showing.{CameIsPrinted, is_pending}
 use Rattle.am_runner.specs.declared.live.standing.StandingRead.{StandingRead}

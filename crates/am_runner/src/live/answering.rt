@@ -16,7 +16,6 @@ ghost use Rattle.am_runner.specs.live.Standing.{ReadOn, stands_after};
 use crate::answer::Answer;
 use crate::answer_json::write_count;
 use crate::context::Context;
-use crate::form::Form;
 use crate::live::known::{make_room, note_known};
 use crate::live::live_run::LiveRun;
 use crate::live::reading::InputLine;
@@ -25,7 +24,7 @@ use crate::live::standing::{note, read_on};
 use crate::session::Session;
 use crate::unanswered::{is_question, loses_nothing};
 use am_provider::{Gate, Recorded};
-use am_script::{Command, Fault, GivenMoment, JsonLine, LONGEST_LINE, LineFault, LineReader};
+use am_script::{Command, Fault, Form, GivenMoment, JsonLine, LONGEST_LINE, LineFault, LineReader};
 use std::alloc::{AllocError, Global};
 use std::sync::Wait;
 

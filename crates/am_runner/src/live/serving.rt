@@ -8,12 +8,11 @@ ghost use Rattle.am_runner.specs.live.Reading.{IsInputOf};
 ghost use Rattle.am_runner.specs.live.Serving.{IsBeginning, IsServed, IsServedInPart};
 
 use crate::context::Context;
-use crate::form::Form;
 use crate::live::answering::answer_input;
 use crate::live::live_run::LiveRun;
 use crate::live::reading::{InputLine, next_line};
 use am_provider::{Gate, Recorded};
-use am_script::{LineReader, WorkFault, write_text};
+use am_script::{Form, LineReader, WorkFault, write_text};
 use std::io::{BufRead, Write};
 use std::sync::Wait;
 

@@ -14,10 +14,9 @@ ghost use Rattle.am_runner.specs.live.Showing.{whole_text};
 
 use crate::answer::{Answer, write_answers};
 use crate::answer_json::{write_count, write_members};
-use crate::form::Form;
 use crate::live::known::{KnownAlerts, places_of};
 use am_labels::{Quoted, Text};
-use am_script::JsonLine;
+use am_script::{Form, JsonLine};
 use std::alloc::{AllocError, Global};
 use std::fmt;
 

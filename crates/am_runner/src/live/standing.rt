@@ -15,13 +15,12 @@ ghost use Rattle.am_runner.specs.live.Standing.{ReadOn, ends_pending, index_of_r
 
 use crate::answer::Answer;
 use crate::context::Context;
-use crate::form::Form;
 use crate::live::known::KnownAlerts;
 use crate::live::showing::{is_pending, write_came};
 use crate::session::Session;
 use am_labels::Text;
 use am_provider::{Gate, Recorded};
-use am_script::Command;
+use am_script::{Command, Form};
 use std::alloc::AllocError;
 use std::sync::Wait;
 

@@ -1,8 +1,8 @@
 use Rattle.std.proofs.Common.{refl, subst}
-use Rattle.am_replay.specs.FirstLines.{IsFirstLine}
+use Rattle.am_command_line.specs.FirstLines.{IsFirstLine}
 use Rattle.am_replay.specs.Live.{IsLive, line_or_empty, no_memory, ran}
-use Rattle.am_replay.specs.Refusals.{first_line_too_large, refused_config, refused_script}
-use Rattle.am_replay.specs.declared.first_line.FirstLine.TheVariants as first_line
+use Rattle.am_command_line.specs.Refusals.{first_line_too_large, refused_config, refused_script}
+use Rattle.am_command_line.specs.declared.first_line.FirstLine.TheVariants as first_line
 use Rattle.am_replay.proofs.Lives.{read_as_first, refusal_told}
 use Rattle.am_replay.proofs.Replays.{keeps_same}
 use Rattle.am_replay.proofs.live.live.Goals as goal

@@ -1,10 +1,10 @@
 use Rattle.std.proofs.Common.{List, ℕ, Option}
 use Rattle.am_replay.specs.Live.{IsLive, no_memory}
 use Rattle.am_replay.specs.Programs.{RunsIn}
-use Rattle.am_replay.specs.declared.arguments.Arguments.{Arguments}
-use Rattle.am_replay.specs.declared.arguments.Mode.{Mode}
-use Rattle.am_replay.specs.declared.arguments.Mode.TheVariants.{Ordered, Free, Live, Follow}
-use Rattle.am_replay.specs.declared.status.Status.TheVariants.{OutOfMemory}
+use Rattle.am_command_line.specs.declared.arguments.Arguments.{Arguments}
+use Rattle.am_command_line.specs.declared.arguments.Mode.{Mode}
+use Rattle.am_command_line.specs.declared.arguments.Mode.TheVariants.{Ordered, Free, Live, Follow}
+use Rattle.am_command_line.specs.declared.status.Status.TheVariants.{OutOfMemory}
 use Rattle.am_replay.proofs.Replays.{keeps_same}
 use Rattle.am_replay.proofs.program.obey.Goals as goal
 

@@ -1,9 +1,9 @@
 use Rattle.std.proofs.Common.{◌≡◌, ℕ, List, ap, subst, ◌∙◌, string_bytes}
-use Rattle.am_replay.specs.FirstLines.{IsFirstLine}
-use Rattle.am_replay.specs.Refusals.{first_line_too_large, refused_config, refused_script}
+use Rattle.am_command_line.specs.FirstLines.{IsFirstLine}
+use Rattle.am_command_line.specs.Refusals.{first_line_too_large, refused_config, refused_script}
 use Rattle.am_replay.specs.Replays.{no_config, too_long}
-use Rattle.am_replay.specs.declared.first_line.FirstLine.{FirstLine}
-use Rattle.am_replay.specs.declared.first_line.FirstLine.TheVariants as first_line
+use Rattle.am_command_line.specs.declared.first_line.FirstLine.{FirstLine}
+use Rattle.am_command_line.specs.declared.first_line.FirstLine.TheVariants as first_line
 use Rattle.am_replay.proofs.Replays.{refused_so}
 use Rattle.am_replay.proofs.program.printout_of.Goals as goal
 

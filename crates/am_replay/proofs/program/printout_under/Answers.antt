@@ -1,5 +1,5 @@
 use Rattle.std.proofs.Common.{ap, ◌∙◌, string_bytes}
-use Rattle.am_replay.specs.Refusals.{refused_script}
+use Rattle.am_command_line.specs.Refusals.{refused_script}
 use Rattle.am_replay.specs.Replays.{refused}
 use Rattle.am_replay.proofs.Replays.{comes, if_ok_both, refused_so}
 use Rattle.am_replay.proofs.program.printout_under.Goals as goal

@@ -2,7 +2,7 @@ use Rattle.std.proofs.Common.{subst, sym, string_bytes}
 use Rattle.std.specs.Io.KnownBytes.{Appends}
 use Rattle.am_script.specs.Outputs.{AppendsBeginning}
 use Rattle.am_replay.specs.Replays.{IsReplay}
-use Rattle.am_replay.specs.declared.status.Status.{Status}
+use Rattle.am_command_line.specs.declared.status.Status.{Status}
 use Rattle.am_replay.proofs.Replays.{cut_short, replayed}
 use Rattle.am_replay.proofs.program.replay.Goals as goal
 use Rattle.am_replay.proofs.program.replay.Goals.{in-Ok-write_text, in-Err-write_text}

@@ -1,6 +1,6 @@
 use Rattle.std.proofs.Common.{◌≡◌, ◌∙◌, ◌++◌, ℕ, List, Option, Some, string_bytes, flat_map, ap, subst, sym}
 use Rattle.std.proofs.lemmas.Result.{on_ok_weaker}
-use Rattle.am_runner.specs.declared.form.Form.{Form}
+use Rattle.am_script.specs.declared.form.Form.{Form}
 use Rattle.am_runner.specs.live.Showing.{CameIsPrinted, came_words, words, objects, shown_text}
 use Rattle.am_runner.proofs.live.showing.write_came.Goals as goal
 

@@ -3,7 +3,7 @@ use Rattle.std.proofs.lemmas.Result.{on_ok_weaker}
 use Rattle.am_script.specs.JsonLines.{about_line, object_line}
 use Rattle.am_runner.specs.Forms.{answers_printed}
 use Rattle.am_runner.specs.PrintingJson.{count_members}
-use Rattle.am_runner.specs.declared.form.Form.{Form}
+use Rattle.am_script.specs.declared.form.Form.{Form}
 use Rattle.am_runner.specs.live.Showing.{AnswersArePrinted, plain, words, objects, shown_text}
 use Rattle.am_runner.proofs.live.showing.write_given.Goals as goal
 

@@ -11,12 +11,12 @@ use Rattle.clap.specs.declared.error.Error.{Error}
 use Rattle.clap.specs.declared.parser.matches.ArgMatches.{ArgMatches}
 use Rattle.clap.proofs.OnLiterals.{clap_on_literals}
 use Rattle.clap.proofs.WalkLemmas.{first_value-rows}
-use Rattle.am_replay.specs.Options.{AreModes, ArePolicies, AreOptions, IsCommandLineOf, Choices, form_of, options_of}
-use Rattle.am_replay.specs.Arguments.{AreAccepted, AreArgumentsOf, AreFound, FitTheMode, IsFaultOf, IsMisfit, by_clap, by_mode}
-use Rattle.am_replay.specs.ArgumentsFaults.{IsTold}
-use Rattle.am_replay.specs.declared.arguments.Arguments.{Arguments}
-use Rattle.am_replay.specs.declared.arguments.ArgumentsFault.{ArgumentsFault}
-use Rattle.am_replay.specs.declared.arguments.ArgumentsFault.TheVariants.{Refused, NoMemory}
+use Rattle.am_command_line.specs.Options.{AreModes, ArePolicies, AreOptions, IsCommandLineOf, Choices, form_of, options_of}
+use Rattle.am_command_line.specs.Arguments.{AreAccepted, AreArgumentsOf, AreFound, FitTheMode, IsFaultOf, IsMisfit, by_clap, by_mode}
+use Rattle.am_command_line.specs.ArgumentsFaults.{IsTold}
+use Rattle.am_command_line.specs.declared.arguments.Arguments.{Arguments}
+use Rattle.am_command_line.specs.declared.arguments.ArgumentsFault.{ArgumentsFault}
+use Rattle.am_command_line.specs.declared.arguments.ArgumentsFault.TheVariants.{Refused, NoMemory}
 
 module _ (modes policies : Choices) (are_modes : AreModes modes) (are_policies : ArePolicies policies)
     (command : Command) (is_command : IsCommandLineOf modes policies command) where

@@ -19,10 +19,10 @@ use Rattle.clap.specs.declared.parser.matches.Found.{Found}
 use Rattle.am_provider.specs.declared.answers.Policy.{Policy}
 use Rattle.am_provider.specs.declared.answers.Policy.TheVariants.{Refuse, Cut}
 use Rattle.am_cast.specs.declared.limits.TheConstants.{MAX_PLACES}
-use Rattle.am_runner.specs.declared.form.Form.{Form}
-use Rattle.am_runner.specs.declared.form.Form.TheVariants as form
-use Rattle.am_replay.specs.declared.arguments.Mode.{Mode}
-use Rattle.am_replay.specs.declared.arguments.Mode.TheVariants.{Ordered, Free, Live, Follow}
+use Rattle.am_script.specs.declared.form.Form.{Form}
+use Rattle.am_script.specs.declared.form.Form.TheVariants as form
+use Rattle.am_command_line.specs.declared.arguments.Mode.{Mode}
+use Rattle.am_command_line.specs.declared.arguments.Mode.TheVariants.{Ordered, Free, Live, Follow}
 
 -- the name of a mode
 abbrev pub mode_name : Mode → Text

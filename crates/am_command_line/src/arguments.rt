@@ -3,12 +3,12 @@
 ghost use Rattle.std.specs.Prelude.{◌≤◌, ◌≡◌, IfOk, IfErr, map, string_bytes};
 ghost use Rattle.clap.specs.Matches.{found_of};
 ghost use Rattle.am_cast.specs.declared.limits.TheConstants.{MAX_PLACES};
-ghost use Rattle.am_replay.specs.Options.{AreModes, ArePolicies, HasOptions, IsCommandLineOf, IsFlag, IsOption};
-ghost use Rattle.am_replay.specs.ArgumentsFaults.{IsTold};
+ghost use Rattle.am_command_line.specs.Options.{AreModes, ArePolicies, HasOptions, IsCommandLineOf, IsFlag, IsOption};
+ghost use Rattle.am_command_line.specs.ArgumentsFaults.{IsTold};
 
 use am_cast::MAX_PLACES;
 use am_provider::Policy;
-use am_runner::Form;
+use am_script::Form;
 use clap::builder::ValueParser;
 use clap::error::ErrorKind;
 use clap::{Arg, ArgAction, ArgMatches, Command, Error};
@@ -53,7 +53,7 @@ pub enum ArgumentsFault {
 }
 
 impl From<AllocError> for ArgumentsFault {
-    ghost use Rattle.am_replay.specs.declared.arguments.ArgumentsFault.TheVariants.{NoMemory};
+    ghost use Rattle.am_command_line.specs.declared.arguments.ArgumentsFault.TheVariants.{NoMemory};
 
     ghost from_gives = { λ _ fault. fault ≡ NoMemory };
 
@@ -67,7 +67,7 @@ static MODES: [&str; 4] = ["ordered", "free", "live", "follow"];
 static POLICIES: [&str; 2] = ["refuse", "cut"];
 
 impl Arguments {
-    ghost use Rattle.am_replay.specs.Arguments.{AreFound, AreArgumentsOf, FitTheMode, IsFaultOf, IsMisfit};
+    ghost use Rattle.am_command_line.specs.Arguments.{AreFound, AreArgumentsOf, FitTheMode, IsFaultOf, IsMisfit};
 
     /// Reads the arguments that a command line gives, without the program's name.
     pub fn read(alloc: Global, given: &[String]) -> Result<Arguments, ArgumentsFault>

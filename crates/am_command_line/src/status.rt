@@ -1,7 +1,7 @@
 //! How a run of the program ends.
 
 ghost use Rattle.std.specs.Prelude.{◌≡◌};
-ghost use Rattle.am_replay.specs.Statuses.{exit_status_of, reason_of};
+ghost use Rattle.am_command_line.specs.Statuses.{exit_status_of, reason_of};
 
 /// How a run ends.
 #[derive(Clone, Copy, Debug, PartialEq, Eq)]

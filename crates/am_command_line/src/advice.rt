@@ -17,11 +17,7 @@ const BAD_NAME: &str = "begins with no label's name: ";
 const BAD_QUOTE: &str = "has a quote that is missing or out of place, or a comma outside quotes: ";
 
 /// A line about the fault of a first line; if that looks like something else, a line about that.
-pub(crate) fn fault_advice(
-    alloc: Global,
-    line: &[u8],
-    fault: &ConfigFault,
-) -> Result<String, AllocError> {
+pub fn fault_advice(alloc: Global, line: &[u8], fault: &ConfigFault) -> Result<String, AllocError> {
     if is_command(alloc, line) {
         return config_advice(alloc, line);
     }

@@ -1,8 +1,8 @@
 use Rattle.std.proofs.Common.{rules}
 use Rattle.std.proofs.lemmas.Result.{IfErr-weaker, IfOk-weaker}
-use Rattle.am_replay.specs.Options.{AreModes, ArePolicies}
-use Rattle.am_replay.proofs.GivenArguments.{fit_given, is_free_command, is_simple_command, given_read, given_refused, misfit_given}
-use Rattle.am_replay.proofs.arguments.Arguments.read.Goals as goal
+use Rattle.am_command_line.specs.Options.{AreModes, ArePolicies}
+use Rattle.am_command_line.proofs.GivenArguments.{fit_given, is_free_command, is_simple_command, given_read, given_refused, misfit_given}
+use Rattle.am_command_line.proofs.arguments.Arguments.read.Goals as goal
 
 pub returns-in-Ok-clause-read : goal.returns-in-Ok-clause-read
 returns-in-Ok-clause-read c =

@@ -2,7 +2,7 @@
 //! sentences that people read are the errors' own.
 
 ghost use Rattle.std.specs.Prelude.{Some};
-ghost use Rattle.am_replay.specs.ConfigCodes.{config_code};
+ghost use Rattle.am_command_line.specs.ConfigCodes.{config_code};
 
 use am_config::ConfigFault;
 use std::fmt;

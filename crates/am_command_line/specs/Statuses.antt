@@ -1,8 +1,10 @@
 -- The exit status of each way in which a run ends, and what is written to the error stream.
 use Rattle.std.specs.Prelude.{ℕ, List, [], codes}
-use Rattle.am_replay.specs.declared.status.Status.{Status}
-use Rattle.am_replay.specs.declared.status.Status.TheVariants.{Done, BadArguments, Refused, CallOutOfMemory}
-use Rattle.am_replay.specs.declared.status.Status.TheVariants.{OutOfMemory, NoThread, ReadFailed, WriteFailed}
+use Rattle.am_command_line.specs.declared.status.Status.{Status}
+use Rattle.am_command_line.specs.declared.status.Status.TheVariants.{Done, BadArguments, Refused}
+use Rattle.am_command_line.specs.declared.status.Status.TheVariants.{CallOutOfMemory}
+use Rattle.am_command_line.specs.declared.status.Status.TheVariants.{OutOfMemory, NoThread, ReadFailed}
+use Rattle.am_command_line.specs.declared.status.Status.TheVariants.{WriteFailed}
 
 -- 0 done, 1 bad arguments, 2 refused, 3 a failure
 abbrev pub exit_status_of : Status → ℕ

@@ -24,8 +24,8 @@ use Rattle.clap.proofs.CallerLemmas.{added_plain, default_present, entry_by_id, 
 use Rattle.clap.proofs.WalkLemmas.{list_any-map}
 use Rattle.am_provider.specs.declared.answers.Policy.TheVariants.{Refuse, Cut}
 use Rattle.am_cast.specs.declared.limits.TheConstants.{MAX_PLACES}
-use Rattle.am_replay.specs.Options.{AreModes, ArePolicies, HasOptions, IsCommandLineOf, IsFlag, IsOption, Choices, mode_name, options_of, policy_name}
-use Rattle.am_replay.specs.declared.arguments.Mode.TheVariants.{Ordered, Free, Live, Follow}
+use Rattle.am_command_line.specs.Options.{AreModes, ArePolicies, HasOptions, IsCommandLineOf, IsFlag, IsOption, Choices, mode_name, options_of, policy_name}
+use Rattle.am_command_line.specs.declared.arguments.Mode.TheVariants.{Ordered, Free, Live, Follow}
 
 -- a list with an element that passes has a first one
 find_some : {X : Type 0} (p : X → Bool) (xs : List X) (i : ℕ) → i < length xs → ((d : X) → p (slice_index_or xs i d) ≡ true)

@@ -1,15 +1,14 @@
 -- How a configuration or a script that is refused is printed.
 use Rattle.std.specs.Prelude.{ℕ, List, [], ◌∷◌, ◌++◌, codes}
 use Rattle.json.specs.Json.{object}
-use Rattle.am_replay.specs.ConfigCodes.{config_code}
+use Rattle.am_command_line.specs.ConfigCodes.{config_code}
 use Rattle.am_config.specs.declared.fault.ConfigFault.{ConfigFault}
-use Rattle.am_script.specs.JsonLines.{about_line, fault_members, object_line}
+use Rattle.am_script.specs.JsonLines.{about_line, fault_members, object_line, refusing}
 use Rattle.am_script.specs.ScriptTexts.{refusal_text}
 use Rattle.am_script.specs.declared.script.Fault.TheVariants.{TooLarge}
 use Rattle.am_script.specs.declared.script.Refusal.{Refusal}
-use Rattle.am_runner.specs.PrintingJson.{refusing}
-use Rattle.am_runner.specs.declared.form.Form.{Form}
-use Rattle.am_runner.specs.declared.form.Form.TheVariants.{Text, Json}
+use Rattle.am_script.specs.declared.form.Form.{Form}
+use Rattle.am_script.specs.declared.form.Form.TheVariants.{Text, Json}
 
 -- the first line is above the limit
 abbrev pub first_line_too_large : Refusal

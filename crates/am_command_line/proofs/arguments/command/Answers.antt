@@ -4,11 +4,11 @@ use Rattle.clap.specs.Simple.{app_of, app_of_fields, new_app, on_top}
 use Rattle.clap.specs.declared.builder.value_parser.ValueParser.{ValueParser}
 use Rattle.clap.specs.declared.builder.value_parser.ValueParser.TheVariants as value
 use Rattle.am_provider.specs.declared.answers.Policy.TheVariants.{Refuse}
-use Rattle.am_replay.specs.declared.arguments.Mode.TheVariants.{Ordered}
+use Rattle.am_command_line.specs.declared.arguments.Mode.TheVariants.{Ordered}
 use Rattle.am_cast.specs.declared.limits.TheConstants.{MAX_PLACES}
-use Rattle.am_replay.specs.Options.{IsOption, mode_name, policy_name}
-use Rattle.am_replay.proofs.Options.{is_command}
-use Rattle.am_replay.proofs.arguments.command.Goals as goal
+use Rattle.am_command_line.specs.Options.{IsOption, mode_name, policy_name}
+use Rattle.am_command_line.proofs.Options.{is_command}
+use Rattle.am_command_line.proofs.arguments.command.Goals as goal
 
 pub returns : goal.returns
 returns c =

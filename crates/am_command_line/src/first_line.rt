@@ -1,7 +1,7 @@
 //! The first line of a script, which is its configuration.
 
 ghost use Rattle.std.specs.Prelude.{IfOk};
-ghost use Rattle.am_replay.specs.FirstLines.{IsFirstLine};
+ghost use Rattle.am_command_line.specs.FirstLines.{IsFirstLine};
 
 use am_config::{Config, ConfigFault};
 use am_script::{LONGEST_LINE, config_line};

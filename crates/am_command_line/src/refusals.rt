@@ -1,13 +1,12 @@
 //! What is printed of a configuration or a script that is refused.
 
 ghost use Rattle.std.specs.Prelude.{◌≡◌, ◌++◌, IfOk, OnOk, string_bytes};
-ghost use Rattle.am_replay.specs.Refusals.{refused_config, refused_script};
+ghost use Rattle.am_command_line.specs.Refusals.{refused_config, refused_script};
 
 use crate::config_code::ConfigCode;
 use crate::status::Status;
 use am_config::ConfigFault;
-use am_runner::Form;
-use am_script::{Fault, JsonLine, Refusal, write_fault, write_text};
+use am_script::{Fault, Form, JsonLine, Refusal, write_fault, write_text};
 use std::alloc::{AllocError, Global};
 use std::io::Write;
 

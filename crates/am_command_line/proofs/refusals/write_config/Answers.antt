@@ -3,11 +3,10 @@ use Rattle.json.specs.Json.{object, string}
 use Rattle.json.specs.Print.{print}
 use Rattle.json.specs.Token.{Token, end_object}
 use Rattle.json.specs.Tree.{json_tokens}
-use Rattle.am_replay.specs.ConfigCodes.{config_code}
-use Rattle.am_script.specs.JsonLines.{named}
+use Rattle.am_command_line.specs.ConfigCodes.{config_code}
+use Rattle.am_script.specs.JsonLines.{named, refusing}
 use Rattle.am_script.proofs.JsonLines.{and_then}
-use Rattle.am_runner.specs.PrintingJson.{refusing}
-use Rattle.am_replay.proofs.refusals.write_config.Goals as goal
+use Rattle.am_command_line.proofs.refusals.write_config.Goals as goal
 
 pub returns : goal.returns
 returns c =

@@ -4,8 +4,8 @@ use Rattle.am_script.specs.Script.{config_line}
 use Rattle.am_script.specs.declared.limits.TheConstants.{LONGEST_LINE}
 use Rattle.am_config.specs.Configs.{IsConfigOf}
 use Rattle.am_config.specs.declared.fault.ConfigFault.TheVariants.{NoMemory}
-use Rattle.am_replay.specs.declared.first_line.FirstLine.{FirstLine}
-use Rattle.am_replay.specs.declared.first_line.FirstLine.TheVariants.{TooLong, Refused, Read}
+use Rattle.am_command_line.specs.declared.first_line.FirstLine.{FirstLine}
+use Rattle.am_command_line.specs.declared.first_line.FirstLine.TheVariants.{TooLong, Refused, Read}
 
 -- what the first line of a text is found to be: above the limit, refused for a fault, or a configuration
 abbrev pub IsFirstLine : List ℕ → FirstLine → Type 0

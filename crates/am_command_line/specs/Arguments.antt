@@ -7,12 +7,12 @@ use Rattle.clap.specs.Faults.{fault_of}
 use Rattle.clap.specs.Matches.{first_value}
 use Rattle.clap.specs.declared.parser.matches.Found.{Found}
 use Rattle.am_cast.specs.declared.limits.TheConstants.{MAX_PLACES}
-use Rattle.am_replay.specs.declared.arguments.Mode.{Mode}
-use Rattle.am_replay.specs.declared.arguments.Mode.TheVariants.{Ordered, Free, Live, Follow}
-use Rattle.am_replay.specs.Options.{AreOptions, form_of, mode_name, policy_name}
-use Rattle.am_replay.specs.declared.arguments.Arguments.{Arguments}
-use Rattle.am_replay.specs.declared.arguments.ArgumentsFault.{ArgumentsFault}
-use Rattle.am_replay.specs.declared.arguments.ArgumentsFault.TheVariants.{Refused, NoMemory}
+use Rattle.am_command_line.specs.declared.arguments.Mode.{Mode}
+use Rattle.am_command_line.specs.declared.arguments.Mode.TheVariants.{Ordered, Free, Live, Follow}
+use Rattle.am_command_line.specs.Options.{AreOptions, form_of, mode_name, policy_name}
+use Rattle.am_command_line.specs.declared.arguments.Arguments.{Arguments}
+use Rattle.am_command_line.specs.declared.arguments.ArgumentsFault.{ArgumentsFault}
+use Rattle.am_command_line.specs.declared.arguments.ArgumentsFault.TheVariants.{Refused, NoMemory}
 
 -- the value of an option: the one that it is given, else its default
 abbrev pub option_value : App → List Text → Text → Option Text

@@ -1,0 +1,2 @@
+pub mod GivenArguments
+pub mod Options
