@@ -1,6 +1,5 @@
-// What reading posts is compared with: Alertmanager's own handler of them, from Debian's package of its source. Goroutines
-// hand it bodies of one alert, as Prometheus posts it, and it puts them into Alertmanager's own provider. No socket is in
-// between: the handler gets requests that are made before.
+// What reading posts is compared with: Alertmanager's own handler of them (api.go). Goroutines hand it bodies of one alert,
+// as Prometheus posts it, and it puts them into Alertmanager's own provider.
 //
 //	handler POSTERS POSTS LABELS     prints the nanoseconds that the posts took, POSTS by each poster
 package main
@@ -8,21 +7,11 @@ package main
 import (
 	"context"
 	"fmt"
-	"net/http"
-	"net/http/httptest"
 	"os"
 	"strconv"
 	"strings"
 	"sync"
 	"time"
-
-	"github.com/go-kit/log"
-	apiv2 "github.com/prometheus/alertmanager/api/v2"
-	"github.com/prometheus/alertmanager/config"
-	"github.com/prometheus/alertmanager/provider/mem"
-	"github.com/prometheus/alertmanager/types"
-	"github.com/prometheus/client_golang/prometheus"
-	"github.com/prometheus/common/model"
 )
 
 const form = `[{"labels":{"alertname":"DiskFull","cluster":"eu-1","container":"node-exporter","endpoint":"metrics",` +
@@ -32,9 +21,7 @@ const form = `[{"labels":{"alertname":"DiskFull","cluster":"eu-1","container":"n
 
 func number(at int) int {
 	value, err := strconv.Atoi(os.Args[at])
-	if err != nil {
-		panic(err)
-	}
+	check(err)
 	return value
 }
 
@@ -42,21 +29,7 @@ func main() {
 	posters, posts, labels := number(1), number(2), number(3)
 	running, stop := context.WithCancel(context.Background())
 	defer stop()
-	registry := prometheus.NewRegistry()
-	marker := types.NewMarker(registry)
-	provider, err := mem.NewAlerts(running, marker, time.Hour, nil, log.NewNopLogger(), nil)
-	if err != nil {
-		panic(err)
-	}
-	api, err := apiv2.NewAPI(provider, nil, marker.Status, nil, nil, log.NewNopLogger(), registry)
-	if err != nil {
-		panic(err)
-	}
-	read, err := config.Load("route: {receiver: ops}\nreceivers: [{name: ops}]\n")
-	if err != nil {
-		panic(err)
-	}
-	api.Update(read, func(model.LabelSet) {})
+	api, _ := newAPI(running)
 	bodies := make([]string, labels)
 	for at := range bodies {
 		bodies[at] = fmt.Sprintf(form, at)
@@ -68,12 +41,7 @@ func main() {
 		go func() {
 			defer posting.Done()
 			for at := 0; at < posts; at++ {
-				request := httptest.NewRequest(http.MethodPost, "/api/v2/alerts", strings.NewReader(bodies[at%labels]))
-				request.Header.Set("Content-Type", "application/json")
-				answer := httptest.NewRecorder()
-				if api.Handler.ServeHTTP(answer, request); answer.Code != http.StatusOK {
-					panic(answer.Body.String())
-				}
+				post(api, strings.NewReader(bodies[at%labels]))
 			}
 		}()
 	}
