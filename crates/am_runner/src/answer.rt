@@ -121,21 +121,13 @@ impl fmt::Display for Answer {
     fn fmt<W: fmt::Write>(&self, f: &mut fmt::Formatter<W>) -> fmt::Result {
         match self {
             Answer::Posted { valid, place } => write_posted(*valid, *place, f),
-            Answer::Invalid { index, fault } => write!(
-                f,
-                "invalid {index} {}",
-                InvalidCode(*fault)
-            ),
+            Answer::Invalid { index, fault } => write_invalid(*index, *fault, f),
             Answer::CutLane(lane) => write!(f, "cut lane {lane}"),
             Answer::PostRefused(fault) => write!(f, "post refused {}", BodyCode(*fault)),
             Answer::Subscribed { lane, opening } => {
                 write!(f, "subscribe lane {lane} opening {opening}")
             }
-            Answer::SubscribeRefused(fault) => write!(
-                f,
-                "subscribe refused {}",
-                SubscribeCode(*fault)
-            ),
+            Answer::SubscribeRefused(fault) => write_subscribe_refused(*fault, f),
             Answer::Item(alert) => write!(f, "item {alert}"),
             Answer::Pending => f.write_str("pending"),
             Answer::SawClosed => f.write_str("closed"),
@@ -176,6 +168,22 @@ fn write_posted<W: fmt::Write>(
         Some(place) => write!(f, "post valid {valid} place {place}"),
         None => write!(f, "post valid {valid} no place"),
     }
+}
+
+fn write_invalid<W: fmt::Write>(
+    index: u32,
+    fault: AlertFault,
+    f: &mut fmt::Formatter<W>,
+) -> fmt::Result
+    ensures { DisplaysOnOk W.write_str_gives f.old result (Some (answer_text (Answer.Invalid index fault))) f.new }
+{
+    write!(f, "invalid {index} {}", InvalidCode(fault))
+}
+
+fn write_subscribe_refused<W: fmt::Write>(fault: SubFault, f: &mut fmt::Formatter<W>) -> fmt::Result
+    ensures { DisplaysOnOk W.write_str_gives f.old result (Some (answer_text (Answer.SubscribeRefused fault))) f.new }
+{
+    write!(f, "subscribe refused {}", SubscribeCode(fault))
 }
 
 fn write_left<W: fmt::Write>(

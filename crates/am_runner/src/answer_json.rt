@@ -16,6 +16,7 @@ use crate::codes::{BodyCode, CLOSED, InvalidCode, SubscribeCode};
 use am_alert::{Alert, AlertFault};
 use am_config::GroupBy;
 use am_labels::{LabelSet, Text};
+use am_provider::SubFault;
 use am_routes::{ListedRoute, MatchedRoute, Swept};
 use am_script::{JsonLine, Verb};
 use std::alloc::{AllocError, Global};
@@ -67,11 +68,7 @@ pub(crate) fn write_members(line: &mut JsonLine, answer: &Answer) -> Result<(), 
         Answer::CutLane(lane) => write_number(line, "cut_lane", "lane", u64::from(*lane)),
         Answer::PostRefused(fault) => write_fault(line, Verb::Post, &BodyCode(*fault)),
         Answer::Subscribed { lane, opening } => write_subscribed(line, *lane, *opening),
-        Answer::SubscribeRefused(fault) => write_fault(
-            line,
-            Verb::Subscribe,
-            &SubscribeCode(*fault),
-        ),
+        Answer::SubscribeRefused(fault) => write_subscribe_refused(line, *fault),
         Answer::Item(alert) => write_alert(line, "item", alert),
         Answer::Pending => line.text("answer", "pending"),
         Answer::SawClosed => line.text("answer", "closed"),
@@ -255,6 +252,13 @@ fn write_fault<F: fmt::Display>(
     line.text("answer", "refused")?;
     line.shown("do", &verb)?;
     line.shown("fault", fault)
+}
+
+fn write_subscribe_refused(line: &mut JsonLine, fault: SubFault) -> Result<(), AllocError>
+    ensures { OnOk result (line.new ++ end_object ∷ []
+        ≡ line.old ++ members_tokens (answer_members (Answer.SubscribeRefused fault))) }
+{
+    write_fault(line, Verb::Subscribe, &SubscribeCode(fault))
 }
 
 // The same, for what has this text.
