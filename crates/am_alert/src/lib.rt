@@ -41,7 +41,7 @@ pub use alerts::Alerts;
 pub use body::Body;
 pub use civil_time::CivilTime;
 pub use elements::Elements;
-pub use merging::{absorb, merge, overlaps};
+pub use merging::{absorb, absorb_in_place, merge, overlaps};
 pub use moment::Moment;
 pub use moment_text::MomentText;
 pub use post::{AlertFault, Faults, MAX_ALERTS, MAX_BYTES, Post, PostFault};

@@ -1,7 +1,7 @@
 //! How a stored report and a new one of the same label set become one (Alertmanager's
 //! `types.Alert.Merge`, and the test before it in `provider/mem`'s Put).
 
-ghost use Rattle.std.specs.Prelude.{◌≡◌, IfOk};
+ghost use Rattle.std.specs.Prelude.{◌≡◌, IfOk, OnOk};
 ghost use Rattle.std.specs.Option.{option_copied};
 ghost use Rattle.am_alert.specs.Merging.{absorbed, combined, merged, overlap};
 
@@ -22,20 +22,32 @@ pub fn overlaps(old: &Alert, new: &Alert) -> bool
 pub fn merge(old: &Alert, new: &Alert, now: Moment) -> Result<Alert, AllocError>
     ensures { IfOk result (λ both. both ≡ merged now old.now new.now) }
 {
-    if new.updated < old.updated {
-        combine(new, old, now)
-    } else {
-        combine(old, new, now)
-    }
+    let mut both = new.copy()?;
+    merge_in_place(old, &mut both, now)?;
+    Ok(both)
 }
 
-fn combine(older: &Alert, younger: &Alert, now: Moment) -> Result<Alert, AllocError>
-    ensures { IfOk result (λ both. both ≡ combined now older.now younger.now) }
+// The same in place of the new report.
+fn merge_in_place(old: &Alert, new: &mut Alert, now: Moment) -> Result<(), AllocError>
+    ensures { OnOk result (new.new ≡ merged now old.now new.old) }
 {
-    let mut both = younger.copy()?;
-    both.start = older.start.min(younger.start);
-    both.end = combined_end(older, younger, now);
-    Ok(both)
+    if new.updated < old.updated {
+        let mut both = old.copy()?;
+        combine(new, &mut both, now);
+        *new = both;
+    } else {
+        combine(old, new, now);
+    }
+    Ok(())
+}
+
+// Lets the younger report last for both.
+fn combine(older: &Alert, younger: &mut Alert, now: Moment)
+    ensures { younger.new ≡ combined now older.now younger.old }
+{
+    let end = combined_end(older, younger, now);
+    younger.start = older.start.min(younger.start);
+    younger.end = end;
 }
 
 fn combined_end(older: &Alert, younger: &Alert, now: Moment) -> Moment
@@ -58,8 +70,21 @@ fn combined_end(older: &Alert, younger: &Alert, now: Moment) -> Moment
 pub fn absorb(stored: Option<&Alert>, new: &Alert, now: Moment) -> Result<Alert, AllocError>
     ensures { IfOk result (λ alert. alert ≡ absorbed now (option_copied stored.entry) new.now) }
 {
+    let mut became = new.copy()?;
+    absorb_in_place(stored, &mut became, now)?;
+    Ok(became)
+}
+
+/// The same in place of the new report.
+pub fn absorb_in_place(
+    stored: Option<&Alert>,
+    new: &mut Alert,
+    now: Moment,
+) -> Result<(), AllocError>
+    ensures { OnOk result (new.new ≡ absorbed now (option_copied stored.entry) new.old) }
+{
     match stored {
-        Some(old) if overlaps(old, new) => merge(old, new, now),
-        _ => new.copy(),
+        Some(old) if overlaps(old, new) => merge_in_place(old, new, now),
+        _ => Ok(()),
     }
 }

@@ -1,6 +1,7 @@
 -- What a post does to its pass, to the lanes and to the log, and why it is refused.
 use Rattle.std.specs.Prelude.{◌≡◌, ℕ, ◌<◌, Bool, true, false, List, [], ◌∷◌, ◌++◌, Option, None, Some, length}
-use Rattle.std.specs.Prelude.{slice_index_or, if◌then◌else◌, nat_eq, ◌⊎◌}
+use Rattle.std.specs.Prelude.{slice_index_or, if◌then◌else◌, nat_eq, ◌⊎◌, ◌↔◌, IsTrue}
+use Rattle.std.specs.Prelude.{Result, IfOk, IfErr, OnOk, OnErr, IsErrOf}
 use mathlib.Core.Option.{some}
 use mathlib.Core.List.{IsPrefix}
 use lib.ListN.{get_elem?}
@@ -9,7 +10,7 @@ use Rattle.am_store.specs.declared.call.Call.{Call}
 use Rattle.am_store.specs.declared.call.Call.TheVariants.{Posted}
 use Rattle.am_store.specs.LaneSets.{has_lane}
 use Rattle.am_alert.specs.declared.post.Post.{Post}
-use Rattle.am_store.specs.Journal.{is_closed, with_call}
+use Rattle.am_store.specs.Journal.{call_count, is_closed, with_call}
 use Rattle.am_store.specs.Judging.{Filter, AreJudged, WasAsked}
 use Rattle.am_cast.specs.declared.views.Own.{Own}
 use Rattle.am_cast.specs.Rule.{live}
@@ -109,6 +110,19 @@ IsPutCause old new count put_fault.NoMemory =
     × (0 < count → IsLogCause old.policy old.log new.log put_fault.NoMemory)
 IsPutCause old new count fault =
     (is_closed old.journal ≡ false) × (0 < count) × IsLogCause old.policy old.log new.log fault
+
+-- a post of these valid alerts was accepted, or refused for the first cause that there was, and then changed
+-- nothing. Either way each lane was looked at, unless there was no alert or the log was closed
+pub record PutsOrRefuses (old new : BookView) (was is : PassView Alert Call) (now : ℕ) (post : Post)
+    (result : Result answers.Posted PutFault) : Type 0 where
+  pub posted : IfOk result (Puts old new was is now post)
+  pub last : OnOk result (new.gone < call_count new.journal)
+  pub log : IsPrefix (batches old) (batches new)
+  pub loads : 0 < length post.valid → is_closed old.journal ≡ false → Loads old.log new.log
+  pub rest : KeepsRest old new
+  pub closed : IsErrOf result put_fault.Closed ↔ IsTrue (is_closed old.journal)
+  pub refused : IfErr result (IsPutCause old new (length post.valid))
+  pub err : OnErr result (IsAsBefore old new × (is ≡ was))
 
 -- a filter was asked of some of the first alerts, in order, over what was stored, and of none if the log was
 -- closed

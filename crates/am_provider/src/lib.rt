@@ -64,6 +64,7 @@ mod kept_endings;
 pub mod laws;
 mod parts;
 mod pass;
+mod prepared_post;
 mod provider;
 mod recorded_book;
 mod sending;

@@ -14,7 +14,8 @@ use crate::caller::Caller;
 use crate::entry::Entry;
 use crate::faults::PutFault;
 use crate::feed::{Cast, Recorded};
-use am_alert::{Moment, Post};
+use crate::prepared_post::PreparedPost;
+use am_alert::Moment;
 use am_history::{History, HistoryTable};
 use am_store::{Call, LaneSet};
 use std::alloc::AllocError;
@@ -46,13 +47,13 @@ impl<N: Recorded> Model for RecordedBook<N> {
 }
 
 impl<N: Recorded> RecordedBook<N> {
-    /// Posts alerts that were read.
+    /// Posts alerts that were prepared before the lock was taken.
     pub(crate) fn post(
         &mut self,
         cast: &Cast<N>,
         table: &HistoryTable<Entry, N>,
         caller: &mut Caller<N>,
-        post: Post,
+        post: PreparedPost,
         now: Moment,
     ) -> Result<Posted, PutFault>
         ensures sees { SeesCall caller.old.front caller.new.front
@@ -65,7 +66,7 @@ impl<N: Recorded> RecordedBook<N> {
         ensures err { OnErr result (caller.new.pass ≡ caller.old.pass) }
     {
         self.book.kept();
-        let posted = match self.book.post(cast, &mut caller.pass, post, now) {
+        let posted = match self.book.post_prepared(cast, &mut caller.pass, post, now) {
             Ok(posted) => posted,
             Err(fault) => {
                 self.history.show(table, &mut caller.front);

@@ -21,10 +21,6 @@ use Rattle.am_store.specs.Shared.{alerts_in}
 use Rattle.am_store.specs.AlertMaps.{stored_in, AreKeptByLabels, taken_back, all_taken_back}
 use Rattle.am_store.proofs.Stored.{by_option, absorbed_labels}
 
-pub alerts_in_last : (shared : List (Arc Alert Global)) (last : Arc Alert Global) → alerts_in (shared ++ last ∷ []) ≡ alerts_in shared ++ arc_value last ∷ []
-alerts_in_last [] last = refl
-alerts_in_last (one ∷ shared) last = ap (λ rest. arc_value one ∷ rest) (alerts_in_last shared last)
-
 pub values_stored : (entries : List (Labels × Arc Alert Global)) → alerts_in (values_of entries) ≡ stored_in entries
 values_stored [] = refl
 values_stored (entry ∷ entries) = ap (λ rest. arc_value entry.1 ∷ rest) (values_stored entries)

@@ -15,7 +15,7 @@
 //!
 //! <!-- parts of crates/am_provider/src/book/post.rt -->
 //! ```rust
-//! let Absorbed { batch, undo } = absorb_each(&mut self.stored, valid.as_slice(), now)?;
+//! let Absorbed { batch, undo } = absorb_each(&mut self.stored, reports, now)?;
 //!
 //! take_back(&mut self.stored, undo);
 //! ```

@@ -7,7 +7,7 @@ ghost use Rattle.am_cast.specs.Rule.{cut};
 ghost use Rattle.am_store.specs.Journal.{with_call, call_count, is_closed};
 ghost use Rattle.am_store.specs.Judging.{AreJudged};
 ghost use Rattle.am_provider.specs.BookView.{batches};
-ghost use Rattle.am_provider.specs.Posts.{AddsOwn, IsCutTo, Puts, PutsIf, IsPutCause, IsPutIfCause};
+ghost use Rattle.am_provider.specs.Posts.{AddsOwn, IsCutTo, PutsOrRefuses, PutsIf, IsPutCause, IsPutIfCause};
 ghost use Rattle.am_provider.specs.Posts.{IsAsBefore, Loads, KeepsRest, WasAskedBefore};
 
 use crate::answers::{Posted, PostedIf};
@@ -15,10 +15,11 @@ use crate::book::{Book, ENTRIES};
 use crate::faults::PutFault;
 use crate::feed::{Cast, Origin};
 use crate::pass::Pass;
+use crate::prepared_post::PreparedPost;
 use crate::sending::{look_for_room, send_batch};
 use am_alert::{Alert, Alerts, Moment, Post};
 use am_cast::Published;
-use am_store::store::absorb::{Absorbed, absorb_each, take_back};
+use am_store::store::absorb::{Absorbed, PreparedReports, absorb_each, take_back};
 use am_store::store::judge::{Judged, judge_each};
 use am_store::{Call, LaneSet};
 use std::alloc::AllocError;
@@ -34,27 +35,32 @@ impl<N: Origin> Book<N> {
         post: Post,
         now: Moment,
     ) -> Result<Posted, PutFault>
-        ensures posted { IfOk result (Puts self.old self.new pass.old pass.new now post) }
-        ensures last { OnOk result (self.new.gone < call_count self.new.journal) }
-        ensures log { IsPrefix (batches self.old) (batches self.new) }
-        ensures loads { 0 < length post.valid → is_closed self.old.journal ≡ false
-            → Loads self.old.log self.new.log }
-        ensures rest { KeepsRest self.old self.new }
-
-        ensures closed { IsErrOf result PutFault.Closed ↔ IsTrue (is_closed self.old.journal) }
-        ensures refused { IfErr result (IsPutCause self.old self.new (length post.valid)) }
-        ensures err { OnErr result (IsAsBefore self.old self.new × (pass.new ≡ pass.old)) }
+        ensures { PutsOrRefuses self.old self.new pass.old pass.new now post result }
     {
+        let post = PreparedPost::of(*self.stored.allocator(), post);
+        self.post_prepared(cast, pass, post, now)
+    }
+
+    /// The same of a post that was prepared before the lock was taken.
+    pub(crate) fn post_prepared(
+        &mut self,
+        cast: &Cast<N>,
+        pass: &mut Pass<N>,
+        post: PreparedPost,
+        now: Moment,
+    ) -> Result<Posted, PutFault>
+        ensures { PutsOrRefuses self.old self.new pass.old pass.new now post result }
+    {
+        let (Post { valid, faults }, reports) = post.into_parts();
         if self.log.is_closed() {
             return Err(PutFault::Closed);
         }
-        let Post { valid, faults } = post;
         if valid.as_slice().is_empty() {
             self.post_nothing(valid, now)?;
             return Ok(Posted::nothing(faults));
         }
         let valid_count = valid.as_slice().len() as u32;
-        let Published { place, cut } = self.post_some(cast, pass, valid, now)?;
+        let Published { place, cut } = self.post_some(cast, pass, valid, reports, now)?;
         Ok(Posted {
             valid: valid_count,
             place: Some(place),
@@ -150,8 +156,10 @@ impl<N: Origin> Book<N> {
         cast: &Cast<N>,
         pass: &mut Pass<N>,
         valid: Alerts,
+        reports: Result<PreparedReports, AllocError>,
         now: Moment,
     ) -> Result<Published, PutFault>
+        requires prepared { IfOk reports (λ reports. reports ≡ valid) }
         requires open { is_closed self.old.journal ≡ false }
         requires some { 0 < length valid }
         requires few { length valid ≤ MAX_ALERTS }
@@ -169,8 +177,9 @@ impl<N: Origin> Book<N> {
     {
         let policy = self.policy;
         look_for_room(&mut self.log, cast, policy)?;
+        let reports = reports?;
         self.journal.reserve(ENTRIES)?;
-        let Absorbed { batch, undo } = absorb_each(&mut self.stored, valid.as_slice(), now)?;
+        let Absorbed { batch, undo } = absorb_each(&mut self.stored, reports, now)?;
         let call = Call::Posted { now, alerts: valid };
         match send_batch(&mut self.log, cast, policy, batch, &call, &mut pass.pass) {
             Ok(sent) => {

@@ -1,4 +1,4 @@
-//! Posts: a body is read before the lock is taken, and what it says is merged under it.
+//! Posts: a body is read, and its alerts are put into blocks, before the lock is taken. They are merged under it.
 
 ghost use Rattle.std.specs.Prelude.{◌≡◌, IfOk, OnErr};
 ghost use Rattle.std.specs.Duration.{as_nanos};
@@ -11,6 +11,7 @@ use crate::caller::Caller;
 use crate::faults::{BodyFault, PutFault};
 use crate::feed::Recorded;
 use crate::gate::Gate;
+use crate::prepared_post::PreparedPost;
 use crate::provider::Provider;
 use am_alert::{Alert, Moment, Post, read_post};
 use std::sync::Wait;
@@ -54,6 +55,7 @@ impl<N: Recorded> Provider<N> {
             AddsOwn caller.old.pass now post.valid posted.place caller.new.pass) }
         ensures err { OnErr result (caller.new.pass ≡ caller.old.pass) }
     {
+        let post = PreparedPost::of(self.alloc, post);
         let (answer, _replaced) = {
             let recorded = &mut *self.lock(rt);
             gate.held(rt);
@@ -94,6 +96,8 @@ impl<N: Recorded> Provider<N> {
                     return Err(fault);
                 }
             };
+            // What is accepted is known only here, so that its blocks are made under the lock.
+            let accepted = PreparedPost::of(self.alloc, accepted);
             let posted = match recorded.post(&self.cast, &self.table, caller, accepted, now) {
                 Ok(posted) => posted,
                 Err(fault) => return Err(fault),

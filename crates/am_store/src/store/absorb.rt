@@ -14,9 +14,10 @@ ghost use Rattle.am_store.specs.AlertMaps.{taken_back, all_taken_back};
 
 use crate::shared_alerts::SharedAlert;
 use crate::store::AlertMap;
-use am_alert::{Alert, Moment, absorb};
+use am_alert::{Alert, Moment, absorb_in_place};
 use am_labels::LabelSet;
-use std::alloc::AllocError;
+use std::alloc::{AllocError, Global};
+use std::marker::Model;
 use std::mem;
 use std::sync::Arc;
 
@@ -27,6 +28,52 @@ pub enum Change {
     Added,
     /// Its label set held this alert, at this index.
     Replaced(usize, SharedAlert),
+}
+
+/// The reports of a post, each in a block of its own, and the empty list for their changes. Contracts see
+/// the reports. It is made before the lock is taken: absorbing it takes memory for new label sets alone.
+#[derive(Debug, Drop)]
+pub struct PreparedReports {
+    blocks: Vec<SharedAlert>,
+    changes: Vec<Change>,
+}
+
+impl Model for PreparedReports {
+    ghost use Rattle.std.specs.Prelude.{◌≡◌, ◌≤◌, List, [], length, vec_capacity};
+    ghost use Rattle.std.specs.Coded.{coded_list};
+    ghost use Rattle.am_alert.specs.declared.alert.Alert.{Alert};
+    ghost use Rattle.am_alert.specs.Alerts.{coded_alert};
+    ghost use Rattle.am_store.specs.Shared.{alerts_in};
+
+    ghost Value = { List Alert };
+
+    ghost coded = { coded_list coded_alert };
+
+    ghost view = { λ p. alerts_in p.blocks.items };
+
+    ghost invariant = { λ p. (p.changes.items ≡ [])
+        × (length p.blocks.items ≤ vec_capacity p.changes) };
+}
+
+impl PreparedReports {
+    /// Copies of these reports, which share their texts.
+    pub fn of(alloc: Global, news: &[Alert]) -> Result<PreparedReports, AllocError>
+        ensures { IfOk result (λ prepared. prepared ≡ news.now) }
+    {
+        let changes = Vec::with_capacity(alloc, news.len())?;
+        let mut blocks = Vec::with_capacity(alloc, news.len())?;
+        for new in news {
+            blocks.push_reserved(block_of(alloc, new)?);
+        }
+        Ok(PreparedReports { blocks, changes })
+    }
+}
+
+// A copy of a report in a block of its own. It shares the texts.
+pub(crate) fn block_of(alloc: Global, report: &Alert) -> Result<SharedAlert, AllocError>
+    ensures { IfOk result (λ block. arc_value block ≡ report.now) }
+{
+    Ok(Arc::new(alloc, report.copy()?)?)
 }
 
 /// What the reports of a post became, and what they changed.
@@ -41,30 +88,28 @@ pub struct Absorbed {
 /// Absorbs reports one after another, and answers what each became.
 pub fn absorb_each(
     alerts: &mut AlertMap,
-    news: &[Alert],
+    news: PreparedReports,
     now: Moment,
 ) -> Result<Absorbed, AllocError>
     requires { AreKeptByLabels alerts.old.entries }
     ensures batch { IfOk result (λ done.
         alerts_in done.batch.items
-        ≡ batch_by_list now news.now (stored_in alerts.old.entries)) }
+        ≡ batch_by_list now news (stored_in alerts.old.entries)) }
     ensures back { IfOk result (λ done.
         all_taken_back done.undo.items alerts.new.entries ≡ alerts.old.entries) }
     ensures stored { OnOk result (stored_in alerts.new.entries
-        ≡ with_alerts (batch_by_list now news.now (stored_in alerts.old.entries))
+        ≡ with_alerts (batch_by_list now news (stored_in alerts.old.entries))
         (stored_in alerts.old.entries)) }
     ensures kept { AreKeptByLabels alerts.new.entries }
     ensures err { OnErr result (alerts.new.entries ≡ alerts.old.entries) }
 {
-    let alloc = *alerts.allocator();
-    let mut batch = Vec::with_capacity(alloc, news.len())?;
-    let mut changes = Vec::with_capacity(alloc, news.len())?;
-    for new in news {
-        match absorb_one(alerts, new, now) {
-            Ok((became, change)) => {
-                batch.push_reserved(became);
-                changes.push_reserved(change);
-            }
+    let PreparedReports {
+        mut blocks,
+        mut changes,
+    } = news;
+    for block in blocks.iter_mut() {
+        match absorb_one(alerts, block, now) {
+            Ok(change) => changes.push_reserved(change),
             Err(error) => {
                 take_back(alerts, changes);
                 return Err(error);
@@ -72,40 +117,43 @@ pub fn absorb_each(
         }
     }
     Ok(Absorbed {
-        batch,
+        batch: blocks,
         undo: changes,
     })
 }
 
-// Absorbs one report. Answers what it became, and what it changed.
+// Absorbs one report: its block becomes what the report became. Answers what it changed.
 pub(crate) fn absorb_one(
     alerts: &mut AlertMap,
-    new: &Alert,
+    block: &mut SharedAlert,
     now: Moment,
-) -> Result<(SharedAlert, Change), AllocError>
+) -> Result<Change, AllocError>
     requires { AreKeptByLabels alerts.old.entries }
-    ensures became { IfOk result (λ done. arc_value done.0
-        ≡ absorbed now (lookup new.now.labels (stored_in alerts.old.entries)) new.now) }
-    ensures stored { IfOk result (λ done. stored_in alerts.new.entries
-        ≡ with_alert (arc_value done.0) (stored_in alerts.old.entries)) }
+    ensures became { OnOk result (arc_value block.new ≡ absorbed now
+        (lookup (arc_value block.old).labels (stored_in alerts.old.entries)) (arc_value block.old)) }
+    ensures stored { OnOk result (stored_in alerts.new.entries
+        ≡ with_alert (arc_value block.new) (stored_in alerts.old.entries)) }
     ensures kept { AreKeptByLabels alerts.new.entries }
     ensures change { IfOk result
-        (λ done. taken_back done.1 alerts.new.entries ≡ alerts.old.entries) }
+        (λ change. taken_back change alerts.new.entries ≡ alerts.old.entries) }
     ensures err { OnErr result (alerts.new.entries ≡ alerts.old.entries) }
 {
-    let alloc = *alerts.allocator();
-    let at = alerts.get_index_of(&new.labels);
-    let outcome = absorb(stored_at(alerts, &new.labels, at), new, now)?;
-    let became = Arc::new(alloc, outcome)?;
-    let shared = Arc::try_clone(&became)?;
+    let at = alerts.get_index_of(&block.labels);
+    // Nobody else has the block yet, so that this copies nothing.
+    absorb_in_place(
+        stored_at(alerts, &block.labels, at),
+        Arc::make_mut(block)?,
+        now,
+    )?;
+    let shared = Arc::try_clone(block)?;
     match at {
         Some(at) => {
             let before = mem::replace(&mut alerts[at], shared);
-            Ok((became, Change::Replaced(at, before)))
+            Ok(Change::Replaced(at, before))
         }
         None => {
-            alerts.insert(new.labels.copy()?, shared)?;
-            Ok((became, Change::Added))
+            alerts.insert(block.labels.copy()?, shared)?;
+            Ok(Change::Added)
         }
     }
 }

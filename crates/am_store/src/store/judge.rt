@@ -11,7 +11,7 @@ ghost use Rattle.am_store.specs.AlertMaps.{stored_in, all_taken_back, AreKeptByL
 ghost use Rattle.am_store.specs.Judging.{AreJudged, WasAsked};
 
 use crate::store::AlertMap;
-use crate::store::absorb::{Change, absorb_one, take_back, take_one_back};
+use crate::store::absorb::{Change, absorb_one, block_of, take_back, take_one_back};
 use am_alert::{Alert, Alerts, Moment};
 use am_labels::LabelSet;
 use std::alloc::AllocError;
@@ -78,7 +78,8 @@ fn judge_over<F: FnMut(&Alert, bool) -> bool>(
     for new in reports {
         let index = (accepted.len() + refused.len()) as u32;
         let first = is_first(alerts, &new.labels);
-        let (became, change) = absorb_one(alerts, &new, now)?;
+        let mut became = block_of(*alerts.allocator(), &new)?;
+        let change = absorb_one(alerts, &mut became, now)?;
         let keeps = accepts(&*became, first);
         if keeps {
             accepted.push_reserved(new);

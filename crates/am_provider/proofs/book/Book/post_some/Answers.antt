@@ -32,7 +32,7 @@ use Rattle.am_provider.proofs.book.Book.post_some.Goals as goal
 pub send_batch-requires-clause-some : goal.send_batch-requires-clause-some
 send_batch-requires-clause-some g c =
     let olds = stored_in c.self.inside.stored.entries in
-    let news = c.as_slice.result.now in
+    let news = c.in_ok-reports.reports in
     let count : length c.in_ok-batch.field-0.batch.items ≡ length news = length_became c.in_ok-batch.field-0.batch.items c.args.now news olds c.in_ok-batch.ensures.batch in
     let same : news ≡ c.args.valid = search rules in
     omega (arith, c.requires.some, count, ap length same)
@@ -50,7 +50,7 @@ invariant_of-self-in-Ok g c =
     let olds = stored_in c.self.inside.stored.entries in
     let valid = c.args.valid in
     let batch = alerts_in c.in_ok-batch.field-0.batch.items in
-    let same : c.as_slice.result.now ≡ valid = search rules in
+    let same : c.in_ok-reports.reports ≡ valid = search rules in
     let became : batch ≡ batch_by_list c.args.now valid olds = c.in_ok-batch.ensures.batch ∙ ap (λ news. batch_by_list c.args.now news olds) same in
     let stored : stored_in c.absorb_each.new.alerts.entries ≡ with_alerts batch olds =
     c.in_ok-batch.ensures.stored ∙ (ap (λ news. with_alerts (batch_by_list c.args.now news olds) olds) same ∙ ap (λ b. with_alerts b olds) (sym became)) in

@@ -13,7 +13,7 @@ use Rattle.am_provider.proofs.recorded_book.RecordedBook.post.Goals as goal
 pub invariant_of-self-2 : goal.invariant_of-self-2
 invariant_of-self-2 g c =
     let old = c.self.inside.book in
-    let new = c.post.new.self in
+    let new = c.post_prepared.new.self in
     let entries = c.self.inside.history in
     let posted = c.in-Ok.ensures.posted in
     let call = Posted c.args.now c.args.post.valid in
@@ -28,7 +28,7 @@ invariant_of-self-2 g c =
 pub returns-clause-sees : goal.returns-clause-sees
 returns-clause-sees g c =
     let old = c.self.inside.book in
-    let new = c.post.new.self in
+    let new = c.post_prepared.new.self in
     let entries = c.self.inside.history in
     let posted = c.in-Ok.ensures.posted in
     let call = Posted c.args.now c.args.post.valid in
@@ -56,7 +56,7 @@ returns-clause-sees g c =
 pub returns-in-Err-clause-sees : goal.returns-in-Err-clause-sees
 returns-in-Err-clause-sees g c =
     sees_none c.args.caller.now.front c.show.new.to c.self.inside.history _ c.show.ensures.seen c.show.ensures.to
-    (put_refusal c.self.inside.book c.post.new.self c.self.inside.history (length c.args.post.valid) c.in-Err.fault c.self.invariant.0 c.kept.ensures c.in-Err.ensures.err.0 c.in-Err.ensures.refused, refl)
+    (put_refusal c.self.inside.book c.post_prepared.new.self c.self.inside.history (length c.args.post.valid) c.in-Err.fault c.self.invariant.0 c.kept.ensures c.in-Err.ensures.err.0 c.in-Err.ensures.refused, refl)
 
 pub last_call-requires : goal.last_call-requires
 last_call-requires g c = c.in-Ok.ensures.last

@@ -16,11 +16,13 @@ use Rattle.am_store.proofs.store.absorb.absorb_one.Goals as goal
 pub returns-in-Some-clause-stored : goal.returns-in-Some-clause-stored
 returns-in-Some-clause-stored c =
     let entries = c.args.alerts.now.entries in
-    let labels = c.args.new.now.labels in
+    let new = arc_value c.args.block.now in
+    let labels = new.labels in
+    let block = c.make_mut.follows.lender c.absorb_in_place.new.new in
     let shared = c.in_ok-shared.shared in
-    let became : arc_value c.in_ok-became.became ≡ absorbed c.args.now (lookup labels (stored_in entries)) c.args.new.now = search rules in
-    let value : arc_value shared ≡ arc_value c.in_ok-became.became = search rules in
-    let own = ap (λ (a : Alert). a.labels) (value ∙ became) ∙ became_own c.args.now (stored_in entries) c.args.new.now in
+    let became : arc_value block ≡ absorbed c.args.now (lookup labels (stored_in entries)) new = search rules in
+    let value : arc_value shared ≡ arc_value block = search rules in
+    let own = ap (λ (a : Alert). a.labels) (value ∙ became) ∙ became_own c.args.now (stored_in entries) new in
     let found : position (same_labels labels) (keys_of entries) ≡ Some c.in-Some.at = search rules in
     let after : c.replace-before.new.dest ≡ shared = c.replace-before.ensures.after in
     ap stored_in (ap (set_value_at entries c.in-Some.at) after ∙ written_at entries labels shared c.in-Some.at found)
@@ -29,11 +31,13 @@ returns-in-Some-clause-stored c =
 pub returns-in-Some-clause-kept : goal.returns-in-Some-clause-kept
 returns-in-Some-clause-kept c =
     let entries = c.args.alerts.now.entries in
-    let labels = c.args.new.now.labels in
+    let new = arc_value c.args.block.now in
+    let labels = new.labels in
+    let block = c.make_mut.follows.lender c.absorb_in_place.new.new in
     let shared = c.in_ok-shared.shared in
-    let became : arc_value c.in_ok-became.became ≡ absorbed c.args.now (lookup labels (stored_in entries)) c.args.new.now = search rules in
-    let value : arc_value shared ≡ arc_value c.in_ok-became.became = search rules in
-    let own = ap (λ (a : Alert). a.labels) (value ∙ became) ∙ became_own c.args.now (stored_in entries) c.args.new.now in
+    let became : arc_value block ≡ absorbed c.args.now (lookup labels (stored_in entries)) new = search rules in
+    let value : arc_value shared ≡ arc_value block = search rules in
+    let own = ap (λ (a : Alert). a.labels) (value ∙ became) ∙ became_own c.args.now (stored_in entries) new in
     let found : position (same_labels labels) (keys_of entries) ≡ Some c.in-Some.at = search rules in
     let after : c.replace-before.new.dest ≡ shared = c.replace-before.ensures.after in
     subst AreKeptByLabels (sym (ap (set_value_at entries c.in-Some.at) after ∙ written_at entries labels shared c.in-Some.at found)) (kept_inserted entries labels shared c.requires own)
@@ -48,4 +52,10 @@ pub returns-in_ok-insert-in-None-clause-kept : goal.returns-in_ok-insert-in-None
 returns-in_ok-insert-in-None-clause-kept c = grind (arith, common_steps, became_own, kept_inserted)
 
 pub returns-in_ok-insert-in-None-clause-change : goal.returns-in_ok-insert-in-None-clause-change
-returns-in_ok-insert-in-None-clause-change c = grind (arith, common_steps, insert_entry-new, added_back)
+returns-in_ok-insert-in-None-clause-change c =
+    let entries = c.args.alerts.now.entries in
+    let new = arc_value c.args.block.now in
+    let block = c.make_mut.follows.lender c.absorb_in_place.new.new in
+    let became : arc_value block ≡ absorbed c.args.now (lookup new.labels (stored_in entries)) new = search rules in
+    let own = ap (λ (a : Alert). a.labels) became ∙ became_own c.args.now (stored_in entries) new in
+    grind (arith, common_steps, insert_entry-new, added_back)
