@@ -27,7 +27,7 @@ use Rattle.am_script.specs.declared.command.Verb.{Verb}
 use Rattle.am_script.specs.declared.command.Verb.TheVariants as verb
 use Rattle.am_script.specs.declared.kind.Kind.TheVariants.{Plain}
 use Rattle.am_script.specs.declared.line_members.LineMembers.{LineMembers}
-use Rattle.am_script.specs.inside.LineMembers.{AddsMember, AreMembersOfLine, IsNextAs, is_read}
+use Rattle.am_script.specs.inside.LineMembers.{AddsMember, AreMembersOfLine, IsNextValue, is_read}
 
 -- ---- a member more
 
@@ -178,12 +178,12 @@ module _ (line : LineMembers) (ms : Members) (those : AreMembersOfLine line ms) 
 
 -- what comes next is a text, and what is read of it
 pub text_next : {X : Type 0} (f : List ℕ → Option X) (old new : List Token) (text : List ℕ) (x : Option X) → old ≡ token.string text ∷ new → x ≡ f text
-    → IfSome x (IsNextAs (λ d. option_and_then f (as_str d)) old new)
+    → IfSome x (IsNextValue (λ d. option_and_then f (as_str d)) old new)
 text_next f old new text None is same = tt
 text_next f old new text (Some x) is same = (string text, λ depth. text_read depth old new text is, sym same)
 
 pub moment_next : (old new : List Token) (text : List ℕ) (at : Option ℕ) → old ≡ token.string text ∷ new → time_of text ≡ Some at
-    → IfSome at (IsNextAs (λ d. moment_found (Some d)) old new)
+    → IfSome at (IsNextValue (λ d. moment_found (Some d)) old new)
 moment_next old new text None is same = tt
 moment_next old new text (Some at) is same = (string text, λ depth. text_read depth old new text is, ap (option_and_then (λ time. time)) same)
 
@@ -191,14 +191,14 @@ not_empty : (text : List ℕ) → 0 < length text → unless_empty text ≡ Some
 not_empty [] some = absurd (omega (arith, some))
 not_empty (byte ∷ bytes) some = refl
 
-pub name_next : (old new : List Token) (text name : List ℕ) → old ≡ token.string text ∷ new → 0 < length text → name ≡ text → IsNextAs (λ d. name_found (Some d)) old new name
+pub name_next : (old new : List Token) (text name : List ℕ) → old ≡ token.string text ∷ new → 0 < length text → name ≡ text → IsNextValue (λ d. name_found (Some d)) old new name
 name_next old new text name is some same = (string text, λ depth. text_read depth old new text is, not_empty text some ∙ ap Some (sym same))
 
 a_thread : (n : ℕ) → n < 8 → within 0 7 n ≡ Some n
 a_thread n small = search rules
 
 pub thread_next : (old new : List Token) (text : List ℕ) (digit thread : ℕ) → old ≡ token.number text ∷ new → number_of text ≡ Some (unsigned digit) → digit < 8 → thread ≡ digit
-    → IsNextAs (λ d. thread_found (Some d)) old new thread
+    → IsNextValue (λ d. thread_found (Some d)) old new thread
 thread_next old new text digit thread is reads small same =
     (number (unsigned digit), λ depth. number_read depth old new text (unsigned digit) is reads, a_thread digit small ∙ ap Some (sym same))
 
@@ -208,22 +208,22 @@ module _ (depth : ℕ) (name : List ℕ) (old new : List Token) (line : LineMemb
       → ((ms : Members) → AreMembersOfLine line ms → AreMembersOfLine is (put k d ms)) → AddsMember depth name old new line is
   adds is k d named value puts = (d, value, λ ms those. subst (λ (n : List ℕ). AreMembersOfLine is (put n d ms)) (sym named) (puts ms those))
 
-  pub adds_verb : (verb : Option Verb) → name ≡ codes "do" → IfSome verb (IsNextAs (λ d. verb_found (Some d)) old new) → is_some verb ≡ true
+  pub adds_verb : (verb : Option Verb) → name ≡ codes "do" → IfSome verb (IsNextValue (λ d. verb_found (Some d)) old new) → is_some verb ≡ true
       → AddsMember depth name old new line (record line { verb = verb })
   adds_verb None named read some = absurd (true≢false (sym some))
   adds_verb (Some x) named read some = adds (record line { verb = Some x }) (codes "do") read.0 named (read.1 depth) (λ ms those. with_verb line ms those read.0 x read.2)
 
-  pub adds_thread : (thread : Option ℕ) → name ≡ codes "thread" → IfSome thread (IsNextAs (λ d. thread_found (Some d)) old new) → is_some thread ≡ true
+  pub adds_thread : (thread : Option ℕ) → name ≡ codes "thread" → IfSome thread (IsNextValue (λ d. thread_found (Some d)) old new) → is_some thread ≡ true
       → AddsMember depth name old new line (record line { thread = thread })
   adds_thread None named read some = absurd (true≢false (sym some))
   adds_thread (Some x) named read some = adds (record line { thread = Some x }) (codes "thread") read.0 named (read.1 depth) (λ ms those. with_thread line ms those read.0 x read.2)
 
-  pub adds_at : (at : Option ℕ) → name ≡ codes "at" → IfSome at (IsNextAs (λ d. moment_found (Some d)) old new) → is_some at ≡ true
+  pub adds_at : (at : Option ℕ) → name ≡ codes "at" → IfSome at (IsNextValue (λ d. moment_found (Some d)) old new) → is_some at ≡ true
       → AddsMember depth name old new line (record line { at = at })
   adds_at None named read some = absurd (true≢false (sym some))
   adds_at (Some x) named read some = adds (record line { at = Some x }) (codes "at") read.0 named (read.1 depth) (λ ms those. with_at line ms those read.0 x read.2)
 
-  pub adds_name : (sub : Option (List ℕ)) → name ≡ codes "sub" → IfSome sub (IsNextAs (λ d. name_found (Some d)) old new) → is_some sub ≡ true
+  pub adds_name : (sub : Option (List ℕ)) → name ≡ codes "sub" → IfSome sub (IsNextValue (λ d. name_found (Some d)) old new) → is_some sub ≡ true
       → AddsMember depth name old new line (record line { name = sub })
   adds_name None named read some = absurd (true≢false (sym some))
   adds_name (Some x) named read some = adds (record line { name = Some x }) (codes "sub") read.0 named (read.1 depth) (λ ms those. with_name line ms those read.0 x read.2)

@@ -10,7 +10,7 @@ ghost use Rattle.serde_json.specs.Read.{number_of};
 ghost use Rattle.am_alert.specs.Tokens.{AreNextAlerts};
 ghost use Rattle.am_alert.specs.TimeTexts.{time_of};
 ghost use Rattle.am_script.specs.Commands.{IsLineFrom, ReadsCommand, command_of, unless_empty, verb_of, within};
-ghost use Rattle.am_script.specs.inside.LineMembers.{AreAhead, AreMembersOfLine, IsNextAs, IsObjectOf, AddsMember};
+ghost use Rattle.am_script.specs.inside.LineMembers.{AreAhead, AreMembersOfLine, IsNextValue, IsObjectOf, AddsMember};
 
 use crate::command::{Command, Line, Verb};
 use crate::kind::Kind;
@@ -214,7 +214,7 @@ fn read_members(
 
 // The verb that comes next, if it is one.
 fn next_verb(reader: &mut Reader<'_>) -> Option<Verb>
-    ensures read { IfSome result (IsNextAs (λ d. option_and_then verb_of (as_str d)) reader.old reader.new) }
+    ensures read { IfSome result (IsNextValue (λ d. option_and_then verb_of (as_str d)) reader.old reader.new) }
     ensures shorter { IfSome result (λ _. length reader.new < length reader.old) }
 {
     match reader.next() {
@@ -226,7 +226,7 @@ fn next_verb(reader: &mut Reader<'_>) -> Option<Verb>
 // The thread that comes next, if it is one.
 fn next_thread(reader: &mut Reader<'_>) -> Option<Thread>
     ensures read { IfSome result
-        (IsNextAs (λ d. option_and_then (within 0 7) (option_and_then as_u64 (as_number d))) reader.old reader.new) }
+        (IsNextValue (λ d. option_and_then (within 0 7) (option_and_then as_u64 (as_number d))) reader.old reader.new) }
     ensures shorter { IfSome result (λ _. length reader.new < length reader.old) }
 {
     match reader.next() {
@@ -250,7 +250,7 @@ fn digit_of(text: &str) -> Option<u32>
 
 // The moment that comes next, if it is one and isn't absent.
 fn next_moment(reader: &mut Reader<'_>) -> Result<Option<Moment>, AllocError>
-    ensures read { IfOk result (λ read. IfSome read (IsNextAs
+    ensures read { IfOk result (λ read. IfSome read (IsNextValue
         (λ d. option_and_then (λ time. time) (option_and_then time_of (as_str d))) reader.old reader.new)) }
     ensures shorter { IfOk result (λ read. IfSome read (λ _. length reader.new < length reader.old)) }
 {
@@ -267,7 +267,7 @@ fn next_moment(reader: &mut Reader<'_>) -> Result<Option<Moment>, AllocError>
 // The name that comes next, if it is a text and isn't empty.
 fn next_name(alloc: Global, reader: &mut Reader<'_>) -> Result<Option<Text>, AllocError>
     ensures read { IfOk result (λ read. IfSome read
-        (IsNextAs (λ d. option_and_then unless_empty (as_str d)) reader.old reader.new)) }
+        (IsNextValue (λ d. option_and_then unless_empty (as_str d)) reader.old reader.new)) }
     ensures shorter { IfOk result (λ read. IfSome read (λ _. length reader.new < length reader.old)) }
 {
     match reader.next() {

@@ -39,8 +39,8 @@ AreAhead depth old new line = (members : Members)
     × AreMembers depth old new members × AreMembersOfLine line members
 
 -- the first tokens are those of a value, which is read as this
-abbrev pub IsNextAs : {X : Type 0} → (Data → Option X) → List Token → List Token → X → Type 0
-IsNextAs reads old new x = (d : Data) × ((depth : ℕ) → IsValueOf depth old new d) × (reads d ≡ Some x)
+abbrev pub IsNextValue : {X : Type 0} → (Data → Option X) → List Token → List Token → X → Type 0
+IsNextValue reads old new x = (d : Data) × ((depth : ℕ) → IsValueOf depth old new d) × (reads d ≡ Some x)
 
 -- the first tokens are those of a member's value, with which the line has what there is then
 abbrev pub AddsMember : ℕ → List ℕ → List Token → List Token → LineMembers → LineMembers → Type 0
