@@ -14,7 +14,7 @@ use Rattle.am_cast.specs.declared.views.Account.{Account}
 use Rattle.am_cast.specs.declared.views.Tail.{Tail}
 use Rattle.am_cast.specs.Rule.{Sound, first_lane, slot}
 use Rattle.am_cast.specs.Changes.{seeing, holding, left}
-use Rattle.am_cast.specs.Seats.{HoldsKey, Took, lane_of, some_or}
+use Rattle.am_cast.specs.Seats.{HoldsKey, HoldsIf, Took, lane_of, some_or}
 use Rattle.am_cast.specs.Keys.{batch_items, all_items, key_of}
 use Rattle.am_cast.specs.Steps.{SeatState}
 use Rattle.atomic_table.specs.Seated.{TableId}
@@ -189,6 +189,10 @@ module _ {T P A : Type 0} where
   has_key m v shown None held has = absurd (false≢true (sym has.0 ∙ held))
 
   -- a hand that isn't empty holds a place
+  pub holds_if : (m : SeatState (BatchView T P) (KeyView T) A) (v : LaneView (BatchView T P) A) (shown : ℕ) (hand : Option ℕ) → HasHand m v shown hand → HoldsIf key_of v.held m v
+  holds_if m v shown (Some count) h = subst (λ (held : Bool). HoldsIf key_of held m v) (sym h.0) h.1
+  holds_if m v shown None h = subst (λ (held : Bool). HoldsIf key_of held m v) (sym h.0) h.1
+
   pub is_held : (m : SeatState (BatchView T P) (KeyView T) A) (v : LaneView (BatchView T P) A) (shown : ℕ) (hand : Option ℕ) → is_some hand ≡ true → HasHand m v shown hand → v.held ≡ true
   is_held m v shown hand there has = grind (arith, false≢true)
 

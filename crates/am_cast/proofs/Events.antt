@@ -9,7 +9,7 @@ use Rattle.am_cast.specs.declared.views.LaneView.{LaneView}
 use Rattle.am_cast.specs.declared.views.View.{View}
 use Rattle.am_steps.specs.declared.event.Event as event
 use Rattle.am_steps.specs.declared.event.Event.TheVariants as does
-use Rattle.am_cast.specs.Core.{poster_behind, found_events, recover_events, cut_events, retire_events}
+use Rattle.am_cast.specs.Core.{poster_behind, found_events, recover_events, cut_events, reclaim_events}
 use Rattle.am_cast.specs.Rule.{Ruled, idle, live, cut, gone, bit}
 use Rattle.am_cast.specs.Changes.{opened, seeing, holding, cut_off, further, left, longer_tail, shut_tail, grown, known_to, marked, back, loaded, severed, new_lane, given_out, retired}
 use Rattle.am_cast.specs.Steps.{SeatState}
@@ -72,7 +72,9 @@ pub data Event (B K A : Type 0) : Behind B K A → List (event.Event B) → Behi
   sever : (c d : Behind B K A) (l n old : ℕ) → l < 8 → n ≡ old → (c.account l).stand ≡ live → (c.lane l).here ≡ true → (c.lane l).passed ≡ (c.account l).known → n / 2 % 2 ≡ bit (c.lane l).held → n / 2 ≡ (c.account l).half → length c.tail.log ≡ (c.account l).known + c.tail.places → AccountTo c d l (severed (n / 2 % 2) (c.account l)) → Event B K A c (cut_events l old n) d
   moved : (c d : Behind B K A) (l n old : ℕ) → n ≢ old → Event B K A c (found_events l n) d → Event B K A c (cut_events l old n) d
   admit : (c d : Behind B K A) (l : ℕ) (note : Option A) → l < 8 → c.tail.closed ≡ false → (c.account l).stand ≡ idle → BothTo c d l (new_lane note l c.tail (c.account l)) (given_out note (length c.tail.log) (c.account l)) → Event B K A c (does.Admit l ∷ []) d
-  retire : (c d : Behind B K A) (l : ℕ) → l < 8 → (c.account l).stand ≢ idle → (c.lane l).here ≡ false → BothTo c d l (c.lane l) (retired (c.account l)) → Event B K A c (retire_events l (c.account l).stand) d
+  retire : (c d : Behind B K A) (l : ℕ) → l < 8 → (c.lane l).begun ≡ true → BothTo c d l (left (c.lane l)) (retired (c.account l)) → Event B K A c (does.Leave l ∷ does.Retire l ∷ []) d
+  reclaim : (c d : Behind B K A) (l n : ℕ) → l < 8 → n ≡ gone → (c.account l).stand ≢ idle → (c.lane l).here ≡ false → AccountTo c d l (retired (c.account l)) → Event B K A c (reclaim_events l (c.account l).stand n) d
+  watch : (c d : Behind B K A) (l n : ℕ) → n ≢ gone → AccountTo c d l (loaded (c.account l)) → Event B K A c (reclaim_events l (c.account l).stand n) d
   work : (c d : Behind B K A) (l : ℕ) (b' : Account K A) → SameAccount (c.account l) b' → AccountTo c d l b' → Event B K A c [] d
 
 -- `Allows`, where the step is these events too, by the word that it finds

@@ -11,21 +11,21 @@ use Rattle.am_cast.specs.declared.views.Account.{Account}
 use Rattle.am_cast.specs.declared.views.WriterView.{WriterView}
 use Rattle.am_cast.specs.declared.views.LaneView.{LaneView}
 use Rattle.am_cast.specs.declared.views.View.{View}
-use Rattle.am_cast.specs.Rule.{idle, gone, slot, lane_word, HasWriter, HasLane, SeatOk, Ruled, first_account, first_lane, first_tail, first_view, blank}
+use Rattle.am_cast.specs.Rule.{gone, slot, lane_word, HasWriter, HasLane, SeatOk, Ruled, first_account, first_lane, first_tail, first_view, blank}
 use Rattle.am_cast.specs.Changes.{copied, log_of, front_of, closed_of, told_of, without_lane, only_lane, without_own, only_own, either_one, both_of}
 use Rattle.am_cast.proofs.Slots.{prefix_back, put, put_here, put_else, becomes, becomes_here, becomes_else, slot_inside, at_end, prefix_nil, owns_nothing, owns_else, owns_there, owns_both}
-use Rattle.am_cast.proofs.Kept.{St, lane_ok}
+use Rattle.am_cast.proofs.Kept.{St, lane_ok, lane_here}
 
 abbrev pub none_of : (K : Type 0) → Option K
 none_of K = None
 
 module _ {B K A : Type 0} (key : B → ℕ → K) where
   -- a seat is cut in two
-  unfoldable pub splits_to : (s : St B K A) (r : Ruled key s) (id : ℕ) (left right : View B K A) (lane_seat' owner' : ℕ → ℕ) → ((l : ℕ) → l < 8 → (r.account l).stand ≡ idle → lane_seat' l ≡ r.seat)
+  unfoldable pub splits_to : (s : St B K A) (r : Ruled key s) (id : ℕ) (left right : View B K A) (lane_seat' owner' : ℕ → ℕ)
       → SeatOk r.tail r.seat r.account r.lane lane_seat' owner' id left → SeatOk r.tail r.seat r.account r.lane lane_seat' owner' (length s.views) right
       → ((j : ℕ) (u : View B K A) → j ≢ id → get_elem? s.views j ≡ some u → SeatOk r.tail r.seat r.account r.lane lane_seat' owner' j u)
       → Ruled key record { words = s.words; homes = s.homes; views = set s.views id left ++ right ∷ [] }
-  splits_to s r id left right lane_seat' owner' spare first second others = record {
+  splits_to s r id left right lane_seat' owner' first second others = record {
     tail = r.tail;
     seat = r.seat;
     account = r.account;
@@ -37,7 +37,6 @@ module _ {B K A : Type 0} (key : B → ℕ → K) where
     some_places = r.some_places;
     few = r.few;
     word = r.word;
-    spare = spare;
     each_lane = r.each_lane;
     each_seat = λ j u e. let K' : ℕ → View B K A → Type 0 = SeatOk r.tail r.seat r.account r.lane lane_seat' owner' in ⊎_elim
         (λ (old : get_elem? (set s.views id left) j ≡ some u). ⊎_elim
@@ -62,7 +61,7 @@ module _ {B K A : Type 0} (key : B → ℕ → K) where
   -- a copy of what a seat has seen of the log
   unfoldable pub tells : (id : ℕ) (v : View B K A) → Splits (Ruled key) id v v (copied v)
   tells id v s r at = let h = log_heard s r id v at v.writer v.lane refl refl in
-      splits_to s r id v (copied v) r.lane_seat r.owner r.spare (r.each_seat id v at) record { writer = tt; lane_is = tt; noted = prefix_nil r.tail.log; counts = omega arith; counted = λ k o _ a. absurd (omega arith); heard = h.0; whole = h.1; owns = owns_nothing r.tail.log r.owner (length s.views) } (λ j u ne e. r.each_seat j u e)
+      splits_to s r id v (copied v) r.lane_seat r.owner (r.each_seat id v at) record { writer = tt; lane_is = tt; noted = prefix_nil r.tail.log; counts = omega arith; counted = λ k o _ a. absurd (omega arith); heard = h.0; whole = h.1; owns = owns_nothing r.tail.log r.owner (length s.views) } (λ j u ne e. r.each_seat j u e)
 
   pub dealt_else : (t : Tail B) (seat : ℕ) (account : ℕ → Account K A) (lane : ℕ → LaneView B A) (lane_seat : ℕ → ℕ) (l new id j : ℕ) → lane_seat l ≡ id → j ≢ id → (ln : Option (LaneView B A)) → HasLane t seat account lane lane_seat j ln → HasLane t seat account lane (put lane_seat l new) j ln
   dealt_else t seat account lane lane_seat l new id j mine ne ln k = grind (arith, put_else)
@@ -75,11 +74,10 @@ module _ {B K A : Type 0} (key : B → ℕ → K) where
   deals id w v is s r at =
       let mine = r.each_seat id w at in let k = lane_ok key s r id w v at is in let new : ℕ = length s.views in let lane_seat' = put r.lane_seat v.number new in
       splits_to s r id (without_lane w) (only_lane w) lane_seat' r.owner
-      (λ l a e. put_else r.lane_seat v.number new l (λ h. k.2 (ap (λ (m : ℕ). (r.account m).stand) (sym h) ∙ e)) ∙ r.spare l a e)
       record { writer = any_writer r.tail r.seat r.account r.lane r.lane_seat lane_seat' id w.writer mine.writer; lane_is = tt; noted = mine.noted; counts = mine.counts; counted = mine.counted; heard = mine.heard; whole = mine.whole; owns = mine.owns }
       record {
         writer = tt;
-        lane_is = subst (HasLane r.tail r.seat r.account r.lane lane_seat' new) (sym is) (k.0, sym k.3, put_here r.lane_seat v.number new, k.2);
+        lane_is = subst (HasLane r.tail r.seat r.account r.lane lane_seat' new) (sym is) (k.0, sym k.3, put_here r.lane_seat v.number new, lane_here key s r id w v at is);
         noted = prefix_nil r.tail.log;
         counts = omega arith;
         counted = λ k o _ a. absurd (omega arith);
@@ -102,7 +100,7 @@ module _ {B K A : Type 0} (key : B → ℕ → K) where
   unfoldable pub hands : (id : ℕ) (w : View B K A) → Splits (Ruled key) id w (without_own w) (only_own w)
   hands id w s r at =
       let mine = r.each_seat id w at in let new : ℕ = length s.views in let owner' : ℕ → ℕ = λ p. becomes new id (r.owner p) in
-      splits_to s r id (without_own w) (only_own w) r.lane_seat owner' r.spare
+      splits_to s r id (without_own w) (only_own w) r.lane_seat owner'
       record { writer = mine.writer; lane_is = mine.lane_is; noted = mine.noted; counts = omega arith; counted = λ k o _ a. absurd (omega arith); heard = mine.heard; whole = mine.whole; owns = owns_nothing r.tail.log owner' id }
       record { writer = tt; lane_is = tt; noted = prefix_nil r.tail.log; counts = omega arith; counted = λ k o _ a. absurd (omega arith); heard = prefix_nil r.tail.log; whole = λ e. absurd (true≢false (sym e)); owns = owns_there r.tail.log r.owner new id w.own mine.owns }
       (λ j u ne e. let o = r.each_seat j u e in record { writer = o.writer; lane_is = o.lane_is; noted = o.noted; counts = o.counts; counted = o.counted; heard = o.heard; whole = o.whole; owns = owns_else r.tail.log r.owner new id j u.own ne o.owns })
@@ -145,7 +143,6 @@ module _ {B K A : Type 0} (key : B → ℕ → K) where
         some_places = r.some_places;
         few = r.few;
         word = r.word;
-        spare = λ l a e. ap (becomes id other) (r.spare l a e);
         each_lane = r.each_lane;
         each_seat = λ j u e. ⊎_elim
             (λ (z : (j ≡ other) × (blank ≡ u)). subst (λ (z : ℕ × View B K A). K' z.0 z.1) (λ i. (sym z.0 i, z.1 i)) record { writer = tt; lane_is = tt; noted = prefix_nil r.tail.log; counts = omega arith; counted = λ k o _ a. absurd (omega arith); heard = prefix_nil r.tail.log; whole = λ h. absurd (true≢false (sym h)); owns = owns_nothing r.tail.log owner' other })
@@ -188,7 +185,6 @@ module _ {B K A : Type 0} (key : B → ℕ → K) where
     some_places = pos;
     few = omega arith;
     word = zero_first;
-    spare = λ _ _ _. refl;
     each_lane = λ l small. record {
       sound = record {
         seen = record { number = refl; places = refl; begins = prefix_nil []; begun = λ e. absurd (true≢false (sym e)); unbegun = λ e _. absurd (true≢false (sym e)); high = omega arith; holds = λ e. absurd (true≢false (sym e)); told = λ e. absurd (true≢false (sym e)) };

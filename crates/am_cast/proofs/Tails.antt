@@ -17,12 +17,9 @@ module _ {K A : Type 0} where
   pub grown_else : (b : Account K A) → b.stand ≢ live → grown b ≡ b
   grown_else b ne = grown_else_as b.stand b ne
 
-  pub grown_stand : (b : Account K A) → (grown b).stand ≡ b.stand
-  grown_stand b = grind (arith, grown_live, grown_else)
-
 module _ {B K A : Type 0} (key : B → ℕ → K) where
   pub others_writer : (t t' : Tail B) (seat : ℕ) (account account' : ℕ → Account K A) (lane : ℕ → LaneView B A) (lane_seat : ℕ → ℕ) (j : ℕ) → j ≢ seat → (dk : Option (WriterView B K A)) → HasWriter t seat account lane lane_seat j dk → HasWriter t' seat account' lane lane_seat j dk
   others_writer t t' seat account account' lane lane_seat j ne dk k = grind arith
 
-  pub any_lane : (t t' : Tail B) (seat : ℕ) (account account' : ℕ → Account K A) (lane : ℕ → LaneView B A) (lane_seat : ℕ → ℕ) (j : ℕ) → ((m : ℕ) → (account' m).stand ≡ (account m).stand) → (ln : Option (LaneView B A)) → HasLane t seat account lane lane_seat j ln → HasLane t' seat account' lane lane_seat j ln
-  any_lane t t' seat account account' lane lane_seat j same ln k = grind arith
+  pub any_lane : (t t' : Tail B) (seat : ℕ) (account account' : ℕ → Account K A) (lane : ℕ → LaneView B A) (lane_seat : ℕ → ℕ) (j : ℕ) → (ln : Option (LaneView B A)) → HasLane t seat account lane lane_seat j ln → HasLane t' seat account' lane lane_seat j ln
+  any_lane t t' seat account account' lane lane_seat j ln k = grind arith

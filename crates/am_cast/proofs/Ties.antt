@@ -29,12 +29,12 @@ use Rattle.am_cast.specs.declared.views.LaneView.{LaneView}
 use Rattle.am_cast.specs.declared.views.View.{View}
 use Rattle.am_cast.specs.Rule.{idle, live, cut, vacated, gone, bit, Sound}
 use Rattle.am_cast.specs.Changes.{opened, seeing, holding, cut_off, further, left, grown_as, known_to, marked, back, loaded, severed, retired}
-use Rattle.am_cast.specs.Core.{is_key_out, record_behind, cursor_behind, used_lane, lane_standing, lane_behind, poster_behind, view_or_blank, core_behind, found_events, recover_events, cut_events, retire_events, AllowsAs}
+use Rattle.am_cast.specs.Core.{is_key_out, record_behind, cursor_behind, used_lane, lane_standing, lane_behind, poster_behind, view_or_blank, core_behind, found_events, recover_events, cut_events, retire_events, reclaim_events, AllowsAs}
 use Rattle.am_cast.specs.Steps.{SeatState}
 use Rattle.am_cast.proofs.Events as kind
 use Rattle.am_cast.proofs.Events.{Behind, behind, LaneTo, AccountTo, BothTo, SameAccount, Event, AllowsEvent}
 use Rattle.am_cast.proofs.Kept.{same_some}
-use Rattle.am_cast.proofs.Slots.{at_length, at_below}
+use Rattle.am_cast.proofs.Slots.{at_length, at_below, put, put_here, put_else}
 
 module _ {X : Type 0} where
   pub get_at : (xs : List X) (i : ℕ) (x : X) → get_elem? xs i ≡ some x → slice_get xs i ≡ Some x
@@ -97,6 +97,12 @@ module _ {B : Type 0} where
 
   home_used : (l stand : ℕ) → stand ≢ vacated → retire_events {B = B} l stand ≡ does.Retire l ∷ []
   home_used l stand ne = ap (λ (b : Bool). if b then [] else (does.Retire l ∷ [])) (ne_eqb stand vacated ne)
+
+  reclaim_left : (l stand n : ℕ) → n ≡ gone → reclaim_events {B = B} l stand n ≡ retire_events l stand
+  reclaim_left l stand n e = ap (λ (b : Bool). if b then retire_events l stand else []) (eq-eqb n gone e)
+
+  reclaim_here : (l stand n : ℕ) → n ≢ gone → reclaim_events {B = B} l stand n ≡ []
+  reclaim_here l stand n ne = ap (λ (b : Bool). if b then retire_events l stand else []) (ne_eqb n gone ne)
 
 bit_tells : (h : Bool) (n : ℕ) → n ≡ bit h → (n == 1) ≡ h
 bit_tells h n e = grind arith
@@ -252,10 +258,24 @@ module _ {B K A : Type 0} where
         (ap (λ (x : Lane B). word_of x) (inside l (lane_behind b v) small) ∙ word_is c.tail b v l sd used here)
         (grind (arith, account_only, with_is, inside))
 
-    retire_step : (c d : Behind B K A) (l : ℕ) (b' : Account K A) (w : LaneView B A) → l < 8 → IsUsed (c.account l).stand → (c.lane l).here ≡ false → lane_behind b' w ≡ Idle → BothTo c d l w b' → Step (before c) (does.Retire l) (after d)
-    retire_step c d l b' w small used gone_from e to =
+    retire_step : (c d : Behind B K A) (l : ℕ) (b' : Account K A) → l < 8 → IsUsed (c.account l).stand → (c.lane l).here ≡ false → lane_behind b' (c.lane l) ≡ Idle → AccountTo c d l b' → Step (before c) (does.Retire l) (after d)
+    retire_step c d l b' small used gone_from e to =
         steps.retire (before c) (after d) l (record_behind (c.account l)) (lane_was c l _ small (left_is (c.account l) (c.lane l) used gone_from))
-        (only c d l Idle small to.tail to.accounts to.lanes ((λ i. lane_behind (to.account i) (to.lane i)) ∙ e))
+        (account_only c d l b' Idle small to e)
+
+    -- the same, with the posters as they are after
+    from_after : (c d : Behind B K A) (l : ℕ) (v : Lane B) → OnlyLane (before c) l v (after d) → OnlyLane (after c) l v (after d)
+    from_after c d l v o = record { same = record { places = o.same.places; log = o.same.log; closed = o.same.closed; lanes = o.same.lanes; posters = o.same.posters }; here = o.here; other = o.other; poster = λ p. refl }
+
+    leave_retire : (c d : Behind B K A) (l : ℕ) → IsSoundBehind c → l < 8 → (c.lane l).begun ≡ true → BothTo c d l (left (c.lane l)) (retired (c.account l)) → LeadsTo (before c) (does.Leave l ∷ does.Retire l ∷ []) (after d)
+    leave_retire c d l sound small begun to =
+        let sd = sound l small in let b : Account K A = c.account l in let v : LaneView B A = c.lane l in let here = sd.seen.begun begun in let used = used_here c l sd here in
+        let m : Behind B K A = record { tail = c.tail; account = c.account; lane = put c.lane l (left v) } in
+        let is_left : m.lane l ≡ left v = put_here c.lane l (left v) in
+        leads (before c) (after m) (after d) (does.Leave l) (does.Retire l ∷ [])
+        (leave_step c m l sound small begun record { tail = refl; accounts = λ k. refl; others = λ k ne. put_else c.lane l (left v) k ne; lane = is_left })
+        (one (after m) (after d) (does.Retire l) (steps.retire (after m) (after d) l (record_behind b) (lane_was m l _ small (left_is b (m.lane l) used (ap (λ (w : LaneView B A). w.here) is_left)))
+        (from_after m d l Idle (only m d l Idle small to.tail to.accounts (λ k ne. to.lanes k ne ∙ sym (put_else c.lane l (left v) k ne)) (λ i. lane_behind (to.account i) (to.lane i))))))
 
     cut_step : (c d : Behind B K A) (l n : ℕ) → IsSoundBehind c → l < 8 → (c.account l).stand ≡ live → (c.lane l).here ≡ true → (c.lane l).passed ≡ (c.account l).known → n / 2 % 2 ≡ bit (c.lane l).held → n / 2 ≡ (c.account l).half
         → length c.tail.log ≡ (c.account l).known + c.tail.places → AccountTo c d l (severed (n / 2 % 2) (c.account l)) → Step (before c) (does.Cut l) (after d)
@@ -274,11 +294,6 @@ module _ {B K A : Type 0} where
 
         used_cut : (n : ℕ) → n ≡ cut → IsUsed n
         used_cut n e = inr e
-
-    both_quiet : (c d : Behind B K A) (l : ℕ) (w : LaneView B A) (b : Account K A) → BothTo c d l w b → lane_behind b w ≡ lane_behind (c.account l) (c.lane l) → LeadsTo (before c) [] (after d)
-    both_quiet c d l w b to e = quiet c d to.tail (λ m. dite (ℕ_discrete m l)
-        (grind arith)
-        (λ ne. λ i. lane_behind (to.accounts m ne i) (to.lanes m ne i)))
 
     idle_is : (b : Account K A) (v : LaneView B A) (n : ℕ) → b.stand ≡ n → lane_standing n (used_lane v.here v.begun (record_behind b) (cursor_behind v)) ≡ Idle → lane_behind b v ≡ Idle
     idle_is b v n e f = ap (λ (n : ℕ). lane_standing n (used_lane v.here v.begun (record_behind b) (cursor_behind v))) e ∙ f
@@ -328,9 +343,11 @@ module _ {B K A : Type 0} where
     ties _ _ _ sound (kind.admit c d l noted small is_open resting to) =
         let n : ℕ = length c.tail.log in one (before c) (after d) (does.Admit l) (steps.admit (before c) (after d) l small (lane_was c l Idle small (idle_is (c.account l) (c.lane l) idle resting refl)) is_open
         (grind (arith, only)))
-    ties _ _ _ sound (kind.retire c d l small used gone_from to) = let b : Account K A = c.account l in dite (ℕ_discrete b.stand vacated)
-        (λ (e : b.stand ≡ vacated). subst (λ (es : List (event.Event B)). LeadsTo (before c) es (after d)) (sym (home_vacated l b.stand e)) (both_quiet c d l (c.lane l) (retired b) to (sym (idle_is b (c.lane l) vacated e refl))))
-        (λ (ne : b.stand ≢ vacated). subst (λ (es : List (event.Event B)). LeadsTo (before c) es (after d)) (sym (home_used l b.stand ne)) (one (before c) (after d) (does.Retire l) (retire_step c d l (retired b) (c.lane l) small (used_by b.stand (sound l small).counts.stands used ne) gone_from refl to)))
+    ties _ _ _ sound (kind.retire c d l small begun to) = leave_retire c d l sound small begun to
+    ties _ _ _ sound (kind.reclaim c d l n small e used gone_from to) = let b : Account K A = c.account l in subst (λ (es : List (event.Event B)). LeadsTo (before c) es (after d)) (sym (reclaim_left l b.stand n e)) (dite (ℕ_discrete b.stand vacated)
+        (λ (e : b.stand ≡ vacated). subst (λ (es : List (event.Event B)). LeadsTo (before c) es (after d)) (sym (home_vacated l b.stand e)) (account_quiet c d l (retired b) to (sym (idle_is b (c.lane l) vacated e refl))))
+        (λ (ne : b.stand ≢ vacated). subst (λ (es : List (event.Event B)). LeadsTo (before c) es (after d)) (sym (home_used l b.stand ne)) (one (before c) (after d) (does.Retire l) (retire_step c d l (retired b) small (used_by b.stand (sound l small).counts.stands used ne) gone_from refl to))))
+    ties _ _ _ sound (kind.watch c d l n ne to) = subst (λ (es : List (event.Event B)). LeadsTo (before c) es (after d)) (sym (reclaim_here l (c.account l).stand n ne)) (account_quiet c d l (loaded (c.account l)) to refl)
     ties _ _ _ sound (kind.work c d l b' same to) = account_quiet c d l b' to (same_account (c.account l) b' (c.lane l) same)
 
 module _ {B K A : Type 0} (key : B → ℕ → K) where

@@ -13,7 +13,7 @@ use Rattle.am_cast.specs.declared.views.LaneView.{LaneView}
 use Rattle.am_cast.specs.declared.views.View.{View}
 use Rattle.am_steps.specs.declared.event.Event as event
 use Rattle.am_cast.specs.Core.{poster_behind}
-use Rattle.am_cast.specs.Rule.{idle, gone, Homes, slot, lane_word, writer_word, shown, Numbers, LaneOk, Ruled}
+use Rattle.am_cast.specs.Rule.{gone, Homes, slot, lane_word, writer_word, shown, Numbers, LaneOk, Ruled}
 use Rattle.am_cast.specs.Changes.{with_writer, with_account, loaded}
 use Rattle.am_cast.proofs.Events.{Behind, behind, AccountTo, Event, work, SameAccount}
 use Rattle.am_cast.specs.Steps.{SeatState, KnowsOf}
@@ -55,21 +55,21 @@ module _ {B K A : Type 0} (key : B → ℕ → K) where
     pub poster : poster_behind view ≡ poster_behind me.0
     pub tells : P view
 
-  pub same_words : (s : St B K A) (r : Ruled key s) (id l : ℕ) (me : SeatState B K A) (q : WriterView B K A) (b b' : Account K A) → get_elem? s.views id ≡ some me.0 → WriterOk key s r id l q b → (b'.stand ≡ idle → b.stand ≡ idle)
+  pub same_words : (s : St B K A) (r : Ruled key s) (id l : ℕ) (me : SeatState B K A) (q : WriterView B K A) (b b' : Account K A) → get_elem? s.views id ≡ some me.0 → WriterOk key s r id l q b
       → ((words' : List ℕ) → get_or words' (lane_word l) 0 ≡ get_or s.words (lane_word l) 0 → LaneOk key r.tail b' (r.lane l) words' s.homes l)
       → (p : Ruled key (stepped s (lane_word l) (get_or s.words (lane_word l) 0) id me.1 (with_writer (with_account l b' q) me.0) keeps)) × AccountTo (behind r) (behind p) l b'
-  same_words s r id l me q b b' at o still here =
+  same_words s r id l me q b b' at o here =
       let words : List ℕ = set s.words (lane_word l) (get_or s.words (lane_word l) 0) in let same : words ≡ s.words = set-get_or s.words (lane_word l) 0 in
-      writer_stepped key s r id me.0 l q b b' words s.homes at o (ap length same) refl (ap (λ (ws : List ℕ). get_or ws 0 0) same) (λ m _. ap (λ (ws : List ℕ). get_or ws (lane_word m) 0) same) (λ m i a c. refl) still
+      writer_stepped key s r id me.0 l q b b' words s.homes at o (ap length same) refl (ap (λ (ws : List ℕ). get_or ws 0 0) same) (λ m _. ap (λ (ws : List ℕ). get_or ws (lane_word m) 0) same) (λ m i a c. refl)
       (here words (ap (λ (ws : List ℕ). get_or ws (lane_word l) 0) same))
 
   -- the writer's load for one of its slots: the slot of the place i becomes h
-  pub slot_step : (s : St B K A) (r : Ruled key s) (id l : ℕ) (me : SeatState B K A) (q : WriterView B K A) (b b' : Account K A) (i : ℕ) (h : maybe.Option (Option K)) → get_elem? s.views id ≡ some me.0 → WriterOk key s r id l q b → (b'.stand ≡ idle → b.stand ≡ idle)
+  pub slot_step : (s : St B K A) (r : Ruled key s) (id l : ℕ) (me : SeatState B K A) (q : WriterView B K A) (b b' : Account K A) (i : ℕ) (h : maybe.Option (Option K)) → get_elem? s.views id ≡ some me.0 → WriterOk key s r id l q b
       → ((words' : List ℕ) → get_or words' (lane_word l) 0 ≡ get_or s.words (lane_word l) 0 → LaneOk key r.tail b' (r.lane l) words' (set s.homes (slot r.tail.places l i) h) l)
       → SameAccount b b' → (p : Ruled key record { words = set s.words (writer_word l) (get_or s.words (writer_word l) 0); homes = set s.homes (slot r.tail.places l i) h; views = set s.views id (with_writer (with_account l b' q) me.0) }) × Event B K A (behind r) [] (behind p) × (poster_behind (with_writer (with_account l b' q) me.0) ≡ poster_behind me.0)
-  slot_step s r id l me q b b' i h at o still here alike =
+  slot_step s r id l me q b b' i h at o here alike =
       let words : List ℕ = set s.words (writer_word l) (get_or s.words (writer_word l) 0) in let same : words ≡ s.words = set-get_or s.words (writer_word l) 0 in let small = o.small in
       let kept = writer_stepped key s r id me.0 l q b b' words (set s.homes (slot r.tail.places l i) h) at o (ap length same) (length-set s.homes (slot r.tail.places l i) h) (ap (λ (ws : List ℕ). get_or ws 0 0) same) (λ m _. ap (λ (ws : List ℕ). get_or ws (lane_word m) 0) same)
-      (λ m j a ne. set_else s.homes (slot r.tail.places l i) (slot r.tail.places m j) h (other_lane r.tail.places m l j i a small ne)) still
+      (λ m j a ne. set_else s.homes (slot r.tail.places l i) (slot r.tail.places m j) h (other_lane r.tail.places m l j i a small ne))
       (here words (ap (λ (ws : List ℕ). get_or ws (lane_word l) 0) same)) in
       (kept.0, work (behind r) (behind kept.0) l b' (subst (λ (c : Account K A). SameAccount c b') (sym o.account) alike) kept.1, refl)

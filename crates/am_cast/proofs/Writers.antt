@@ -11,12 +11,12 @@ use Rattle.am_cast.specs.declared.views.Account.{Account}
 use Rattle.am_cast.specs.declared.views.WriterView.{WriterView}
 use Rattle.am_cast.specs.Rule.{first_account, first_writer, idle, live, bit}
 use Rattle.am_cast.specs.declared.views.View.{View}
-use Rattle.am_cast.specs.Changes.{with_account, without_own, longer, grown, grown_as, retired, back_if, given_out}
+use Rattle.am_cast.specs.Changes.{with_account, without_own, longer, grown, grown_as, retired, emptied, loaded, back_if, given_out}
 use Rattle.am_cast.proofs.steps.Retire.{either_bool}
 use Rattle.am_cast.proofs.Tails.{grown_live, grown_else}
 use Rattle.am_cast.specs.Steps.{SeatState}
 use Rattle.am_cast.specs.Seats.{some_or, writer_of, account_of}
-use Rattle.am_cast.specs.Writers.{IsCalm, Calm, HasRoom, Harvested, IsBehind, SameAdmission, StaysAs}
+use Rattle.am_cast.specs.Writers.{IsCalm, Calm, HasRoom, Harvested, IsBehind, IsReclaimedAs, SameAdmission, StaysAs}
 use Rattle.am_cast.specs.inside.Filling.{FilledTo, AllLaid, AreReady, filled_as}
 use Rattle.am_cast.specs.declared.writer.lane_account.LaneAccount.{LaneAccount}
 use Rattle.am_cast.specs.declared.writer.lane_account.Stand.TheVariants.{Idle, Live}
@@ -92,6 +92,24 @@ module _ {K A : Type 0} where
       → IsKeptAs (retired b) (get_or (set lanes l record { stand = Idle; word = (get_or lanes l no_lane).word }) l no_lane)
   home_kept b lanes l small long m = grind (arith, get_or-set_same, retired_known, retired_away)
 
+  -- a lane that is idle, with all its keys home, is as between two calls
+  pub calm_emptied : (n places : ℕ) (b : Account K A) → IsCalm n places b → IsCalm n places (emptied b)
+  calm_emptied n places b c = either_bool b.away
+      (λ (e : b.away ≡ true). let is : emptied b ≡ record b { away = false; cleared = suc b.known; stop = suc b.known; stand = idle; loads = b.loads + 1 } = (λ i. record (back_if (e i) b) { stand = idle; loads = b.loads + 1; cleared = (back_if (e i) b).stop }) in
+      let away = c.away_is e in let within = away.1 in subst (λ (d : Account K A). IsCalm n places d) (sym is) (grind (arith, true≢false)))
+      (λ (e : b.away ≡ false). let is : emptied b ≡ record b { cleared = b.stop; stand = idle; loads = b.loads + 1 } = (λ i. record (back_if (e i) b) { stand = idle; loads = b.loads + 1; cleared = (back_if (e i) b).stop }) in
+      subst (λ (d : Account K A). IsCalm n places d) (sym is) (grind (arith, true≢false)))
+
+  pub calm_loaded : (n places : ℕ) (b : Account K A) → IsCalm n places b → IsCalm n places (loaded b)
+  calm_loaded n places b c = grind arith
+
+  -- a lane that was looked at is as between two calls
+  pub calm_reclaimed : (n places : ℕ) (b d : Account K A) (was : Bool) → IsCalm n places b → IsReclaimedAs b d was → IsCalm n places d
+  calm_reclaimed n places b d true c r = subst (λ (d : Account K A). IsCalm n places d) (sym r.1) (calm_emptied n places b c)
+  calm_reclaimed n places b d false c r = dite (ℕ_discrete b.stand idle)
+      (λ e. subst (λ (d : Account K A). IsCalm n places d) (sym (r.0 e)) c)
+      (λ ne. subst (λ (d : Account K A). IsCalm n places d) (sym (r.1 ne)) (calm_loaded n places b c))
+
   -- a lane that was given out has the log's length as its word
   pub given_kept : (noted : Option A) (n count : ℕ) (b : Account K A) (lanes : List LaneAccount) (l : ℕ) → l < 8 → length lanes ≡ 8 → count ≡ n → n ≤ LONGEST_LOG
       → IsKeptAs (given_out noted n b) (get_or (set lanes l record { stand = Live; word = 4 * count }) l no_lane)
@@ -143,18 +161,21 @@ module _ {B K A : Type 0} (q q' : WriterView B K A) (k : ℕ) (tail : q'.tail �
   pub more_room : HasRoom q k → ((account_of q' k).stand ≡ live → length q'.tail.log < (account_of q' k).known + q'.tail.places) → HasRoom q' (k + 1)
   more_room room here l below alive = grind (arith, still_room, le_refl)
 
+  pub calm_only : k < 8 → Calm q → length q'.accounts ≡ length q.accounts → IsCalm (length q.tail.log) q.tail.places (account_of q' k) → Calm q'
+  calm_only small calm long here = (
+    long ∙ calm.0,
+    λ l below. dite (ℕ_discrete l k)
+        (λ e. subst (λ (z : ℕ × Tail B). IsCalm (length z.1.log) z.1.places (account_of q' z.0)) (λ i. (sym e i, sym tail i)) here)
+        (grind arith),
+  )
+
   -- one lane more was looked at
   pub harvest_step : (q₀ : WriterView B K A) → k < 8 → Calm q → Harvested q₀ q k → length q'.accounts ≡ length q.accounts → IsCalm (length q.tail.log) q.tail.places (account_of q' k)
       → StaysAs (account_of q k) (account_of q' k) × ((account_of q k).stand ≡ live → (account_of q k).loads < (account_of q' k).loads) × ((account_of q k).away ≡ true → (account_of q k).loads < (account_of q' k).loads)
       → Calm q' × Harvested q₀ q' (k + 1)
   harvest_step q₀ small calm h long here looked =
       let mine = subst (λ (b : Account K A). StaysAs b (account_of q' k) × (b.stand ≡ live → b.loads < (account_of q' k).loads) × (b.away ≡ true → b.loads < (account_of q' k).loads)) (h.above k (le_refl k)) looked in (
-        (
-          long ∙ calm.0,
-          λ l below. dite (ℕ_discrete l k)
-              (λ e. subst (λ (z : ℕ × Tail B). IsCalm (length z.1.log) z.1.places (account_of q' z.0)) (λ i. (sym e i, sym tail i)) here)
-              (grind arith),
-        ),
+        calm_only small calm long here,
         record {
           tail = tail ∙ h.tail;
           each = λ l below. dite (ℕ_discrete l k)

@@ -13,6 +13,7 @@ pub mod Open
 pub mod Pass
 pub mod Publish
 pub mod Reach
+pub mod Reclaim
 pub mod Recover
 pub mod Retire
 pub mod Take

@@ -82,6 +82,10 @@ back_if false b = b
 abbrev pub retired : {K A : Type 0} → Account K A → Account K A
 retired b = record (back_if b.away b) { stand = idle; loads = b.loads + 1 }
 
+-- the lane is idle, and all its keys are home
+abbrev pub emptied : {K A : Type 0} → Account K A → Account K A
+emptied b = record (retired b) { cleared = (retired b).stop }
+
 -- the lane is given out, from the place n on
 abbrev pub given_out : {K A : Type 0} → Option A → ℕ → Account K A → Account K A
 given_out note n b = record {

@@ -112,9 +112,13 @@ module _ {B : Type 0} where
   abbrev pub cut_events : ℕ → ℕ → ℕ → List (event.Event B)
   cut_events l old n = if n == old then (does.Cut l ∷ []) else found_events l n
 
-  -- those of a lane's seat coming home: nothing, if the writer had found it vacated
+  -- those of a lane that has left becoming idle: nothing, if the writer had found it vacated
   abbrev pub retire_events : ℕ → ℕ → List (event.Event B)
   retire_events l stand = if stand == vacated then [] else (does.Retire l ∷ [])
+
+  -- those of a load that looks whether a lane has left, and finds n
+  abbrev pub reclaim_events : ℕ → ℕ → ℕ → List (event.Event B)
+  reclaim_events l stand n = if n == gone then retire_events l stand else []
 
 module _ {B : Type 0} where
   -- a Note for each of these places

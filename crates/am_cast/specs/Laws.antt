@@ -18,12 +18,12 @@ use Rattle.am_cast.specs.declared.views.WriterView.{WriterView}
 use Rattle.am_cast.specs.Rule.{idle, live, cut, gone, tail_word, lane_word, writer_word, slot}
 use Rattle.am_cast.specs.Rule.{blank, first_view, Ruled}
 use Rattle.am_cast.specs.Steps.{SeatState, KnowsOf, Opens, Looks, Takes, Passes, Leaves, Harvests, Recovers}
-use Rattle.am_cast.specs.Steps.{Cuts, Admits, Retires, Publishes, Closes, Reaches, Lays, Gathers, Clears}
-use Rattle.am_cast.specs.Steps.{Notes, Weighs}
+use Rattle.am_cast.specs.Steps.{Cuts, Admits, Retires, Reclaims, Publishes, Closes, Reaches, Lays, Gathers}
+use Rattle.am_cast.specs.Steps.{Clears, Notes, Weighs}
 use Rattle.am_cast.specs.Changes.{copied, without_lane, only_lane, without_own, only_own, both_of}
 use Rattle.am_cast.specs.Freed.{IsGathered, IsOut, IsFreedFor}
-use Rattle.am_cast.specs.Seats.{account_of}
-use Rattle.am_cast.specs.Core.{state_of, found_events, recover_events, cut_events, retire_events, AllowsAs}
+use Rattle.am_cast.specs.Seats.{account_of, HoldsIf}
+use Rattle.am_cast.specs.Core.{state_of, found_events, recover_events, cut_events, reclaim_events, AllowsAs}
 use Rattle.am_cast.specs.Core.{AllowsNote, StateStays}
 
 module _ (B K A : Type 0) (key : B → ℕ → K) where
@@ -105,14 +105,23 @@ module _ (B K A : Type 0) (key : B → ℕ → K) where
       → AllowsAs key slots id me (lane_word l) (λ _. new) (λ _. does.Admit l ∷ [])
       (λ _. Admits note (step slots (lane_word l) new 0 none) me new)
 
-  -- a lane's seat came home: Retire, or nothing if the writer had found that it has left
+  -- a lane whose seat took in the writer's is left, and is idle at once: Leave and Retire
   abbrev pub RetiresTheLane : Type 0
   RetiresTheLane = (slots id : ℕ) (me : SeatState B K A) (v : LaneView B A) (q : WriterView B K A)
-      (b : Account K A)
-      → me.0.lane ≡ Some v → KnowsOf me.0 v.number q b → v.here ≡ false → b.out ≡ 0 → b.laid ≡ None
+      (b : Account K A) (new : ℕ)
+      → me.0.lane ≡ Some v → KnowsOf me.0 v.number q b → v.begun ≡ true → HoldsIf key v.held me v
+      → b.out ≡ 0 → b.laid ≡ None → (b.stand ≡ cut → b.cleared ≡ b.stop) → new ≡ gone
+      → AllowsAs key slots id me (lane_word v.number) (λ _. new)
+      (λ _. does.Leave v.number ∷ does.Retire v.number ∷ [])
+      (λ _. Retires (step slots (lane_word v.number) new 0 none) me new)
+
+  -- the writer looks whether a lane has left: Retire if it has, or nothing if that was found before
+  abbrev pub ReclaimsTheLane : Type 0
+  ReclaimsTheLane = (slots id : ℕ) (me : SeatState B K A) (l : ℕ) (q : WriterView B K A) (b : Account K A)
+      → KnowsOf me.0 l q b → b.stand ≢ idle → b.out ≡ 0 → b.laid ≡ None
       → (b.stand ≡ cut → b.cleared ≡ b.stop)
-      → AllowsAs key slots id me (lane_word v.number) (λ n. n) (λ _. retire_events v.number b.stand)
-      (Retires (step slots (lane_word v.number) 0 0 none) me)
+      → AllowsAs key slots id me (lane_word l) (λ n. n) (reclaim_events l b.stand)
+      (Reclaims (step slots (lane_word l) 0 0 none) me)
 
   -- the writer makes a place of which each live lane has its key: Publish
   abbrev pub PublishesTheBatch : Type 0

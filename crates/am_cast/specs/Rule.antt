@@ -34,7 +34,7 @@ live = 1
 abbrev pub cut : ℕ
 cut = 2
 
--- found left, with its seat still out: it gets no more keys
+-- found left: it gets no more keys
 abbrev pub vacated : ℕ
 vacated = 3
 
@@ -176,11 +176,11 @@ module _ {B K A : Type 0} (tail : Tail B) (seat : ℕ) (account : ℕ → Accoun
   HasWriter (Some q) = (q.tail ≡ tail) × (length q.accounts ≡ LANES)
       × ((l : ℕ) → l < LANES → get_elem? q.accounts l ≡ some (account l)) × (j ≡ seat)
 
-  -- the lane's part of a view, if it has one: that lane as it is, not idle, and the seat is that lane's
+  -- the lane's part of a view, if it has one: that lane as it is, not left, and the seat is that lane's
   abbrev pub HasLane : Option (LaneView B A) → Type 0
   HasLane None = ⊤
   HasLane (Some v) = (v.number < LANES) × (lane v.number ≡ v) × (lane_seat v.number ≡ j)
-      × ((account v.number).stand ≢ idle)
+      × (v.here ≡ true)
 
 -- a seat's view agrees with the log, the accounts and the lanes; what it has noted and heard begins the log
 pub record SeatOk {B K A : Type 0} (tail : Tail B) (seat : ℕ) (account : ℕ → Account K A)
@@ -203,7 +203,7 @@ pub record Ruled {B K A : Type 0} (key : B → ℕ → K) (s : State (Option K) 
   pub seat : ℕ
   pub account : ℕ → Account K A
   pub lane : ℕ → LaneView B A
-  -- each lane's seat: the writer's, while the lane is idle
+  -- the seat of each lane that hasn't left
   pub lane_seat : ℕ → ℕ
   -- whose own a place is
   pub owner : ℕ → ℕ
@@ -212,7 +212,6 @@ pub record Ruled {B K A : Type 0} (key : B → ℕ → K) (s : State (Option K) 
   pub some_places : 0 < tail.places
   pub few : length tail.log ≤ LONGEST_LOG
   pub word : slice_index s.words 0 ≡ tail_word (length tail.log) tail.closed
-  pub spare : (l : ℕ) → l < LANES → (account l).stand ≡ idle → lane_seat l ≡ seat
   pub each_lane : (l : ℕ) → l < LANES → LaneOk key tail (account l) (lane l) s.words s.homes l
   pub each_seat : (j : ℕ) (w : View B K A) → get_elem? s.views j ≡ some w
       → SeatOk tail seat account lane lane_seat owner j w

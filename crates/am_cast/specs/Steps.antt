@@ -13,10 +13,10 @@ use Rattle.am_cast.specs.declared.views.LaneView.{LaneView}
 use Rattle.am_cast.specs.declared.views.Own.{Own}
 use Rattle.am_cast.specs.declared.views.View.{View}
 use Rattle.am_cast.specs.Rule.{idle, gone, tail_word, writer_word, lane_word, slot, Sound, Once}
-use Rattle.am_cast.specs.Changes.{with_writer, with_lane, opened, seeing, holding, cut_off, further, left}
+use Rattle.am_cast.specs.Changes.{with_writer, with_lane, opened, seeing, holding, cut_off, further}
 use Rattle.am_cast.specs.Changes.{laid_down, with_account, loaded, marked, known_to, back, retired, given_out}
 use Rattle.am_cast.specs.Changes.{new_lane, severed, reaching, laying, clearing, longer, shut, own_at}
-use Rattle.am_cast.specs.Changes.{AreInLog}
+use Rattle.am_cast.specs.Changes.{AreInLog, without_lane}
 
 -- a seat: its view, and the slots in its hand, each with its value
 abbrev pub SeatState : Type 0 → Type 0 → Type 0 → Type 0
@@ -50,9 +50,9 @@ module _ {B K A : Type 0} where
   Passes st m n m' = (m'.1 ≡ rest m.1)
       × ((v : LaneView B A) → m.0.lane ≡ Some v → m'.0 ≡ with_lane (further n v) m.0)
 
-  -- the slot in hand goes home, if there is one, and the lane is left
+  -- the slot in hand goes home, if there is one, and the lane is left: its seat knows nothing of it any more
   abbrev pub Leaves : StepAt K → SeatState B K A → ℕ → SeatState B K A → Type 0
-  Leaves st m n m' = (v : LaneView B A) → m.0.lane ≡ Some v → (m'.0 ≡ with_lane (left v) m.0)
+  Leaves st m n m' = (v : LaneView B A) → m.0.lane ≡ Some v → (m'.0 ≡ without_lane m.0)
       × (m'.1 ≡ laid_down v.held m.1)
 
   -- the writer's account l goes from b to b', and nothing else of the view
@@ -98,13 +98,19 @@ module _ {B K A : Type 0} where
         lane = Some (new_lane note l q.tail b);
       })
 
-  -- the seat of the lane has come home to the writer's
+  -- the lane's seat has taken in the writer's: the slot in hand goes home, and the lane is left and idle
   abbrev pub Retires : StepAt K → SeatState B K A → ℕ → SeatState B K A → Type 0
-  Retires st m n m' = (m'.1 ≡ m.1)
-      × ((v : LaneView B A) (q : WriterView B K A) (b : Account K A) → m.0.lane ≡ Some v
+  Retires st m n m' = (v : LaneView B A) (q : WriterView B K A) (b : Account K A) → m.0.lane ≡ Some v
       → KnowsOf m.0 v.number q b
-      → (n ≡ gone) × Sound q.tail b v v.number × (b.stand ≢ idle)
-      × (m'.0 ≡ record m.0 { writer = Some (with_account v.number (retired b) q); lane = None }))
+      → Sound q.tail b v v.number × (b.stand ≢ idle) × (m'.1 ≡ laid_down v.held m.1)
+      × (m'.0 ≡ record m.0 { writer = Some (with_account v.number (retired b) q); lane = None })
+
+  -- a lane whose word shows that it has left is idle
+  abbrev pub Reclaims : StepAt K → SeatState B K A → ℕ → SeatState B K A → Type 0
+  Reclaims st m n m' = (m'.1 ≡ m.1)
+      × ((l : ℕ) (q : WriterView B K A) (b : Account K A) → st.word ≡ lane_word l → KnowsOf m.0 l q b
+      → (n ≡ gone → SetsAccount l q (retired b) m.0 m'.0)
+      × (n ≢ gone → SetsAccount l q (loaded b) m.0 m'.0))
 
   -- the writer takes the slot of the next place
   abbrev pub Reaches : StepAt K → SeatState B K A → ℕ → SeatState B K A → Type 0

@@ -3,7 +3,8 @@ use Rattle.std.specs.Prelude.{◌≡◌, ◌≢◌, ℕ, ◌+◌, ◌/◌, ◌<�
 use Rattle.am_cast.specs.declared.limits.TheConstants.{LANES}
 use Rattle.am_cast.specs.declared.views.Account.{Account}
 use Rattle.am_cast.specs.declared.views.WriterView.{WriterView}
-use Rattle.am_cast.specs.Rule.{live, cut, vacated}
+use Rattle.am_cast.specs.Rule.{idle, live, cut, vacated}
+use Rattle.am_cast.specs.Changes.{loaded, emptied}
 use Rattle.am_cast.specs.Seats.{account_of}
 
 -- an account between two calls of the writer
@@ -39,6 +40,12 @@ abbrev pub IsCutAs : {K A : Type 0} → ℕ → ℕ → Account K A → Account 
 IsCutAs n places b c true = (b.stand ≡ live) × (c.stand ≡ cut) × (n ≡ c.known + places)
     × (c.half / 2 ≡ c.known)
 IsCutAs n places b c false = StandsOn b c
+
+-- whether a lane was found left: then it is idle, and all its keys are home. Any other that is given out was
+-- looked at, and nothing else has changed
+abbrev pub IsReclaimedAs : {K A : Type 0} → Account K A → Account K A → Bool → Type 0
+IsReclaimedAs b c true = (b.stand ≢ idle) × (c ≡ emptied b)
+IsReclaimedAs b c false = (b.stand ≡ idle → c ≡ b) × (b.stand ≢ idle → c ≡ loaded b)
 
 module _ {B K A : Type 0} where
   -- each account is as between two calls

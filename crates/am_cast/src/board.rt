@@ -1,6 +1,6 @@
 //! The steps on the table, one file for each kind. Each function here is one atomic step, or one
 //! with the steps that belong to it, and its contract says what the seat knows before and after.
-//! `rule.rt` has what holds of the table between them, and `laws.rt` which event of am_steps' core
+//! `rule.rt` has what holds of the table between them, and `laws.rt` which events of am_steps' core
 //! each is.
 //!
 //! # Words
@@ -16,10 +16,10 @@
 //! while the key of the next place is in its cursor's hand, and 1 more once the lane is cut. The
 //! greatest u64 if the lane is idle or has left. The lane's own seat exchanges it (`take`: plus 2,
 //! only if it shows neither), adds to it (`pass`: plus 2, so that the hand's bit carries into the
-//! number) and stores it (`leave`: the greatest u64); it loads it once (`open`). The writer stores
-//! it once (`admit`), loads it (`harvest`, `recover`, `retire`), and exchanges it to cut a slow
-//! lane (`cut`: plus 1, only if it is still the word found last). So of a take and a cut one is
-//! first, and the other finds it.
+//! number) and stores it (`leave`, as its cursor is dropped, and `retire`, which takes in the writer's
+//! seat: the greatest u64); it loads it once (`open`). The writer stores it once (`admit`), loads it
+//! (`harvest`, `recover`, `reclaim`), and exchanges it to cut a slow lane (`cut`: plus 1, only if it
+//! is still the word found last). So of a take and a cut one is first, and the other finds it.
 //!
 //! **Words 144 to 151.** Nobody stores them. The writer loads word l + 144 at its silent steps on
 //! lane l's slots (`fill`, `clear`), so that the step's word says which lane it is.
@@ -35,7 +35,8 @@
 //! the clear after the lane has passed it. So the slots of one place lie side by side, and those of the
 //! next place, which the writer fills while lanes read, share no cache line with most of them. A slot is
 //! in the hand of one seat or at home. A cursor has at most one in its hand, that of the place it reads,
-//! and reads the key where it lies; the writer has at most one, the one that it fills or clears.
+//! and reads the key where it lies; the writer has at most one, the one that it fills or clears. The slot in
+//! a cursor's hand goes home when it passes the place, when it is dropped and when it is retired.
 
 mod admit;
 mod clear;
@@ -50,6 +51,7 @@ mod note;
 mod open;
 mod pass;
 mod publish;
+mod reclaim;
 mod recover;
 mod retire;
 mod slot;
@@ -71,6 +73,7 @@ pub(crate) use note::note_log;
 pub(crate) use open::open_lane;
 pub(crate) use pass::pass_place;
 pub(crate) use publish::publish_batch;
+pub(crate) use reclaim::reclaim_lane;
 pub(crate) use recover::recover_key;
 pub(crate) use retire::retire_lane;
 pub(crate) use slot::key_in;

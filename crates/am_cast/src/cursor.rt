@@ -2,11 +2,13 @@
 //!
 //! The key is read where it lies, through a slot that the seat lends by `&mut`. So nothing is written to it,
 //! and its cache line stays the writer's too.
-ghost use Rattle.std.specs.Prelude.{◌≡◌, ◌+◌, ◌<◌, ◌≤◌, true, false, drop, length, None, Some, []};
+ghost use Rattle.std.specs.Prelude.{◌≡◌, ◌+◌, ◌<◌, ◌≤◌, true, false, length, None, []};
 ghost use mathlib.Core.List.{IsPrefix};
 ghost use Rattle.am_cast.specs.declared.limits.TheConstants.{LANES, WORDS};
 ghost use Rattle.am_cast.specs.Rule.{bit};
-ghost use Rattle.am_cast.specs.Changes.{holding, cut_off, seeing, left};
+ghost use Rattle.am_cast.specs.Changes.{holding, cut_off, seeing};
+ghost use Rattle.am_cast.specs.Keys.{key_of};
+ghost use Rattle.am_cast.specs.Seats.{HoldsIf, IsLane};
 ghost use Rattle.am_cast.specs.Cursors.{shown_items, items_at};
 
 use crate::batch_view::{Board, LogSeat};
@@ -24,9 +26,11 @@ pub struct Cast<T, P, A, N: Feed> {
     ghost sized: { board.shared.table_id.words ≡ WORDS },
 }
 
-/// How far a subscription has read the log. It must be spent by `Writer::retire`. Contracts see it as
-/// what its lane knows, and how many items of the place in its hand it has shown. Each call writes to it, so
-/// keep it in its own thread's memory: two threads' cursors on one cache line slow each other down.
+/// How far a subscription has read the log. It may be dropped, on any thread and without the writer: it leaves
+/// its lane, and `Writer::reclaim` finds that. `Writer::retire` spends it too, and says what it has shown.
+/// Contracts see it as what its lane knows, and how many items of the place in its hand it has shown. Each call
+/// writes to it, so keep it in its own thread's memory: two threads' cursors on one cache line slow each other
+/// down.
 pub struct Cursor<'a, T, P, A, N: Feed> {
     pub(crate) cast: &'a Cast<T, P, A, N>,
     pub(crate) seat: LogSeat<T, P, A>,
@@ -176,16 +180,16 @@ impl<'a, T, P, A, N: Feed> Cursor<'a, T, P, A, N> {
         self.cut
     }
 
-    /// The lane is left. The slot in hand goes home.
-    pub(crate) fn depart(self) -> (usize, LogSeat<T, P, A>)
-        ensures same { (result.1.table_id ≡ N.table) × (result.1.me.1 ≡ [])
-            × (self.entry.lane.number ≡ result.0) × (result.0 < LANES) }
+    // The lane's number and its seat, with the slot in hand.
+    pub(crate) fn into_seat(self) -> (usize, LogSeat<T, P, A>)
+        ensures same { (result.1.table_id ≡ N.table) × (self.entry.lane.number ≡ result.0) × (result.0 < LANES) }
         ensures seat { (result.1.me.0.writer ≡ None) × (result.1.me.0.own ≡ [])
-            × (result.1.me.0.lane ≡ Some (left self.entry.lane)) }
+            × IsLane result.1.me self.entry.lane × (self.entry.lane.begun ≡ true) }
+        ensures hand { HoldsIf key_of self.entry.lane.held result.1.me self.entry.lane }
     {
         let Cursor {
-            cast,
-            mut seat,
+            cast: _,
+            seat,
             number,
             next: _,
             seen: _,
@@ -194,7 +198,6 @@ impl<'a, T, P, A, N: Feed> Cursor<'a, T, P, A, N> {
             cut: _,
             hand: _,
         } = self;
-        board::leave_lane(&cast.board.shared, &mut seat, number);
         (number, seat)
     }
 
@@ -210,5 +213,14 @@ impl<'a, T, P, A, N: Feed> Cursor<'a, T, P, A, N> {
         let top = &self.cast.board.shared;
         board::tell_seat(top, &mut pass.seat, &mut self.seat);
         (self.seen, self.closed) = board::look_at_log(top, &mut self.seat);
+    }
+}
+
+/// The lane is left, and the slot in hand goes home. The lane is given out again after `Writer::reclaim`.
+impl<'a, T, P, A, N: Feed> Drop for Cursor<'a, T, P, A, N> {
+    fn drop(self) {
+        let cast = self.cast;
+        let (lane, mut seat) = self.into_seat();
+        board::leave_lane(&cast.board.shared, &mut seat, lane);
     }
 }

@@ -2,7 +2,7 @@
 //! there and ends the segment.
 //!
 //! A row is made before anything else of a post is, so that memory can be lacking only there:
-//! `admit`, `harvest`, `retire` and `close` take none.
+//! `admit`, `harvest`, `retire`, `reclaim` and `close` take none.
 ghost use Rattle.std.specs.Prelude.{true, false, ◌≡◌, ◌≢◌, ℕ, ◌%◌, ◌<◌, ◌≤◌, List, ◌∷◌, ◌++◌, [], length, slice_index_or, Some, None, IfSome, IfOk, OnOk, option_copied};
 ghost use Rattle.am_segment.specs.Segments.{AreAllKeys, KeyView};
 ghost use Rattle.am_cast.specs.inside.KeyRows.{bucket_of, no_bucket, row_at, MayTake, row_with};

@@ -9,8 +9,8 @@ ghost use Rattle.am_cast.specs.Laws.{NeededIsNotFreedFor, NotesTheLog, WeighsThe
 ghost use Rattle.am_cast.specs.Laws.{DealsALane, HandsOwnPlaces, TakesInASeat, OpensTheLane};
 ghost use Rattle.am_cast.specs.Laws.{LooksAtTheLog, TakesTheKey, PassesThePlace, LeavesBare};
 ghost use Rattle.am_cast.specs.Laws.{LeavesWithKey, FindsTheWord, RecoversTheKey, CutsTheLane};
-ghost use Rattle.am_cast.specs.Laws.{AdmitsTheLane, RetiresTheLane, PublishesTheBatch, ClosesTheLog};
-ghost use Rattle.am_cast.specs.Laws.{ReachesASlot, LaysAKey, GathersAKey, ClearsASlot};
+ghost use Rattle.am_cast.specs.Laws.{AdmitsTheLane, RetiresTheLane, ReclaimsTheLane, PublishesTheBatch};
+ghost use Rattle.am_cast.specs.Laws.{ClosesTheLog, ReachesASlot, LaysAKey, GathersAKey, ClearsASlot};
 ghost use Rattle.am_cast.specs.Runs.{RunsOfTheCore};
 
 use crate::limits::{LANES, LONGEST_LOG, MAX_PLACES, WORDS};
@@ -67,9 +67,14 @@ pub fn an_admit_is_an_event<B, K, A, R: Keyed<B, K>>()
     ensures { AdmitsTheLane B K A R.key }
 {}
 
-/// A lane's seat came home: Retire, or nothing if the writer had found that it has left.
-pub fn a_retire_is_an_event<B, K, A, R: Keyed<B, K>>()
+/// A lane whose seat took in the writer's is left, and is idle at once: Leave and Retire.
+pub fn a_retire_is_two_events<B, K, A, R: Keyed<B, K>>()
     ensures { RetiresTheLane B K A R.key }
+{}
+
+/// The writer looks whether a lane has left: Retire if it has, or nothing if that was found before.
+pub fn a_reclaim_is_an_event<B, K, A, R: Keyed<B, K>>()
+    ensures { ReclaimsTheLane B K A R.key }
 {}
 
 /// The writer makes a place of which each live lane has its key: Publish.

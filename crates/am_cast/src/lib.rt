@@ -11,6 +11,13 @@
 //! another one miss, repeat or wait for an item, and its memory is kept until it has passed the place in its
 //! hand.
 //!
+//! # Leaving
+//!
+//! A cursor may be dropped wherever it is: on an early return, on any thread, with a place in its hand. Its lane
+//! holds no later batch up, but stays taken until `Writer::reclaim`. That makes each such lane idle, and ends
+//! the segments that were kept for it. `Writer::retire` does so at once with a cursor that is given back, and
+//! its contract says what the cursor has shown.
+//!
 //! # Closing
 //!
 //! A closed log takes no batch and no subscriber. Those that it has read on to its end, and from
@@ -27,7 +34,7 @@
 //! lane 0's word    4 * 8 + 2 + 0                       8 passed, one in hand, not cut
 //! lane 1, cut      slots  [   -   |   -   |   -    |   -   ]
 //! lane 1's word    4 * 6 + 2 + 1                       6 passed, key 6 in hand, cut
-//! lane 2, idle     the greatest u64
+//! lane 2, idle     the greatest u64                    and so while it is left, until it is reclaimed
 //!
 //! rows             of place 6: seven keys, lane 1's is out         the writer's: the eighth key ends
 //!                  of place 8: six keys, of place 9: six keys      a segment; two lanes were live then
@@ -41,7 +48,7 @@
 //! in the rows; the eighth ends the segment. Its block is kept for a later batch of its size
 //! (`Writer::spare`): of as many segments as the log has places, at most 256, and the others are freed. `rule.rt`
 //! has what always holds of words, slots and what each side knows, and `board.rt` the single steps,
-//! each of them an event of `am_steps`.
+//! each of them an event of `am_steps`, two or none.
 //!
 //! It is one crate, with more functions than the others: a cut between its steps and its types
 //! would make the steps public.

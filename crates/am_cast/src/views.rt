@@ -1,8 +1,9 @@
 //! What the seats of one log know. No value of these types is made.
 //! `B` is what is known of a batch, `K` a key of one, and `A` what a subscription notes down.
 //!
-//! A lane's seat is cut off from the writer's at its Admit and joined to it before its Retire, so the
-//! writer keeps no idle seats. Its admission number and its note are in both views meanwhile.
+//! A lane's seat is cut off from the writer's at its Admit. It takes in the writer's at its Retire, or is let
+//! go as the lane is left, so the writer keeps no idle seats. The lane's admission number and its note are in
+//! both views meanwhile.
 use std::collections::LinkedList;
 
 /// What the tail word shows.
@@ -16,7 +17,7 @@ pub struct Tail<B> {
 
 /// What the writer knows of one lane.
 pub struct Account<K, A> {
-    /// 0 idle, 1 live, 2 cut, 3 vacated: it has left, and its seat hasn't come home.
+    /// 0 idle, 1 live, 2 cut, 3 vacated: found left.
     pub stand: u64,
     /// How often it was admitted.
     pub turn: u64,

@@ -15,6 +15,7 @@ mod cut;
 mod harvest;
 pub(crate) mod lane_account;
 mod publish;
+mod reclaim;
 mod retire;
 pub(crate) mod state;
 mod vouch;

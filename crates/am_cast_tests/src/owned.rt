@@ -120,6 +120,69 @@ fn run_of<R: Wait>(rt: &R, alloc: Global) -> Result<[u64; 6], AllocError> {
     run::<Brand, R>(rt, alloc, parts)
 }
 
+// A reader with a place in its hand goes, and another comes on the same lane. Answers whether the first place
+// was freed before the lane was reclaimed, whether it was then, and which item the other reader is shown first.
+fn come_and_drop<N: Feed>(
+    alloc: Global,
+    cast: &Cast<Vec<u64>, u64, u64, N>,
+    writer: &mut Writer<Vec<u64>, u64, u64, N>,
+    pass: &mut Pass<Vec<u64>, u64, u64, N>,
+) -> Result<(bool, bool, u64), AllocError> {
+    let note = 0;
+    let Ok(mut cursor) = writer.admit(cast, Snapshot::of(&note)) else {
+        return Err(AllocError);
+    };
+    let lane = cursor.lane();
+    // The cursor is dropped on an early return too.
+    let _posted = post(alloc, cast, writer, pass, 1)?;
+    let _first = shown(&mut cursor);
+    drop(cursor);
+    let before = writer.freed(0);
+    let found = writer.reclaim(cast);
+    let after = found[lane] && writer.is_idle() && writer.freed(0);
+    let Ok(mut next) = writer.admit(cast, Snapshot::of(&note)) else {
+        return Err(AllocError);
+    };
+    let same = next.lane() == lane;
+    let posted = post(alloc, cast, writer, pass, 3);
+    let item = shown(&mut next);
+    writer.retire(cast, next);
+    let _posted = posted?;
+    Ok((before, after && same, item))
+}
+
+fn drop_in<N: Feed, R: Wait>(
+    rt: &R,
+    alloc: Global,
+    parts: Parts<Vec<u64>, u64, u64>,
+) -> Result<(bool, bool, u64), AllocError>
+    requires { parts.board.shared.table_id ≡ N.table }
+{
+    let Log {
+        cast,
+        mut writer,
+        mut pass,
+    } = begin_log::<Vec<u64>, N>(parts)?;
+    let saw = come_and_drop(alloc, &cast, &mut writer, &mut pass);
+    let _found = writer.reclaim(&cast);
+    end_log(rt, cast, writer);
+    saw
+}
+
+fn drop_of<R: Wait>(rt: &R, alloc: Global) -> Result<(bool, bool, u64), AllocError> {
+    let parts = Parts::make(alloc, 2)?;
+    drop_in::<Brand, R>(rt, alloc, parts)
+}
+
+#[test]
+fn a_dropped_readers_lane_is_given_out_again(rt: HostRuntime) -> Result<(), Fail> {
+    let (before, after, item) = drop_of(&rt, rt.alloc())?;
+    assert!(rt; !before);
+    assert!(rt; after);
+    assert_eq!(rt; item, 3);
+    Ok(())
+}
+
 // Whether a segment of that size that has ended can be had, which is then freed.
 fn frees_one<N: Feed>(writer: &mut Writer<Vec<u64>, u64, u64, N>, places: usize) -> bool {
     match writer.spare(places) {

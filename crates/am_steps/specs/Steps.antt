@@ -34,7 +34,8 @@
 --                                                  and it isn't own yet
 --
 -- An admitted lane's word shows `passed = start` and no key in hand. If the exchange of a cut finds another
--- word than the last one, it is a Harvest of that word, or a Retire.
+-- word than the last one, it is a Harvest of that word, or a Retire. A cursor that is given back makes its
+-- Leave and its Retire by one store.
 --
 -- A lane's record keeps whether its key is out, since a cut compares the whole word that was last
 -- found. A lane that left while cut, with a key in its hand, keeps that key's batch until it is

@@ -14,7 +14,7 @@ use Rattle.am_steps.specs.declared.event.Event.TheVariants as does
 use Rattle.am_cast.proofs.Events.{behind, admit, AllowsEvent}
 use Rattle.am_cast.specs.Steps.{SeatState, KnowsOf, Admits}
 use Rattle.am_cast.proofs.Slots.{put_here, same_slot, prefix_self}
-use Rattle.am_cast.proofs.Kept.{one_laned, writer_ok, sets_account}
+use Rattle.am_cast.proofs.Kept.{one_laned, reseats, writer_ok, sets_account}
 use Rattle.am_cast.proofs.WriterSteps.{none_some, retell}
 
 module _ {B K A : Type 0} (key : B → ℕ → K) where
@@ -26,14 +26,14 @@ module _ {B K A : Type 0} (key : B → ℕ → K) where
       let new_is : new ≡ 4 * n = new_is₀ ∙ ap (λ (t : Tail B). 4 * length t.log) o.tail in
       let b' : Account K A = given_out note n b in let v' : LaneView B A = new_lane note l t b in
       let stand_is : (r.account l).stand ≡ idle = ap (λ (c : Account K A). c.stand) o.account ∙ resting in
-      let mine : r.lane_seat l ≡ id = r.spare l small stand_is ∙ sym o.mine in
+      let r' : Ruled key s = reseats key s r l id (sd.idles resting) in
       let words : List ℕ = set s.words at_word new in
       let w' : View B K A = record me.0 { writer = Some (with_account l b' q); lane = Some v' } in (
         w',
         keeps,
         tt,
-        (let kept = one_laned key s r l b' v' id me.0 (Some (with_account l b' q)) (Some v') words s.homes small at (length-set s.words at_word new) refl (get_or-set_other s.words at_word 0 new 0 (λ e. omega arith))
-            (λ m ne. get_or-set_other s.words at_word (lane_word m) new 0 (λ e. ne (omega arith))) (λ m i a ne. refl) (inl o.mine) (inl mine) (λ e. absurd (omega arith))
+        (let kept = one_laned key s r' l b' v' id me.0 (Some (with_account l b' q)) (Some v') words s.homes small at (length-set s.words at_word new) refl (get_or-set_other s.words at_word 0 new 0 (λ e. omega arith))
+            (λ m ne. get_or-set_other s.words at_word (lane_word m) new 0 (λ e. ne (omega arith))) (λ m i a ne. refl) (inl o.mine) (inl (put_here r.lane_seat l id))
             (sets_account key s r id l q b b' v' o)
             (grind (arith, put_here))
             record {

@@ -37,7 +37,7 @@ module _ {B K A : Type 0} (key : B → ℕ → K) where
         with_writer (with_account l b' q) me.0,
         gives,
         tt,
-        slot_step key s r id l me q b b' b.cleared h at o (λ z. z) (λ ws same. record {
+        slot_step key s r id l me q b b' b.cleared h at o (λ ws same. record {
           sound = grind arith;
           word = same ∙ ok.word;
           keys = λ i y a d e f z. beside i (omega arith) (omega arith) (λ z. omega arith) ∙ ok.keys i y (omega arith) d e (λ z. omega arith) z;

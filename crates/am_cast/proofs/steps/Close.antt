@@ -37,7 +37,6 @@ module _ {B K A : Type 0} (key : B → ℕ → K) where
           some_places = r.some_places;
           few = r.few;
           word = get_or-set_same s.words 0 new 0 (omega arith) ∙ new_is;
-          spare = r.spare;
           each_lane = λ m a. let ok = r.each_lane m a in let sd = ok.sound in let c = sd.counts in record {
             sound = grind arith;
             word = get_or-set_other s.words 0 (lane_word m) new 0 (λ e. omega arith) ∙ ok.word;
@@ -50,7 +49,7 @@ module _ {B K A : Type 0} (key : B → ℕ → K) where
               (grind (arith, any_lane))
               (λ (z : (j ≢ id) × (get_elem? s.views j ≡ some u)). let o = r.each_seat j u z.1 in record {
                 writer = others_writer key t t' r.seat r.account r.account r.lane r.lane_seat j (λ h. z.0 (h ∙ sym k.3)) u.writer o.writer;
-                lane_is = any_lane key t t' r.seat r.account r.account r.lane r.lane_seat j (λ m. refl) u.lane o.lane_is;
+                lane_is = any_lane key t t' r.seat r.account r.account r.lane r.lane_seat j u.lane o.lane_is;
                 noted = o.noted;
                 counts = o.counts;
                 counted = o.counted;

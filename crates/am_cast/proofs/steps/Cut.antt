@@ -10,7 +10,7 @@ use Rattle.am_cast.specs.declared.views.WriterView.{WriterView}
 use Rattle.am_cast.specs.declared.views.LaneView.{LaneView}
 use Rattle.am_cast.specs.declared.views.View.{View}
 use Rattle.am_cast.specs.Core.{poster_behind, cut_events}
-use Rattle.am_cast.specs.Rule.{idle, live, cut, gone, lane_word, shown, bit, LaneOk, Ruled}
+use Rattle.am_cast.specs.Rule.{live, cut, gone, lane_word, shown, bit, LaneOk, Ruled}
 use Rattle.am_cast.specs.Changes.{with_writer, with_account, severed}
 use Rattle.am_cast.proofs.Events.{behind, Event, sever, moved, AllowsEvent}
 use Rattle.am_cast.specs.Steps.{SeatState, KnowsOf, SetsAccount, Finds, Cuts}
@@ -34,8 +34,8 @@ module _ {B K A : Type 0} (key : B → ℕ → K) where
       let h = here_of v.here n (4 * v.passed + 2 * bit v.held + b.stand / 2) ok.word (λ z. not_gone (sym hit ∙ z)) in let h₁ = h.1 in
       let counts = sd.counts in let low = counts.low in let pos = r.some_places in let stops = counts.stops in let mid = sd.mid in
       let words : List ℕ = set s.words at_word new in
-      let one : (b' : Account K A) → severed (n / 2 % 2) b ≡ b' → n / 2 % 2 ≡ bit v.held → (b'.stand ≡ idle → b.stand ≡ idle) → LaneOk key r.tail b' v words s.homes l → F new =
-      λ b' e bit_of still here. let kept = writer_stepped key s r id me.0 l q b b' words s.homes at o (length-set s.words at_word new) refl (get_or-set_other s.words at_word 0 new 0 (λ e. omega arith)) (λ m ne. get_or-set_other s.words at_word (lane_word m) new 0 (λ e. ne (omega arith))) (λ m i a c. refl) still here in (
+      let one : (b' : Account K A) → severed (n / 2 % 2) b ≡ b' → n / 2 % 2 ≡ bit v.held → LaneOk key r.tail b' v words s.homes l → F new =
+      λ b' e bit_of here. let kept = writer_stepped key s r id me.0 l q b b' words s.homes at o (length-set s.words at_word new) refl (get_or-set_other s.words at_word 0 new 0 (λ e. omega arith)) (λ m ne. get_or-set_other s.words at_word (lane_word m) new 0 (λ e. ne (omega arith))) (λ m i a c. refl) here in (
         with_writer (with_account l b' q) me.0,
         keeps,
         tt,
@@ -53,7 +53,7 @@ module _ {B K A : Type 0} (key : B → ℕ → K) where
       let b' : Account K A = record b { stand = cut; away = true; cleared = b.cleared + 1 } in
       let bit_is : n / 2 % 2 ≡ 1 = omega arith in
       let same : severed (n / 2 % 2) b ≡ b' = λ i. severed (bit_is i) b in
-      one b' same (bit_is ∙ ap bit (sym e)) (λ z. absurd (omega arith)) record {
+      one b' same (bit_is ∙ ap bit (sym e)) record {
         sound = grind (arith, none_some);
         word = word_now true e (omega arith);
         keys = λ i x a c d f g. ok.keys i x (omega arith) c d f g;
@@ -66,7 +66,7 @@ module _ {B K A : Type 0} (key : B → ℕ → K) where
       let b' : Account K A = record b { stand = cut; away = false; cleared = b.cleared + 0 } in
       let bit_is : n / 2 % 2 ≡ 0 = omega arith in
       let same : severed (n / 2 % 2) b ≡ b' = λ i. severed (bit_is i) b in
-      one b' same (bit_is ∙ ap bit (sym e)) (λ z. absurd (omega arith)) record {
+      one b' same (bit_is ∙ ap bit (sym e)) record {
         sound = grind (arith, none_some, true≢false);
         word = word_now false e (omega arith);
         keys = λ i x a c d f g. ok.keys i x (omega arith) c d f g;

@@ -38,7 +38,7 @@ module _ {B K A : Type 0} (key : B → ℕ → K) where
         with_writer (with_account l b' q) me.0,
         takes k (Some (key x.0 l)),
         ok.keys b.cleared x.0 (omega arith) inside x.1 (λ z. omega arith) g.not_held,
-        slot_step key s r id l me q b b' b.cleared none at o (λ z. z) (λ ws same. record {
+        slot_step key s r id l me q b b' b.cleared none at o (λ ws same. record {
           sound = grind arith;
           word = same ∙ ok.word;
           keys = λ i y a d e f h. beside i a (omega arith) (λ z. f (ap suc (sym z))) ∙ ok.keys i y a d e (λ z. omega arith) h;

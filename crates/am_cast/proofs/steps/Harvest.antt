@@ -26,7 +26,7 @@ module _ {B K A : Type 0} (key : B → ℕ → K) where
       let c = sd.counts in let few = r.few in let high = sd.seen.high in let long = prefix_length v.front r.tail.log sd.seen.begins in
       let away_from : v.here ≡ false = grind (arith, either_bool', bit_small) in
       let bare_hand : v.held ≡ true → ⊥ = (λ h. true≢false (sym (sd.seen.holds h).0 ∙ away_from)) in
-      let kept = same_words key s r id l me q b (marked b) at o (λ z. absurd (omega arith)) (grind (arith, none_some)) in record {
+      let kept = same_words key s r id l me q b (marked b) at o (grind (arith, none_some)) in record {
         view = with_writer (with_account l (marked b) q) me.0;
         kept = kept.0;
         event = grind (arith, mark, to_account);
@@ -38,7 +38,7 @@ module _ {B K A : Type 0} (key : B → ℕ → K) where
       let is : n / 4 ≡ v.passed = omega arith in let half_is : n / 2 % 2 ≡ bit v.held = omega arith in let mid = sd.mid in let low = sd.counts.low in let high = sd.seen.high in let long = prefix_length v.front r.tail.log sd.seen.begins in
       let lives = sd.counts.lives alive in let cleared = lives.1 in let not_away : b.away ≡ true → ⊥ = (λ e. let c = (sd.counts.aways e).0 in omega arith) in
       let b' : Account K A = known_to n b in
-      let kept = same_words key s r id l me q b b' at o (λ z. z) (λ ws same. record {
+      let kept = same_words key s r id l me q b b' at o (λ ws same. record {
         sound = record {
           seen = sd.seen;
           counts = record { stands = sd.counts.stands; low = omega arith; clear = sd.counts.clear; room = sd.counts.room; stops = sd.counts.stops; lives = λ _. (lives.0, omega arith, (λ i a c. lives.2 i (omega arith) c)); lays = sd.counts.lays; aways = λ e. absurd (not_away e) };

@@ -35,7 +35,7 @@ module _ {B K A : Type 0} (key : B → ℕ → K) where
         with_writer (with_account l b' q) me.0,
         gives,
         tt,
-        slot_step key s r id l me q b b' b.stop h at o (λ z. z) (grind (arith, none_some, same_some)) record { stand = refl; turn = refl; note = refl; start = refl; known = refl; half = refl; away = refl },
+        slot_step key s r id l me q b b' b.stop h at o (grind (arith, none_some, same_some)) record { stand = refl; turn = refl; note = refl; start = refl; known = refl; half = refl; away = refl },
         grind (arith, same_some, retell),
       )
     where

@@ -33,7 +33,6 @@ module _ {B K A : Type 0} (key : B → ℕ → K) where
           some_places = r.some_places;
           few = r.few;
           word = ap (λ (ws : List ℕ). get_or ws 0 0) same ∙ r.word;
-          spare = r.spare;
           each_lane = grind (arith, stays);
           each_seat = λ j u e. ⊎_elim
               (λ (z : (j ≡ id) × (w' ≡ u)). subst (λ (z : ℕ × View B K A). SeatOk r.tail r.seat r.account r.lane r.lane_seat r.owner z.0 z.1) (λ i. (sym z.0 i, z.1 i)) record { writer = mine.writer; lane_is = mine.lane_is; noted = prefix_self t.log; counts = omega arith; counted = λ k o e _. at_length t.log o.place o.batch (mine.owns.each k o e).0; heard = mine.heard; whole = mine.whole; owns = mine.owns })

@@ -22,7 +22,7 @@ module _ {B K A : Type 0} (key : B → ℕ → K) where
         with_lane (opened v) me.0,
         keeps,
         tt,
-        (let kept = lane_stepped key s r id me.0 v (opened v) words s.homes at is refl (ap length same) refl (ap (λ (l : List ℕ). get_or l 0 0) same) (λ m _. ap (λ (l : List ℕ). get_or l (lane_word m) 0) same) (λ m i a b. refl) record {
+        (let kept = lane_stepped key s r id me.0 v (opened v) words s.homes at is refl refl (ap length same) refl (ap (λ (l : List ℕ). get_or l 0 0) same) (λ m _. ap (λ (l : List ℕ). get_or l (lane_word m) 0) same) (λ m i a b. refl) record {
           sound = grind (arith, true≢false);
           word = ap (λ (l : List ℕ). get_or l (lane_word v.number) 0) same ∙ ok.word;
           keys = ok.keys;

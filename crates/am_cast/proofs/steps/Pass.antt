@@ -37,7 +37,7 @@ module _ {B K A : Type 0} (key : B → ℕ → K) where
         with_lane w me.0,
         gives,
         tt,
-        (let kept = lane_stepped key s r id me.0 v w words homes at is refl (length-set s.words at_word new) (length-set s.homes k (some (Some (key x l)))) (get_or-set_other s.words at_word 0 new 0 (λ e. omega arith)) (λ m ne. get_or-set_other s.words at_word (lane_word m) new 0 (λ e. ne (omega arith)))
+        (let kept = lane_stepped key s r id me.0 v w words homes at is refl refl (length-set s.words at_word new) (length-set s.homes k (some (Some (key x l)))) (get_or-set_other s.words at_word 0 new 0 (λ e. omega arith)) (λ m ne. get_or-set_other s.words at_word (lane_word m) new 0 (λ e. ne (omega arith)))
             (λ m i a ne. set_else s.homes k (slot p m i) (some (Some (key x l))) (other_lane p m l i v.passed a small ne)) record {
               sound = grind (arith, true≢false);
               word = grind (arith, get_or-set_same);

@@ -22,7 +22,7 @@ use Rattle.am_cast.proofs.Events.{publish, AllowsEvent}
 use Rattle.am_cast.specs.Steps.{SeatState, Publishes}
 use Rattle.am_cast.proofs.Slots.{put, put_here, put_else, at_length, at_end, prefix_more, owns_still, owns_one_more}
 use Rattle.am_cast.proofs.Kept.{same_some}
-use Rattle.am_cast.proofs.Tails.{any_lane, grown_else, grown_live, grown_stand, others_writer}
+use Rattle.am_cast.proofs.Tails.{any_lane, grown_else, grown_live, others_writer}
 use Rattle.am_cast.proofs.WriterSteps.{none_some}
 
 module _ {B : Type 0} where
@@ -95,12 +95,11 @@ module _ {B K A : Type 0} (key : B → ℕ → K) where
           some_places = r.some_places;
           few = omega arith;
           word = get_or-set_same s.words 0 new 0 (omega arith) ∙ new_is ∙ (λ i. tail_word (sym more i) (sym is_open i));
-          spare = λ m a e. r.spare m a (sym (grown_stand (r.account m)) ∙ e);
           each_lane = λ m a. let f = ready m (r.account m) (k.2 m a) in lane_grows t (r.account m) (r.lane m) s.words words s.homes m x is_open f.0 f.1 (get_or-set_other s.words 0 (lane_word m) new 0 (λ e. omega arith)) (r.each_lane m a);
           each_seat = λ j u e. ⊎_elim
               (λ (z : (j ≡ id) × (w' ≡ u)). subst (λ (z : ℕ × View B K A). SeatOk t' r.seat account' r.lane r.lane_seat owner' z.0 z.1) (λ i. (sym z.0 i, z.1 i)) record {
                 writer = (ap (longer_tail x) k.0, length-map q.accounts grown ∙ k.1, (λ m a. at_map grown q.accounts m (r.account m) (k.2 m a)), k.3);
-                lane_is = any_lane key t t' r.seat r.account account' r.lane r.lane_seat id (λ m. grown_stand (r.account m)) me.0.lane mine.lane_is;
+                lane_is = any_lane key t t' r.seat r.account account' r.lane r.lane_seat id me.0.lane mine.lane_is;
                 noted = prefix_more me.0.noted t.log x mine.noted;
                 counts = let h = mine.counts in omega (arith, length-append me.0.own (own_at n x ∷ []));
                 counted = grind (arith, at_end);
@@ -110,7 +109,7 @@ module _ {B K A : Type 0} (key : B → ℕ → K) where
               })
               (λ (z : (j ≢ id) × (get_elem? s.views j ≡ some u)). let o = r.each_seat j u z.1 in record {
                 writer = others_writer key t t' r.seat r.account account' r.lane r.lane_seat j (λ h. z.0 (h ∙ sym k.3)) u.writer o.writer;
-                lane_is = any_lane key t t' r.seat r.account account' r.lane r.lane_seat j (λ m. grown_stand (r.account m)) u.lane o.lane_is;
+                lane_is = any_lane key t t' r.seat r.account account' r.lane r.lane_seat j u.lane o.lane_is;
                 noted = prefix_more u.noted t.log x o.noted;
                 counts = o.counts;
                 counted = o.counted;

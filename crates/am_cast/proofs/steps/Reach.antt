@@ -28,7 +28,7 @@ module _ {B K A : Type 0} (key : B → ℕ → K) where
         with_writer (with_account l b' q) me.0,
         takes k None,
         ok.empty b.stop (omega arith) space (λ z. omega arith) (λ z. absurd (not_away z)) (λ _. unlaid),
-        slot_step key s r id l me q b b' b.stop none at o (λ z. z) (grind (arith, none_some)) record { stand = refl; turn = refl; note = refl; start = refl; known = refl; half = refl; away = refl },
+        slot_step key s r id l me q b b' b.stop none at o (grind (arith, none_some)) record { stand = refl; turn = refl; note = refl; start = refl; known = refl; half = refl; away = refl },
         λ l' q' b₁ e has'. retell (λ m d c. SetsAccount m d (reaching c.stop c) me.0 (with_writer (with_account l b' q) me.0) × ((k, None) ∷ me.1 ≡ (slot d.tail.places m c.stop, None) ∷ me.1)) me.0 l l' q q' b b₁ has has' (omega arith)
             (refl, ap (λ (t : Tail B). let c : List (ℕ × Option K) = (slot t.places l b.stop, None) ∷ me.1 in c) (sym o.tail)),
       )

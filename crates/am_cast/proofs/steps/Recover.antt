@@ -33,7 +33,7 @@ module _ {B K A : Type 0} (key : B → ℕ → K) where
       let bare_hand : v.held ≡ false = not_held v.held v.passed b.stand n h.1 e (omega arith) in
       let h₁ = h.1 in let mid = sd.mid in let high = sd.seen.high in let long = prefix_length v.front r.tail.log sd.seen.begins in let low = sd.counts.low in let is_at : n / 4 ≡ v.passed = at_passed v.held v.passed b.stand n h.1 bare_hand dead in let aways = sd.counts.aways is_away in let a₁ = aways.1 in let a₂ = aways.2 in let stops = sd.counts.stops in let pos = r.some_places in let p : ℕ = r.tail.places in
       let b' : Account K A = back (n / 4) (loaded b) in
-      let kept = same_words key s r id l me q b b' at o (λ z. z) (λ ws same. record {
+      let kept = same_words key s r id l me q b b' at o (λ ws same. record {
         sound = grind (arith, true≢false);
         word = same ∙ ok.word;
         keys = grind arith;
@@ -48,7 +48,7 @@ module _ {B K A : Type 0} (key : B → ℕ → K) where
         tells = ((λ _. (refl, omega arith, subst (λ (t : Tail B). n / 4 ≤ length t.log) (sym o.tail) (omega arith))), (λ ne. absurd (ne e)));
       })
       (λ (ne : n / 2 % 2 ≢ 0).
-      let kept = same_words key s r id l me q b (loaded b) at o (λ z. z) (λ ws same. lane_loaded key r.tail b v s.words ws s.homes l same ok) in record {
+      let kept = same_words key s r id l me q b (loaded b) at o (λ ws same. lane_loaded key r.tail b v s.words ws s.homes l same ok) in record {
         view = with_writer (with_account l (loaded b) q) me.0;
         kept = kept.0;
         event = peek (behind r) (behind kept.0) l n ne (to_account (λ c. loaded c) (sym o.account) kept.1);

@@ -48,7 +48,7 @@ module _ {B K A : Type 0} (key : B → ℕ → K) where
         with_lane w me.0,
         takes k (Some (key x.0 l)),
         ok.keys v.passed x.0 (omega arith) (omega arith) there (lives.2 v.passed mid (omega arith)) (λ h. absurd (true≢false (sym h ∙ held))),
-        let kept = lane_step key s r id me.0 v w words homes at is refl (length-set s.words at_word new) (length-set s.homes k none) (get_or-set_other s.words at_word 0 new 0 (λ e. omega arith)) (λ m ne. get_or-set_other s.words at_word (lane_word m) new 0 (λ e. ne (omega arith)))
+        let kept = lane_step key s r id me.0 v w words homes at is refl refl (length-set s.words at_word new) (length-set s.homes k none) (get_or-set_other s.words at_word 0 new 0 (λ e. omega arith)) (λ m ne. get_or-set_other s.words at_word (lane_word m) new 0 (λ e. ne (omega arith)))
             (λ m i a ne. set_else s.homes k (slot p m i) none (other_lane p m l i v.passed a small ne)) record {
               sound = grind (arith, true≢false);
               word = grind (arith, get_or-set_same);
@@ -76,7 +76,7 @@ module _ {B K A : Type 0} (key : B → ℕ → K) where
         with_lane w me.0,
         keeps,
         tt,
-        let kept = lane_step key s r id me.0 v w words s.homes at is refl (ap length same) refl (ap (λ (l : List ℕ). get_or l 0 0) same) (λ m _. ap (λ (l : List ℕ). get_or l (lane_word m) 0) same) (λ m i a c. refl) record {
+        let kept = lane_step key s r id me.0 v w words s.homes at is refl refl (ap length same) refl (ap (λ (l : List ℕ). get_or l 0 0) same) (λ m _. ap (λ (l : List ℕ). get_or l (lane_word m) 0) same) (λ m i a c. refl) record {
           sound = grind (arith, true≢false);
           word = ap (λ (l : List ℕ). get_or l at_word 0) same ∙ ok.word;
           keys = ok.keys;

@@ -33,7 +33,6 @@ module _ {B K A : Type 0} (key : B → ℕ → K) where
           some_places = r.some_places;
           few = r.few;
           word = ap (λ (ws : List ℕ). get_or ws 0 0) same ∙ r.word;
-          spare = r.spare;
           each_lane = λ m a. stays key r.tail (r.account m) (r.lane m) s.words words s.homes s.homes m (ap (λ (ws : List ℕ). get_or ws (lane_word m) 0) same) (λ i. refl) (r.each_lane m a);
           each_seat = λ j u e. r.each_seat j u (ap (λ (vs : List (View B K A)). get_elem? vs j) (sym views) ∙ e);
         },

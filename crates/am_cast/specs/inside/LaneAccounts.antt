@@ -6,6 +6,8 @@ use Rattle.am_cast.specs.declared.writer.lane_account.LaneAccount.{LaneAccount}
 use Rattle.am_cast.specs.declared.writer.lane_account.Stand.{Stand}
 use Rattle.am_cast.specs.declared.writer.lane_account.Stand.TheVariants.{Idle, Live, Cut, Vacated}
 use Rattle.am_cast.specs.Rule.{bit, cut, idle, live, vacated}
+use Rattle.am_cast.specs.Changes.{retired}
+use Rattle.am_cast.specs.Writers.{IsCalm}
 
 -- the number of a standing in what contracts see of a lane
 abbrev pub stand_number : Stand → ℕ
@@ -27,3 +29,7 @@ pub record IsKeptAs {K A : Type 0} (b : Account K A) (a : LaneAccount) : Type 0 
   pub cut_is : b.stand ≡ cut → bit b.away ≡ a.word / 2 % 2
   pub rest_is : b.stand ≢ cut → b.away ≡ false
   pub bound : a.word ≤ 4 * LONGEST_LOG + 3
+
+-- the lane of which the seat now knows b was kept as a, between two calls, and became idle then
+abbrev pub WasIdled : {K A : Type 0} → ℕ → ℕ → Account K A → LaneAccount → Type 0
+WasIdled {K = K} {A = A} n places b a = (c : Account K A) × IsKeptAs c a × IsCalm n places c × (b ≡ retired c)

@@ -1,7 +1,7 @@
 //! The writer finds how far a lane is.
 //!
-//! A lane found left before its seat is home is vacated, which is the core's Retire; the homecoming
-//! is then no event. Without that a post that may cut could meet a full lane that it can't cut.
+//! A lane found left is vacated, which is the core's Retire; that it becomes idle (`reclaim`) is then no
+//! event. Without that a post that may cut could meet a full lane that it can't cut.
 ghost use Rattle.std.specs.Prelude.{None, [], length, ◌<◌, ◌≡◌};
 ghost use Rattle.am_cast.specs.declared.limits.TheConstants.{LANES};
 ghost use Rattle.am_cast.specs.Rule.{live};

@@ -1,7 +1,7 @@
-//! A lane is left.
+//! A lane is left, as its cursor is dropped.
 ghost use Rattle.std.specs.Prelude.{[], true, ◌<◌, ◌≡◌};
 ghost use Rattle.am_cast.specs.declared.limits.TheConstants.{LANES};
-ghost use Rattle.am_cast.specs.Changes.{left, with_lane};
+ghost use Rattle.am_cast.specs.Changes.{without_lane};
 ghost use Rattle.am_cast.specs.Steps.{Leaves};
 ghost use Rattle.am_cast.specs.Seats.{HoldsIf, IsLane, IsSized, lane_of};
 
@@ -28,7 +28,7 @@ pub(crate) fn leave_lane<B, K, A, R: Keyed<B, K>>(
         IsLane seat.old.me v × (lane ≡ v.number) × (v.begun ≡ true) }
     requires hand { let v = lane_of seat.old.me.0 in HoldsIf R.key v.held seat.old.me v }
     ensures same { (seat.new.table_id ≡ seat.old.table_id) × (seat.new.me.1 ≡ []) }
-    ensures lane { seat.new.me.0 ≡ with_lane (left (lane_of seat.old.me.0)) seat.old.me.0 }
+    ensures lane { seat.new.me.0 ≡ without_lane seat.old.me.0 }
 {
     top.store::<Leave>(seat, 16 * lane + 16, u64::MAX);
 }

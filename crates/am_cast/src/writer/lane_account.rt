@@ -12,7 +12,7 @@ pub(crate) enum Stand {
     Live,
     /// Cut: it gets no more keys.
     Cut,
-    /// Found left, with its seat still out: it gets no more keys.
+    /// Found left: it gets no more keys.
     Vacated,
 }
 

@@ -7,7 +7,7 @@ ghost use Rattle.am_cast.specs.Rule.{idle, live};
 ghost use Rattle.am_cast.specs.Changes.{clearing, shut};
 ghost use Rattle.am_cast.specs.Seats.{account_of, IsPast};
 ghost use Rattle.am_cast.specs.Writers.{Calm, IsBehind};
-ghost use Rattle.am_cast.specs.inside.LaneAccounts.{stand_number};
+ghost use Rattle.am_cast.specs.inside.LaneAccounts.{stand_number, WasIdled};
 ghost use Rattle.am_cast.specs.inside.WriterStates.{OnlyAccount, KeepsRoom};
 ghost use Rattle.am_cast.specs.inside.Waiting.{is_live};
 
@@ -133,6 +133,25 @@ impl<T: Drop, P, A, N: Feed> WriterState<T, P, A, N> {
     {
         for place in from..to {
             self.bring_one(cast, lane, place);
+        }
+    }
+
+    /// The keys of a lane that became idle come home: those in its slots if it was live, and the one that was
+    /// away if it was cut.
+    pub(crate) fn empty(&mut self, cast: &Cast<T, P, A, N>, lane: usize, was: LaneAccount)
+        requires { (lane < LANES) × (length self.old.known.accounts ≡ LANES)
+            × WasIdled (length self.old.known.tail.log) self.old.known.tail.places
+            (account_of self.old.known lane) was }
+        ensures { let b = account_of self.old.known lane in
+            OnlyAccount self.old self.new lane (record b { cleared = b.stop }) }
+    {
+        if was.is_live() {
+            let to = self.next.number();
+            self.clear_to(cast, lane, was.known(), to);
+            return;
+        }
+        if was.is_away() {
+            self.clear_to(cast, lane, was.known(), was.known() + 1);
         }
     }
 
