@@ -151,7 +151,7 @@ fn read<N: Recorded, R: Wait + Clock>(
     let begin = Instant::now(rt);
     let page = client.stored_page(rt, load.stored / 2, MANY)?;
     note(&mut times.page, since(rt, begin));
-    if let Some(alert) = page.alerts.as_slice().first() {
+    if let Some(alert) = page.alerts.get(0) {
         let begin = Instant::now(rt);
         let _found = client.get(rt, &alert.labels)?;
         note(&mut times.get, since(rt, begin));
@@ -237,6 +237,9 @@ impl<R: Wait + Clock> Program<R> for Calling {
             let took = put(rt, alloc, client, &mut reader, 0, MANY)?;
             note(&mut times.put_many, took);
             read(rt, client, load, &mut times)?;
+            // A list that was shared since the last post is shared once more, which would say less.
+            let took = put(rt, alloc, client, &mut reader, 0, 1)?;
+            note(&mut times.put_one, took);
             subscribe(rt, client, &mut times)?;
             clear(rt, alloc, client, &mut reader, &mut times)?;
         }

@@ -113,6 +113,21 @@ lowest_free a counted places lane kept small free low = record {
   lowest = λ other h. let inside : other < 8 = omega arith in taken_lane a.journal.journal (account_of a.log other) (lane_at a.lanes other) (kept.lanes other inside) (low other h);
 }
 
+some_true : {A : Type 0} (o : Option A) → IsSome o → is_some o ≡ true
+some_true None h = h
+some_true (Some x) h = refl
+
+-- a subscription of that lane may come next
+pub may_subscribe : (a : Shelf) (counted places lane : ℕ) → IsKeptBook a counted places → a.log.tail.closed ≡ false → IsLowestFree a.lanes lane → MayFollow a.journal.journal (Subscribed lane)
+may_subscribe a counted places lane kept still low = (
+  sym kept.pages.closed ∙ still,
+  record {
+    within = low.within;
+    idle = sym (kept.pages.lanes lane low.within) ∙ ap is_some low.idle;
+    lowest = λ other h. let k : other < 8 = omega (arith, low.within) in sym (kept.pages.lanes other k) ∙ some_true (lane_at a.lanes other) (low.lowest other h);
+  },
+)
+
 lane_begins : (gone : ℕ) (journal : JournalView) (lane other start : ℕ) (one : OpenLane) (o : Option OpenLane) (was is : Account (KeyView Alert) OpenLane)
     → one.at ≡ call_count journal → one.opening ≡ stored (updates journal) → start ≡ journal.places + length (broadcast journal)
     → (lane ≡ other → (is.stand ≡ live) × (is.note ≡ Some one) × (is.start ≡ start) × (is.known ≡ start)) → ((lane ≢ other) → is ≡ was)
@@ -160,21 +175,10 @@ kept_subscribed a b counted places room lane one kept still low journal at openi
           (lane_begins a.journal.gone old lane other (length a.log.tail.log) one (lane_at a.lanes other) (account_of a.log other) (account_of b.log other) at (opening ∙ kept.pages.kept.stored) starts
           (λ e. subst (λ n. ((account_of b.log n).stand ≡ live) × ((account_of b.log n).note ≡ Some one) × ((account_of b.log n).start ≡ length a.log.tail.log) × ((account_of b.log n).known ≡ length a.log.tail.log)) e (stand, note, start, known))
           (λ ne. others other (λ e. ne (sym e))) (kept.pages.openings other) (kept.lanes other small))));
-      endings = subst (All (IsEndingOf b.journal.journal)) (sym endings) (subst (λ j. All (IsEndingOf j) a.endings) (sym journal) (endings_grown old (Subscribed lane) a.endings (
-        sym kept.pages.closed ∙ still,
-        record {
-          within = low.within;
-          idle = sym (kept.pages.lanes lane low.within) ∙ ap is_some low.idle;
-          lowest = λ other h. let k : other < 8 = omega (arith, low.within) in sym (kept.pages.lanes other k) ∙ some_true (lane_at a.lanes other) (low.lowest other h);
-        },
-      ) kept.endings));
+      endings = subst (All (IsEndingOf b.journal.journal)) (sym endings) (subst (λ j. All (IsEndingOf j) a.endings) (sym journal) (endings_grown old (Subscribed lane) a.endings (may_subscribe a counted places lane kept still low) kept.endings));
       total = kept.total ∙ ap (λ (t : Tail Batch). length t.log) (sym tail);
       room = let f = few b.lanes in let e = pages.eight in omega arith;
     }
-  where
-    some_true : {A : Type 0} (o : Option A) → IsSome o → is_some o ≡ true
-    some_true None h = h
-    some_true (Some x) h = refl
 
 -- a new cursor has shown nothing
 pub fresh_items : (log : List Batch) → all_items (drop (length log) (take (length log) log)) ++ [] ≡ []

@@ -1,11 +1,11 @@
 -- A subscription as it shows many alerts at once.
 use Rattle.std.proofs.Common.{◌≡◌, ℕ, ◌+◌, ◌-◌, ◌%◌, ◌^◌, ◌≤◌, false, true, List, [], ◌++◌, length, take, drop, Some, refl, sym, ap, subst, ◌∙◌, arith, length-append, Bor}
-use Rattle.std.proofs.lemmas.List.{append-nil, drop-map, length-drop, take-append-drop, take_all}
-use Rattle.std.specs.Arc.{arc_value}
+use Rattle.std.proofs.lemmas.List.{drop-take, take-append-drop, take-take, take_min}
 use Rattle.std.specs.declared.alloc.Global.{Global}
 use Rattle.std.specs.declared.sync.Arc.{Arc}
 use Rattle.am_alert.specs.declared.alert.Alert.{Alert}
-use Rattle.am_store.specs.Shared.{alerts_in}
+use Rattle.am_store.specs.declared.shared_alerts.TheConstants.{BLOCK}
+use Rattle.am_store.specs.Shared.{alerts_in, run_end}
 use Rattle.am_cast.specs.Cursors.{GoesOn, items_at}
 use Rattle.am_cast.specs.Lent.{IsRest, MovesSlice}
 use Rattle.am_cast.specs.declared.lends.Moved.TheVariants as moved
@@ -32,12 +32,16 @@ batch_shown old new count next from was shown same on moves counts =
       (none, still_untold old new count next was rest.was_open, moves),
     )
 
--- the rest of the opening is lent
-pub lends_opening : (s : SubscriptionView) (given : Advance) (from : ℕ) (alerts : Bor (List (Arc Alert Global))) (shared : List (Arc Alert Global)) → given ≡ advance.Opened
-    → alerts.now ≡ take (length shared - from) (drop from shared) → alerts_in shared ≡ s.opening → IsSliceShown s given from (slice.Stored alerts)
-lends_opening s given from alerts shared is lent opening =
-    let long : length (drop from shared) ≡ length shared - from = length-drop from shared in
-    let here : alerts_in alerts.now ≡ drop from s.opening =
-    ap alerts_in (lent ∙ take_all (length shared - from) (drop from shared) (omega (arith, long)))
-    ∙ (sym (drop-map arc_value from shared) ∙ ap (drop from) opening) in
-    subst (λ (a : Advance). IsSliceShown s a from (slice.Stored alerts)) (sym is) here
+-- what lies together of the opening is lent
+pub lends_opening : (s : SubscriptionView) (given : Advance) (from : ℕ) (alerts : Bor (List (Arc Alert Global))) (opening : List Alert) → given ≡ advance.Opened
+    → alerts_in alerts.now ≡ take (BLOCK - from % BLOCK) (drop from opening) → opening ≡ s.opening → IsSliceShown s given from (slice.Stored alerts)
+lends_opening s given from alerts opening is lent same =
+    subst (λ (a : Advance). IsSliceShown s a from (slice.Stored alerts)) (sym is) (lent ∙ ap (λ list. take (BLOCK - from % BLOCK) (drop from list)) same)
+
+-- what is shown up to the end of a run is what was shown before and the run
+pub run_taken : (opening : List Alert) (shown : ℕ) → take (run_end shown (length opening)) opening ≡ take shown opening ++ take (BLOCK - shown % BLOCK) (drop shown opening)
+run_taken opening shown =
+    let run = BLOCK - shown % BLOCK in
+    take_min (shown + run) opening
+    ∙ (sym (take-append-drop shown (take (shown + run) opening))
+    ∙ (ap (λ front. front ++ drop shown (take (shown + run) opening)) (take-take shown (shown + run) opening (omega arith)) ∙ ap (λ rest. take shown opening ++ rest) (drop-take shown run opening)))

@@ -5,7 +5,7 @@ use Rattle.am_alert.specs.declared.alert.Alert.{Alert}
 use Rattle.am_cast.specs.Cursors.{GoesOn, HasCut}
 use Rattle.am_cast.specs.Lent.{IsPending, IsClosed, IsCut, IsRest}
 use Rattle.am_cast.specs.Lent as cast
-use Rattle.am_store.specs.Shared.{alerts_in}
+use Rattle.am_store.specs.Shared.{alerts_in, run_end}
 use Rattle.am_provider.specs.declared.answers.Slice.{Slice}
 use Rattle.am_provider.specs.declared.answers.Slice.TheVariants as slice
 use Rattle.am_provider.specs.declared.answers.Step.{Step}
@@ -52,11 +52,12 @@ Shows old step.Pending new = ShowsNone old old.closed_told new × IsPending old.
 Shows old step.Closed new = ShowsNone old true new × IsClosed old.cursor new.cursor
 Shows old step.Cut new = ShowsNone old old.closed_told new × IsCut old.cursor new.cursor
 
--- what an answer with many alerts shows: all that was left of the opening, or of a batch, and at least one
+-- what an answer with many alerts shows: all that lay together of the rest of the opening, or was left of a
+-- batch, and at least one
 abbrev pub ShowsSlice : SubscriptionView → Slice → SubscriptionView → Type 0
 ShowsSlice old (slice.Stored alerts) new =
     ShowsAlerts old (alerts_in alerts.now) new × (old.shown < length old.opening)
-    × (new ≡ record old { shown = length old.opening })
+    × (new ≡ record old { shown = run_end old.shown (length old.opening) })
 ShowsSlice old (slice.Posted items) new =
     ShowsAlerts old items.now new × ShowsNone old old.closed_told new × IsRest old.cursor new.cursor items.now
 ShowsSlice old slice.Pending new = Shows old step.Pending new

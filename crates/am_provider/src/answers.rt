@@ -72,7 +72,7 @@ pub enum Step<'a> {
 /// What a subscription shows next, as many alerts as lie together.
 #[derive(Clone, Copy, Debug)]
 pub enum Slice<'a> {
-    /// What is left of the alerts that were stored at the subscription, lent until the next call.
+    /// Alerts that were stored at the subscription, as many as lie together, lent until the next call.
     Stored(&'a [SharedAlert]),
     /// What is left of a post's batch, or all of the next one, lent until the next call.
     Posted(&'a [Item]),

@@ -44,7 +44,7 @@ use am_cast::CloseFault;
 use am_labels::LabelSet;
 use am_store::lanes::{LANES, Lanes, OpenLane};
 use am_store::store::absorb::Change;
-use am_store::store::{AlertMap, share_all, share_of, share_page};
+use am_store::store::{AlertMap, Store};
 use am_store::{Call, Journal, KeptJournal, SharedAlert, StoredAlerts};
 use std::alloc::{AllocError, Global};
 use std::marker::Model;
@@ -56,7 +56,7 @@ const ENTRIES: usize = LANES + 2;
 
 /// What lies under the lock: the stored alerts, the journal, and the writer of the log.
 pub struct Book<N: Origin> {
-    stored: AlertMap,
+    stored: Store,
     // It has room for a Left of each open lane and, until the log is ended, for a Closed.
     journal: KeptJournal,
     log: Writer<N>,
@@ -82,7 +82,7 @@ impl<N: Origin> Model for Book<N> {
     ghost use Rattle.am_alert.specs.Alerts.{coded_alert};
     ghost use Rattle.am_store.specs.contracts.call.Call as call;
     ghost use Rattle.am_store.specs.contracts.lanes.OpenLane as lane;
-    ghost use Rattle.am_store.specs.AlertMaps.{stored_in, AreKeptByLabels};
+    ghost use Rattle.am_store.specs.AlertMaps.{stored_in};
     ghost use Rattle.am_provider.specs.BookView.{BookView};
     ghost use Rattle.am_provider.specs.inside.Endings.{AreEndingsOf};
     ghost use Rattle.am_provider.specs.inside.Shelves.{view_of, IsKeptBook};
@@ -92,7 +92,7 @@ impl<N: Origin> Model for Book<N> {
     ghost coded = { Prim.hlevel (codes, coded_alert, call.the_row.coded, lane.the_row.coded) };
 
     ghost view = { λ b. view_of (record {
-      stored = stored_in b.stored.entries;
+      stored = stored_in b.stored;
       journal = b.journal;
       log = b.log;
       posts = b.posts;
@@ -102,8 +102,8 @@ impl<N: Origin> Model for Book<N> {
       policy = b.policy;
     }) };
 
-    ghost invariant = { λ b. AreKeptByLabels b.stored.entries × IsKeptBook (record {
-      stored = stored_in b.stored.entries;
+    ghost invariant = { λ b. IsKeptBook (record {
+      stored = stored_in b.stored;
       journal = b.journal;
       log = b.log;
       posts = b.posts;
@@ -206,7 +206,7 @@ impl<N: Origin> Book<N> {
             Err(_) => return Err(log),
         };
         Ok(Book {
-            stored: AlertMap::new(alloc),
+            stored: Store::new(alloc),
             journal,
             log,
             posts: 0,
@@ -263,7 +263,7 @@ impl<N: Origin> Book<N> {
         let (ended, early) = endings.into_held();
         Held {
             journal: journal.into_held(),
-            store: stored,
+            store: stored.into_map(),
             ended,
             early,
             posters,
@@ -294,10 +294,11 @@ impl<N: Origin> Book<N> {
 
     /// What is stored, in order (`provider.Alerts`' GetPending). It is no call of the journal and takes
     /// no lane.
-    pub fn stored(&self) -> Result<StoredAlerts, AllocError>
-        ensures { IfOk result (λ alerts. alerts ≡ self.now.stored) }
+    pub fn stored(&mut self) -> Result<StoredAlerts, AllocError>
+        ensures alerts { IfOk result (λ alerts. alerts ≡ self.old.stored) }
+        ensures same { self.new ≡ self.old }
     {
-        share_all(&self.stored)
+        self.stored.share_all()
     }
 
     /// What is stored, in order, from an index on, and at most `most` alerts of it. It is no call of the
@@ -307,7 +308,7 @@ impl<N: Origin> Book<N> {
         ensures stored { IfOk result (λ page. page.stored ≡ length self.now.stored) }
         ensures calls { IfOk result (λ page. page.calls ≡ call_count self.now.journal) }
     {
-        let alerts = share_page(&self.stored, from as usize, most as usize)?;
+        let alerts = self.stored.share_page(from as usize, most as usize)?;
         Ok(Page {
             alerts,
             stored: self.stored.len() as u64,
@@ -322,7 +323,7 @@ impl<N: Origin> Book<N> {
             option_map arc_value found ≡ lookup labels.now self.now.stored) }
         ensures stored { OnErr result (lookup labels.now self.now.stored ≢ None) }
     {
-        share_of(&self.stored, labels)
+        self.stored.share_of(labels)
     }
 
     /// What is stored, what was sent out and how its subscriptions ended are what its journal
@@ -346,6 +347,14 @@ impl<N: Origin> Book<N> {
         ensures { self.new ≡ self.old }
     {
         mem::replace(&mut self.left, (None, None))
+    }
+
+    // A list of what is stored that was shared and has changed since: for who drops it once the lock is given back. It
+    // is given once.
+    pub(crate) fn take_outdated(&mut self) -> Option<StoredAlerts>
+        ensures { self.new ≡ self.old }
+    {
+        self.stored.take_outdated()
     }
 
     // The call that came last.

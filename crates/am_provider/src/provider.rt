@@ -1,6 +1,7 @@
 //! The provider: a Book under a lock, with subscriptions that read without it. Nothing is printed, parsed or waited for
-//! under the lock. The blocks of a post's alerts are made before, unless a filter judges them. What a post replaces, and
-//! the opening of a subscription that leaves, is dropped once it is given back.
+//! under the lock. The blocks of a post's alerts are made before, unless a filter judges them. What a post replaces,
+//! the opening of a subscription that leaves, and a list of what is stored that another one takes the place of, are
+//! dropped once it is given back.
 //!
 //! Each call is made on the Book. If it was accepted, an entry is added to the history, and the caller's front sees all of
 //! it; if it was refused, the front sees what there is.

@@ -17,7 +17,7 @@ use crate::feed::{Cast, Recorded};
 use crate::prepared_post::PreparedPost;
 use am_alert::Moment;
 use am_history::{History, HistoryTable};
-use am_store::{Call, LaneSet};
+use am_store::{Call, LaneSet, StoredAlerts};
 use std::alloc::AllocError;
 use std::marker::Model;
 use std::snapshot::Snapshot;
@@ -115,6 +115,14 @@ impl<N: Recorded> RecordedBook<N> {
             caller,
         );
         Ok(removed)
+    }
+
+    /// A list of what is stored that has changed since it was shared, if one was let go: for who drops it once the
+    /// lock is given back. It is given once.
+    pub(crate) fn take_outdated(&mut self) -> Option<StoredAlerts>
+        ensures { self.new ≡ self.old }
+    {
+        self.book.take_outdated()
     }
 }
 

@@ -4,7 +4,6 @@
 //! until the next call. `next_slice` lends two kinds of slice, since one kind for both would copy them.
 
 ghost use Rattle.std.specs.Prelude.{◌≡◌, ℕ, ◌+◌, ◌<◌, ◌^◌, IfNone, IfSome, Some, false, true, [], length};
-ghost use Rattle.am_store.specs.Shared.{alerts_in};
 ghost use Rattle.am_cast.specs.Cursors.{shown_items};
 ghost use Rattle.am_provider.specs.Subscriptions.{taken};
 ghost use Rattle.am_cast.specs.Lent.{IsPending};
@@ -19,7 +18,7 @@ use crate::answers::{Slice, Step};
 use crate::feed::{Cast, Cursor, Origin, Writer};
 use crate::pass::Pass;
 use am_cast::Moved;
-use am_store::{Past, SharedAlert, StoredAlerts};
+use am_store::{BLOCK, Past, StoredAlerts};
 use std::fmt;
 use std::marker::Model;
 
@@ -102,7 +101,7 @@ impl<'a, N: Origin> Subscription<'a, N> {
         Subscription {
             at,
             opening: Past::of(&opening),
-            stored: opening.as_slice().len(),
+            stored: opening.len(),
             held: Some(opening),
             shown: 0,
             cursor,
@@ -169,12 +168,12 @@ impl<'a, N: Origin> Subscription<'a, N> {
     }
 
     // The opening, which memory has until an alert of the log was shown.
-    fn held_opening(&self) -> &[SharedAlert]
+    fn held_opening(&self) -> &StoredAlerts
         requires { shown_items self.now.cursor ≡ [] }
-        ensures { alerts_in result.now ≡ self.now.opening }
+        ensures { result.now ≡ self.now.opening }
     {
         match &self.held {
-            Some(opening) => opening.as_slice(),
+            Some(opening) => opening,
             None => unreachable!(),
         }
     }
@@ -221,8 +220,8 @@ impl<'a, N: Origin> Subscription<'a, N> {
         note(moved, &mut self.count, &mut self.closed_told)
     }
 
-    // The rest of the opening is shown, if there is any. Answers at which index it begins.
-    fn show_whole_opening(&mut self) -> Option<usize>
+    // What lies together of the rest of the opening is shown, if there is any. Answers at which index it begins.
+    fn show_opening_run(&mut self) -> Option<usize>
         ensures some { IfSome result (λ from. ShowsOpening self.old from self.new) }
         ensures none { IfNone result
             ((self.old.shown ≡ length self.old.opening) × (self.new ≡ self.old)) }
@@ -231,17 +230,17 @@ impl<'a, N: Origin> Subscription<'a, N> {
         if from >= self.stored {
             return None;
         }
-        self.shown = self.stored;
-        self.count = self.count.wrapping_add((self.stored - from) as u64);
+        self.shown = self.stored.min(from + (BLOCK - from % BLOCK));
+        self.count = self.count.wrapping_add((self.shown - from) as u64);
         Some(from)
     }
 
-    // As `advance`, but all that lies together counts as shown: the rest of the opening or of a batch.
-    // Answers with it at which index that begins.
+    // As `advance`, but all that lies together counts as shown, of the opening or of a batch. Answers with it at
+    // which index that begins.
     fn advance_slice(&mut self) -> (Advance, usize)
         ensures { AdvancesSlice self.old result.0 result.1 self.new }
     {
-        if let Some(from) = self.show_whole_opening() {
+        if let Some(from) = self.show_opening_run() {
             return (Advance::Opened, from);
         }
         match self.cursor.advance_slice() {
@@ -285,7 +284,10 @@ impl<'a, N: Origin> Subscription<'a, N> {
         match advance {
             Advance::Opened => {
                 let last = self.shown - 1;
-                Step::Item(&self.held_opening()[last])
+                match self.held_opening().get(last) {
+                    Some(alert) => Step::Item(alert),
+                    None => unreachable!(),
+                }
             }
             Advance::Logged => Step::Item(self.cursor.in_hand().alert()),
             Advance::Pending => Step::Pending,
@@ -332,7 +334,7 @@ impl<'a, N: Origin> Subscription<'a, N> {
         ensures shown { IsSliceShown self.old advance from result }
     {
         match advance {
-            Advance::Opened => Slice::Stored(&self.held_opening()[from..]),
+            Advance::Opened => Slice::Stored(self.held_opening().run_from(from)),
             Advance::Logged => Slice::Posted(self.cursor.in_hand_from(from)),
             Advance::Pending => Slice::Pending,
             Advance::Closed => Slice::Closed,
@@ -340,8 +342,8 @@ impl<'a, N: Origin> Subscription<'a, N> {
         }
     }
 
-    /// The next alerts, as many as lie together: what is left of those that were stored at the
-    /// subscription, or of a post's batch. They are taken by this call, and lent until the next one.
+    /// The next alerts, as many as lie together: of those that were stored at the subscription (up to `BLOCK`
+    /// of them), or what is left of a post's batch. They are taken by this call, and lent until the next one.
     pub fn next_slice(&mut self) -> Slice<'_>
         ensures* lender { sem 𝓛 (AfterTheLoan N.row N.Feed N.Ledger self.entry
             (λ subscription. ShowsSlice self.old result subscription)) }

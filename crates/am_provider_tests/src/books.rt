@@ -8,7 +8,7 @@ use crate::stopped::Stopped;
 use am_alert::{Alert, Moment, read_post};
 use am_labels::LabelSet;
 use am_provider::{Begun, Book, Cast, Counts, Ended, Origin, Parts, Pass, Policy, Settled, Step};
-use am_store::SharedAlert;
+use am_store::StoredAlerts;
 use std::alloc::{AllocError, Global};
 use std::marker::Brand;
 use std::sync::Wait;
@@ -16,7 +16,7 @@ use std::test::Fail;
 use std::time::Duration;
 
 // The starts of alerts, in their order.
-fn starts_of(alloc: Global, alerts: &[SharedAlert]) -> Result<Vec<Moment>, AllocError> {
+fn starts_of(alloc: Global, alerts: &StoredAlerts) -> Result<Vec<Moment>, AllocError> {
     let mut starts = Vec::with_capacity(alloc, alerts.len())?;
     for alert in alerts {
         starts.push(alert.start)?;
@@ -105,10 +105,10 @@ fn spend<N: Origin>(
         return Err(Stopped::Refused);
     }
     let none = post_none(alloc, book, cast, pass)?;
-    let stored = starts_of(alloc, book.stored()?.as_slice())?;
+    let stored = starts_of(alloc, &book.stored()?)?;
     let found = second_start(alloc, book)?;
-    let removed = starts_of(alloc, book.take_resolved(moment(20))?.as_slice())?;
-    let left = starts_of(alloc, book.stored()?.as_slice())?;
+    let removed = starts_of(alloc, &book.take_resolved(moment(20))?)?;
+    let left = starts_of(alloc, &book.stored()?)?;
     Ok(Answers {
         stored,
         found,

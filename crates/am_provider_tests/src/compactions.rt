@@ -208,8 +208,8 @@ fn page<N: Recorded, R: Wait>(
     most: u64,
 ) -> Result<Said, Stopped> {
     let page = client.stored_page(rt, from, most)?;
-    let alerts = page.alerts.as_slice();
-    let first = match alerts.first() {
+    let alerts = &page.alerts;
+    let first = match alerts.get(0) {
         Some(alert) => alert.labels.get("n").parse::<u32>().ok(),
         None => None,
     };

@@ -27,6 +27,8 @@ mod many_threads;
 #[cfg(test)]
 mod one_thread;
 #[cfg(test)]
+mod openings;
+#[cfg(test)]
 mod plain_store;
 #[cfg(test)]
 mod posts;

@@ -7,7 +7,7 @@ use crate::stopped::Stopped;
 use am_alert::{MAX_ALERTS, Moment};
 use am_labels::LabelSet;
 use am_provider::Counts;
-use am_store::SharedAlert;
+use am_store::StoredAlerts;
 use sinnoraku::{Client, Limits, Program, Recorded, run};
 use std::alloc::{AllocError, Global};
 use std::sync::Wait;
@@ -37,7 +37,7 @@ fn labels_of(alloc: Global, number: u32) -> Result<LabelSet, AllocError> {
 // Whether these are the alerts of the numbers from one on in steps, in order.
 fn are_numbered(
     alloc: Global,
-    alerts: &[SharedAlert],
+    alerts: &StoredAlerts,
     first: u32,
     step: u32,
 ) -> Result<bool, AllocError> {
@@ -62,8 +62,10 @@ fn stored<N: Recorded, R: Wait + AllocGlobal>(
     step: u32,
 ) -> Result<Listed, AllocError> {
     let alerts = client.stored(rt)?;
-    let alerts = alerts.as_slice();
-    Ok((alerts.len(), are_numbered(rt.alloc(), alerts, first, step)?))
+    Ok((
+        alerts.len(),
+        are_numbered(rt.alloc(), &alerts, first, step)?,
+    ))
 }
 
 // The end of the stored alert of a number, if there is one.
@@ -85,8 +87,7 @@ fn taken<N: Recorded, R: Wait + AllocGlobal>(
     client: &mut Client<'_, N>,
 ) -> Result<Listed, AllocError> {
     let alerts = client.take_resolved(rt, moment(20))?;
-    let alerts = alerts.as_slice();
-    Ok((alerts.len(), are_numbered(rt.alloc(), alerts, 0, 2)?))
+    Ok((alerts.len(), are_numbered(rt.alloc(), &alerts, 0, 2)?))
 }
 
 /// What reads answered before a collection and after it.

@@ -1,5 +1,5 @@
 -- The map of stored alerts, seen as the list of its alerts.
-use Rattle.std.proofs.Common.{◌≡◌, ℕ, zero, suc, ◌-◌, ◌<◌, ◌≤◌, Bool, true, false, List, [], ◌∷◌, ◌++◌, filter, length, take, Some, refl, sym, ap, ◌∙◌, arith, length-append}
+use Rattle.std.proofs.Common.{◌≡◌, ℕ, zero, suc, ◌-◌, ◌<◌, ◌≤◌, Bool, true, false, not, cond, List, [], ◌∷◌, ◌++◌, filter, length, take, Some, refl, sym, ap, ◌∙◌, arith, length-append}
 use Rattle.std.specs.Arc.{arc_value}
 use Rattle.std.specs.declared.sync.Arc.{Arc}
 use Rattle.std.specs.declared.alloc.Global.{Global}
@@ -9,6 +9,7 @@ use Rattle.std.specs.Map.{keys_of, values_of}
 use Rattle.std.specs.Map as map
 use Rattle.std.proofs.Math.Seq.{take-append_seam}
 use Rattle.std.proofs.lemmas.List.{length-map}
+use Rattle.std.proofs.lemmas.List.Filters.{length-filter_both}
 use Rattle.indexmap.specs.IndexMap.{insert_entry, set_value_at}
 use Rattle.indexmap.proofs.MapLemmas.{Found-position, insert_entry-first}
 use Rattle.am_labels.specs.LabelSets.{Labels, same_labels}
@@ -83,6 +84,15 @@ stored_filtered q (entry ∷ entries) = let rest = stored_filtered q entries in 
 pub kept_filtered : (q : Alert → Bool) (entries : List (Labels × Arc Alert Global)) → AreKeptByLabels entries → AreKeptByLabels (filter (λ entry. q (arc_value entry.1)) entries)
 kept_filtered q [] kept = tt
 kept_filtered q (entry ∷ entries) kept = let rest = kept_filtered q entries in grind arith
+
+-- a filter that leaves as many as there were leaves all
+pub all_left : {X : Type 0} (q : X → Bool) (xs : List X) → length (filter q xs) ≡ length xs → filter q xs ≡ xs
+all_left q [] many = refl
+all_left q (x ∷ xs) many =
+    elim (q x) as (λ b. length (cond b (x ∷ filter q xs) (filter q xs)) ≡ length (x ∷ xs) → cond b (x ∷ filter q xs) (filter q xs) ≡ x ∷ xs) [
+      | true ↦ λ same. ap (λ rest. x ∷ rest) (all_left q xs (omega (arith, same)))
+      | false ↦ λ same. absurd (omega (arith, same, length-filter_both q (λ y. not (q y)) (λ y. refl) xs))
+    ] many
 
 -- ---- what a report becomes has its label set
 

@@ -3,6 +3,7 @@ pub mod Opens
 pub mod Earliest
 pub mod Kept
 pub mod Absorbing
+pub mod Blocks
 pub mod Judging
 pub mod Stored
 pub mod Flags

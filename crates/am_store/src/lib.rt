@@ -15,9 +15,9 @@
 //!
 //! <!-- parts of crates/am_provider/src/book/post.rt -->
 //! ```rust
-//! let Absorbed { batch, undo } = absorb_each(&mut self.stored, reports, now)?;
+//! let Absorbed { batch, undo } = self.stored.absorb(reports, now)?;
 //!
-//! take_back(&mut self.stored, undo);
+//! self.stored.take_back(undo);
 //! ```
 //!
 //! The store, what goes out and what late subscribers are shown have each alert in common: none of
@@ -39,4 +39,4 @@ pub use journal::{Journal, MAX_BEFORE};
 pub use kept_journal::KeptJournal;
 pub use lane_set::LaneSet;
 pub use past::Past;
-pub use shared_alerts::{SharedAlert, StoredAlerts};
+pub use shared_alerts::{BLOCK, SharedAlert, StoredAlerts, StoredIter};

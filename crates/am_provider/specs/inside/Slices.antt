@@ -1,6 +1,7 @@
 -- How a subscription moves on before many alerts are lent.
-use Rattle.std.specs.Prelude.{◌≡◌, ℕ, ◌<◌, ◌≤◌, true, false, [], drop, length, ⊤}
-use Rattle.am_store.specs.Shared.{alerts_in}
+use Rattle.std.specs.Prelude.{◌≡◌, ℕ, ◌-◌, ◌%◌, ◌<◌, ◌≤◌, true, false, [], drop, length, take, ⊤}
+use Rattle.am_store.specs.declared.shared_alerts.TheConstants.{BLOCK}
+use Rattle.am_store.specs.Shared.{alerts_in, run_end}
 use Rattle.am_cast.specs.Cursors.{items_at, shown_items}
 use Rattle.am_cast.specs.Lent.{MovesSlice}
 use Rattle.am_cast.specs.declared.lends.Moved.TheVariants as moved
@@ -13,13 +14,13 @@ use Rattle.am_provider.specs.Showings.{ShowsNone}
 use Rattle.am_provider.specs.inside.Advances.{Advances}
 use Rattle.am_provider.specs.inside.Subscribed.{IsFresh}
 
--- the opening is shown, from the index on up to which it was shown
+-- what lies together of the opening is shown, from the index on up to which it was shown
 pub record ShowsOpening (old : SubscriptionView) (from : ℕ) (new : SubscriptionView) : Type 0 where
   pub is_next : from ≡ old.shown
   pub some : old.shown < length old.opening
   pub fresh : IsFresh old.cursor
   pub untold : old.closed_told ≡ false
-  pub all : new ≡ record old { shown = length old.opening }
+  pub run : new ≡ record old { shown = run_end old.shown (length old.opening) }
 
 -- all that lies together, from an index on, of the opening or of a batch of the log; or why there is none
 abbrev pub AdvancesSlice : SubscriptionView → Advance → ℕ → SubscriptionView → Type 0
@@ -38,7 +39,8 @@ CanShowFrom other from s = ⊤
 
 -- an answer lends the alerts that were advanced to, or says why there are none
 abbrev pub IsSliceShown : SubscriptionView → Advance → ℕ → Slice → Type 0
-IsSliceShown s advance.Opened from (slice.Stored alerts) = alerts_in alerts.now ≡ drop from s.opening
+IsSliceShown s advance.Opened from (slice.Stored alerts) =
+    alerts_in alerts.now ≡ take (BLOCK - from % BLOCK) (drop from s.opening)
 IsSliceShown s advance.Logged from (slice.Posted items) =
     items.now ≡ drop from (items_at s.cursor.lane.front s.cursor.lane.passed)
 IsSliceShown s advance.Pending from answer = answer ≡ slice.Pending

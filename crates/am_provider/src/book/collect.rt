@@ -9,7 +9,6 @@ ghost use Rattle.am_provider.specs.Posts.{KeepsRest};
 use crate::book::{Book, ENTRIES};
 use crate::feed::Origin;
 use am_alert::Moment;
-use am_store::store::{remove_resolved, share_resolved};
 use am_store::{Call, StoredAlerts};
 use std::alloc::AllocError;
 
@@ -28,7 +27,7 @@ impl<N: Origin> Book<N> {
         ensures err { OnErr result (self.new ≡ self.old) }
     {
         self.journal.reserve(ENTRIES)?;
-        let removed = remove_resolved(&mut self.stored, now);
+        let removed = self.stored.remove_resolved(now);
         self.journal.push(Call::Collected(now));
         Ok(removed)
     }
@@ -55,6 +54,6 @@ impl<N: Origin> Book<N> {
     pub(crate) fn resolved(&self, now: Moment) -> Result<StoredAlerts, AllocError>
         ensures { IfOk result (λ resolved. resolved ≡ filter (is_resolved_at now) self.now.stored) }
     {
-        share_resolved(&self.stored, now)
+        self.stored.share_resolved(now)
     }
 }

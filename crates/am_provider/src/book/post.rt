@@ -19,8 +19,8 @@ use crate::prepared_post::PreparedPost;
 use crate::sending::{look_for_room, send_batch};
 use am_alert::{Alert, Alerts, Moment, Post};
 use am_cast::Published;
-use am_store::store::absorb::{Absorbed, PreparedReports, absorb_each, take_back};
-use am_store::store::judge::{Judged, judge_each};
+use am_store::store::absorb::{Absorbed, PreparedReports};
+use am_store::store::judge::Judged;
 use am_store::{Call, LaneSet};
 use std::alloc::AllocError;
 
@@ -122,7 +122,7 @@ impl<N: Origin> Book<N> {
             return Err(PutFault::Closed);
         }
         let Post { valid, faults } = post;
-        let Judged { accepted, refused } = judge_each(&mut self.stored, valid, now, accepts)?;
+        let Judged { accepted, refused } = self.stored.judge(valid, now, accepts)?;
         let accepted = Post {
             valid: accepted,
             faults,
@@ -179,7 +179,7 @@ impl<N: Origin> Book<N> {
         look_for_room(&mut self.log, cast, policy)?;
         let reports = reports?;
         self.journal.reserve(ENTRIES)?;
-        let Absorbed { batch, undo } = absorb_each(&mut self.stored, reports, now)?;
+        let Absorbed { batch, undo } = self.stored.absorb(reports, now)?;
         let call = Call::Posted { now, alerts: valid };
         match send_batch(&mut self.log, cast, policy, batch, &call, &mut pass.pass) {
             Ok(sent) => {
@@ -190,7 +190,7 @@ impl<N: Origin> Book<N> {
                 Ok(sent)
             }
             Err(fault) => {
-                take_back(&mut self.stored, undo);
+                self.stored.take_back(undo);
                 Err(fault)
             }
         }

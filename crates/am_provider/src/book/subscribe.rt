@@ -18,7 +18,6 @@ use crate::pass::Pass;
 use crate::subscription::Subscription;
 use am_store::Call;
 use am_store::lanes::{LANES, OpenLane, idle_lane};
-use am_store::store::share_all;
 use std::mem;
 use std::snapshot::Snapshot;
 
@@ -51,7 +50,7 @@ impl<N: Origin> Book<N> {
         if idle_lane(&self.lanes).is_none() {
             return Err(SubFault::NoLane);
         }
-        let opening = share_all(&self.stored)?;
+        let opening = self.stored.share_all()?;
         let kept = opening.share()?;
         self.journal.reserve(ENTRIES)?;
         self.endings.reserve(LANES)?;

@@ -9,7 +9,6 @@ ghost use Rattle.am_provider.specs.Posts.{HasSameLimits};
 use crate::book::Book;
 use crate::feed::Origin;
 use am_store::lanes::{earliest, let_openings_go};
-use am_store::store::share_all;
 use am_store::{MAX_BEFORE, StoredAlerts};
 use std::alloc::AllocError;
 
@@ -57,14 +56,15 @@ impl<N: Origin> Book<N> {
     }
 
     // What was stored then.
-    fn stored_then(&self) -> Result<StoredAlerts, AllocError>
-        ensures { IfOk result (λ store. (count : ℕ) → AreBeforeOpen self.now.journal count
-            → self.now.gone < self.now.journal.before + count
-            → store ≡ stored (updates (first_calls count self.now.journal))) }
+    fn stored_then(&mut self) -> Result<StoredAlerts, AllocError>
+        ensures stored { IfOk result (λ store. (count : ℕ) → AreBeforeOpen self.old.journal count
+            → self.old.gone < self.old.journal.before + count
+            → store ≡ stored (updates (first_calls count self.old.journal))) }
+        ensures same { self.new ≡ self.old }
     {
         match earliest(&self.lanes) {
             Some(open) => open.opening.share(),
-            None => share_all(&self.stored),
+            None => self.stored.share_all(),
         }
     }
 
@@ -78,7 +78,7 @@ impl<N: Origin> Book<N> {
         ensures count { IfOk result (λ count. self.old.gone + count ≡ self.new.gone) }
         ensures err { OnErr result (self.new ≡ self.old) }
     {
-        let store = share_all(&self.stored)?;
+        let store = self.stored.share_all()?;
         let others = store.share()?;
         let count = self.journal.compact(store);
         self.endings.let_go(self.journal.gone());

@@ -70,18 +70,21 @@ impl<N: Recorded> Provider<N> {
         ensures sees { SeesCall caller.old.front caller.new.front (AnswersCompact result) }
         ensures pass { caller.new.pass ≡ caller.old.pass }
     {
-        let recorded = &mut *self.lock(rt);
-        let count = match recorded.book.compact() {
-            Ok(count) => count,
-            Err(error) => {
-                recorded.history.show(&self.table, &mut caller.front);
-                return Err(error);
-            }
+        let (count, _outdated) = {
+            let recorded = &mut *self.lock(rt);
+            let count = match recorded.book.compact() {
+                Ok(count) => count,
+                Err(error) => {
+                    recorded.history.show(&self.table, &mut caller.front);
+                    return Err(error);
+                }
+            };
+            let entry = Entry::compacted(count);
+            recorded
+                .history
+                .push(&self.table, &Snapshot::of(&entry), &mut caller.front);
+            (count, recorded.take_outdated())
         };
-        let entry = Entry::compacted(count);
-        recorded
-            .history
-            .push(&self.table, &Snapshot::of(&entry), &mut caller.front);
         Ok(count)
     }
 }

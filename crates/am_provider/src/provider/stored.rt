@@ -25,10 +25,14 @@ impl<N: Recorded> Provider<N> {
         ensures sees { SeesCall caller.old.front caller.new.front (AnswersStored result) }
         ensures pass { caller.new.pass ≡ caller.old.pass }
     {
-        let recorded = &mut *self.lock(rt);
-        recorded.book.kept();
-        recorded.history.show(&self.table, &mut caller.front);
-        recorded.book.stored()
+        let (stored, _outdated) = {
+            let recorded = &mut *self.lock(rt);
+            recorded.book.kept();
+            recorded.history.show(&self.table, &mut caller.front);
+            let stored = recorded.book.stored();
+            (stored, recorded.take_outdated())
+        };
+        stored
     }
 
     /// At most `most` of the stored alerts, in order, from the index `from` on. The lock is held for those
@@ -77,8 +81,12 @@ impl<N: Recorded> Provider<N> {
         ensures sees { SeesCall caller.old.front caller.new.front (AnswersCollect now result) }
         ensures pass { caller.new.pass ≡ caller.old.pass }
     {
-        let recorded = &mut *self.lock(rt);
-        recorded.collect_resolved(&self.table, caller, now)
+        let (removed, _outdated) = {
+            let recorded = &mut *self.lock(rt);
+            let removed = recorded.collect_resolved(&self.table, caller, now);
+            (removed, recorded.take_outdated())
+        };
+        removed
     }
 
     /// Removes the stored alerts that are resolved, and answers them, in the order in which they were
@@ -92,18 +100,21 @@ impl<N: Recorded> Provider<N> {
         ensures sees { SeesCall caller.old.front caller.new.front (AnswersTake now result) }
         ensures pass { caller.new.pass ≡ caller.old.pass }
     {
-        let recorded = &mut *self.lock(rt);
-        recorded.book.kept();
-        let resolved = match recorded.book.resolved(now) {
-            Ok(resolved) => resolved,
-            Err(error) => {
-                recorded.history.show(&self.table, &mut caller.front);
-                return Err(error);
+        let (resolved, _outdated) = {
+            let recorded = &mut *self.lock(rt);
+            recorded.book.kept();
+            let resolved = match recorded.book.resolved(now) {
+                Ok(resolved) => resolved,
+                Err(error) => {
+                    recorded.history.show(&self.table, &mut caller.front);
+                    return Err(error);
+                }
+            };
+            match recorded.collect_resolved(&self.table, caller, now) {
+                Ok(_) => (resolved, recorded.take_outdated()),
+                Err(error) => return Err(error),
             }
         };
-        match recorded.collect_resolved(&self.table, caller, now) {
-            Ok(_) => Ok(resolved),
-            Err(error) => Err(error),
-        }
+        Ok(resolved)
     }
 }

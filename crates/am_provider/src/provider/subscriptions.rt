@@ -26,25 +26,28 @@ impl<N: Recorded> Provider<N> {
         ensures sees { SeesCall caller.old.front caller.new.front (AnswersSubscribe result) }
         ensures pass { caller.new.pass ≡ caller.old.pass }
     {
-        let recorded = &mut *self.lock(rt);
-        recorded.book.kept();
-        let made = match recorded.book.subscribe(&self.cast) {
-            Ok(made) => made,
-            Err(fault) => {
-                recorded.history.show(&self.table, &mut caller.front);
-                return Err(fault);
-            }
+        let (made, _outdated) = {
+            let recorded = &mut *self.lock(rt);
+            recorded.book.kept();
+            let made = match recorded.book.subscribe(&self.cast) {
+                Ok(made) => made,
+                Err(fault) => {
+                    recorded.history.show(&self.table, &mut caller.front);
+                    return Err(fault);
+                }
+            };
+            recorded.book.kept();
+            let call = Call::Subscribed(made.lane());
+            record(
+                &mut recorded.history,
+                &self.table,
+                &call,
+                LaneSet::EMPTY,
+                None,
+                caller,
+            );
+            (made, recorded.take_outdated())
         };
-        recorded.book.kept();
-        let call = Call::Subscribed(made.lane());
-        record(
-            &mut recorded.history,
-            &self.table,
-            &call,
-            LaneSet::EMPTY,
-            None,
-            caller,
-        );
         Ok(made)
     }
 

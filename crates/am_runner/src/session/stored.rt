@@ -2,7 +2,6 @@
 
 ghost use Rattle.std.specs.Prelude.{◌≡◌, ◌++◌, ◌∷◌, [], IfOk, OnErr, OnOk, map, option_map};
 ghost use Rattle.std.specs.Arc.{arc_value};
-ghost use Rattle.am_store.specs.Shared.{alerts_in};
 ghost use Rattle.am_config.specs.declared.config.Config.{Config};
 ghost use Rattle.am_runner.specs.Sessions.{Does, Setting, found_answer, stored_answers, page_answers};
 ghost use Rattle.am_runner.specs.Sessions.{taken_answers};
@@ -18,7 +17,7 @@ use am_alert::Moment;
 use am_labels::LabelSet;
 use am_provider::{Page, Recorded};
 use am_script::{Command, Verb};
-use am_store::SharedAlert;
+use am_store::{SharedAlert, StoredAlerts};
 use std::alloc::{AllocError, Global};
 use std::sync::Wait;
 
@@ -54,7 +53,7 @@ impl<'p, 'c, N: Recorded> Session<'p, 'c, N> {
             Ok(removed) => removed,
             Err(_) => return one(context.alloc, Answer::OutOfMemory(Verb::Take)),
         };
-        taken_answers(context.alloc, removed.as_slice())
+        taken_answers(context.alloc, &removed)
     }
 
     pub(super) fn stored<R: Wait, G>(
@@ -71,7 +70,7 @@ impl<'p, 'c, N: Recorded> Session<'p, 'c, N> {
             Ok(stored) => stored,
             Err(_) => return one(context.alloc, Answer::OutOfMemory(Verb::Stored)),
         };
-        stored_answers(context.alloc, stored.as_slice())
+        stored_answers(context.alloc, &stored)
     }
 
     pub(super) fn stored_page<R: Wait, G>(
@@ -127,8 +126,8 @@ impl<'p, 'c, N: Recorded> Session<'p, 'c, N> {
 }
 
 // How many alerts are stored, and each of them.
-fn stored_answers(alloc: Global, stored: &[SharedAlert]) -> Result<Vec<Answer>, AllocError>
-    ensures { IfOk result (λ answers. answers.items ≡ stored_answers (alerts_in stored.now)) }
+fn stored_answers(alloc: Global, stored: &StoredAlerts) -> Result<Vec<Answer>, AllocError>
+    ensures { IfOk result (λ answers. answers.items ≡ stored_answers stored.now) }
 {
     let mut answers = one(alloc, Answer::StoredCount(stored.len() as u64))?;
     add_stored(&mut answers, stored)?;
@@ -136,8 +135,8 @@ fn stored_answers(alloc: Global, stored: &[SharedAlert]) -> Result<Vec<Answer>, 
 }
 
 // How many alerts a collection removed, and each of them.
-fn taken_answers(alloc: Global, removed: &[SharedAlert]) -> Result<Vec<Answer>, AllocError>
-    ensures { IfOk result (λ answers. answers.items ≡ taken_answers (alerts_in removed.now)) }
+fn taken_answers(alloc: Global, removed: &StoredAlerts) -> Result<Vec<Answer>, AllocError>
+    ensures { IfOk result (λ answers. answers.items ≡ taken_answers removed.now) }
 {
     let mut answers = one(alloc, Answer::Taken(removed.len() as u64))?;
     add_stored(&mut answers, removed)?;
@@ -148,7 +147,7 @@ fn taken_answers(alloc: Global, removed: &[SharedAlert]) -> Result<Vec<Answer>, 
 fn page_answers(alloc: Global, from: u32, page: &Page) -> Result<Vec<Answer>, AllocError>
     ensures { IfOk result (λ answers. answers.items ≡ page_answers from page.now) }
 {
-    let alerts = page.alerts.as_slice();
+    let alerts = &page.alerts;
     let mut answers = one(
         alloc,
         Answer::Page(PageHead {
@@ -162,9 +161,9 @@ fn page_answers(alloc: Global, from: u32, page: &Page) -> Result<Vec<Answer>, Al
     Ok(answers)
 }
 
-fn add_stored(answers: &mut Vec<Answer>, stored: &[SharedAlert]) -> Result<(), AllocError>
+fn add_stored(answers: &mut Vec<Answer>, stored: &StoredAlerts) -> Result<(), AllocError>
     ensures { OnOk result
-        (answers.new.items ≡ answers.old.items ++ map Answer.StoredAlert (alerts_in stored.now)) }
+        (answers.new.items ≡ answers.old.items ++ map Answer.StoredAlert stored.now) }
 {
     for alert in stored {
         answers.push(Answer::StoredAlert(alert.copy()?))?;

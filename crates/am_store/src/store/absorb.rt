@@ -1,7 +1,7 @@
 //! Absorbing the reports of a post into the stored alerts: all of them or none, and how to take them
 //! back.
 
-ghost use Rattle.std.specs.Prelude.{◌≡◌, IfOk, OnOk, OnErr};
+ghost use Rattle.std.specs.Prelude.{◌≡◌, ◌<◌, ◌/◌, ℕ, IfOk, OnOk, OnErr, true, false, get_or};
 ghost use Rattle.std.specs.Arc.{arc_value};
 ghost use Rattle.std.specs.Option.{option_copied};
 ghost use Rattle.indexmap.specs.IndexMap.{index_of_by};
@@ -11,9 +11,11 @@ ghost use Rattle.am_store.specs.AlertList.{lookup, with_alert, with_alerts, batc
 ghost use Rattle.am_store.specs.Shared.{alerts_in};
 ghost use Rattle.am_store.specs.AlertMaps.{stored_in, AreKeptByLabels};
 ghost use Rattle.am_store.specs.AlertMaps.{taken_back, all_taken_back};
+ghost use Rattle.am_store.specs.declared.shared_alerts.TheConstants.{BLOCK};
+ghost use Rattle.am_store.specs.inside.Changed.{IsUntouched};
 
-use crate::shared_alerts::SharedAlert;
-use crate::store::AlertMap;
+use crate::shared_alerts::{BLOCK, SharedAlert};
+use crate::store::{AlertMap, Store};
 use am_alert::{Alert, Moment, absorb_in_place};
 use am_labels::LabelSet;
 use std::alloc::{AllocError, Global};
@@ -85,41 +87,72 @@ pub struct Absorbed {
     pub undo: Vec<Change>,
 }
 
-/// Absorbs reports one after another, and answers what each became.
-pub fn absorb_each(
-    alerts: &mut AlertMap,
-    news: PreparedReports,
-    now: Moment,
-) -> Result<Absorbed, AllocError>
-    requires { AreKeptByLabels alerts.old.entries }
-    ensures batch { IfOk result (λ done.
-        alerts_in done.batch.items
-        ≡ batch_by_list now news (stored_in alerts.old.entries)) }
-    ensures back { IfOk result (λ done.
-        all_taken_back done.undo.items alerts.new.entries ≡ alerts.old.entries) }
-    ensures stored { OnOk result (stored_in alerts.new.entries
-        ≡ with_alerts (batch_by_list now news (stored_in alerts.old.entries))
-        (stored_in alerts.old.entries)) }
-    ensures kept { AreKeptByLabels alerts.new.entries }
-    ensures err { OnErr result (alerts.new.entries ≡ alerts.old.entries) }
+impl Store {
+    /// Absorbs reports one after another, and answers what each became.
+    pub fn absorb(&mut self, news: PreparedReports, now: Moment) -> Result<Absorbed, AllocError>
+        ensures batch { IfOk result (λ done.
+            alerts_in done.batch.items ≡ batch_by_list now news (stored_in self.old)) }
+        ensures back { IfOk result (λ done. all_taken_back done.undo.items self.new ≡ self.old) }
+        ensures stored { OnOk result (stored_in self.new
+            ≡ with_alerts (batch_by_list now news (stored_in self.old)) (stored_in self.old)) }
+        ensures kept { AreKeptByLabels self.old }
+        ensures err { OnErr result (self.new ≡ self.old) }
+    {
+        let PreparedReports {
+            mut blocks,
+            mut changes,
+        } = news;
+        let before = self.alerts.len();
+        for block in blocks.iter_mut() {
+            match absorb_one(&mut self.alerts, block, now) {
+                Ok(change) => changes.push_reserved(change),
+                Err(error) => {
+                    take_back(&mut self.alerts, changes);
+                    return Err(error);
+                }
+            }
+        }
+        note_changes(&mut self.current, before, self.alerts.len(), &changes);
+        Ok(Absorbed {
+            batch: blocks,
+            undo: changes,
+        })
+    }
+
+    /// Takes back what `absorb` changed.
+    pub fn take_back(&mut self, changes: Vec<Change>)
+        requires { AreKeptByLabels (all_taken_back changes.items self.old) }
+        ensures { self.new ≡ all_taken_back changes.items self.old }
+    {
+        self.current.clear();
+        take_back(&mut self.alerts, changes);
+    }
+}
+
+// A block with a replaced alert is no longer current, nor is one from the first new alert on.
+fn note_changes(current: &mut Vec<bool>, before: usize, after: usize, changes: &[Change])
+    ensures { (at : ℕ) → get_or current.new.items (at / BLOCK) false ≡ true
+        → (get_or current.old.items (at / BLOCK) false ≡ true) × (before < after → at < before)
+        × IsUntouched at changes.now }
 {
-    let PreparedReports {
-        mut blocks,
-        mut changes,
-    } = news;
-    for block in blocks.iter_mut() {
-        match absorb_one(alerts, block, now) {
-            Ok(change) => changes.push_reserved(change),
-            Err(error) => {
-                take_back(alerts, changes);
-                return Err(error);
+    if before < after {
+        current.truncate(before / BLOCK);
+    }
+    note_replaced(current, changes);
+}
+
+// A block with a replaced alert is no longer current.
+fn note_replaced(current: &mut Vec<bool>, changes: &[Change])
+    ensures { (at : ℕ) → get_or current.new.items (at / BLOCK) false ≡ true
+        → (get_or current.old.items (at / BLOCK) false ≡ true) × IsUntouched at changes.now }
+{
+    for change in changes {
+        if let Change::Replaced(at, _) = change {
+            if let Some(current) = current.get_mut(*at / BLOCK) {
+                *current = false;
             }
         }
     }
-    Ok(Absorbed {
-        batch: blocks,
-        undo: changes,
-    })
 }
 
 // Absorbs one report: its block becomes what the report became. Answers what it changed.
@@ -167,8 +200,8 @@ fn stored_at<'a>(alerts: &'a AlertMap, labels: &LabelSet, at: Option<usize>) -> 
     Some(&*alerts[at?])
 }
 
-/// Takes changes back, the last one first.
-pub fn take_back(alerts: &mut AlertMap, changes: Vec<Change>)
+// Takes changes back, the last one first.
+pub(crate) fn take_back(alerts: &mut AlertMap, changes: Vec<Change>)
     ensures { alerts.new.entries ≡ all_taken_back changes.items alerts.old.entries }
 {
     let mut left = changes;

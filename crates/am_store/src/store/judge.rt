@@ -10,8 +10,8 @@ ghost use Rattle.am_store.specs.AlertList.{lookup};
 ghost use Rattle.am_store.specs.AlertMaps.{stored_in, all_taken_back, AreKeptByLabels};
 ghost use Rattle.am_store.specs.Judging.{AreJudged, WasAsked};
 
-use crate::store::AlertMap;
 use crate::store::absorb::{Change, absorb_one, block_of, take_back, take_one_back};
+use crate::store::{AlertMap, Store};
 use am_alert::{Alert, Alerts, Moment};
 use am_labels::LabelSet;
 use std::alloc::AllocError;
@@ -25,30 +25,31 @@ pub struct Judged {
     pub refused: Vec<u32>,
 }
 
-/// Asks a filter of each report, in order. The filter gets the alert as it would be stored, over what the
-/// accepted ones before it left, and whether no alert of its label set was there. Nothing is stored. If
-/// memory runs out, it was asked of some of the first reports, or of all.
-pub fn judge_each<F: FnMut(&Alert, bool) -> bool>(
-    alerts: &mut AlertMap,
-    news: Alerts,
-    now: Moment,
-    accepts: &mut F,
-) -> Result<Judged, AllocError>
-    requires kept { AreKeptByLabels alerts.old.entries }
-    requires few { length news ≤ MAX_ALERTS }
-    requires callable { F.IsAlwaysCallable accepts.old }
-    ensures judged { IfOk result (λ done. AreJudged F.FnMut now accepts.new accepts.old 0
-        (stored_in alerts.old.entries) news done.accepted done.refused.items) }
-    ensures asked { OnErr result (WasAsked F.FnMut now accepts.new accepts.old
-        (stored_in alerts.old.entries) news) }
-    ensures callable { F.IsAlwaysCallable accepts.new }
-    ensures same { alerts.new.entries ≡ alerts.old.entries }
-{
-    let alloc = *alerts.allocator();
-    let mut changes = Vec::with_capacity(alloc, news.as_slice().len())?;
-    let judged = judge_over(alerts, &mut changes, news, now, accepts);
-    take_back(alerts, changes);
-    judged
+impl Store {
+    /// Asks a filter of each report, in order. The filter gets the alert as it would be stored, over what the
+    /// accepted ones before it left, and whether no alert of its label set was there. Nothing is stored. If
+    /// memory runs out, it was asked of some of the first reports, or of all.
+    pub fn judge<F: FnMut(&Alert, bool) -> bool>(
+        &mut self,
+        news: Alerts,
+        now: Moment,
+        accepts: &mut F,
+    ) -> Result<Judged, AllocError>
+        requires few { length news ≤ MAX_ALERTS }
+        requires callable { F.IsAlwaysCallable accepts.old }
+        ensures judged { IfOk result (λ done. AreJudged F.FnMut now accepts.new accepts.old 0
+            (stored_in self.old) news done.accepted done.refused.items) }
+        ensures asked { OnErr result (WasAsked F.FnMut now accepts.new accepts.old
+            (stored_in self.old) news) }
+        ensures callable { F.IsAlwaysCallable accepts.new }
+        ensures same { self.new ≡ self.old }
+    {
+        let alloc = *self.alerts.allocator();
+        let mut changes = Vec::with_capacity(alloc, news.as_slice().len())?;
+        let judged = judge_over(&mut self.alerts, &mut changes, news, now, accepts);
+        take_back(&mut self.alerts, changes);
+        judged
+    }
 }
 
 // The same, which stores those that were accepted, and notes how to take them back. Each report before one was

@@ -13,12 +13,11 @@ invariant_of-self-2 g c =
     let gone : c.push.new.self.gone ≡ c.self.inside.journal.gone = c.push.ensures.gone.0 ∙ c.in_ok-reserve.ensures.same.1 in
     let journal : c.push.new.self.journal ≡ with_call c.self.inside.journal.journal (Collected c.args.now) =
     c.push.ensures.journal ∙ ap (λ (j : JournalView). with_call j (Collected c.args.now)) c.in_ok-reserve.ensures.same.0 in
-    let kept = c.self.invariant.1 in (
-      c.remove_resolved-removed.ensures.kept,
+    let kept = c.self.invariant.0 in (
       kept_grown _ _ _ _ _ _ (Collected c.args.now) kept
           (sound_collected _ _ c.args.now kept.pages journal c.remove_resolved-removed.ensures.store refl refl refl refl gone room)
           tt (λ came. refl) journal (sym (append-nil _)) refl (λ lane small. same_account _ _ refl) refl refl kept.total (omega arith),
+      c.self.invariant.1,
       c.self.invariant.2,
-      c.self.invariant.3,
-      still_endings_of _ _ _ _ c.self.invariant.4 refl refl (ap (λ (j : JournalView). j.before) journal) gone,
+      still_endings_of _ _ _ _ c.self.invariant.3 refl refl (ap (λ (j : JournalView). j.before) journal) gone,
     )

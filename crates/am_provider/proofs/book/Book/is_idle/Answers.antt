@@ -8,4 +8,4 @@ use Rattle.am_provider.proofs.book.Book.is_idle.Goals as goal
 pub returns : goal.returns
 returns g c =
     subst (λ (s : BookView). IsTrue c.is_idle.result ↔ AreAllIdle s.journal) c.self.view_is
-    (all_idle _ c.is_idle.result (faithful _ _ _ c.self.invariant.1) c.is_idle.ensures.yes c.is_idle.ensures.no)
+    (all_idle _ c.is_idle.result (faithful _ _ _ c.self.invariant.0) c.is_idle.ensures.yes c.is_idle.ensures.no)

@@ -4,4 +4,4 @@ use Rattle.am_provider.proofs.Shelves.{faithful}
 use Rattle.am_provider.proofs.book.Book.kept.Goals as goal
 
 pub returns : goal.returns
-returns g c = subst IsFaithful c.self.view_is (faithful _ _ _ c.self.invariant.1)
+returns g c = subst IsFaithful c.self.view_is (faithful _ _ _ c.self.invariant.0)

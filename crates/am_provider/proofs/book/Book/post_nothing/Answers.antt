@@ -14,9 +14,8 @@ invariant_of-self-2 g c =
     c.push.ensures.journal ∙ (ap (λ (j : JournalView). with_call j (Posted c.args.now c.args.none)) c.in_ok-reserve.ensures.same.0
     ∙ ap (λ news. with_call c.self.inside.journal.journal (Posted c.args.now news)) c.requires.none) in
     let still : is_closed c.self.inside.journal.journal ≡ false = ap (λ (b : BookView). is_closed b.journal) c.self.view_is ∙ c.requires.open in (
-      c.self.invariant.0,
-      kept_empty _ _ _ _ c.args.now c.self.invariant.1 (c.self.invariant.1.pages.closed ∙ still) journal refl refl refl refl refl refl gone room,
+      kept_empty _ _ _ _ c.args.now c.self.invariant.0 (c.self.invariant.0.pages.closed ∙ still) journal refl refl refl refl refl refl gone room,
+      c.self.invariant.1,
       c.self.invariant.2,
-      c.self.invariant.3,
-      still_endings_of _ _ _ _ c.self.invariant.4 refl refl (ap (λ (j : JournalView). j.before) journal) gone,
+      still_endings_of _ _ _ _ c.self.invariant.3 refl refl (ap (λ (j : JournalView). j.before) journal) gone,
     )

@@ -31,7 +31,7 @@ use Rattle.am_provider.proofs.book.Book.post_some.Goals as goal
 
 pub send_batch-requires-clause-some : goal.send_batch-requires-clause-some
 send_batch-requires-clause-some g c =
-    let olds = stored_in c.self.inside.stored.entries in
+    let olds = stored_in c.self.inside.stored in
     let news = c.in_ok-reports.reports in
     let count : length c.in_ok-batch.field-0.batch.items ≡ length news = length_became c.in_ok-batch.field-0.batch.items c.args.now news olds c.in_ok-batch.ensures.batch in
     let same : news ≡ c.args.valid = search rules in
@@ -46,13 +46,13 @@ lanes_on g c lane small =
 
 pub invariant_of-self-in-Ok : goal.invariant_of-self-in-Ok
 invariant_of-self-in-Ok g c =
-    let kept = c.self.invariant.1 in
-    let olds = stored_in c.self.inside.stored.entries in
+    let kept = c.self.invariant.0 in
+    let olds = stored_in c.self.inside.stored in
     let valid = c.args.valid in
     let batch = alerts_in c.in_ok-batch.field-0.batch.items in
     let same : c.in_ok-reports.reports ≡ valid = search rules in
     let became : batch ≡ batch_by_list c.args.now valid olds = c.in_ok-batch.ensures.batch ∙ ap (λ news. batch_by_list c.args.now news olds) same in
-    let stored : stored_in c.absorb_each.new.alerts.entries ≡ with_alerts batch olds =
+    let stored : stored_in c.absorb.new.self ≡ with_alerts batch olds =
     c.in_ok-batch.ensures.stored ∙ (ap (λ news. with_alerts (batch_by_list c.args.now news olds) olds) same ∙ ap (λ b. with_alerts b olds) (sym became)) in
     let tail = c.look_for_room.ensures.harvested.tail in
     let sent = c.in-Ok.ensures.sent in
@@ -64,26 +64,24 @@ invariant_of-self-in-Ok g c =
     let gone : c.push.new.self.gone ≡ c.self.inside.journal.gone = c.push.ensures.gone.0 ∙ c.in_ok-reserve.ensures.same.1 in
     let journal : c.push.new.self.journal ≡ with_call c.self.inside.journal.journal (Posted c.args.now valid) =
     c.push.ensures.journal ∙ ap (λ (j : JournalView). with_call j (Posted c.args.now valid)) c.in_ok-reserve.ensures.same.0 in (
-      c.in_ok-batch.ensures.kept,
       kept_posted _ _ _ _ _ c.args.now valid batch x.0 kept still journal stored became (ap length became ∙ length_batch c.args.now valid olds) c.requires.few c.requires.some few
           posted x.2 (x.3 ∙ ap (longer_tail x.0) tail) (lanes_on g c) refl refl refl refl c.add.ensures.total gone room,
+      c.self.invariant.1,
       c.self.invariant.2,
-      c.self.invariant.3,
-      still_endings_of _ _ _ _ c.self.invariant.4 refl refl (ap (λ (j : JournalView). j.before) journal) gone,
+      still_endings_of _ _ _ _ c.self.invariant.3 refl refl (ap (λ (j : JournalView). j.before) journal) gone,
     )
 
 pub invariant_of-self-in-Err : goal.invariant_of-self-in-Err
 invariant_of-self-in-Err g c =
-    let entries : c.take_back.new.alerts.entries ≡ c.self.inside.stored.entries = c.take_back.ensures ∙ c.in_ok-batch.ensures.back in
+    let entries : c.take_back.new.self ≡ c.self.inside.stored = c.take_back.ensures ∙ c.in_ok-batch.ensures.back in
     let unsent = c.in-Err.ensures.unsent in
     let same = c.in_ok-reserve.ensures.same in (
-      subst AreKeptByLabels (sym entries) c.self.invariant.0,
-      kept_alike _ _ _ _ c.self.invariant.1 same.0 same.1 c.in_ok-reserve.ensures.kept (ap stored_in entries) (unsent.tail ∙ c.look_for_room.ensures.harvested.tail)
+      kept_alike _ _ _ _ c.self.invariant.0 same.0 same.1 c.in_ok-reserve.ensures.kept (ap stored_in entries) (unsent.tail ∙ c.look_for_room.ensures.harvested.tail)
           (λ lane small. goes_on_twice (account_of c.self.inside.log lane) (account_of c.look_for_room.new.writer lane) (account_of c.send_batch.new.writer lane)
           (stays_as _ _ (c.look_for_room.ensures.harvested.each lane small)) (stays_as _ _ (unsent.lanes lane small))) refl refl refl refl,
+      c.self.invariant.1,
       c.self.invariant.2,
-      c.self.invariant.3,
-      still_endings_of _ _ _ _ c.self.invariant.4 refl refl (ap (λ (j : JournalView). j.before) same.0) same.1,
+      still_endings_of _ _ _ _ c.self.invariant.3 refl refl (ap (λ (j : JournalView). j.before) same.0) same.1,
     )
 
 pub returns-in-Ok-clause-own : goal.returns-in-Ok-clause-own
@@ -130,7 +128,7 @@ returns-in_err-look_for_room-clause-refused g c =
     let cause : IsLogCause c.args.self.now.policy c.args.self.now.log c.look_for_room.new.writer found =
     subst (λ (b : BookView). IsLogCause b.policy b.log c.look_for_room.new.writer found) c.self.view_is why.2 in
     let new : BookView = view_of (record {
-      stored = stored_in c.self.inside.stored.entries;
+      stored = stored_in c.self.inside.stored;
       journal = c.self.inside.journal;
       log = c.look_for_room.new.writer;
       posts = c.self.inside.posts;

@@ -12,16 +12,16 @@ use Rattle.am_provider.proofs.book.Book.stored_then.Goals as goal
 IsThat : BookView → List Alert → Type 0
 IsThat book store = (count : ℕ) → AreBeforeOpen book.journal count → book.gone < book.journal.before + count → store ≡ stored (updates (first_calls count book.journal))
 
-pub returns-in-Some : goal.returns-in-Some
+pub returns-in-Some-clause-stored : goal.returns-in-Some-clause-stored
 unfolding IsThat
-returns-in-Some g c =
+returns-in-Some-clause-stored g c =
     subst (λ (s : BookView). IfOk c.share.result (IsThat s)) c.self.view_is
     (if_ok (λ shared. shared ≡ c.in-Some.open.now.opening) _ c.share.result
-    (λ store same count before late. same ∙ store_then _ c.in-Some.open.now c.self.invariant.1.pages c.in-Some.ensures.some count before late) c.share.ensures)
+    (λ store same count before late. same ∙ store_then _ c.in-Some.open.now c.self.invariant.0.pages c.in-Some.ensures.some count before late) c.share.ensures)
 
-pub returns-in-None : goal.returns-in-None
+pub returns-in-None-clause-stored : goal.returns-in-None-clause-stored
 unfolding IsThat
-returns-in-None g c =
+returns-in-None-clause-stored g c =
     subst (λ (s : BookView). IfOk c.share_all.result (IsThat s)) c.self.view_is
-    (if_ok (λ shared. shared ≡ stored_in c.self.inside.stored.entries) _ c.share_all.result
-    (λ store same count before late. same ∙ store_now _ c.self.invariant.1.pages c.in-None.ensures.none count before) c.share_all.ensures)
+    (if_ok (λ shared. shared ≡ stored_in c.self.inside.stored) _ c.share_all.result
+    (λ store same count before late. same ∙ store_now _ c.self.invariant.0.pages c.in-None.ensures.none count before) c.share_all.ensures.shared)

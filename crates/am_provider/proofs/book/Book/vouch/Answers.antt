@@ -15,8 +15,8 @@ returns-clause-due g c =
     let s = c.args.subscription.now in
     let kept = c.vouch.ensures.kept in
     let v = subst (λ (q : LogView). IsVouched q s.cursor) c.tell.ensures.same c.vouch.ensures.vouched in
-    let by = leaving _ _ _ kept.0 s c.self.invariant.1 kept.1 v.lane v.given v.sound.note v.sound.start (λ told. (v.sound.seen.told told).0) v.taken v.ended in
-    subst (λ (b : BookView). HasTakenDue b s) c.self.view_is (has_taken _ _ _ s by.0 c.self.invariant.1 by.1 (λ told. v.cut_is told.0) v.sound.seen.places (λ severed. let most = v.sound.lags severed in omega arith))
+    let by = leaving _ _ _ kept.0 s c.self.invariant.0 kept.1 v.lane v.given v.sound.note v.sound.start (λ told. (v.sound.seen.told told).0) v.taken v.ended in
+    subst (λ (b : BookView). HasTakenDue b s) c.self.view_is (has_taken _ _ _ s by.0 c.self.invariant.0 by.1 (λ told. v.cut_is told.0) v.sound.seen.places (λ severed. let most = v.sound.lags severed in omega arith))
 
 pub returns-clause-told : goal.returns-clause-told
 returns-clause-told g c =

@@ -9,4 +9,4 @@ pub returns-clause-sees : goal.returns-clause-sees
 returns-clause-sees g c =
     let whole = stored_whole c.recorded.inside.book c.recorded.inside.history c.recorded.invariant.0 c.kept.ensures in
     sees_none c.args.caller.now.front c.show.new.to c.recorded.inside.history _ c.show.ensures.seen c.show.ensures.to
-    (subst (λ (stored : List Alert). IfOk c.stored.result (λ alerts. alerts ≡ stored)) whole c.stored.ensures, refl)
+    (subst (λ (stored : List Alert). IfOk c.stored-stored.result (λ alerts. alerts ≡ stored)) whole c.stored-stored.ensures.alerts, refl)

@@ -7,8 +7,8 @@ use Rattle.am_provider.proofs.Answering.{sees_none, sees_taken}
 use Rattle.am_provider.proofs.Recording.{stored_whole}
 use Rattle.am_provider.proofs.provider.Provider.take_resolved.Goals as goal
 
-pub returns-in-Ok-collect_resolved-clause-sees : goal.returns-in-Ok-collect_resolved-clause-sees
-returns-in-Ok-collect_resolved-clause-sees g c =
+pub returns-clause-sees : goal.returns-clause-sees
+returns-clause-sees g c =
     sees_taken AllocError c.args.now _ c.in-Ok.resolved c.args.caller.now.front _ c.recorded.inside.history c.recorded.inside.book.stored
     (stored_whole c.recorded.inside.book c.recorded.inside.history c.recorded.invariant.0 c.kept.ensures) c.in-Ok.ensures
     (c.in-Ok-collect_resolved.ensures.seen ∙ ap (λ (r : RecordedView). r.entries ++ Accepted (Collected c.args.now) 0 None ∷ []) (sym c.recorded.view_is)) c.in-Ok-collect_resolved.ensures.sees

@@ -8,7 +8,7 @@ returns-in-Opened g c = (
   (refl, (λ _. tt), c.self.view_is),
   record {
     lender = tt;
-    shown = lends_opening c.args.self.now c.args.advance c.args.from _ c.held_opening.result.now c.in-Opened.is refl
+    shown = lends_opening c.args.self.now c.args.advance c.args.from _ c.held_opening.result.now c.in-Opened.is c.run_from.ensures
         (c.held_opening.ensures ∙ ap (λ (s : SubscriptionView). s.opening) c.self.view_is);
   },
 )

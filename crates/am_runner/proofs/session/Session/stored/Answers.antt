@@ -1,5 +1,5 @@
-use Rattle.std.proofs.Common.{◌∙◌, List, ap, sym, subst}
-use Rattle.am_runner.specs.Sessions.{SessionView, Does, stored, stored_refused, stored_answers}
+use Rattle.std.proofs.Common.{List, sym, subst}
+use Rattle.am_runner.specs.Sessions.{SessionView, Does, stored, stored_refused}
 use Rattle.am_runner.specs.declared.answer.Answer.{Answer}
 use Rattle.am_script.specs.declared.command.Command.TheVariants.{Stored}
 use Rattle.am_runner.proofs.Named.{on_front}
@@ -11,7 +11,7 @@ returns-clause-does g c =
     let inside : SessionView = record { pass = c.self.inside.caller.pass; front = c.self.inside.caller.front; opened = c.self.inside.opened.items } in
     if_ok_map c.stored_answers.result c.stored_answers.ensures (λ answers are config setting.
     on_front config setting Stored answers.items c.args.self.now inside _ c.stored.new.caller.front c.self.view_is c.in-Ok.ensures.pass
-    (subst (λ (given : List Answer). Does config setting inside Stored given (record inside { front = c.stored.new.caller.front })) (sym (are ∙ ap stored_answers c.as_slice.ensures.alerts))
+    (subst (λ (given : List Answer). Does config setting inside Stored given (record inside { front = c.stored.new.caller.front })) (sym are)
     (stored c.in-Ok.ensures.sees)))
 
 pub returns-clause-asked : goal.returns-clause-asked

@@ -1,6 +1,5 @@
 use Rattle.std.proofs.Common.{◌∷◌, [], List, sym, subst}
 use Rattle.am_alert.specs.declared.alert.Alert.{Alert}
-use Rattle.am_store.specs.Shared.{alerts_in}
 use Rattle.am_store.specs.declared.call.Call.{Call}
 use Rattle.am_cast.specs.Posters.{PassView}
 use Rattle.am_runner.specs.Sessions.{SessionView, Does, took, take_refused, taken_answers}
@@ -15,10 +14,9 @@ pub returns : goal.returns
 returns g c =
     if_ok_map c.taken_answers.result c.taken_answers.ensures (λ answers are config setting.
     subst (λ (given : List Answer). Does config setting c.args.self.now (Take c.args.at) given (record { pass = c.take_resolved.new.caller.pass; front = c.take_resolved.new.caller.front; opened = c.self.inside.opened.items })) (sym are)
-    (subst (λ (old : SessionView). Does config setting old (Take c.args.at) (taken_answers (alerts_in c.as_slice.result.now)) (record { pass = c.take_resolved.new.caller.pass; front = c.take_resolved.new.caller.front; opened = c.self.inside.opened.items })) c.self.view_is
-    (subst (λ (pass : PassView Alert Call). Does config setting (record { pass = c.self.inside.caller.pass; front = c.self.inside.caller.front; opened = c.self.inside.opened.items }) (Take c.args.at) (taken_answers (alerts_in c.as_slice.result.now)) (record { pass = pass; front = c.take_resolved.new.caller.front; opened = c.self.inside.opened.items })) (sym c.in-Ok.ensures.pass)
-    (subst (λ (alerts : List Alert). Does config setting (record { pass = c.self.inside.caller.pass; front = c.self.inside.caller.front; opened = c.self.inside.opened.items }) (Take c.args.at) (taken_answers alerts) (record { pass = c.self.inside.caller.pass; front = c.take_resolved.new.caller.front; opened = c.self.inside.opened.items })) (sym c.as_slice.ensures.alerts)
-    (took c.in-Ok.ensures.sees)))))
+    (subst (λ (old : SessionView). Does config setting old (Take c.args.at) (taken_answers c.in-Ok.removed) (record { pass = c.take_resolved.new.caller.pass; front = c.take_resolved.new.caller.front; opened = c.self.inside.opened.items })) c.self.view_is
+    (subst (λ (pass : PassView Alert Call). Does config setting (record { pass = c.self.inside.caller.pass; front = c.self.inside.caller.front; opened = c.self.inside.opened.items }) (Take c.args.at) (taken_answers c.in-Ok.removed) (record { pass = pass; front = c.take_resolved.new.caller.front; opened = c.self.inside.opened.items })) (sym c.in-Ok.ensures.pass)
+    (took c.in-Ok.ensures.sees))))
 
 pub returns-in-Err : goal.returns-in-Err
 returns-in-Err g c =
