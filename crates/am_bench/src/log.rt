@@ -193,20 +193,16 @@ fn read_to_end<N: Feed, R: Clock>(
     shown
 }
 
-// Reads to the end of the log, if there is a cursor. It lies in this thread's own memory meanwhile: on one cache
-// line with another thread's, each would wait for the other's writes.
+// Reads to the end of the log, if there is a cursor, which leaves its lane. It lies in this thread's own memory: on one
+// cache line with another thread's, each would wait for the other's writes.
 fn read_all<N: Feed, R: Clock>(
     rt: &R,
-    lent: &mut Option<Cursor<'_, u64, u64, u64, N>>,
+    given: &mut Option<Cursor<'_, u64, u64, u64, N>>,
     yields: u32,
 ) -> Shown {
-    let Some(mut cursor) = lent.take() else {
-        return Shown::NOTHING;
-    };
-    let shown = read_to_end(rt, &mut cursor, yields);
-    match lent.replace(cursor) {
-        None => shown,
-        Some(_) => unreachable!(),
+    match given.take() {
+        Some(mut cursor) => read_to_end(rt, &mut cursor, yields),
+        None => Shown::NOTHING,
     }
 }
 
@@ -223,6 +219,7 @@ fn admit<'a, N: Feed>(
 }
 
 // A reader, and what it received.
+#[derive(Drop)]
 struct Seat<'a, N: Feed> {
     cursor: Option<Cursor<'a, u64, u64, u64, N>>,
     shown: Shown,
@@ -242,22 +239,12 @@ fn read_each<N: Feed + Send + Sync, R: Threads + Wait + Clock + Sync>(
     );
 }
 
-// Takes all readers back, and answers what they received.
-fn retire_all<N: Feed>(
-    cast: &Cast<u64, u64, u64, N>,
-    writer: &mut Writer<u64, u64, u64, N>,
-    seats: Vec<Seat<'_, N>>,
-) -> Shown {
-    let mut seats = seats;
+// What all readers received together.
+fn all_shown<N: Feed>(seats: &[Seat<'_, N>]) -> Shown {
     let mut shown = Shown::NOTHING;
-    while let Some(seat) = seats.pop() {
-        let Seat { cursor, shown: one } = seat;
-        shown = shown.and(one);
-        if let Some(cursor) = cursor {
-            writer.retire(cast, cursor);
-        }
+    for seat in seats {
+        shown = shown.and(seat.shown);
     }
-    seats.destroy_empty();
     shown
 }
 
@@ -283,7 +270,9 @@ fn publish_and_read<N: Feed + Send + Sync, R: Threads + Wait + Clock + Sync>(
         move || publish_all(rt, alloc, cast, publisher, pass, load),
         move || read_each(rt, lent, load.yields),
     );
-    let shown = retire_all(cast, writer, seats);
+    let shown = all_shown(&seats);
+    drop(seats);
+    let _left = writer.reclaim(cast);
     if well { Ok(shown) } else { Err(AllocError) }
 }
 
