@@ -2,7 +2,7 @@
 //! where it has blocks in common with an earlier one.
 
 use crate::bodies::{Report, moment};
-use crate::posts::post_reports;
+use crate::posts::{post_many, post_reports};
 use crate::stopped::Stopped;
 use am_alert::Moment;
 use am_provider::{Slice, Subscription};
@@ -79,26 +79,6 @@ fn stored<N: Recorded, R: Wait>(rt: &R, client: &mut Client<'_, N>) -> Result<Sh
     Ok(shown)
 }
 
-// `count` reports from a number on.
-fn reports_from(alloc: Global, first: u32, count: u32) -> Result<Vec<Report>, AllocError> {
-    let mut reports = Vec::new(alloc);
-    for number in first..first.saturating_add(count) {
-        reports.push(Report::new(number, number, END))?;
-    }
-    Ok(reports)
-}
-
-fn post_from<N: Recorded, R: Wait + AllocGlobal>(
-    rt: &R,
-    client: &mut Client<'_, N>,
-    first: u32,
-    count: u32,
-) -> Result<(), Stopped> {
-    let reports = reports_from(rt.alloc(), first, count)?;
-    post_reports(rt, client, reports.as_slice(), 10)?;
-    Ok(())
-}
-
 #[derive(Drop)]
 struct Sharing;
 
@@ -107,9 +87,9 @@ impl<R: Wait + AllocGlobal> Program<R> for Sharing {
 
     fn run<N: Recorded>(self, rt: &R, clients: &mut [Client<'_, N>]) -> Self::Outcome {
         let client = &mut clients[0];
-        post_from(rt, client, 0, ONE_BLOCK)?;
-        post_from(rt, client, ONE_BLOCK, ONE_BLOCK)?;
-        post_from(rt, client, 2 * ONE_BLOCK, 3)?;
+        post_many(rt, client, 0, ONE_BLOCK, END)?;
+        post_many(rt, client, ONE_BLOCK, ONE_BLOCK, END)?;
+        post_many(rt, client, 2 * ONE_BLOCK, 3, END)?;
         let mut first = client.subscribe(rt)?;
         let posted = change(rt, client);
         let stored = stored(rt, client);
@@ -136,7 +116,7 @@ fn change<N: Recorded, R: Wait + AllocGlobal>(
 ) -> Result<(), Stopped> {
     let again = [Report::new(CHANGED, CHANGED, LATER)];
     post_reports(rt, client, again.as_slice(), 20)?;
-    post_from(rt, client, MANY, 1)
+    post_many(rt, client, MANY, 1, END)
 }
 
 #[test]

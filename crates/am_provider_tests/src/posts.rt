@@ -30,3 +30,19 @@ pub fn post_reports<N: Recorded, R: Wait + AllocGlobal>(
     let body = reports_body(rt.alloc(), reports)?;
     Ok(post(rt, client, body.as_bytes(), at)?)
 }
+
+/// Posts as many reports, each of its own label set, from a number on. Each starts at its number, and all end then.
+pub fn post_many<N: Recorded, R: Wait + AllocGlobal>(
+    rt: &R,
+    client: &mut Client<'_, N>,
+    first: u32,
+    count: u32,
+    end: u32,
+) -> Result<(), Stopped> {
+    let mut reports = Vec::new(rt.alloc());
+    for number in first..first.saturating_add(count) {
+        reports.push(Report::new(number, number, end))?;
+    }
+    post_reports(rt, client, reports.as_slice(), 10)?;
+    Ok(())
+}

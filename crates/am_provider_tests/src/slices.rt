@@ -1,8 +1,8 @@
 //! Slices: alerts that lie together are shown at once, as many as a post may have, whatever was shown of
 //! them one by one before.
 
-use crate::bodies::{Report, moment};
-use crate::posts::post_reports;
+use crate::bodies::moment;
+use crate::posts::post_many;
 use crate::stopped::Stopped;
 use am_alert::{MAX_ALERTS, Moment};
 use am_provider::{Slice, Step, Subscription};
@@ -13,6 +13,9 @@ use std::sync::Wait;
 use std::test::Fail;
 
 const MOST: u32 = MAX_ALERTS as u32;
+
+// When reports end.
+const END: u32 = 4_000_000;
 
 /// What a slice showed: how many alerts, and the starts of the first and the last one.
 #[derive(Clone, Copy, Debug, PartialEq, Eq, Drop)]
@@ -76,26 +79,6 @@ fn one_by_one<N: Recorded>(subscription: &mut Subscription<'_, N>, most: u32) ->
     most
 }
 
-// `count` reports, each of its own label set, from a number on. Each starts at its number.
-fn reports_from(alloc: Global, first: u32, count: u32) -> Result<Vec<Report>, AllocError> {
-    let mut reports = Vec::new(alloc);
-    for number in first..first.saturating_add(count) {
-        reports.push(Report::new(number, number, 4_000_000))?;
-    }
-    Ok(reports)
-}
-
-fn post_from<N: Recorded, R: Wait + AllocGlobal>(
-    rt: &R,
-    client: &mut Client<'_, N>,
-    first: u32,
-    count: u32,
-) -> Result<(), Stopped> {
-    let reports = reports_from(rt.alloc(), first, count)?;
-    post_reports(rt, client, reports.as_slice(), 10)?;
-    Ok(())
-}
-
 /// What the slices of a subscription showed, and its ending.
 type Read = (Vec<Shown>, Ended);
 
@@ -109,11 +92,11 @@ fn read<N: Recorded, R: Wait + AllocGlobal>(
     one_by_one(subscription, 2);
     note_slice(&mut shown, subscription)?;
     note_slice(&mut shown, subscription)?;
-    post_from(rt, client, MOST, MOST)?;
-    post_from(rt, client, 2 * MOST, 1)?;
+    post_many(rt, client, MOST, MOST, END)?;
+    post_many(rt, client, 2 * MOST, 1, END)?;
     note_slice(&mut shown, subscription)?;
     note_slice(&mut shown, subscription)?;
-    post_from(rt, client, 0, MOST)?;
+    post_many(rt, client, 0, MOST, END)?;
     one_by_one(subscription, MOST - 1);
     note_slice(&mut shown, subscription)?;
     note_slice(&mut shown, subscription)?;
@@ -130,7 +113,7 @@ impl<R: Wait + AllocGlobal> Program<R> for Whole {
 
     fn run<N: Recorded>(self, rt: &R, clients: &mut [Client<'_, N>]) -> Self::Outcome {
         let client = &mut clients[0];
-        post_from(rt, client, 0, MOST)?;
+        post_many(rt, client, 0, MOST, END)?;
         let mut reader = client.subscribe(rt)?;
         let shown = read(rt, client, &mut reader.subscription);
         let ended = client.leave(rt, reader);
@@ -180,9 +163,9 @@ fn read_cut<N: Recorded, R: Wait + AllocGlobal>(
     subscription: &mut Subscription<'_, N>,
 ) -> Result<Vec<Shown>, Stopped> {
     let mut shown = Vec::new(rt.alloc());
-    post_from(rt, client, 0, 3)?;
+    post_many(rt, client, 0, 3, END)?;
     one_by_one(subscription, 1);
-    post_from(rt, client, 3, 3)?;
+    post_many(rt, client, 3, 3, END)?;
     note_slice(&mut shown, subscription)?;
     note_slice(&mut shown, subscription)?;
     Ok(shown)
