@@ -46,6 +46,7 @@ pub struct Arguments {
 
 /// Why the arguments of a command line weren't read.
 #[derive(Drop)]
+#[non_exhaustive]
 pub enum ArgumentsFault {
     /// They are refused, or ask for help. This is what is to be printed.
     Refused(String),

@@ -40,7 +40,7 @@ pub fn run<R: AllocGlobal + Threads + Wait + Sync, I: Read, O: Write, E: Write>(
     match Arguments::read(rt.alloc(), arguments) {
         Ok(arguments) => obey(rt, rt.alloc(), arguments, input, out, err),
         Err(ArgumentsFault::Refused(text)) => tell(out, &text),
-        Err(ArgumentsFault::NoMemory) => Status::OutOfMemory,
+        Err(_) => Status::OutOfMemory,
     }
 }
 
@@ -91,8 +91,8 @@ fn replay<R: Threads + Wait + Sync, I: Read, O: Write, E: Write>(
     };
     let printout = match printout_of(rt, alloc, arguments, text) {
         Ok(printout) => printout,
-        Err(RunFault::NoMemory) => return Status::OutOfMemory,
         Err(RunFault::NoThread) => return Status::NoThread,
+        Err(_) => return Status::OutOfMemory,
     };
     let status = match write_text(out, printout.output.as_bytes()) {
         Ok(()) => printout.status,
@@ -178,7 +178,7 @@ fn printout_under<R: Threads + Wait + Sync>(
             let output = refused_script(alloc, arguments.form, refusal)?;
             Ok(refused(output, script_advice(alloc, &text, refusal).ok()))
         }
-        Err((ScriptFault::NoMemory, _)) => Err(RunFault::NoMemory),
+        Err(_) => Err(RunFault::NoMemory),
     }
 }
 

@@ -6,6 +6,7 @@ use std::alloc::{AllocError, AllocFailed};
 
 /// Why no line of a script was run, or not all of its outcomes could be kept.
 #[derive(Clone, Copy, Debug, PartialEq, Eq)]
+#[non_exhaustive]
 pub enum RunFault {
     NoMemory,
     /// The system started no more threads.

@@ -50,7 +50,7 @@ fn is_refused<R: Threads + Sync>(
         Err(ScriptFault::Refused(refusal)) => Ok(
             refusal.number == number && refusal.fault == fault,
         ),
-        Ok(_) | Err(ScriptFault::NoMemory) => Ok(false),
+        Ok(_) | Err(_) => Ok(false),
     }
 }
 

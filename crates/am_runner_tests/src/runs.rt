@@ -34,8 +34,8 @@ impl<T: Drop> From<AllocFailed<T>> for Stopped {
 impl From<RunFault> for Stopped {
     fn from(why: RunFault) -> Stopped {
         match why {
-            RunFault::NoMemory => Stopped::NoMemory,
             RunFault::NoThread => Stopped::NoThread,
+            _ => Stopped::NoMemory,
         }
     }
 }
@@ -52,8 +52,8 @@ impl From<ConfigFault> for Stopped {
 impl From<ScriptFault> for Stopped {
     fn from(fault: ScriptFault) -> Stopped {
         match fault {
-            ScriptFault::NoMemory => Stopped::NoMemory,
             ScriptFault::Refused(_) => Stopped::NoScript,
+            _ => Stopped::NoMemory,
         }
     }
 }

@@ -121,6 +121,7 @@ pub struct Line {
 
 /// Why a line isn't read.
 #[derive(Clone, Copy, Debug, PartialEq, Eq)]
+#[non_exhaustive]
 pub enum LineFault {
     BadLine,
     NoMemory,

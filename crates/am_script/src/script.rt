@@ -15,6 +15,7 @@ use std::thread::{Threads, available_parallelism};
 
 /// What is wrong with a line.
 #[derive(Clone, Copy, Debug, PartialEq, Eq)]
+#[non_exhaustive]
 pub enum Fault {
     BadLine,
     BadName,
@@ -52,6 +53,7 @@ impl fmt::Display for Refusal {
 
 /// Why a script isn't run.
 #[derive(Clone, Copy, Debug, PartialEq, Eq)]
+#[non_exhaustive]
 pub enum ScriptFault {
     Refused(Refusal),
     NoMemory,

@@ -6,6 +6,7 @@ use std::alloc::{AllocError, AllocFailed};
 
 /// What failed of the program's own work.
 #[derive(Clone, Copy, Debug, PartialEq, Eq)]
+#[non_exhaustive]
 pub enum WorkFault {
     Read,
     Write,

@@ -57,7 +57,7 @@ pub fn answer_line<'p, 'c, N: Recorded, R: Wait, G: Gate>(
     match reader.read_command(bytes) {
         Ok(command) => obey(context, run, form, number, &command),
         Err(LineFault::BadLine) => refused(alloc, form, number, Fault::BadLine),
-        Err(LineFault::NoMemory) => no_memory(alloc, form, number),
+        Err(_) => no_memory(alloc, form, number),
     }
 }
 

@@ -8,5 +8,5 @@ returns-in-Ok g c = obeyed c.in-Ok.arguments c.in-Ok.ensures.read c.obey.ensures
 pub returns-in-Err-Refused : goal.returns-in-Err-Refused
 returns-in-Err-Refused g c = told c.deref.result.now (rw c.in-Err-Refused.field-0-is at c.in-Err-Refused.ensures.refused) c.tell.ensures
 
-pub returns-in-Err-NoMemory : goal.returns-in-Err-NoMemory
-returns-in-Err-NoMemory g c = no_memory (keeps_same (g.O.Write.contents c.args.out.now))
+pub returns-in-Err : goal.returns-in-Err
+returns-in-Err g c = no_memory (keeps_same (g.O.Write.contents c.args.out.now))

@@ -33,8 +33,8 @@ returns-in-Ok-clause-answers g c =
     let short : length c.args.bytes.now ≤ LONGEST_LINE = search rules in
     IfOk-weaker c.obey.result _ _ (λ text does. obeyed some short c.in-Ok.ensures does) c.obey.ensures.obeys
 
-pub returns-in-Err-NoMemory-clause-answers : goal.returns-in-Err-NoMemory-clause-answers
-returns-in-Err-NoMemory-clause-answers g c =
+pub returns-in-Err-clause-answers : goal.returns-in-Err-clause-answers
+returns-in-Err-clause-answers g c =
     let some : 0 < length c.args.bytes.now = search rules in
     IfOk-weaker c.no_memory.result _ _ (λ text is.
     subst (λ (printed : List ℕ). Answers c.args.context.now.config (setting_of g.N.Recorded.places g.N.Recorded.policy c.args.context.now.provider.now.resolve_timeout) c.args.form c.args.number c.args.bytes.now c.args.run.now printed c.args.run.now) (sym is) (no_memory some)) c.no_memory.ensures
