@@ -4,6 +4,7 @@ use crate::bodies::{Report, moment, reports_body};
 use crate::stopped::Stopped;
 use am_provider::BodyFault;
 use sinnoraku::{Client, Recorded};
+use std::alloc::{AllocError, Global};
 use std::sync::Wait;
 
 /// How many alerts of a post were valid, and their place.
@@ -39,10 +40,20 @@ pub fn post_many<N: Recorded, R: Wait + AllocGlobal>(
     count: u32,
     end: u32,
 ) -> Result<(), Stopped> {
-    let mut reports = Vec::new(rt.alloc());
+    let reports = reports_from(rt.alloc(), first, count, end)?;
+    post_reports(rt, client, reports.as_slice(), 10)?;
+    Ok(())
+}
+
+fn reports_from(
+    alloc: Global,
+    first: u32,
+    count: u32,
+    end: u32,
+) -> Result<Vec<Report>, AllocError> {
+    let mut reports = Vec::new(alloc);
     for number in first..first.saturating_add(count) {
         reports.push(Report::new(number, number, end))?;
     }
-    post_reports(rt, client, reports.as_slice(), 10)?;
-    Ok(())
+    Ok(reports)
 }
