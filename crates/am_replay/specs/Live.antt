@@ -3,7 +3,12 @@ use Rattle.std.specs.Prelude.{◌≡◌, ◌≢◌, ℕ, Bool, false, true, All,
 use Rattle.std.specs.Prelude.{Result, Ok, Err, String, string_bytes}
 use Rattle.std.specs.declared.alloc.Global.{Global}
 use Rattle.std.specs.Io.KnownBytes.{Appends, Keeps}
+use Rattle.am_alert.specs.declared.alert.Alert.{Alert}
+use Rattle.am_cast.specs.Posters.{PassView}
 use Rattle.am_config.specs.declared.config.Config.{Config}
+use Rattle.am_history.specs.Fronts.{FrontView}
+use Rattle.am_store.specs.declared.call.Call.{Call}
+use Rattle.am_provider.specs.Histories.{EntryView}
 use Rattle.am_script.specs.Outputs.{AppendsBeginning}
 use Rattle.am_provider.specs.Ending.{IsSettledFrom}
 use Rattle.am_provider.specs.declared.answers.Counts.{Counts}
@@ -49,19 +54,38 @@ IsRefusedAs form first_line.TooLong text = text ≡ refused_script form first_li
 IsRefusedAs form (first_line.Refused fault) text = text ≡ refused_config form fault
 IsRefusedAs form (first_line.Read config) text = ⊥
 
--- all lines after the first were served on one provider, in a session of its one caller whose reads go on or
--- not; then its subscriptions were left, and it ended: its one history has what the lines, the compactions
--- between them and these leaves added, and nothing else
-pub record IsLived (config : Config) (setting : Setting) (form : Form) (follows : Bool)
-    (input rest out written : Option (List ℕ)) (counts : Counts) : Type 0 where
+-- all lines after the first were served in a session of a new caller whose reads go on or not, and then its
+-- subscriptions were left: the one history has what the lines, the compactions between them and these leaves
+-- added, and nothing else. These are the pass and the front of that caller, and there is no other one
+pub record IsServedWhole (config : Config) (setting : Setting) (form : Form) (follows : Bool)
+    (input rest out written : Option (List ℕ)) (passes : List (PassView Alert Call))
+    (fronts : List (FrontView EntryView)) : Type 0 where
   pub seat : ℕ
   pub end : RunView
   pub left : SessionView
-  pub settled : Settled
   pub served : IsServed config setting form 2 (new_run (new_session seat) follows) input rest out written
       end
   pub leaves : LeavesAll end.session left
-  pub ended : IsSettledFrom (left.pass ∷ []) (left.front ∷ []) settled
+  pub passes_are : passes ≡ left.pass ∷ []
+  pub fronts_are : fronts ≡ left.front ∷ []
+
+-- the lines were served; or something failed, and a beginning of what they answer was written
+abbrev pub IsServedAs : {T E : Type 0} → Config → Setting → Form → Bool → Option (List ℕ) → Option (List ℕ)
+    → Option (List ℕ) → Option (List ℕ) → List (PassView Alert Call) → List (FrontView EntryView)
+    → Result T E → Type 0
+IsServedAs config setting form follows input rest out written passes fronts (Ok _) =
+    IsServedWhole config setting form follows input rest out written passes fronts
+IsServedAs config setting form follows input rest out written passes fronts (Err _) =
+    (seat : ℕ) × IsServedInPart config setting form 2 (new_run (new_session seat) follows) input out written
+
+-- the lines were served on one provider, which then ended
+pub record IsLived (config : Config) (setting : Setting) (form : Form) (follows : Bool)
+    (input rest out written : Option (List ℕ)) (counts : Counts) : Type 0 where
+  pub passes : List (PassView Alert Call)
+  pub fronts : List (FrontView EntryView)
+  pub settled : Settled
+  pub served : IsServedWhole config setting form follows input rest out written passes fronts
+  pub ended : IsSettledFrom passes fronts settled
   pub complete : settled.complete ≡ true
   pub counts_are : AreCountsOf settled counts
 

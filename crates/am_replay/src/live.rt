@@ -1,15 +1,11 @@
 //! A live run: each line of the input is answered before the next one is read.
 //!
-//! It begins its provider itself: a session owns its caller, and a `sinnoraku::Program` is lent clients. `serve_all` is
-//! apart, since its signature gives the runtime and the provider one lifetime, as a context lent as `&mut` has.
+//! It is a driver of its provider, since what serves the lines owns its caller.
 
-ghost use Rattle.std.specs.Prelude.{◌≡◌, ℕ, List, ◌++◌, ◌∷◌, [], Option, IfOk, OnErr, OnOk, string_bytes};
+ghost use Rattle.std.specs.Prelude.{ℕ, List, Option, IfOk};
 ghost use Rattle.am_command_line.specs.FirstLines.{IsFirstLine};
 ghost use Rattle.am_replay.specs.Live.{IsEnd, IsFailure, IsFirstAs, IsLive, IsWritten, LivesUnder, is_following, line_or_empty};
-ghost use Rattle.am_runner.specs.Sessions.{LeavesAll, setting_of};
-ghost use Rattle.am_runner.specs.live.Serving.{IsServed, IsServedInPart};
-ghost use Rattle.am_runner.specs.live.Standing.{RunView, new_run};
-ghost use Rattle.am_provider.specs.PartsOf.{AreOf};
+ghost use Rattle.am_runner.specs.Sessions.{setting_of};
 
 use crate::transcript::counts_line;
 use am_command_line::{
@@ -17,12 +13,12 @@ use am_command_line::{
     refused_script,
 };
 use am_config::Config;
-use am_provider::{Caller, Counts, Parts, Provider, Recorded};
-use am_runner::{Context, Freely, InputLine, LiveRun, PreparedConfig, Session, next_line, serve};
+use am_provider::{Caller, Counts, Provider, Recorded};
+use am_runner::{InputLine, Serving, next_line, serve_all};
 use am_script::{Form, WorkFault, script_advice, write_text};
+use sinnoraku::{Driver, Limits, run_driver};
 use std::alloc::{AllocError, Global};
 use std::io::{BufRead, Write};
-use std::marker::Brand;
 use std::sync::Wait;
 
 /// Reads the configuration, serves each line after it, and prints the counts at the input's end.
@@ -92,7 +88,7 @@ fn status_of(failure: WorkFault) -> Status
     match failure {
         WorkFault::Read => Status::ReadFailed,
         WorkFault::Write => Status::WriteFailed,
-        WorkFault::OutOfMemory => Status::OutOfMemory,
+        _ => Status::OutOfMemory,
     }
 }
 
@@ -109,8 +105,7 @@ fn refuse<O: Write>(text: Result<String, AllocError>, out: &mut O) -> Status
     }
 }
 
-// Serves the lines after the configuration on a new provider. Its `Brand` keeps it from being mixed up
-// with another.
+// Serves the lines after the configuration on a new provider.
 fn live_under<R: Wait, I: BufRead, O: Write>(
     rt: &R,
     alloc: Global,
@@ -122,76 +117,79 @@ fn live_under<R: Wait, I: BufRead, O: Write>(
     ensures { LivesUnder (setting_of arguments.places arguments.full config.now.resolve_timeout) arguments.form
         (is_following arguments.mode) config.now (I.remaining input.old) (O.contents out.old) result (O.contents out.new) }
 {
-    match Parts::make(alloc, arguments.places, 1) {
-        Ok(parts) => { live_on::<Brand, R, I, O>(rt, alloc, arguments, config, input, out, parts) }
+    let limits = Limits::with_callers(1)
+        .places(arguments.places)
+        .policy(arguments.full)
+        .resolve_timeout(config.resolve_timeout);
+    let mut living = Living {
+        alloc,
+        arguments,
+        config,
+        input,
+        out,
+    };
+    let ran = run_driver(rt, alloc, limits, &mut living);
+    let Living {
+        alloc: _,
+        arguments: _,
+        config: _,
+        input: _,
+        out,
+    } = living;
+    // No effect at run time. The proof reads what `out` holds from this use of it.
+    let _ = &*out;
+    match ran {
+        Ok((Ok(()), settled)) => print_counts(alloc, arguments.form, settled.counts(), out),
+        Ok((Err(failure), _)) => status_of(failure),
         Err(_) => Status::OutOfMemory,
     }
 }
 
-fn live_on<N: Recorded, R: Wait, I: BufRead, O: Write>(
-    rt: &R,
+// The lines after the configuration, and where their answers are written.
+#[derive(Drop)]
+struct Living<'c, 'i, 'o, I, O> {
     alloc: Global,
     arguments: Arguments,
-    config: &Config,
-    input: &mut I,
-    out: &mut O,
-    parts: Parts,
-) -> Status
-    requires parts { AreOf N.table N.name N.parts N.timeline N.entries N.holders parts }
-    requires limits { (parts.log.places ≡ N.places)
-        × (arguments.places ≡ N.places) × (arguments.full ≡ N.policy) }
-    requires posters { (parts.posters ≡ 1) × (N.parts ≡ 1) }
-    ensures { LivesUnder (setting_of arguments.places arguments.full config.now.resolve_timeout) arguments.form
-        (is_following arguments.mode) config.now (I.remaining input.old) (O.contents out.old) result (O.contents out.new) }
-{
-    let begun = Provider::<N>::begin(alloc, parts, arguments.full, config.resolve_timeout);
-    let Ok((provider, mut callers)) = begun else {
-        return Status::OutOfMemory;
-    };
-    let Some(caller) = callers.pop() else {
-        unreachable!()
-    };
-    let (served, caller) = serve_all(rt, alloc, &provider, config, caller, arguments, input, out);
-    callers.push_reserved(caller);
-    let settled = provider.settle(rt, callers);
-    match served {
-        Ok(()) => print_counts(alloc, arguments.form, settled.counts(), out),
-        Err(failure) => status_of(failure),
-    }
+    config: &'c Config,
+    input: &'i mut I,
+    out: &'o mut O,
 }
 
-// Serves all lines after the first, and leaves the subscriptions that are open then. The caller comes back.
-fn serve_all<'p, 'c, N: Recorded, R: Wait, I: BufRead, O: Write>(
-    rt: &'p R,
-    alloc: Global,
-    provider: &'p Provider<N>,
-    config: &'c Config,
-    caller: Caller<N>,
-    arguments: Arguments,
-    input: &mut I,
-    out: &mut O,
-) -> (Result<(), WorkFault>, Caller<N>)
-    ensures served { OnOk result.0 ((end : RunView) × IsServed config.now
-        (setting_of N.places N.policy provider.now.resolve_timeout) arguments.form 2
-        (new_run (record { pass = caller.pass; front = caller.front; opened = [] }) (is_following arguments.mode))
-        (I.remaining input.old) (I.remaining input.new) (O.contents out.old) (O.contents out.new) end
-        × LeavesAll end.session (record { pass = result.1.pass; front = result.1.front; opened = [] })) }
-    ensures err { OnErr result.0 (IsServedInPart config.now
-        (setting_of N.places N.policy provider.now.resolve_timeout) arguments.form 2
-        (new_run (record { pass = caller.pass; front = caller.front; opened = [] }) (is_following arguments.mode))
-        (I.remaining input.old) (O.contents out.old) (O.contents out.new)) }
-{
-    let mut context = Context {
-        rt,
-        alloc,
-        provider,
-        config: PreparedConfig::new(config),
-        turns: &Freely,
-    };
-    let session = Session::begin(alloc, caller);
-    let mut run = LiveRun::begin(alloc, session, arguments.mode == Mode::Follow);
-    let served = serve(&mut context, &mut run, arguments.form, 2, input, out);
-    (served, run.into_session().end(&context))
+impl<'c, 'i, 'o, R: Wait, I: BufRead, O: Write> Driver<R> for Living<'c, 'i, 'o, I, O> {
+    ghost use Rattle.std.specs.Prelude.{◌≡◌};
+    ghost use Rattle.am_runner.specs.Sessions.{setting_of};
+    ghost use Rattle.am_replay.specs.Live.{IsServedAs, is_following};
+
+    type Outcome = Result<(), WorkFault>;
+
+    ghost fits = { λ _ limits. limits.callers ≡ 1 };
+
+    ghost comes_to = { λ old new limits passes fronts served. (new.out.ghost_name ≡ old.out.ghost_name)
+        × IsServedAs old.config.now (setting_of limits.places limits.policy limits.resolve_timeout) old.arguments.form
+        (is_following old.arguments.mode) (I.remaining old.input.now) (I.remaining new.input.now)
+        (O.contents old.out.now) (O.contents new.out.now) passes fronts served };
+
+    fn drive<'p, N: Recorded>(
+        &mut self,
+        rt: &'p R,
+        _limits: Limits,
+        provider: &'p Provider<N>,
+        callers: Vec<Caller<N>>,
+    ) -> (Self::Outcome, Vec<Caller<N>>) {
+        let mut callers = callers;
+        let Some(caller) = callers.pop() else {
+            unreachable!()
+        };
+        let (alloc, config) = (self.alloc, self.config);
+        let serving = Serving {
+            form: self.arguments.form,
+            follows: self.arguments.mode == Mode::Follow,
+        };
+        let (input, out) = (&mut *self.input, &mut *self.out);
+        let (served, caller) = serve_all(rt, alloc, provider, config, caller, serving, input, out);
+        callers.push_reserved(caller);
+        (served, callers)
+    }
 }
 
 // Prints the last line.

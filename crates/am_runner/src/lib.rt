@@ -47,7 +47,7 @@ mod work;
 pub use answer::{Answer, GroupHead, PageHead, write_answers};
 pub use consumer::{Consumer, Half};
 pub use context::Context;
-pub use live::{InputLine, LiveRun, answer_line, next_line, serve};
+pub use live::{InputLine, LiveRun, Serving, answer_line, next_line, serve, serve_all};
 pub use open_subscription::OpenSubscription;
 pub use prepared_config::PreparedConfig;
 pub use register::{Register, TurnsSeen};

@@ -21,4 +21,4 @@ mod standing;
 pub use answering::answer_line;
 pub use live_run::LiveRun;
 pub use reading::{InputLine, next_line};
-pub use serving::serve;
+pub use serving::{Serving, serve, serve_all};

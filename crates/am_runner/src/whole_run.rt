@@ -1,8 +1,10 @@
 //! A script's run on a provider of its own, from the provider's beginning to its end.
 //!
 //! Crate sinnoraku can't begin it: the threads share a register of turns, whose type rests on the provider's own type, and a
-//! `Worker` is made before that is there. A `Program` that starts threads is refused: what it sends to one rests on a bound
-//! that a trait's method assumes.
+//! `Worker` is made before that is there. A `Driver` that starts threads isn't checked: the bound `N: Recorded` of a trait's
+//! method holds of the method's own thread alone. The smallest such is `fn run<N: Marked + Send + Sync>(self, rt: &R,
+//! held: &Held<N>)` of a trait, where `Marked` has one ghost member and nothing else. It can't call a function that sends
+//! `held` to a thread; without `Marked`, or as a function of no trait, it can.
 
 ghost use Rattle.std.specs.Prelude.{◌≡◌, ◌≤◌, Bool, List, IfOk, Ok, map};
 ghost use Rattle.am_cast.specs.declared.limits.TheConstants.{MAX_PLACES};

@@ -22,6 +22,18 @@ pub record IsSettledRun (ComesTo : List (FrontView EntryView) → Type 0) (calle
   pub rising : All (λ (pass : PassView Alert Call). IsRising pass.own) passes
   pub complete : end.complete ≡ true
 
+-- a driver drove with as many callers: its outcome by the passes and the fronts of those that it gave back,
+-- and the settled provider by these, which is complete if they are all
+pub record IsDriven (ComesTo : List (PassView Alert Call) → List (FrontView EntryView) → Type 0)
+    (callers : ℕ) (end : Settled) : Type 0 where
+  pub passes : List (PassView Alert Call)
+  pub fronts : List (FrontView EntryView)
+  pub count : length fronts ≡ length passes
+  pub comes_to : ComesTo passes fronts
+  pub settled : IsSettledFrom passes fronts end
+  pub rising : All (λ (pass : PassView Alert Call). IsRising pass.own) passes
+  pub complete : length passes ≡ callers → end.complete ≡ true
+
 -- each caller's outcome, by its index and its front
 pub record AreOutcomes {O : Type 0} (ComesTo : ℕ → FrontView EntryView → O → Type 0)
     (fronts : List (FrontView EntryView)) (outcomes : List O) : Type 0 where

@@ -1,9 +1,10 @@
 //! An alert provider begun and settled by one call, with a program of yours between.
 //!
 //! [`run`] begins a provider with these [`Limits`], runs a [`Program`] with its clients in this thread, and settles.
-//! [`run_workers`] does so with a [`Worker`], which works with each client in a thread of its own. A [`Client`] is a
-//! caller with its provider: it posts, subscribes and asks. A [`Reader`] is a subscription with its provider: it can wait.
-//! Which provider these belong to is part of their type, so that those of another one don't compile.
+//! [`run_workers`] does so with a [`Worker`], which works with each client in a thread of its own, and [`run_driver`] with a
+//! [`Driver`], which owns the callers meanwhile. A [`Client`] is a caller with its provider: it posts, subscribes and asks. A
+//! [`Reader`] is a subscription with its provider: it can wait. Which provider these belong to is part of their type, so
+//! that those of another one don't compile.
 //!
 //! <!-- from crates/uses/src/one_thread.rt -->
 //! ```rust
@@ -25,6 +26,7 @@
 
 mod client;
 mod clients;
+mod driver;
 mod iter;
 mod limits;
 mod next;
@@ -41,6 +43,7 @@ pub use am_provider::{
 };
 pub use am_store::{SharedAlert, StoredAlerts};
 pub use client::Client;
+pub use driver::{Driver, run_driver};
 pub use iter::Iter;
 pub use limits::{Limits, USUAL_PLACES};
 pub use next::Next;

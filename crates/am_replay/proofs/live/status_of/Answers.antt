@@ -7,5 +7,5 @@ returns-in-Read c = not_read
 pub returns-in-Write : goal.returns-in-Write
 returns-in-Write c = not_written
 
-pub returns-in-OutOfMemory : goal.returns-in-OutOfMemory
-returns-in-OutOfMemory c = no_memory
+pub returns-in_default : goal.returns-in_default
+returns-in_default c = no_memory
