@@ -5,6 +5,7 @@ ghost use Rattle.std.specs.Prelude.{◌≡◌, ◌<◌, ◌≤◌, length, IfOk}
 ghost use Rattle.am_cast.specs.declared.limits.TheConstants.{MAX_PLACES};
 
 mod dropped;
+mod eight;
 mod races;
 
 use crate::log::{Log, begin_log, end_log};
