@@ -25,7 +25,8 @@ returns-in-Ok-Ok-default g c =
     let lived = lived_so config setting (setting_of limits.places limits.policy limits.resolve_timeout) a.form follows input (g.I.Read.remaining after.input.now) out (g.O.Write.contents after.out.now) driven.passes driven.fronts c.in-Ok-Ok-default.settled c.counts.result c.in-Ok-Ok-default.field-0-0 c.in-Ok-Ok-default.field-0-0-0
     (same_setting a.places limits.places a.full limits.policy config.resolve_timeout limits.resolve_timeout places policy timeout) c.in-Ok-Ok-default.field-0-0-is driven.comes_to.1 driven.settled (λ one. driven.complete (one ∙ sym callers))
     (record { places = c.counts.ensures.places; posts = c.counts.ensures.posts; stored = c.counts.ensures.stored }) in
-    subst (λ written. LivesUnder setting a.form follows config input out c.print_counts.result (g.O.Write.contents written)) (sym (c.out-1.given.1 (sym driven.comes_to.0)))
+    let same = sym driven.comes_to.0 in
+    subst (λ written. LivesUnder setting a.form follows config input out c.print_counts.result (g.O.Write.contents written)) (search (rules, same))
     (counts_told setting a.form follows config input (g.I.Read.remaining after.input.now) out (g.O.Write.contents after.out.now) (g.O.Write.contents c.print_counts.new.out) c.counts.result c.print_counts.result lived c.print_counts.ensures)
 
 pub returns-in-Ok-Err-default : goal.returns-in-Ok-Err-default
@@ -42,7 +43,8 @@ returns-in-Ok-Err-default g c =
     let after = c.run_driver-ran.new.driver in
     let input = g.I.Read.remaining c.args.input.now in
     let out = g.O.Write.contents c.args.out.now in
-    subst (λ written. LivesUnder setting a.form follows config input out c.status_of.result (g.O.Write.contents written)) (sym (c.in-Ok-Err-default.out-in-Err-1-own.given.1 (sym driven.comes_to.0)))
+    let same = sym driven.comes_to.0 in
+    subst (λ written. LivesUnder setting a.form follows config input out c.status_of.result (g.O.Write.contents written)) (search (rules, same))
     (failed_so config setting (setting_of limits.places limits.policy limits.resolve_timeout) a.form follows input (g.I.Read.remaining after.input.now) out (g.O.Write.contents after.out.now) driven.passes driven.fronts c.status_of.result c.in-Ok-Err-default.field-0-0 c.in-Ok-Err-default.failure
     (same_setting a.places limits.places a.full limits.policy config.resolve_timeout limits.resolve_timeout places policy timeout) c.in-Ok-Err-default.field-0-0-is driven.comes_to.1 c.status_of.ensures)
 
@@ -51,6 +53,7 @@ returns-in-Err g c =
     let a = c.args.arguments in
     let config = c.args.config.now in
     let kept = c.in-Err.ensures.refused in
-    let held = c.out-in-Err-2.given.1 (sym (ap (λ driver. driver.out.ghost_name) kept)) in
+    let same = sym (ap (λ driver. driver.out.ghost_name) kept) in
+    let then = sym (ap (λ driver. driver.out.now) kept) in
     subst (λ written. LivesUnder (setting_of a.places a.full config.resolve_timeout) a.form (is_following a.mode) config (g.I.Read.remaining c.args.input.now) (g.O.Write.contents c.args.out.now) OutOfMemory (g.O.Write.contents written))
-    (sym (held ∙ ap (λ driver. driver.out.now) kept)) (LivesUnder.not_begun (keeps_same (g.O.Write.contents c.args.out.now)))
+    (search (rules, same, then)) (LivesUnder.not_begun (keeps_same (g.O.Write.contents c.args.out.now)))
