@@ -136,7 +136,7 @@ fn live_under<R: Wait, I: BufRead, O: Write>(
         input: _,
         out,
     } = living;
-    // No effect at run time. The proof reads what `out` holds from this use of it.
+    // Nothing is done here: a look at `out` after the loan has ended is what tells the proof its contents.
     let _ = &*out;
     match ran {
         Ok((Ok(()), settled)) => print_counts(alloc, arguments.form, settled.counts(), out),

@@ -4,7 +4,8 @@
 //! `Worker` is made before that is there. A `Driver` that starts threads isn't checked: the bound `N: Recorded` of a trait's
 //! method holds of the method's own thread alone. The smallest such is `fn run<N: Marked + Send + Sync>(self, rt: &R,
 //! held: &Held<N>)` of a trait, where `Marked` has one ghost member and nothing else. It can't call a function that sends
-//! `held` to a thread; without `Marked`, or as a function of no trait, it can.
+//! `held` to a thread. As a function of no trait it can, and so without `Marked`, if it requires `IsSend` and `IsSync` of `N`
+//! and `IsSync` of `R`.
 
 ghost use Rattle.std.specs.Prelude.{◌≡◌, ◌≤◌, Bool, List, IfOk, Ok, map};
 ghost use Rattle.am_cast.specs.declared.limits.TheConstants.{MAX_PLACES};
