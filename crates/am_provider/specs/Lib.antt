@@ -16,3 +16,4 @@ pub mod Rising
 pub mod Settling
 pub mod Ending
 pub mod inside
+pub mod Turns

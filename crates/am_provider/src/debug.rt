@@ -2,9 +2,11 @@
 
 use crate::book::Book;
 use crate::entry::Entry;
-use crate::feed::Origin;
+use crate::feed::{Origin, Recorded};
 use crate::parts::{Begun, Parts};
 use crate::pass::Pass;
+use crate::register::Register;
+use am_history::Timeline;
 use std::fmt;
 
 impl<N: Origin> fmt::Debug for Book<N> {
@@ -36,5 +38,11 @@ impl<N: Origin> fmt::Debug for Begun<N> {
 impl<N: Origin> fmt::Debug for Pass<N> {
     fn fmt<W: fmt::Write>(&self, f: &mut fmt::Formatter<W>) -> fmt::Result {
         f.debug_struct("Pass").finish_non_exhaustive()
+    }
+}
+
+impl<N: Recorded, M: Timeline> fmt::Debug for Register<N, M> {
+    fn fmt<W: fmt::Write>(&self, f: &mut fmt::Formatter<W>) -> fmt::Result {
+        f.debug_struct("Register").finish_non_exhaustive()
     }
 }

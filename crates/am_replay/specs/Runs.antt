@@ -6,7 +6,7 @@ use Rattle.am_provider.specs.BookView.{places_of}
 use Rattle.am_provider.specs.declared.answers.Counts.{Counts}
 use Rattle.am_provider.specs.declared.settled.Settled.{Settled}
 use Rattle.am_runner.specs.Sessions.{Setting}
-use Rattle.am_runner.specs.WholeRuns.{IsWholeRun}
+use Rattle.am_threads.specs.WholeRuns.{IsWholeRun}
 use Rattle.am_config.specs.declared.config.Config.{Config}
 use Rattle.am_script.specs.declared.command.Line.{Line}
 use Rattle.am_replay.specs.declared.transcript.Transcript.{Transcript}

@@ -14,11 +14,11 @@ use am_command_line::{
     refused_config, refused_script,
 };
 use am_config::Config;
-use am_runner::RunFault;
 use am_script::{
     Form, Line, ScriptFault, WorkFault, config_line, read_input, read_script_in_threads,
     script_advice, write_text,
 };
+use am_threads::RunFault;
 use std::alloc::Global;
 use std::io::{BufReader, Read, Write};
 use std::mem;

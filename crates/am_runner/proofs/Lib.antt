@@ -1,12 +1,9 @@
-pub mod Lines
 pub mod Nexts
 pub mod Named
 pub mod Notifying
-pub mod Owed
 pub mod Results
 pub mod Reading
 pub mod Taking
 pub mod Turning
 pub mod Putting
 pub mod LostAnswers
-pub mod WholeRuns

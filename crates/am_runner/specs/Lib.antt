@@ -6,13 +6,10 @@ pub mod Forms
 pub mod Consumers
 pub mod Consuming
 pub mod Asking
-pub mod Owed
 pub mod Reading
 pub mod Putting
 pub mod Sessions
 pub mod Unanswered
 pub mod Compacting
 pub mod Turning
-pub mod Working
-pub mod WholeRuns
 pub mod live

@@ -1,10 +1,10 @@
 -- The order in which the turns of a script's threads are taken.
-use Rattle.std.specs.Prelude.{◌≡◌, ℕ, ◌<◌, Bool, true, false, if◌then◌else◌, List, [], ◌∷◌, ◌++◌, length, ⊤}
+use Rattle.std.specs.Prelude.{◌≡◌, ℕ, ◌<◌, Bool, true, false, if◌then◌else◌, List, ⊤}
 use Rattle.std.specs.Prelude.{slice_get, Option, Some, None}
-use Rattle.std.specs.List.{All}
 use mathlib.Core.List.{IsPrefix}
 use Rattle.am_history.specs.Fronts.{FrontView}
 use Rattle.am_provider.specs.Histories.{EntryView}
+use Rattle.am_provider.specs.Turns.{IsBegun, IsEnded}
 
 -- the turns in the order in which they were taken, each as the front that its caller had at its end; none, if
 -- the threads take theirs as they reach them
@@ -22,27 +22,6 @@ IsTurn None at began ended = ⊤
 IsTurn (Some turns) at began ended = (slice_get turns at ≡ Some ended)
     × ((earlier : ℕ) (turn : FrontView EntryView) → earlier < at → slice_get turns earlier ≡ Some turn
     → IsPrefix turn.seen began.seen)
-
--- a caller sees more of the history, and makes no call
-abbrev pub SeesMore : FrontView EntryView → FrontView EntryView → Type 0
-SeesMore was is = IsPrefix was.seen is.seen × (is ≡ record was { seen = is.seen; looks = is.looks })
-
--- the turn of a number begins: as many were taken, and its caller has seen what the callers of these had
-pub record IsBegun (at : ℕ) (saw sees : List (FrontView EntryView)) (was is : FrontView EntryView)
-    : Type 0 where
-  pub kept : IsPrefix saw sees
-  pub count : length sees ≡ at
-  pub shown : All (λ (turn : FrontView EntryView). IsPrefix turn.seen is.seen) sees
-  pub more : SeesMore was is
-
--- the turn of a number ends: as many were taken before it, and it is added to them
-pub record IsEnded (at : ℕ) (saw sees : List (FrontView EntryView)) (was is : FrontView EntryView)
-    : Type 0 where
-  pub before : List (FrontView EntryView)
-  pub kept : IsPrefix saw before
-  pub count : length before ≡ at
-  pub added : sees ≡ before ++ is ∷ []
-  pub more : SeesMore was is
 
 -- what the begin of a turn shows, if the turns are taken in an order: to its thread the turns before it, and
 -- to its caller the history. Else it shows nothing

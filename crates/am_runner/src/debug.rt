@@ -4,10 +4,7 @@ use crate::consumer::Consumer;
 use crate::context::Context;
 use crate::open_subscription::OpenSubscription;
 use crate::prepared_config::PreparedConfig;
-use crate::register::Register;
 use crate::session::Session;
-use crate::turns::InOrder;
-use am_history::Timeline;
 use am_provider::Recorded;
 use std::fmt;
 
@@ -35,20 +32,8 @@ impl<'c> fmt::Debug for PreparedConfig<'c> {
     }
 }
 
-impl<N: Recorded, M: Timeline> fmt::Debug for Register<N, M> {
-    fn fmt<W: fmt::Write>(&self, f: &mut fmt::Formatter<W>) -> fmt::Result {
-        f.debug_struct("Register").finish_non_exhaustive()
-    }
-}
-
 impl<'p, 'c, N: Recorded> fmt::Debug for Session<'p, 'c, N> {
     fn fmt<W: fmt::Write>(&self, f: &mut fmt::Formatter<W>) -> fmt::Result {
         f.debug_struct("Session").finish_non_exhaustive()
-    }
-}
-
-impl fmt::Debug for InOrder {
-    fn fmt<W: fmt::Write>(&self, f: &mut fmt::Formatter<W>) -> fmt::Result {
-        f.debug_struct("InOrder").finish_non_exhaustive()
     }
 }

@@ -17,13 +17,12 @@ use crate::answer::Answer;
 use crate::consumer::Half;
 use crate::context::Context;
 use crate::open_subscription::OpenSubscription;
-use crate::register::{Register, TurnsSeen};
 use crate::room_for_answer::RoomForAnswer;
 use crate::session::routes::{ask_tree, show_tree};
 use crate::turns::{Turn, Turns};
 use am_history::Timeline;
 use am_labels::Text;
-use am_provider::{Caller, Gate, Recorded};
+use am_provider::{Caller, Gate, Recorded, Register, TurnsSeen};
 use am_script::Command;
 use std::alloc::{AllocError, Global};
 use std::marker::Model;
@@ -85,8 +84,8 @@ impl<'p, 'c, N: Recorded> Session<'p, 'c, N> {
         }
     }
 
-    // Begins a turn of its caller.
-    pub(crate) fn begin_turn<M: Timeline, R: Wait, T: Turns>(
+    /// Begins a turn of its caller.
+    pub fn begin_turn<M: Timeline, R: Wait, T: Turns>(
         &mut self,
         context: &Context<'p, 'c, N, R, T>,
         register: &Register<N, M>,
@@ -106,8 +105,8 @@ impl<'p, 'c, N: Recorded> Session<'p, 'c, N> {
         );
     }
 
-    // Ends it.
-    pub(crate) fn end_turn<M: Timeline, R: Wait, T: Turns>(
+    /// Ends it.
+    pub fn end_turn<M: Timeline, R: Wait, T: Turns>(
         &mut self,
         context: &Context<'p, 'c, N, R, T>,
         register: &Register<N, M>,

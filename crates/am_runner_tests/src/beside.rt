@@ -2,9 +2,10 @@
 
 use crate::runs::{Run, Stopped, run_lines};
 use am_history::Timeline;
-use am_provider::{Caller, Gate, Policy, Provider, Recorded};
-use am_runner::{LogLimits, Register, Turn, Turns, TurnsSeen};
+use am_provider::{Caller, Gate, Policy, Provider, Recorded, Register, TurnsSeen};
+use am_runner::{Turn, Turns};
 use am_script::{THREADS, read_script};
+use am_threads::LogLimits;
 use std::alloc::Global;
 use std::rt::Clock;
 use std::sync::Wait;

@@ -2,7 +2,7 @@
 
 use crate::runs::{Run, Stopped, run_in_order};
 use am_provider::Policy;
-use am_runner::LogLimits;
+use am_threads::LogLimits;
 use std::alloc::Global;
 use std::sync::Wait;
 use std::test::Fail;

@@ -2,9 +2,10 @@
 
 use am_config::{Config, ConfigFault};
 use am_provider::{Counts, Ended, Settled};
-use am_runner::{Answer, InOrder, LogLimits, RunFault, Turns, WholeRun, run_whole, write_answers};
+use am_runner::{Answer, Turns, write_answers};
 use am_script::{Form, Line, ScriptFault, config_line, read_script};
 use am_store::Call;
+use am_threads::{InOrder, LogLimits, RunFault, WholeRun, run_whole};
 use std::alloc::{AllocError, AllocFailed, Global};
 use std::sync::Wait;
 use std::thread::Threads;

@@ -17,9 +17,8 @@ use crate::live::live_run::LiveRun;
 use crate::live::reading::{InputLine, next_line};
 use crate::prepared_config::PreparedConfig;
 use crate::session::Session;
-use crate::turns::Freely;
 use am_config::Config;
-use am_provider::{Caller, Gate, Provider, Recorded};
+use am_provider::{Caller, Gate, NoGate, Provider, Recorded};
 use am_script::{Form, LineReader, WorkFault, write_text};
 use std::alloc::Global;
 use std::io::{BufRead, Write};
@@ -61,7 +60,7 @@ pub fn serve_all<'p, 'c, N: Recorded, R: Wait, I: BufRead, O: Write>(
         alloc,
         provider,
         config: PreparedConfig::new(config),
-        turns: &Freely,
+        turns: &NoGate,
     };
     let session = Session::begin(alloc, caller);
     let mut run = LiveRun::begin(alloc, session, serving.follows);
