@@ -32,7 +32,7 @@ pub enum Mode {
 const SCRIPT_PLACES: u32 = 256;
 
 /// What the command line asks for.
-#[derive(Clone, Copy)]
+#[derive(Clone, Copy, Debug)]
 pub struct Arguments {
     pub mode: Mode,
     /// In which form the answers are printed.
@@ -45,7 +45,7 @@ pub struct Arguments {
 }
 
 /// Why the arguments of a command line weren't read.
-#[derive(Drop)]
+#[derive(Debug, Drop)]
 #[non_exhaustive]
 pub enum ArgumentsFault {
     /// They are refused, or ask for help. This is what is to be printed.

@@ -8,7 +8,7 @@ use indexmap::IndexMap;
 use std::alloc::{AllocError, Global};
 use std::hash::Hash;
 use std::marker::Model;
-use std::mem;
+use std::{fmt, mem};
 
 /// A value with a key.
 pub trait HasKey<K: PartialEq> {
@@ -32,7 +32,7 @@ pub trait Removes<V> {
 }
 
 /// What a value changed, kept to undo it.
-#[derive(Drop)]
+#[derive(Debug, Drop)]
 pub enum KeyChange<V> {
     /// It began its key, the last one.
     Added,
@@ -154,5 +154,11 @@ impl<K: Eq + Hash + Drop, V: HasKey<K> + Drop> KeyedList<K, V> {
         ensures before { find (λ old. K.eq (V.key value) (V.key old)) self.old ≡ Some result }
     {
         mem::replace(&mut self.values[at], value)
+    }
+}
+
+impl<K: Eq + Hash, V: HasKey<K>> fmt::Debug for KeyedList<K, V> {
+    fn fmt<W: fmt::Write>(&self, f: &mut fmt::Formatter<W>) -> fmt::Result {
+        f.debug_struct("KeyedList").finish_non_exhaustive()
     }
 }

@@ -27,8 +27,8 @@ use am_labels::LabelSet;
 use indexmap::IndexMap;
 use std::alloc::{AllocError, Global};
 use std::marker::Model;
-use std::mem;
 use std::sync::Arc;
+use std::{fmt, mem};
 
 /// The stored alerts by their label sets, in the order in which those began. A report costs the same
 /// however many there are.
@@ -63,6 +63,12 @@ impl Model for Store {
     ghost view = { λ s. s.alerts.entries };
 
     ghost invariant = { λ s. AreKeptByLabels s.alerts.entries × IsCurrent s.current.items s.shared (stored_in s.alerts.entries) };
+}
+
+impl fmt::Debug for Store {
+    fn fmt<W: fmt::Write>(&self, f: &mut fmt::Formatter<W>) -> fmt::Result {
+        f.debug_struct("Store").finish_non_exhaustive()
+    }
 }
 
 impl Store {
