@@ -13,6 +13,8 @@ mod compactions;
 #[cfg(test)]
 mod comparison;
 #[cfg(test)]
+mod crews;
+#[cfg(test)]
 mod cut_races;
 #[cfg(test)]
 mod filters;
