@@ -1,5 +1,5 @@
 -- What holds of a result's value.
-use Rattle.std.proofs.Common.{◌≡◌, ◌∙◌, ◌++◌, ◌∷◌, [], zero, suc, List, length, get_or, false, Result, Ok, Err, IfOk, OnErr, OnOk, refl, ap, subst, arith, length-append}
+use Rattle.std.proofs.Common.{◌≡◌, false, Result, Ok, Err, IfOk, OnErr, OnOk}
 use Rattle.std.specs.Result.{is_err}
 
 pub if_ok_map : {T E : Type 0} {P Q : T → Type 0} (r : Result T E) → IfOk r P → ((x : T) → P x → Q x) → IfOk r Q
