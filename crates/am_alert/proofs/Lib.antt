@@ -11,3 +11,4 @@ pub mod Rooms
 pub mod Drafts
 pub mod Tokens
 pub mod Streams
+pub mod PlainMoments

@@ -28,6 +28,7 @@ pub mod laws;
 mod merging;
 mod moment;
 mod moment_text;
+mod plain_moment;
 mod post;
 mod post_reader;
 mod postable;

@@ -1,14 +1,16 @@
 //! Instants, and how they are printed.
 
-ghost use Rattle.std.specs.Prelude.{◌≡◌, ◌<◌, ◌-◌, ◌-ℤ◌, Some, None, if◌then◌else◌, nat_lt, pos};
+ghost use Rattle.std.specs.Prelude.{◌≡◌, ◌<◌, ◌-◌, ◌-ℤ◌, IfNone, IfSome, Ok, Some, None, if◌then◌else◌, nat_lt, pos};
 ghost use Rattle.std.specs.Duration.{as_nanos};
 ghost use Rattle.am_alert.specs.Moments.{moments, later};
 ghost use Rattle.am_alert.specs.Calendar.{parts_of};
 ghost use Rattle.am_alert.specs.Printing.{moment_text};
-ghost use Rattle.am_alert.specs.TimeTexts.{ReadsMoment, year_1970};
+ghost use Rattle.am_alert.specs.TimeTexts.{ReadsMoment, instant_of, year_1970};
+ghost use Rattle.jiff.specs.Words.{parse_timestamp};
 
 use crate::civil_time::CivilTime;
 use crate::moment_text::MomentText;
+use crate::plain_moment::read_plain;
 use crate::time_text::TimeFault;
 use jiff::Timestamp;
 use jiff::fmt::temporal::DateTimePrinter;
@@ -132,6 +134,20 @@ impl Moment {
     }
 }
 
+// The instant of a text, by jiff's reader unless it has the plain form.
+fn timestamp_of(text: &str) -> Option<jiff_core::Timestamp>
+    ensures some { IfSome result (λ instant. parse_timestamp text.now ≡ Ok instant.nanosecond) }
+    ensures none { IfNone result (instant_of (parse_timestamp text.now) ≡ None) }
+{
+    if let Some(timestamp) = read_plain(text.as_bytes()) {
+        return Some(timestamp);
+    }
+    match text.parse::<Timestamp>() {
+        Ok(timestamp) => Some(timestamp.to_plain()),
+        Err(_) => None,
+    }
+}
+
 /// Reads what RFC 3339 and jiff's Temporal reader take, with an offset or `Z`.
 impl FromStr for Moment {
     type Err = TimeFault;
@@ -139,10 +155,10 @@ impl FromStr for Moment {
     ghost from_str_gives = { ReadsMoment };
 
     fn from_str(text: &str) -> Result<Moment, TimeFault> {
-        let Ok(timestamp) = text.parse::<Timestamp>() else {
+        let Some(timestamp) = timestamp_of(text) else {
             return Err(TimeFault::BadTime);
         };
-        let nanoseconds = timestamp.to_plain().nanosecond + YEAR_1970;
+        let nanoseconds = timestamp.nanosecond + YEAR_1970;
         if nanoseconds < 0 {
             return Err(TimeFault::BadTime);
         }

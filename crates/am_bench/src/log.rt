@@ -9,13 +9,13 @@ use crate::printed::Printed;
 use crate::stopwatch::since;
 use crate::words::{number, small_number};
 use am_cast::{
-    Begun, Cast, Cursor, Feed, LANES, MAX_PLACES, Parts, Pass, Refused, Slice, Writer, begin, end,
+    Begun, Cast, Feed, LANES, LentCursor, MAX_PLACES, Parts, Pass, Refused, Slice, Writer, begin,
+    end,
 };
 use am_segment::SegmentBuilder;
 use std::alloc::{AllocError, Global};
 use std::marker::Brand;
 use std::snapshot::Snapshot;
-use std::sync::Wait;
 use std::thread;
 use std::thread::Threads;
 use std::time::{Clock, Duration, Instant};
@@ -87,7 +87,7 @@ impl Shown {
 // A batch of numbers from a first one on, in what an earlier one left if there is such a one.
 fn batch_of<N: Feed>(
     alloc: Global,
-    writer: &mut Writer<u64, u64, u64, N>,
+    writer: &mut Writer<u64, N>,
     first: u64,
     count: usize,
 ) -> Result<SegmentBuilder<u64>, AllocError>
@@ -120,9 +120,9 @@ fn idle<R: Clock>(rt: &R, turns: u32, yields: u32) {
 fn publish_all<N: Feed, R: Clock>(
     rt: &R,
     alloc: Global,
-    cast: &Cast<u64, u64, u64, N>,
-    writer: &mut Writer<u64, u64, u64, N>,
-    pass: &mut Pass<u64, u64, u64, N>,
+    cast: &Cast<u64, N>,
+    writer: &mut Writer<u64, N>,
+    pass: &mut Pass<u64, N>,
     load: Load,
 ) -> bool {
     for number in 0..load.batches {
@@ -142,17 +142,16 @@ fn publish_all<N: Feed, R: Clock>(
 // Publishes a batch, trying again while the log is full.
 fn publish<N: Feed, R: Clock>(
     rt: &R,
-    cast: &Cast<u64, u64, u64, N>,
-    writer: &mut Writer<u64, u64, u64, N>,
-    pass: &mut Pass<u64, u64, u64, N>,
+    cast: &Cast<u64, N>,
+    writer: &mut Writer<u64, N>,
+    pass: &mut Pass<u64, N>,
     batch: SegmentBuilder<u64>,
 )
     requires { 0 < length batch.items }
 {
-    let said = 0;
     let mut batch = batch;
     for _turn in 0..u64::MAX {
-        match writer.publish(cast, batch, Snapshot::of(&said), pass) {
+        match writer.publish(cast, batch, Snapshot::of(&()), pass) {
             Ok(_) => return,
             Err(
                 Refused {
@@ -169,7 +168,7 @@ fn publish<N: Feed, R: Clock>(
 // Reads to the end of the log.
 fn read_to_end<N: Feed, R: Clock>(
     rt: &R,
-    cursor: &mut Cursor<'_, u64, u64, u64, N>,
+    cursor: &mut LentCursor<'_, u64, N>,
     yields: u32,
 ) -> Shown {
     let mut shown = Shown::NOTHING;
@@ -197,7 +196,7 @@ fn read_to_end<N: Feed, R: Clock>(
 // cache line with another thread's, each would wait for the other's writes.
 fn read_all<N: Feed, R: Clock>(
     rt: &R,
-    given: &mut Option<Cursor<'_, u64, u64, u64, N>>,
+    given: &mut Option<LentCursor<'_, u64, N>>,
     yields: u32,
 ) -> Shown {
     match given.take() {
@@ -208,11 +207,10 @@ fn read_all<N: Feed, R: Clock>(
 
 // A lane for a reader, if there is one.
 fn admit<'a, N: Feed>(
-    cast: &'a Cast<u64, u64, u64, N>,
-    writer: &mut Writer<u64, u64, u64, N>,
-) -> Option<Cursor<'a, u64, u64, u64, N>> {
-    let note = 0;
-    match writer.admit(cast, Snapshot::of(&note)) {
+    cast: &'a Cast<u64, N>,
+    writer: &mut Writer<u64, N>,
+) -> Option<LentCursor<'a, u64, N>> {
+    match writer.admit(cast, Snapshot::of(&())) {
         Ok(cursor) => Some(cursor),
         Err(_) => None,
     }
@@ -221,12 +219,12 @@ fn admit<'a, N: Feed>(
 // A reader, and what it received.
 #[derive(Drop)]
 struct Seat<'a, N: Feed> {
-    cursor: Option<Cursor<'a, u64, u64, u64, N>>,
+    cursor: Option<LentCursor<'a, u64, N>>,
     shown: Shown,
 }
 
 // A reader in each seat, each in a thread of its own.
-fn read_each<N: Feed + Send + Sync, R: Threads + Wait + Clock + Sync>(
+fn read_each<N: Feed + Send + Sync, R: Threads + Clock + Sync>(
     rt: &R,
     seats: &mut [Seat<'_, N>],
     yields: u32,
@@ -249,12 +247,12 @@ fn all_shown<N: Feed>(seats: &[Seat<'_, N>]) -> Shown {
 }
 
 // Publishes while the readers read: what all of these received, if there was memory.
-fn publish_and_read<N: Feed + Send + Sync, R: Threads + Wait + Clock + Sync>(
+fn publish_and_read<N: Feed + Send + Sync, R: Threads + Clock + Sync>(
     rt: &R,
     alloc: Global,
-    cast: &Cast<u64, u64, u64, N>,
-    writer: &mut Writer<u64, u64, u64, N>,
-    pass: &mut Pass<u64, u64, u64, N>,
+    cast: &Cast<u64, N>,
+    writer: &mut Writer<u64, N>,
+    pass: &mut Pass<u64, N>,
     load: Load,
 ) -> Result<Shown, AllocError> {
     let mut seats = Vec::with_capacity(alloc, load.readers)?;
@@ -277,9 +275,9 @@ fn publish_and_read<N: Feed + Send + Sync, R: Threads + Wait + Clock + Sync>(
 }
 
 // The whole run: what all readers received, if there was memory.
-fn run<N: Feed + Send + Sync, R: Threads + Wait + Clock + Sync>(
+fn run<N: Feed + Send + Sync, R: Threads + Clock + Sync>(
     rt: &R,
-    parts: Parts<u64, u64, u64>,
+    parts: Parts<u64>,
     alloc: Global,
     load: Load,
 ) -> Result<Shown, AllocError>
@@ -289,29 +287,27 @@ fn run<N: Feed + Send + Sync, R: Threads + Wait + Clock + Sync>(
         cast,
         mut writer,
         mut passes,
-    } = begin::<u64, u64, u64, N>(parts, 1)?;
+    } = begin::<u64, N, (), ()>(parts, 1)?;
     let shown = match passes.first_mut() {
         Some(pass) => publish_and_read(rt, alloc, &cast, &mut writer, pass, load),
         None => Err(AllocError),
     };
-    if !writer.is_idle() {
-        // No proof follows the lanes through the threads. If a lane weren't given back, the program
-        // would stop here for ever.
-        for _ in rt.forever() {}
+    // No proof follows the lanes through the threads. With one in use the log's memory isn't all freed.
+    if let Err(log) = end(cast, writer) {
+        log.leak();
     }
-    end(cast, writer);
     shown
 }
 
 /// Runs a load, and prints how many items the readers received in all, and their sum, and how long that
 /// took.
-pub(crate) fn time<R: Threads + Wait + Clock + Sync>(
+pub(crate) fn time<R: Threads + Clock + Sync>(
     rt: &R,
     alloc: Global,
     load: Load,
     printed: &mut Printed,
 ) -> Result<(), Failure> {
-    let parts = Parts::<u64, u64, u64>::make(alloc, load.places)?;
+    let parts = Parts::<u64>::make(alloc, load.places)?;
     let begin = Instant::now(rt);
     let shown = run::<Brand, R>(rt, parts, alloc, load)?;
     write!(printed.nanoseconds, "{}\n", since(rt, begin))?;

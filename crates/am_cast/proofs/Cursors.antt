@@ -11,9 +11,10 @@ use Rattle.am_cast.specs.declared.lends.Moved.{Moved}
 use Rattle.am_cast.specs.declared.lends.Moved.TheVariants.{One, Pending, Closed, Cut}
 use Rattle.am_cast.specs.declared.views.LaneView.{LaneView}
 use Rattle.am_cast.specs.declared.views.Account.{Account}
+use Rattle.am_cast.specs.declared.limits.TheConstants.{LONGEST_LOG}
 use Rattle.am_cast.specs.declared.views.Tail.{Tail}
 use Rattle.am_cast.specs.Rule.{Sound, first_lane, slot}
-use Rattle.am_cast.specs.Changes.{seeing, holding, left}
+use Rattle.am_cast.specs.Changes.{seeing, holding, left, with_lane}
 use Rattle.am_cast.specs.Seats.{HoldsKey, HoldsIf, Took, lane_of, some_or}
 use Rattle.am_cast.specs.Keys.{batch_items, all_items, key_of}
 use Rattle.am_cast.specs.Steps.{SeatState}
@@ -24,7 +25,7 @@ use Rattle.am_cast.specs.inside.Cursors.{CursorOk, HasHand}
 use Rattle.am_cast.specs.Lent.{IsItem, IsInHand, Moves}
 use Rattle.am_cast.specs.inside.Moving.{NeedsLook, AfterLook}
 use Rattle.atomic_table.specs.Table.{rest}
-use Rattle.am_cast.proofs.Slots.{at_below, at_length}
+use Rattle.am_cast.proofs.Slots.{at_below, at_length, prefix_at, prefix_length}
 use Rattle.std.proofs.lemmas.Grind.{common_steps}
 
 module _ {X : Type 0} where
@@ -80,6 +81,10 @@ module _ {T P : Type 0} where
   items_here [] i x e = absurd (some-ne-none x (sym e))
   items_here (y ∷ ys) zero x e = append_none (batch_items y) ∙ ap (λ (y : BatchView T P). batch_items y) (some-injective y x e)
   items_here (y ∷ ys) (suc i) x e = items_here ys i x e
+
+  -- a place has the same items in a longer log
+  pub items_saw : (front front' : List (BatchView T P)) (i : ℕ) → IsPrefix front front' → i < length front → items_at front' i ≡ items_at front i
+  items_saw front front' i p low = let at = at_below front i low in items_here front' i at.0 (prefix_at front front' i at.0 p at.1) ∙ sym (items_here front i at.0 at.1)
 
   some_there : (front : List (BatchView T P)) (i : ℕ) (x : BatchView T P) → get_elem? front i ≡ some x → 1 ≤ length (items_at front i)
   some_there front i x e = let long : length (items_at front i) ≡ suc (length x.others) = ap (λ (l : List T). length l) (items_here front i x e) in omega arith
@@ -231,6 +236,69 @@ module _ {T P A : Type 0} where
         below = λ _. omega arith;
         uncut = λ _. ap (λ (v : LaneView (BatchView T P) A). v.cut) is ∙ uncut;
       }
+
+  -- a hand is the same after a look
+  hand_saw : (m m' : SeatState (BatchView T P) (KeyView T) A) (v : LaneView (BatchView T P) A) (front : List (BatchView T P)) (told : Bool) (shown : ℕ) (hand : Option ℕ) → m'.1 ≡ m.1 → IsPrefix v.front front → (v.held ≡ true → v.passed < length v.front) → HasHand m v shown hand → HasHand m' (seeing front told v) shown hand
+  hand_saw m m' v front told shown (Some count) e p low has = (
+    has.0,
+    (has.1.0, prefix_at v.front front v.passed has.1.0 p has.1.1, e ∙ has.1.2),
+    has.2 ∙ ap (λ (l : List T). length l) (sym (items_saw v.front front v.passed p (low has.0))),
+    has.3,
+    has.4,
+  )
+  hand_saw m m' v front told shown None e p low has = (has.0, e ∙ has.1, has.2)
+
+  -- a cursor's fields after a look
+  pub cursor_saw : (table t t' : TableId) (m m' : SeatState (BatchView T P) (KeyView T) A) (number places passed seen shown : ℕ) (closed cut : Bool) (hand : Option ℕ) (front : List (BatchView T P)) (seen' : ℕ) (told : Bool)
+      → CursorOk table t m number places passed seen shown closed cut hand → t' ≡ t → m'.1 ≡ m.1 → m'.0 ≡ with_lane (seeing front told (lane_of m.0)) m.0 → IsPrefix (lane_of m.0).front front
+      → seen' ≡ length front → seen' ≤ LONGEST_LOG → CursorOk table t' m' number places passed seen' shown told cut hand
+  cursor_saw table t t' m m' number places passed seen shown closed cut hand front seen' told ok same hands saw p long few =
+      let v : LaneView (BatchView T P) A = lane_of m.0 in
+      let is : lane_of m'.0 ≡ seeing front told v = ap (λ (w : View (BatchView T P) (KeyView T) A). lane_of w) saw in
+      let grown : length v.front ≤ length front = prefix_length v.front front p in record {
+        same = same ∙ ok.same;
+        lane = ap (λ (w : View (BatchView T P) (KeyView T) A). w.lane) saw ∙ ap (λ (l : LaneView (BatchView T P) A). Some l) (sym is);
+        alone = (ap (λ (w : View (BatchView T P) (KeyView T) A). w.writer) saw ∙ ok.alone.0, ap (λ (w : View (BatchView T P) (KeyView T) A). w.own) saw ∙ ok.alone.1);
+        here = ap (λ (v : LaneView (BatchView T P) A). v.here) is ∙ ok.here;
+        begun = ap (λ (v : LaneView (BatchView T P) A). v.begun) is ∙ ok.begun;
+        number_is = ap (λ (v : LaneView (BatchView T P) A). v.number) is ∙ ok.number_is;
+        small = ok.small;
+        places_is = ap (λ (v : LaneView (BatchView T P) A). v.places) is ∙ ok.places_is;
+        some_places = ok.some_places;
+        passed_is = ap (λ (v : LaneView (BatchView T P) A). v.passed) is ∙ ok.passed_is;
+        low = subst (λ (v : LaneView (BatchView T P) A). v.start ≤ passed) (sym is) ok.low;
+        mid = let mid = ok.mid in let seen_is = ok.seen_is in omega arith;
+        seen_is = ap (λ (v : LaneView (BatchView T P) A). length v.front) is ∙ sym long;
+        bound = few;
+        told_is = ap (λ (v : LaneView (BatchView T P) A). v.told) is;
+        cut_is = ap (λ (v : LaneView (BatchView T P) A). v.cut) is ∙ ok.cut_is;
+        hand_is = subst (λ (v : LaneView (BatchView T P) A). HasHand m' v shown hand) (sym is) (hand_saw m m' v front told shown hand hands p
+            (λ held. let below = ok.below held in let passed_is = ok.passed_is in let seen_is = ok.seen_is in omega arith) ok.hand_is);
+        below = λ held. let below = ok.below (sym (ap (λ (v : LaneView (BatchView T P) A). v.held) is) ∙ held) in let seen_is = ok.seen_is in omega arith;
+        uncut = λ held. ap (λ (v : LaneView (BatchView T P) A). v.cut) is ∙ ok.uncut (sym (ap (λ (v : LaneView (BatchView T P) A). v.held) is) ∙ held);
+      }
+
+  -- without a place in hand nothing of it was shown
+  none_shown : (m : SeatState (BatchView T P) (KeyView T) A) (v : LaneView (BatchView T P) A) (shown : ℕ) (hand : Option ℕ) → HasHand m v shown hand → v.held ≡ false → shown ≡ 0
+  none_shown m v shown (Some count) has free = absurd (false≢true (sym free ∙ has.0))
+  none_shown m v shown None has free = has.2
+
+  -- what was shown, by whether a place is in hand
+  shown_saw : (v : LaneView (BatchView T P) A) (shown : ℕ) (front : List (BatchView T P)) (told held : Bool) → IsPrefix v.front front → v.passed ≤ length v.front → (held ≡ true → v.passed < length v.front) → (held ≡ false → shown ≡ 0)
+      → take shown (items_at front v.passed) ≡ take shown (items_at v.front v.passed)
+  shown_saw v shown front told true p high below none = ap (λ (l : List T). take shown l) (items_saw v.front front v.passed p (below refl))
+  shown_saw v shown front told false p high below none = ap (λ (n : ℕ). take n (items_at front v.passed)) (none refl) ∙ sym (ap (λ (n : ℕ). take n (items_at v.front v.passed)) (none refl))
+
+  -- a look shows nothing
+  pub taken_saw : (table t : TableId) (m : SeatState (BatchView T P) (KeyView T) A) (number places passed seen shown : ℕ) (closed cut : Bool) (hand : Option ℕ) (front : List (BatchView T P)) (told : Bool)
+      → CursorOk table t m number places passed seen shown closed cut hand → IsPrefix (lane_of m.0).front front
+      → shown_items (record { lane = seeing front told (lane_of m.0); shown = shown }) ≡ shown_items (record { lane = lane_of m.0; shown = shown })
+  taken_saw table t m number places passed seen shown closed cut hand front told ok p =
+      let v : LaneView (BatchView T P) A = lane_of m.0 in let mid = ok.mid in let at = ok.passed_is in let seen_is = ok.seen_is in
+      let high : v.passed ≤ length v.front = omega arith in
+      let below : v.held ≡ true → v.passed < length v.front = λ held. (let low = ok.below held in omega arith) in
+      ap (λ (l : List (BatchView T P)). all_items (drop v.start l) ++ take shown (items_at front v.passed)) (take_front v.front front v.passed p high)
+      ∙ ap (λ (l : List T). all_items (drop v.start (take v.passed v.front)) ++ l) (shown_saw v shown front told v.held p high below (none_shown m v shown hand ok.hand_is))
 
 module _ {X : Type 0} where
   take_prefix : (xs : List X) (n : ℕ) → IsPrefix (take n xs) xs

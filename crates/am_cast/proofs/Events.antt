@@ -3,6 +3,7 @@ use Rattle.std.proofs.Common.{◌≡◌, ◌≢◌, ℕ, ◌+◌, ◌/◌, ◌%�
 use lib.ListN.{get_elem?}
 use mathlib.Core.Option.{some}
 use Rattle.atomic_table.specs.Table.{State, Act, Valid, stepped, carried_after}
+use Rattle.am_cast.specs.declared.limits.TheConstants.{LANES}
 use Rattle.am_cast.specs.declared.views.Tail.{Tail}
 use Rattle.am_cast.specs.declared.views.Account.{Account}
 use Rattle.am_cast.specs.declared.views.LaneView.{LaneView}
@@ -57,23 +58,23 @@ pub record SameAccount {K A : Type 0} (b b' : Account K A) : Type 0 where
 
 -- the kinds of step, each with the core's events that it is, where it is possible, and what it changes
 pub data Event (B K A : Type 0) : Behind B K A → List (event.Event B) → Behind B K A → Type 0 where
-  open_lane : (c d : Behind B K A) (l : ℕ) → l < 8 → (c.lane l).here ≡ true → (c.lane l).begun ≡ false → LaneTo c d l (opened (c.lane l)) → Event B K A c (does.Open l ∷ []) d
-  look : (c d : Behind B K A) (l : ℕ) → l < 8 → (c.lane l).begun ≡ true → LaneTo c d l (seeing c.tail.log c.tail.closed (c.lane l)) → Event B K A c (does.Look l ∷ []) d
-  take : (c d : Behind B K A) (l : ℕ) → l < 8 → (c.lane l).begun ≡ true → (c.account l).stand ≡ live → (c.lane l).held ≡ false → (c.lane l).passed < length (c.lane l).front → LaneTo c d l (holding (c.lane l)) → Event B K A c (does.Take l ∷ []) d
-  take_cut : (c d : Behind B K A) (l : ℕ) → l < 8 → (c.lane l).begun ≡ true → (c.account l).stand ≡ cut → (c.lane l).held ≡ false → (c.lane l).passed < length (c.lane l).front → LaneTo c d l (cut_off (c.lane l)) → Event B K A c (does.Take l ∷ []) d
-  pass : (c d : Behind B K A) (l n : ℕ) → l < 8 → (c.lane l).begun ≡ true → (c.lane l).held ≡ true → n % 2 ≡ (c.account l).stand / 2 → LaneTo c d l (further n (c.lane l)) → Event B K A c (does.Pass l ∷ []) d
-  leave : (c d : Behind B K A) (l : ℕ) → l < 8 → (c.lane l).begun ≡ true → LaneTo c d l (left (c.lane l)) → Event B K A c (does.Leave l ∷ []) d
-  publish : (c d : Behind B K A) (x : B) → c.tail.closed ≡ false → ((l : ℕ) → l < 8 → (c.account l).stand ≡ live → (c.account l).stop < (c.account l).cleared + c.tail.places) → d.tail ≡ longer_tail x c.tail → ((l : ℕ) → d.account l ≡ grown (c.account l)) → ((l : ℕ) → d.lane l ≡ c.lane l) → Event B K A c (does.Publish x ∷ []) d
+  open_lane : (c d : Behind B K A) (l : ℕ) → l < LANES → (c.lane l).here ≡ true → (c.lane l).begun ≡ false → LaneTo c d l (opened (c.lane l)) → Event B K A c (does.Open l ∷ []) d
+  look : (c d : Behind B K A) (l : ℕ) → l < LANES → (c.lane l).begun ≡ true → LaneTo c d l (seeing c.tail.log c.tail.closed (c.lane l)) → Event B K A c (does.Look l ∷ []) d
+  take : (c d : Behind B K A) (l : ℕ) → l < LANES → (c.lane l).begun ≡ true → (c.account l).stand ≡ live → (c.lane l).held ≡ false → (c.lane l).passed < length (c.lane l).front → LaneTo c d l (holding (c.lane l)) → Event B K A c (does.Take l ∷ []) d
+  take_cut : (c d : Behind B K A) (l : ℕ) → l < LANES → (c.lane l).begun ≡ true → (c.account l).stand ≡ cut → (c.lane l).held ≡ false → (c.lane l).passed < length (c.lane l).front → LaneTo c d l (cut_off (c.lane l)) → Event B K A c (does.Take l ∷ []) d
+  pass : (c d : Behind B K A) (l n : ℕ) → l < LANES → (c.lane l).begun ≡ true → (c.lane l).held ≡ true → n % 2 ≡ (c.account l).stand / 2 → LaneTo c d l (further n (c.lane l)) → Event B K A c (does.Pass l ∷ []) d
+  leave : (c d : Behind B K A) (l : ℕ) → l < LANES → (c.lane l).begun ≡ true → LaneTo c d l (left (c.lane l)) → Event B K A c (does.Leave l ∷ []) d
+  publish : (c d : Behind B K A) (x : B) → c.tail.closed ≡ false → ((l : ℕ) → l < LANES → (c.account l).stand ≡ live → (c.account l).stop < (c.account l).cleared + c.tail.places) → d.tail ≡ longer_tail x c.tail → ((l : ℕ) → d.account l ≡ grown (c.account l)) → ((l : ℕ) → d.lane l ≡ c.lane l) → Event B K A c (does.Publish x ∷ []) d
   close : (c d : Behind B K A) → c.tail.closed ≡ false → d.tail ≡ shut_tail c.tail → ((l : ℕ) → d.account l ≡ c.account l) → ((l : ℕ) → d.lane l ≡ c.lane l) → Event B K A c (does.Close ∷ []) d
-  harvest : (c d : Behind B K A) (l n : ℕ) → l < 8 → n ≢ gone → (c.account l).stand ≡ live → (c.lane l).here ≡ true → n / 4 ≡ (c.lane l).passed → n / 2 % 2 ≡ bit (c.lane l).held → AccountTo c d l (known_to n (c.account l)) → Event B K A c (found_events l n) d
-  mark : (c d : Behind B K A) (l n : ℕ) → l < 8 → n ≡ gone → (c.account l).stand ≡ live → (c.lane l).here ≡ false → AccountTo c d l (marked (c.account l)) → Event B K A c (found_events l n) d
-  recover : (c d : Behind B K A) (l n : ℕ) → l < 8 → n / 2 % 2 ≡ 0 → (c.account l).stand ≡ cut → (c.lane l).here ≡ true → (c.lane l).held ≡ false → n / 4 ≡ (c.lane l).passed → AccountTo c d l (back (n / 4) (loaded (c.account l))) → Event B K A c (recover_events l n) d
+  harvest : (c d : Behind B K A) (l n : ℕ) → l < LANES → n ≢ gone → (c.account l).stand ≡ live → (c.lane l).here ≡ true → n / 4 ≡ (c.lane l).passed → n / 2 % 2 ≡ bit (c.lane l).held → AccountTo c d l (known_to n (c.account l)) → Event B K A c (found_events l n) d
+  mark : (c d : Behind B K A) (l n : ℕ) → l < LANES → n ≡ gone → (c.account l).stand ≡ live → (c.lane l).here ≡ false → AccountTo c d l (marked (c.account l)) → Event B K A c (found_events l n) d
+  recover : (c d : Behind B K A) (l n : ℕ) → l < LANES → n / 2 % 2 ≡ 0 → (c.account l).stand ≡ cut → (c.lane l).here ≡ true → (c.lane l).held ≡ false → n / 4 ≡ (c.lane l).passed → AccountTo c d l (back (n / 4) (loaded (c.account l))) → Event B K A c (recover_events l n) d
   peek : (c d : Behind B K A) (l n : ℕ) → n / 2 % 2 ≢ 0 → AccountTo c d l (loaded (c.account l)) → Event B K A c (recover_events l n) d
-  sever : (c d : Behind B K A) (l n old : ℕ) → l < 8 → n ≡ old → (c.account l).stand ≡ live → (c.lane l).here ≡ true → (c.lane l).passed ≡ (c.account l).known → n / 2 % 2 ≡ bit (c.lane l).held → n / 2 ≡ (c.account l).half → length c.tail.log ≡ (c.account l).known + c.tail.places → AccountTo c d l (severed (n / 2 % 2) (c.account l)) → Event B K A c (cut_events l old n) d
+  sever : (c d : Behind B K A) (l n old : ℕ) → l < LANES → n ≡ old → (c.account l).stand ≡ live → (c.lane l).here ≡ true → (c.lane l).passed ≡ (c.account l).known → n / 2 % 2 ≡ bit (c.lane l).held → n / 2 ≡ (c.account l).half → length c.tail.log ≡ (c.account l).known + c.tail.places → AccountTo c d l (severed (n / 2 % 2) (c.account l)) → Event B K A c (cut_events l old n) d
   moved : (c d : Behind B K A) (l n old : ℕ) → n ≢ old → Event B K A c (found_events l n) d → Event B K A c (cut_events l old n) d
-  admit : (c d : Behind B K A) (l : ℕ) (note : Option A) → l < 8 → c.tail.closed ≡ false → (c.account l).stand ≡ idle → BothTo c d l (new_lane note l c.tail (c.account l)) (given_out note (length c.tail.log) (c.account l)) → Event B K A c (does.Admit l ∷ []) d
-  retire : (c d : Behind B K A) (l : ℕ) → l < 8 → (c.lane l).begun ≡ true → BothTo c d l (left (c.lane l)) (retired (c.account l)) → Event B K A c (does.Leave l ∷ does.Retire l ∷ []) d
-  reclaim : (c d : Behind B K A) (l n : ℕ) → l < 8 → n ≡ gone → (c.account l).stand ≢ idle → (c.lane l).here ≡ false → AccountTo c d l (retired (c.account l)) → Event B K A c (reclaim_events l (c.account l).stand n) d
+  admit : (c d : Behind B K A) (l : ℕ) (note : Option A) → l < LANES → c.tail.closed ≡ false → (c.account l).stand ≡ idle → BothTo c d l (new_lane note l c.tail (c.account l)) (given_out note (length c.tail.log) (c.account l)) → Event B K A c (does.Admit l ∷ []) d
+  retire : (c d : Behind B K A) (l : ℕ) → l < LANES → (c.lane l).begun ≡ true → BothTo c d l (left (c.lane l)) (retired (c.account l)) → Event B K A c (does.Leave l ∷ does.Retire l ∷ []) d
+  reclaim : (c d : Behind B K A) (l n : ℕ) → l < LANES → n ≡ gone → (c.account l).stand ≢ idle → (c.lane l).here ≡ false → AccountTo c d l (retired (c.account l)) → Event B K A c (reclaim_events l (c.account l).stand n) d
   watch : (c d : Behind B K A) (l n : ℕ) → n ≢ gone → AccountTo c d l (loaded (c.account l)) → Event B K A c (reclaim_events l (c.account l).stand n) d
   work : (c d : Behind B K A) (l : ℕ) (b' : Account K A) → SameAccount (c.account l) b' → AccountTo c d l b' → Event B K A c [] d
 

@@ -5,6 +5,7 @@ use mathlib.Core.Logic.{dite}
 use native.Mathlib.Decide.{ℕ_discrete}
 use Rattle.atomic_table.proofs.Lists.{at_last}
 use Rattle.am_segment.specs.Segments.{KeyView}
+use Rattle.am_cast.specs.declared.limits.TheConstants.{LANES}
 use Rattle.am_cast.specs.declared.batch_view.BatchView.{BatchView}
 use Rattle.am_cast.specs.declared.views.Account.{Account}
 use Rattle.am_cast.specs.declared.views.WriterView.{WriterView}
@@ -29,7 +30,7 @@ else_is b ne = not_true (is_live b) (λ e. ne (eqb-true b.stand live e))
 
 module _ {T P A : Type 0} (x : BatchView T P) where
   -- one lane's key more
-  pub fill_step : (q₀ q q' : WriterView (BatchView T P) (KeyView T) A) (k : ℕ) (keys keys' : List (KeyView T)) → k < 8 → FilledTo key_of q₀ x k q → Gathered x (λ l. is_live (account_of q₀ l)) k keys
+  pub fill_step : (q₀ q q' : WriterView (BatchView T P) (KeyView T) A) (k : ℕ) (keys keys' : List (KeyView T)) → k < LANES → FilledTo key_of q₀ x k q → Gathered x (λ l. is_live (account_of q₀ l)) k keys
       → ((account_of q k).stand ≡ live → (q' ≡ with_account k (laying (key_of x k) (account_of q k)) q) × (keys' ≡ keys))
       → ((account_of q k).stand ≢ live → (q' ≡ q) × (keys' ≡ keys ++ key_of x k ∷ []))
       → FilledTo key_of q₀ x (k + 1) q' × Gathered x (λ l. is_live (account_of q₀ l)) (k + 1) keys'
@@ -66,23 +67,23 @@ module _ {T P A : Type 0} (x : BatchView T P) where
       (λ ne. subst (λ (o : Option (List (KeyView T))). FitsAt (longer x q) i o) (sym (others i ne)) (fits_ext q (longer x q) i (row_at rows i) (λ y e. prefix_at q.tail.log (q.tail.log ++ x ∷ []) i y (x ∷ [], refl) e)
       (λ l h. ap (λ (b : Account (KeyView T) A). is_out b i) (account_longer q x l (omega arith)) ∙ grown_off (account_of q l) (length q.tail.log) i (ready.1 l h).0 (λ z. ne (z ∙ sym long))) (fits i)))
 
-  now_out : (q : WriterView (BatchView T P) (KeyView T) A) (n : ℕ) → n ≡ length q.tail.log → AreReady q → (l : ℕ) → l < 8 → is_out (account_of (longer x q) l) n ≡ is_live (account_of q l)
+  now_out : (q : WriterView (BatchView T P) (KeyView T) A) (n : ℕ) → n ≡ length q.tail.log → AreReady q → (l : ℕ) → l < LANES → is_out (account_of (longer x q) l) n ≡ is_live (account_of q l)
   now_out q n long ready l h = grind (arith, common_steps, account_longer, grown_at)
 
   -- the place's row waits
   pub fits_row : (q q' : WriterView (BatchView T P) (KeyView T) A) (rows rows' : List (BucketView T)) (n : ℕ) (keys : List (KeyView T)) → q' ≡ longer x q → n ≡ length q.tail.log → AreReady q → RowsFit q rows
-      → Gathered x (λ l. is_live (account_of q l)) 8 keys → nat_eq (length keys) 8 ≡ false → row_at rows' n ≡ Some keys → ((p : ℕ) → p ≢ n → row_at rows' p ≡ row_at rows p) → RowsFit q' rows'
+      → Gathered x (λ l. is_live (account_of q l)) LANES keys → nat_eq (length keys) LANES ≡ false → row_at rows' n ≡ Some keys → ((p : ℕ) → p ≢ n → row_at rows' p ≡ row_at rows p) → RowsFit q' rows'
   fits_row q q' rows rows' n keys is long ready fits g few here others = subst (λ (q : WriterView (BatchView T P) (KeyView T) A). RowsFit q rows') (sym is) (fits_longer q rows rows' n long ready fits others
       (subst (λ (o : Option (List (KeyView T))). FitsAt (longer x q) n o) (sym here) (
         x,
         at_last q.tail.log x n (sym long),
-        gathered_same x (λ l. is_live (account_of q l)) (λ l. is_out (account_of (longer x q) l) n) 8 keys (now_out q n long ready) g,
-        (let ne : length keys ≢ 8 = (λ z. false≢true (sym few ∙ eq-eqb (length keys) 8 z)) in omega arith),
+        gathered_same x (λ l. is_live (account_of q l)) (λ l. is_out (account_of (longer x q) l) n) LANES keys (now_out q n long ready) g,
+        (let ne : length keys ≢ LANES = (λ z. false≢true (sym few ∙ eq-eqb (length keys) LANES z)) in omega arith),
       )))
 
   -- no lane is live, and the segment has ended
   pub fits_ended : (q q' : WriterView (BatchView T P) (KeyView T) A) (rows : List (BucketView T)) (n : ℕ) (keys : List (KeyView T)) → q' ≡ longer x q → n ≡ length q.tail.log → AreReady q → RowsFit q rows
-      → Gathered x (λ l. is_live (account_of q l)) 8 keys → nat_eq (length keys) 8 ≡ true → RowsFit q' rows
+      → Gathered x (λ l. is_live (account_of q l)) LANES keys → nat_eq (length keys) LANES ≡ true → RowsFit q' rows
   fits_ended q q' rows n keys is long ready fits g full = subst (λ (q : WriterView (BatchView T P) (KeyView T) A). RowsFit q rows) (sym is) (fits_longer q rows rows n long ready fits (λ p ne. refl)
       (grind (arith, no_row_yet, now_out, gathered_clear, eqb-true)))
 
@@ -92,5 +93,5 @@ first_rest xs y e = grind arith
 
 module _ {T P A : Type 0} where
   -- a filled lane is live where it was
-  pub filled_live : (q q' : WriterView (BatchView T P) (KeyView T) A) (x : BatchView T P) (l : ℕ) → l < 8 → FilledTo key_of q x 8 q' → is_live (account_of q' l) ≡ is_live (account_of q l)
+  pub filled_live : (q q' : WriterView (BatchView T P) (KeyView T) A) (x : BatchView T P) (l : ℕ) → l < LANES → FilledTo key_of q x LANES q' → is_live (account_of q' l) ≡ is_live (account_of q l)
   filled_live q q' x l small f = grind arith

@@ -1,6 +1,7 @@
 -- The rows of keys that wait, and the places that are freed.
 use Rattle.std.proofs.Common.{◌≡◌, ◌≢◌, ℕ, zero, suc, ◌<◌, inl, inr, length, sym, ap, ◌∙◌, subst, arith, Option, Some, None, Bool, true, false, refl, List}
 use Rattle.std.proofs.lemmas.Bool.{false≢true}
+use Rattle.am_cast.specs.declared.limits.TheConstants.{LANES}
 use Rattle.am_cast.proofs.WriterSteps.{none_some}
 use Rattle.am_segment.specs.Segments.{KeyView}
 use Rattle.am_cast.specs.declared.batch_view.BatchView.{BatchView}
@@ -48,7 +49,7 @@ module _ {T P A : Type 0} where
       go : (o : Option (List (KeyView T))) → FitsAt q i o → o ≢ None → ⊥
       go None f ne = ne refl
       go (Some keys) f ne =
-          let many = f.2.many in let few = f.3 in let t = one_out (λ l. is_out (account_of q l) i) 8 (omega arith) in
+          let many = f.2.many in let few = f.3 in let t = one_out (λ l. is_out (account_of q l) i) LANES (omega arith) in
           freed_is_home key_of q i t.0 t.1 (gathered (length q.tail.log) q.tail.places (account_of q t.0) (calm.1 t.0 t.1)) freed (is_out_of (account_of q t.0) i t.2)
 
   -- the keys of a row are home

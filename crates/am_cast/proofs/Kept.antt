@@ -6,6 +6,7 @@ use native.Mathlib.Decide.{ℕ_discrete}
 use lib.ListN.{get_elem?}
 use Rattle.atomic_table.specs.Table.{State}
 use Rattle.atomic_table.proofs.Lists.{at_set, set_here, set_else}
+use Rattle.am_cast.specs.declared.limits.TheConstants.{LANES}
 use Rattle.am_cast.specs.declared.views.Tail.{Tail}
 use Rattle.am_cast.specs.declared.views.Account.{Account}
 use Rattle.am_cast.specs.declared.views.WriterView.{WriterView}
@@ -40,9 +41,9 @@ module _ {B K A : Type 0} (key : B → ℕ → K) where
 
   -- a step that changes the lane l, what the writer knows of it, and one view
   unfoldable pub one_lane : (s : St B K A) (r : Ruled key s) (l : ℕ) (b' : Account K A) (v' : LaneView B A) (id : ℕ) (u : View B K A) (dk : Option (WriterView B K A)) (ln : Option (LaneView B A)) (words' : List ℕ) (homes' : Homes K)
-      → l < 8 → get_elem? s.views id ≡ some u → length words' ≡ length s.words → length homes' ≡ length s.homes → get_or words' 0 0 ≡ get_or s.words 0 0
+      → l < LANES → get_elem? s.views id ≡ some u → length words' ≡ length s.words → length homes' ≡ length s.homes → get_or words' 0 0 ≡ get_or s.words 0 0
       → ((m : ℕ) → m ≢ l → get_or words' (lane_word m) 0 ≡ get_or s.words (lane_word m) 0)
-      → ((m i : ℕ) → m < 8 → m ≢ l → get_elem? homes' (slot r.tail.places m i) ≡ get_elem? s.homes (slot r.tail.places m i))
+      → ((m i : ℕ) → m < LANES → m ≢ l → get_elem? homes' (slot r.tail.places m i) ≡ get_elem? s.homes (slot r.tail.places m i))
       → (id ≡ r.seat) ⊎ (b' ≡ r.account l)
       → (r.lane_seat l ≡ id) ⊎ (v' ≡ r.lane l)
       → HasWriter r.tail r.seat (put r.account l b') (put r.lane l v') r.lane_seat id dk
@@ -95,7 +96,7 @@ module _ {B K A : Type 0} (key : B → ℕ → K) where
 
   -- what the rule says of the lane in a view
   pub lane_ok : (s : St B K A) (r : Ruled key s) (id : ℕ) (u : View B K A) (v : LaneView B A) → get_elem? s.views id ≡ some u → u.lane ≡ Some v
-      → (v.number < 8) × (r.lane_seat v.number ≡ id) × ((r.account v.number).stand ≢ idle) × (v ≡ r.lane v.number) × LaneOk key r.tail (r.account v.number) v s.words s.homes v.number
+      → (v.number < LANES) × (r.lane_seat v.number ≡ id) × ((r.account v.number).stand ≢ idle) × (v ≡ r.lane v.number) × LaneOk key r.tail (r.account v.number) v s.words s.homes v.number
   lane_ok s r id u v at is =
       let k = subst (HasLane r.tail r.seat r.account r.lane r.lane_seat id) is (r.each_seat id u at).lane_is in
       let ok = subst (λ (w : LaneView B A). LaneOk key r.tail (r.account v.number) w s.words s.homes v.number) k.1 (r.each_lane v.number k.0) in
@@ -120,7 +121,7 @@ module _ {B K A : Type 0} (key : B → ℕ → K) where
   unfoldable pub lane_step : (s : St B K A) (r : Ruled key s) (id : ℕ) (u : View B K A) (v v' : LaneView B A) (words' : List ℕ) (homes' : Homes K) → get_elem? s.views id ≡ some u → u.lane ≡ Some v → v'.number ≡ v.number → v'.here ≡ v.here
       → length words' ≡ length s.words → length homes' ≡ length s.homes → get_or words' 0 0 ≡ get_or s.words 0 0
       → ((m : ℕ) → m ≢ v.number → get_or words' (lane_word m) 0 ≡ get_or s.words (lane_word m) 0)
-      → ((m i : ℕ) → m < 8 → m ≢ v.number → get_elem? homes' (slot r.tail.places m i) ≡ get_elem? s.homes (slot r.tail.places m i))
+      → ((m i : ℕ) → m < LANES → m ≢ v.number → get_elem? homes' (slot r.tail.places m i) ≡ get_elem? s.homes (slot r.tail.places m i))
       → LaneOk key r.tail (r.account v.number) v' words' homes' v.number
       → Ruled key record { words = words'; homes = homes'; views = set s.views id (record u { lane = Some v' }) }
   lane_step s r id u v v' words' homes' at is number stays_here wide deep tail word slots here =
@@ -133,7 +134,7 @@ module _ {B K A : Type 0} (key : B → ℕ → K) where
   pub lane_stepped : (s : St B K A) (r : Ruled key s) (id : ℕ) (u : View B K A) (v v' : LaneView B A) (words' : List ℕ) (homes' : Homes K) → get_elem? s.views id ≡ some u → u.lane ≡ Some v → v'.number ≡ v.number → v'.here ≡ v.here
       → length words' ≡ length s.words → length homes' ≡ length s.homes → get_or words' 0 0 ≡ get_or s.words 0 0
       → ((m : ℕ) → m ≢ v.number → get_or words' (lane_word m) 0 ≡ get_or s.words (lane_word m) 0)
-      → ((m i : ℕ) → m < 8 → m ≢ v.number → get_elem? homes' (slot r.tail.places m i) ≡ get_elem? s.homes (slot r.tail.places m i))
+      → ((m i : ℕ) → m < LANES → m ≢ v.number → get_elem? homes' (slot r.tail.places m i) ≡ get_elem? s.homes (slot r.tail.places m i))
       → LaneOk key r.tail (r.account v.number) v' words' homes' v.number
       → (q : Ruled key record { words = words'; homes = homes'; views = set s.views id (record u { lane = Some v' }) }) × LaneTo (behind r) (behind q) v.number v'
   unfolding lane_step one_lane
@@ -148,10 +149,10 @@ module _ {B K A : Type 0} (key : B → ℕ → K) where
 
   -- what the rule says of the writer in a view, and of one lane
   pub record WriterOk (s : St B K A) (r : Ruled key s) (id l : ℕ) (q : WriterView B K A) (b : Account K A) : Type 0 where
-    pub small : l < 8
+    pub small : l < LANES
     pub tail : q.tail ≡ r.tail
-    pub all : length q.accounts ≡ 8
-    pub each : (m : ℕ) → m < 8 → get_elem? q.accounts m ≡ some (r.account m)
+    pub all : length q.accounts ≡ LANES
+    pub each : (m : ℕ) → m < LANES → get_elem? q.accounts m ≡ some (r.account m)
     pub mine : id ≡ r.seat
     pub account : r.account l ≡ b
     pub ok : LaneOk key r.tail b (r.lane l) s.words s.homes l
@@ -169,7 +170,7 @@ module _ {B K A : Type 0} (key : B → ℕ → K) where
   unfoldable pub writer_step : (s : St B K A) (r : Ruled key s) (id : ℕ) (u : View B K A) (l : ℕ) (q : WriterView B K A) (b b' : Account K A) (words' : List ℕ) (homes' : Homes K) → get_elem? s.views id ≡ some u → WriterOk s r id l q b
       → length words' ≡ length s.words → length homes' ≡ length s.homes → get_or words' 0 0 ≡ get_or s.words 0 0
       → ((m : ℕ) → m ≢ l → get_or words' (lane_word m) 0 ≡ get_or s.words (lane_word m) 0)
-      → ((m i : ℕ) → m < 8 → m ≢ l → get_elem? homes' (slot r.tail.places m i) ≡ get_elem? s.homes (slot r.tail.places m i))
+      → ((m i : ℕ) → m < LANES → m ≢ l → get_elem? homes' (slot r.tail.places m i) ≡ get_elem? s.homes (slot r.tail.places m i))
       → LaneOk key r.tail b' (r.lane l) words' homes' l
       → Ruled key record { words = words'; homes = homes'; views = set s.views id (record u { writer = Some (with_account l b' q) }) }
   writer_step s r id u l q b b' words' homes' at o wide deep tail word slots here =
@@ -181,7 +182,7 @@ module _ {B K A : Type 0} (key : B → ℕ → K) where
   pub writer_stepped : (s : St B K A) (r : Ruled key s) (id : ℕ) (u : View B K A) (l : ℕ) (q : WriterView B K A) (b b' : Account K A) (words' : List ℕ) (homes' : Homes K) → get_elem? s.views id ≡ some u → WriterOk s r id l q b
       → length words' ≡ length s.words → length homes' ≡ length s.homes → get_or words' 0 0 ≡ get_or s.words 0 0
       → ((m : ℕ) → m ≢ l → get_or words' (lane_word m) 0 ≡ get_or s.words (lane_word m) 0)
-      → ((m i : ℕ) → m < 8 → m ≢ l → get_elem? homes' (slot r.tail.places m i) ≡ get_elem? s.homes (slot r.tail.places m i))
+      → ((m i : ℕ) → m < LANES → m ≢ l → get_elem? homes' (slot r.tail.places m i) ≡ get_elem? s.homes (slot r.tail.places m i))
       → LaneOk key r.tail b' (r.lane l) words' homes' l
       → (p : Ruled key record { words = words'; homes = homes'; views = set s.views id (record u { writer = Some (with_account l b' q) }) }) × AccountTo (behind r) (behind p) l b'
   unfolding writer_step one_lane
@@ -191,9 +192,9 @@ module _ {B K A : Type 0} (key : B → ℕ → K) where
   )
 
   pub one_laned : (s : St B K A) (r : Ruled key s) (l : ℕ) (b' : Account K A) (v' : LaneView B A) (id : ℕ) (u : View B K A) (dk : Option (WriterView B K A)) (ln : Option (LaneView B A)) (words' : List ℕ) (homes' : Homes K)
-      → l < 8 → get_elem? s.views id ≡ some u → length words' ≡ length s.words → length homes' ≡ length s.homes → get_or words' 0 0 ≡ get_or s.words 0 0
+      → l < LANES → get_elem? s.views id ≡ some u → length words' ≡ length s.words → length homes' ≡ length s.homes → get_or words' 0 0 ≡ get_or s.words 0 0
       → ((m : ℕ) → m ≢ l → get_or words' (lane_word m) 0 ≡ get_or s.words (lane_word m) 0)
-      → ((m i : ℕ) → m < 8 → m ≢ l → get_elem? homes' (slot r.tail.places m i) ≡ get_elem? s.homes (slot r.tail.places m i))
+      → ((m i : ℕ) → m < LANES → m ≢ l → get_elem? homes' (slot r.tail.places m i) ≡ get_elem? s.homes (slot r.tail.places m i))
       → (id ≡ r.seat) ⊎ (b' ≡ r.account l)
       → (r.lane_seat l ≡ id) ⊎ (v' ≡ r.lane l)
       → HasWriter r.tail r.seat (put r.account l b') (put r.lane l v') r.lane_seat id dk

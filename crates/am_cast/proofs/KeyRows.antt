@@ -1,9 +1,10 @@
 -- Rows: what stands at a place after a row has changed, has gone or has come.
-use Rattle.std.proofs.Common.{◌≡◌, ◌≢◌, ℕ, zero, suc, ◌+◌, ◌%◌, ◌<◌, ◌≤◌, List, [], ◌∷◌, ◌++◌, length, set, get_or, take, drop, refl, sym, ap, ◌∙◌, subst, arith, Option, Some, None, Bool, true, false, cond, nat_eq, eq-eqb, length-append, eqb-true, length-set, get_or-set_same, get_or-set_other}
+use Rattle.std.proofs.Common.{◌≡◌, ◌≢◌, ℕ, zero, suc, ◌%◌, ◌<◌, ◌≤◌, List, [], ◌∷◌, ◌++◌, length, set, get_or, take, drop, refl, sym, ap, ◌∙◌, subst, arith, Option, Some, None, Bool, true, false, cond, nat_eq, eq-eqb, length-append, eqb-true, length-set, get_or-set_same, get_or-set_other, ◌-◌}
 use mathlib.Core.Logic.{dite}
 use Rattle.std.proofs.Math.Nat.{mod-lt}
 use native.Mathlib.Decide.{ℕ_discrete, dec_lt}
 use Rattle.am_segment.specs.Segments.{KeyView, AreAllKeys, MayJoin}
+use Rattle.am_cast.specs.declared.limits.TheConstants.{LANES}
 use Rattle.am_cast.specs.inside.KeyRows.{RowView, BucketView, find_row, HasNoRow, AreApart, HaveRemainder, IsRowOf, MayTake, row_with, no_bucket, row_at, AreSorted}
 use Rattle.std.proofs.lemmas.Grind.{common_steps}
 
@@ -158,14 +159,14 @@ module _ {X : Type 0} where
       → Some keys ≡ find_row place rows
   row_found place rows inside k row keys same a h is e = grind (arith, common_steps, find_here, row_is)
 
-  pub not_last : (keys : List (KeyView X)) (key : KeyView X) → nat_eq (length (keys ++ key ∷ [])) 8 ≡ false → row_with keys key ≡ Some (keys ++ key ∷ [])
+  pub not_last : (keys : List (KeyView X)) (key : KeyView X) → nat_eq (length (keys ++ key ∷ [])) LANES ≡ false → row_with keys key ≡ Some (keys ++ key ∷ [])
   not_last keys key e = grind (arith, ne-eqb, length-append, eq-eqb)
 
-  pub is_last : (keys : List (KeyView X)) (key : KeyView X) → nat_eq (length (keys ++ key ∷ [])) 8 ≡ true → length keys ≡ 7
-  is_last keys key e = let n = length-append keys (key ∷ []) in let m = eqb-true (length (keys ++ key ∷ [])) 8 e in omega arith
+  pub is_last : (keys : List (KeyView X)) (key : KeyView X) → nat_eq (length (keys ++ key ∷ [])) LANES ≡ true → length keys ≡ LANES - 1
+  is_last keys key e = let n = length-append keys (key ∷ []) in let m = eqb-true (length (keys ++ key ∷ [])) LANES e in omega arith
 
-  pub last : (keys : List (KeyView X)) (key : KeyView X) → nat_eq (length (keys ++ key ∷ [])) 8 ≡ true → row_with keys key ≡ None
-  last keys key e = ap (λ (b : Bool). cond b None (Some (keys ++ key ∷ []))) (eq-eqb (length keys) 7 (is_last keys key e))
+  pub last : (keys : List (KeyView X)) (key : KeyView X) → nat_eq (length (keys ++ key ∷ [])) LANES ≡ true → row_with keys key ≡ None
+  last keys key e = ap (λ (b : Bool). cond b None (Some (keys ++ key ∷ []))) (eq-eqb (length keys) (LANES - 1) (is_last keys key e))
 
   -- what a row's change leaves, where `rows` is what the bucket had
   pub record Brought (place : ℕ) (rows after : List (RowView X)) (key : KeyView X) : Type 0 where
@@ -176,7 +177,7 @@ module _ {X : Type 0} where
 
   -- a key more, which isn't the last
   pub brought_one : (place : ℕ) (rows : List (RowView X)) (k : ℕ) (row new : RowView X) (key : KeyView X) → AreApart rows → IsRowOf place rows k → row ≡ get_or rows k row
-      → new ≡ record row { keys = row.keys ++ key ∷ [] } → nat_eq (length new.keys) 8 ≡ false → Brought place rows (set rows k new) key
+      → new ≡ record row { keys = row.keys ++ key ∷ [] } → nat_eq (length new.keys) LANES ≡ false → Brought place rows (set rows k new) key
   brought_one place rows k row new key a h is e more =
       let at = row_is place rows k row h is in grind (arith, keys_are, set_here, not_last, set_else, set_apart, set_remainder)
 
@@ -192,11 +193,11 @@ module _ {X : Type 0} where
 
   -- the last key
   pub brought_last : (place : ℕ) (rows after : List (RowView X)) (k : ℕ) (row new : RowView X) (key : KeyView X) → AreApart rows → IsRowOf place rows k → row ≡ get_or rows k row
-      → new ≡ record row { keys = row.keys ++ key ∷ [] } → nat_eq (length new.keys) 8 ≡ true → after ≡ take k (set rows k new) ++ drop (suc k) (set rows k new) → Brought place rows after key
+      → new ≡ record row { keys = row.keys ++ key ∷ [] } → nat_eq (length new.keys) LANES ≡ true → after ≡ take k (set rows k new) ++ drop (suc k) (set rows k new) → Brought place rows after key
   brought_last place rows after k row new key a h is e full gone =
       let at = row_is place rows k row h is in let keys_is : new.keys ≡ row.keys ++ key ∷ [] = ap (λ (r : RowView X). r.keys) e in
       let less : after ≡ take k rows ++ drop (suc k) rows = gone ∙ removed_set rows k new in record {
-        here = λ keys f. let was = keys_are place rows k row keys a h is f in ap (λ (l : List (RowView X)). find_row place l) less ∙ remove_here place rows k row h.0 a is at ∙ sym (last row.keys key (ap (λ (l : List (KeyView X)). nat_eq (length l) 8) (sym keys_is) ∙ full)) ∙ ap (λ (l : List (KeyView X)). row_with l key) (sym was);
+        here = λ keys f. let was = keys_are place rows k row keys a h is f in ap (λ (l : List (RowView X)). find_row place l) less ∙ remove_here place rows k row h.0 a is at ∙ sym (last row.keys key (ap (λ (l : List (KeyView X)). nat_eq (length l) LANES) (sym keys_is) ∙ full)) ∙ ap (λ (l : List (KeyView X)). row_with l key) (sym was);
         others = λ p ne. ap (λ (l : List (RowView X)). find_row p l) less ∙ remove_else place p rows k row h.0 is at ne;
         apart = subst (λ (l : List (RowView X)). AreApart l) (sym less) (remove_apart rows k a);
         remainder = λ places n r. subst (λ (l : List (RowView X)). HaveRemainder places n l) (sym less) (remove_remainder places n rows k r);
@@ -205,11 +206,11 @@ module _ {X : Type 0} where
   -- the last key makes all of them
   pub all_home : (place : ℕ) (rows : List (RowView X)) (k : ℕ) (row new out : RowView X) (key : KeyView X) → AreApart rows → IsRowOf place rows k → row ≡ get_or rows k row
       → ((keys : List (KeyView X)) × (find_row place rows ≡ Some keys) × MayTake keys key)
-      → new ≡ record row { keys = row.keys ++ key ∷ [] } → nat_eq (length new.keys) 8 ≡ true → out ≡ get_or (set rows k new) k out → AreAllKeys out.keys
+      → new ≡ record row { keys = row.keys ++ key ∷ [] } → nat_eq (length new.keys) LANES ≡ true → out ≡ get_or (set rows k new) k out → AreAllKeys out.keys
   all_home place rows k row new out key a h is t e full o =
       let keys_is : new.keys ≡ row.keys ++ key ∷ [] = ap (λ (r : RowView X). r.keys) e in
       let out_is : out ≡ new = o ∙ get_set rows k new out h.0 in
-      subst (λ (l : List (KeyView X)). AreAllKeys l) (sym (ap (λ (r : RowView X). r.keys) out_is ∙ keys_is)) ((taking place rows k row key a h is t).2 (is_last row.keys key (ap (λ (l : List (KeyView X)). nat_eq (length l) 8) (sym keys_is) ∙ full)))
+      subst (λ (l : List (KeyView X)). AreAllKeys l) (sym (ap (λ (r : RowView X). r.keys) out_is ∙ keys_is)) ((taking place rows k row key a h is t).2 (is_last row.keys key (ap (λ (l : List (KeyView X)). nat_eq (length l) LANES) (sym keys_is) ∙ full)))
 
   -- the same, of rows known by another name
   pub may_add : (place : ℕ) (rows inside : List (RowView X)) (k : ℕ) (row : RowView X) (key : KeyView X) → inside ≡ rows → AreApart rows → IsRowOf place rows k → row ≡ get_or inside k row
@@ -218,17 +219,17 @@ module _ {X : Type 0} where
 
   pub may_end : (place : ℕ) (rows inside : List (RowView X)) (k : ℕ) (row new out : RowView X) (key : KeyView X) → inside ≡ rows → AreApart rows → IsRowOf place rows k → row ≡ get_or inside k row
       → ((keys : List (KeyView X)) × (find_row place rows ≡ Some keys) × MayTake keys key)
-      → new ≡ record row { keys = row.keys ++ key ∷ [] } → nat_eq (length new.keys) 8 ≡ true → out ≡ get_or (set inside k new) k out → AreAllKeys out.keys
+      → new ≡ record row { keys = row.keys ++ key ∷ [] } → nat_eq (length new.keys) LANES ≡ true → out ≡ get_or (set inside k new) k out → AreAllKeys out.keys
   may_end place rows inside k row new out key same a h is t e full o =
       all_home place rows k row new out key a h (is ∙ ap (λ (l : List (RowView X)). get_or l k row) same) t e full (o ∙ ap (λ (l : List (RowView X)). get_or (set l k new) k out) same)
 
   pub one_more : (place : ℕ) (rows inside : List (RowView X)) (k : ℕ) (row new : RowView X) (key : KeyView X) → inside ≡ rows → AreApart rows → IsRowOf place rows k → row ≡ get_or inside k row
-      → new ≡ record row { keys = row.keys ++ key ∷ [] } → nat_eq (length new.keys) 8 ≡ false → Brought place rows (set inside k new) key
+      → new ≡ record row { keys = row.keys ++ key ∷ [] } → nat_eq (length new.keys) LANES ≡ false → Brought place rows (set inside k new) key
   one_more place rows inside k row new key same a h is e more = subst (λ (l : List (RowView X)). Brought place rows (set l k new) key) (sym same)
       (brought_one place rows k row new key a h (is ∙ ap (λ (l : List (RowView X)). get_or l k row) same) e more)
 
   pub last_more : (place : ℕ) (rows inside after : List (RowView X)) (k : ℕ) (row new : RowView X) (key : KeyView X) → inside ≡ rows → AreApart rows → IsRowOf place rows k → row ≡ get_or inside k row
-      → new ≡ record row { keys = row.keys ++ key ∷ [] } → nat_eq (length new.keys) 8 ≡ true → after ≡ take k (set inside k new) ++ drop (suc k) (set inside k new) → Brought place rows after key
+      → new ≡ record row { keys = row.keys ++ key ∷ [] } → nat_eq (length new.keys) LANES ≡ true → after ≡ take k (set inside k new) ++ drop (suc k) (set inside k new) → Brought place rows after key
   last_more place rows inside after k row new key same a h is e full out =
       brought_last place rows after k row new key a h (is ∙ ap (λ (l : List (RowView X)). get_or l k row) same) e full (out ∙ ap (λ (l : List (RowView X)). take k (set l k new) ++ drop (suc k) (set l k new)) same)
 

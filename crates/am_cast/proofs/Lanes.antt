@@ -5,6 +5,7 @@ use mathlib.Core.Option.{some, some-injective}
 use native.Mathlib.Decide.{ℕ_discrete}
 use lib.ListN.{get_elem?}
 use Rattle.atomic_table.proofs.Lists.{set_here, set_else}
+use Rattle.am_cast.specs.declared.limits.TheConstants.{LANES}
 use Rattle.am_cast.specs.declared.views.Tail.{Tail}
 use Rattle.am_cast.specs.declared.views.Account.{Account}
 use Rattle.am_cast.specs.declared.views.LaneView.{LaneView}
@@ -65,7 +66,7 @@ module _ {B K A : Type 0} (key : B → ℕ → K) where
   at_home t b v words homes l ok held = grind (arith, true≢false)
 
   -- the key in hand goes home
-  pub comes_home : (t : Tail B) (b : Account K A) (v : LaneView B A) (words : List ℕ) (homes : Homes K) (l : ℕ) (x : B) → l < 8 → 0 < t.places → length homes ≡ 8 * t.places → LaneOk key t b v words homes l → b.stand ≢ idle → v.held ≡ true → get_elem? v.front v.passed ≡ some x
+  pub comes_home : (t : Tail B) (b : Account K A) (v : LaneView B A) (words : List ℕ) (homes : Homes K) (l : ℕ) (x : B) → l < LANES → 0 < t.places → length homes ≡ LANES * t.places → LaneOk key t b v words homes l → b.stand ≢ idle → v.held ≡ true → get_elem? v.front v.passed ≡ some x
       → AllHome t b (set homes (slot t.places l v.passed) (some (Some (key x l)))) l
   comes_home t b v words homes l x small pos deep ok used held next =
       let sd = ok.sound in let k : ℕ = slot t.places l v.passed in let p : ℕ = t.places in

@@ -4,6 +4,7 @@ use Rattle.am_steps.specs.declared.event.Event as event
 use Rattle.am_steps.specs.States.{Core, first_state}
 use Rattle.am_steps.specs.Runs.{LeadsTo}
 use Rattle.am_steps.specs.Runs as runs
+use Rattle.am_cast.specs.declared.limits.TheConstants.{LANES}
 use Rattle.am_cast.specs.Runs.{RunsOfTheCore}
 use Rattle.am_cast.specs.Runs as comes
 
@@ -17,7 +18,7 @@ module _ {X : Type 0} where
 
 module _ (B K A : Type 0) (key : B → ℕ → K) where
   pub runs_as : RunsOfTheCore B K A key
-  runs_as places posters seat_of _ _ _ (comes.begins words slots r first) = subst (LeadsTo (first_state places 8 posters) []) (sym first) (runs.none (first_state places 8 posters))
+  runs_as places posters seat_of _ _ _ (comes.begins words slots r first) = subst (LeadsTo (first_state places LANES posters) []) (sym first) (runs.none (first_state places LANES posters))
   runs_as places posters seat_of _ _ _ (comes.steps es s r so_far slots id me i f found allowed deep at fits) = grind (arith, then_also, (runs_as places posters seat_of es s r so_far))
   runs_as places posters seat_of _ _ _ (comes.notes es s r so_far slots id me allowed deep at fits p small seat only) = grind (arith, then_also, (runs_as places posters seat_of es s r so_far))
   runs_as places posters seat_of _ _ _ (comes.hears es s r so_far slots id me allowed deep at fits other) = grind (arith, then_none, (runs_as places posters seat_of es s r so_far))

@@ -6,6 +6,7 @@ use mathlib.Core.List.{IsPrefix}
 use lib.ListN.{get_elem?, length-map}
 use Rattle.atomic_table.specs.Table.{Splits, Joins, opening}
 use Rattle.atomic_table.proofs.Lists.{at_set, at_map, set_else}
+use Rattle.am_cast.specs.declared.limits.TheConstants.{LANES, WORDS}
 use Rattle.am_cast.specs.declared.views.Tail.{Tail}
 use Rattle.am_cast.specs.declared.views.Account.{Account}
 use Rattle.am_cast.specs.declared.views.WriterView.{WriterView}
@@ -171,7 +172,7 @@ module _ {B K A : Type 0} (key : B → ℕ → K) where
             (at_set (set s.views id (both_of v w)) other j blank u e);
       }
 
-  unfoldable pub begins : (words : List ℕ) (slots : List (Option K)) (places : ℕ) → length words ≡ 152 → get_or words 0 0 ≡ 0 → ((l : ℕ) → l < 8 → get_or words (lane_word l) 0 ≡ gone) → length slots ≡ 8 * places → ((i : ℕ) → i < length slots → get_elem? slots i ≡ some None) → 0 < places
+  unfoldable pub begins : (words : List ℕ) (slots : List (Option K)) (places : ℕ) → length words ≡ WORDS → get_or words 0 0 ≡ 0 → ((l : ℕ) → l < LANES → get_or words (lane_word l) 0 ≡ gone) → length slots ≡ LANES * places → ((i : ℕ) → i < length slots → get_elem? slots i ≡ some None) → 0 < places
       → Ruled key (opening words slots (first_view {A = A} places))
   begins words slots places wide zero_first all_gone deep vacant pos = record {
     tail = first_tail places;
@@ -231,8 +232,8 @@ module _ {B K A : Type 0} (key : B → ℕ → K) where
       one_account : Account K A
       one_account = first_account
 
-      each_first : (l : ℕ) → l < 8 → get_elem? (replicate 8 one_account) l ≡ some one_account
-      each_first l h = at_replicate 8 l one_account h
+      each_first : (l : ℕ) → l < LANES → get_elem? (replicate LANES one_account) l ≡ some one_account
+      each_first l h = at_replicate LANES l one_account h
 
 pub length_none : (K : Type 0) (n : ℕ) → length (replicate n (none_of K)) ≡ n
 length_none K zero = refl

@@ -12,6 +12,7 @@ use Rattle.am_steps.specs.declared.lane_record.LaneRecord.{LaneRecord}
 use Rattle.am_steps.specs.States.{record_of}
 use Rattle.am_steps.specs.Soundness.{IsLaneSound, IsPosterSound, IsSound}
 use Rattle.am_steps.specs.Needed.{KeepsKey, IsFreed}
+use Rattle.am_cast.specs.declared.limits.TheConstants.{LANES}
 use Rattle.am_cast.specs.declared.views.Tail.{Tail}
 use Rattle.am_cast.specs.declared.views.Account.{Account}
 use Rattle.am_cast.specs.declared.views.LaneView.{LaneView}
@@ -116,7 +117,7 @@ module _ {B K A : Type 0} where
   record_of_behind b v = grind (arith, used_record)
 
 module _ {B K A : Type 0} (key : B → ℕ → K) where
-  account_is : (s : St B K A) (r : Ruled key s) (id : ℕ) (u : View B K A) (q : WriterView B K A) → get_elem? s.views id ≡ some u → u.writer ≡ Some q → (q.tail ≡ r.tail) × ((l : ℕ) → l < 8 → account_of q l ≡ r.account l)
+  account_is : (s : St B K A) (r : Ruled key s) (id : ℕ) (u : View B K A) (q : WriterView B K A) → get_elem? s.views id ≡ some u → u.writer ≡ Some q → (q.tail ≡ r.tail) × ((l : ℕ) → l < LANES → account_of q l ≡ r.account l)
   account_is s r id u q at is = let k = subst (HasWriter r.tail r.seat r.account r.lane r.lane_seat id) is (r.each_seat id u at).writer in
       (k.0, λ l small. sym (is_account_of q l (r.account l) (k.2 l small)))
 
@@ -124,11 +125,11 @@ module _ {B K A : Type 0} (key : B → ℕ → K) where
   pub freed_for : (s : St B K A) (r : Ruled key s) (id : ℕ) (u : View B K A) (q : WriterView B K A) (posters : ℕ) (seat_of : ℕ → ℕ) (i : ℕ) → get_elem? s.views id ≡ some u → u.writer ≡ Some q
       → (IsFreed (state_of posters seat_of r) i → IsFreedFor q i) × (IsFreedFor q i → IsFreed (state_of posters seat_of r) i)
   freed_for s r id u q posters seat_of i at is =
-      let k = account_is s r id u q at is in let record_at : (l : ℕ) → l < 8 → record_of ((state_of posters seat_of r).lane l) ≡ record_kept (account_of q l) = grind (arith, inside, record_of_behind) in grind (arith, cases_lt, none-some, le-ltb)
+      let k = account_is s r id u q at is in let record_at : (l : ℕ) → l < LANES → record_of ((state_of posters seat_of r).lane l) ≡ record_kept (account_of q l) = grind (arith, inside, record_of_behind) in grind (arith, cases_lt, none-some, le-ltb)
 
   -- of a freed place no key is out, and where none is out the place is freed
-  pub freed_is_home : (q : WriterView B K A) (i l : ℕ) → l < 8 → IsGathered (account_of q l) → IsFreedFor q i → IsOut (account_of q l) i → ⊥
+  pub freed_is_home : (q : WriterView B K A) (i l : ℕ) → l < LANES → IsGathered (account_of q l) → IsFreedFor q i → IsOut (account_of q l) i → ⊥
   freed_is_home q i l small g f out = let k = out_is_kept (account_of q l) i g out in f.1 l k.0 small k.1 k.2
 
-  pub home_is_freed : (q : WriterView B K A) (i : ℕ) → i < length q.tail.log → ((l : ℕ) → l < 8 → IsGathered (account_of q l) × ((account_of q l).stand ≡ live → (account_of q l).stop ≡ length q.tail.log) × (IsOut (account_of q l) i → ⊥)) → IsFreedFor q i
+  pub home_is_freed : (q : WriterView B K A) (i : ℕ) → i < length q.tail.log → ((l : ℕ) → l < LANES → IsGathered (account_of q l) × ((account_of q l).stand ≡ live → (account_of q l).stop ≡ length q.tail.log) × (IsOut (account_of q l) i → ⊥)) → IsFreedFor q i
   home_is_freed q i inside all = grind (arith, inside, kept_is_out)

@@ -7,6 +7,7 @@ use mathlib.Core.List.{IsPrefix}
 use native.Mathlib.Decide.{ℕ_discrete, dec_le}
 use lib.ListN.{get_elem?}
 use Rattle.atomic_table.proofs.Lists.{one_turn}
+use Rattle.am_cast.specs.declared.limits.TheConstants.{LANES}
 use Rattle.am_cast.specs.declared.views.Own.{Own}
 use Rattle.am_cast.specs.Rule.{slot, bit, IsApart, Once, Owns}
 
@@ -46,21 +47,21 @@ pub apart : (p l k i j : ℕ) → k ≤ i → i < k + p → k ≤ j → j < k + 
 apart p l k i j a b c d ne e = grind (arith, dec_le, one_turn)
 
 -- two lanes have slots of their own
-pub other_lane : (p l m i j : ℕ) → l < 8 → m < 8 → l ≢ m → slot p l i ≢ slot p m j
+pub other_lane : (p l m i j : ℕ) → l < LANES → m < LANES → l ≢ m → slot p l i ≢ slot p m j
 other_lane p l m i j a b ne e = ne (omega (arith, a, b, e))
 
 -- a place and the one a turn later share a slot
 pub one_turn_on : (p l i : ℕ) → slot p l (i + p) ≡ slot p l i
-one_turn_on p l i = let on : i + p ≡ i + p * 1 = omega arith in ap (λ (x : ℕ). 8 * x + l) (ap (λ (x : ℕ). x % p) on ∙ add-mul-mod_self_left i p 1)
+one_turn_on p l i = let on : i + p ≡ i + p * 1 = omega arith in ap (λ (x : ℕ). LANES * x + l) (ap (λ (x : ℕ). x % p) on ∙ add-mul-mod_self_left i p 1)
 
 -- a place in the turn from n on that shares the slot of i
 pub same_slot : (p l n i : ℕ) → 0 < p → n ≤ i → (j : ℕ) × (n ≤ j) × (j < n + p) × (slot p l i ≡ slot p l j)
 same_slot p l n i pos le =
     let r : ℕ = (i - n) % p in let k : ℕ = (i - n) / p in let parts = div-add-mod' (i - n) p in
     let is : i ≡ (n + r) + p * k = let m : ℕ = k * p in omega (arith, mul_comm k p) in
-    (n + r, omega arith, omega arith, ap (λ (x : ℕ). 8 * x + l) (ap (λ (x : ℕ). x % p) is ∙ add-mul-mod_self_left (n + r) p k))
+    (n + r, omega arith, omega arith, ap (λ (x : ℕ). LANES * x + l) (ap (λ (x : ℕ). x % p) is ∙ add-mul-mod_self_left (n + r) p k))
 
-pub slot_inside : (p l i n : ℕ) → l < 8 → 0 < p → n ≡ 8 * p → slot p l i < n
+pub slot_inside : (p l i n : ℕ) → l < LANES → 0 < p → n ≡ LANES * p → slot p l i < n
 slot_inside p l i n a b e = let h = mod-lt i b in omega (arith, a, e, h)
 
 module _ {A : Type 0} where

@@ -23,6 +23,7 @@ use Rattle.am_steps.specs.States.{Core, record_of, with_record, word_of}
 use Rattle.am_steps.specs.Steps as steps
 use Rattle.am_steps.specs.Steps.{Step, SameLog, OnlyLane, MayGrow}
 use Rattle.am_steps.specs.Runs.{LeadsTo, none, then as leads}
+use Rattle.am_cast.specs.declared.limits.TheConstants.{LANES}
 use Rattle.am_cast.specs.declared.views.Tail.{Tail}
 use Rattle.am_cast.specs.declared.views.Account.{Account}
 use Rattle.am_cast.specs.declared.views.LaneView.{LaneView}
@@ -61,8 +62,8 @@ module _ {B : Type 0} where
   pub standing_record : (n : ℕ) (v : Lane B) (m : LaneRecord) → record_of (lane_standing n v) ≡ Some m → IsUsed n × (record_of v ≡ Some m)
   standing_record n v m e = grind (arith, none-some)
 
-  pub inside : (l : ℕ) (v : Lane B) → l < 8 → (if nat_lt l 8 then v else Idle) ≡ v
-  inside l v small = ap (λ (b : Bool). if b then v else Idle) (lt-ltb l 8 small)
+  pub inside : (l : ℕ) (v : Lane B) → l < LANES → (if nat_lt l LANES then v else Idle) ≡ v
+  inside l v small = ap (λ (b : Bool). if b then v else Idle) (lt-ltb l LANES small)
 
   one : (c d : Core B) (e : event.Event B) → Step c e d → LeadsTo c (e ∷ []) d
   one c d e s = leads c d d e [] s (none d)
@@ -156,27 +157,27 @@ module _ {B K A : Type 0} where
     abbrev after : Behind B K A → Core B
     after d = core_behind posters poster' d.tail d.account d.lane
 
-    lane_now : (d : Behind B K A) (l : ℕ) (v : Lane B) → l < 8 → lane_behind (d.account l) (d.lane l) ≡ v → (after d).lane l ≡ v
+    lane_now : (d : Behind B K A) (l : ℕ) (v : Lane B) → l < LANES → lane_behind (d.account l) (d.lane l) ≡ v → (after d).lane l ≡ v
     lane_now d l v small e = inside l (lane_behind (d.account l) (d.lane l)) small ∙ e
 
-    lane_was : (c : Behind B K A) (l : ℕ) (v : Lane B) → l < 8 → lane_behind (c.account l) (c.lane l) ≡ v → (before c).lane l ≡ v
+    lane_was : (c : Behind B K A) (l : ℕ) (v : Lane B) → l < LANES → lane_behind (c.account l) (c.lane l) ≡ v → (before c).lane l ≡ v
     lane_was c l v small e = inside l (lane_behind (c.account l) (c.lane l)) small ∙ e
 
     lane_same : (c d : Behind B K A) (k : ℕ) → lane_behind (d.account k) (d.lane k) ≡ lane_behind (c.account k) (c.lane k) → (after d).lane k ≡ (before c).lane k
-    lane_same c d k e = ap (λ (v : Lane B). if nat_lt k 8 then v else Idle) e
+    lane_same c d k e = ap (λ (v : Lane B). if nat_lt k LANES then v else Idle) e
 
     same_log : (c d : Behind B K A) → d.tail ≡ c.tail → SameLog (before c) (after d)
     same_log c d e = grind arith
 
-    only : (c d : Behind B K A) (l : ℕ) (v : Lane B) → l < 8 → d.tail ≡ c.tail → ((m : ℕ) → m ≢ l → d.account m ≡ c.account m) → ((m : ℕ) → m ≢ l → d.lane m ≡ c.lane m) → lane_behind (d.account l) (d.lane l) ≡ v → OnlyLane (before c) l v (after d)
+    only : (c d : Behind B K A) (l : ℕ) (v : Lane B) → l < LANES → d.tail ≡ c.tail → ((m : ℕ) → m ≢ l → d.account m ≡ c.account m) → ((m : ℕ) → m ≢ l → d.lane m ≡ c.lane m) → lane_behind (d.account l) (d.lane l) ≡ v → OnlyLane (before c) l v (after d)
     only c d l v small t accounts lanes e = grind (arith, same_log, lane_now, lane_same)
 
     -- one lane is now v
-    lane_only : (c d : Behind B K A) (l : ℕ) (w : LaneView B A) (v : Lane B) → l < 8 → LaneTo c d l w → lane_behind (c.account l) w ≡ v → OnlyLane (before c) l v (after d)
+    lane_only : (c d : Behind B K A) (l : ℕ) (w : LaneView B A) (v : Lane B) → l < LANES → LaneTo c d l w → lane_behind (c.account l) w ≡ v → OnlyLane (before c) l v (after d)
     lane_only c d l w v small to e = only c d l v small to.tail (λ m ne. to.accounts m) to.others ((λ i. lane_behind (to.accounts l i) (to.lane i)) ∙ e)
 
     -- of one lane the writer now knows b
-    account_only : (c d : Behind B K A) (l : ℕ) (b : Account K A) (v : Lane B) → l < 8 → AccountTo c d l b → lane_behind b (c.lane l) ≡ v → OnlyLane (before c) l v (after d)
+    account_only : (c d : Behind B K A) (l : ℕ) (b : Account K A) (v : Lane B) → l < LANES → AccountTo c d l b → lane_behind b (c.lane l) ≡ v → OnlyLane (before c) l v (after d)
     account_only c d l b v small to e = only c d l v small to.tail to.others (λ m ne. to.lanes m) ((λ i. lane_behind (to.account i) (to.lanes l i)) ∙ e)
 
     -- nothing that the core sees has changed
@@ -192,12 +193,12 @@ module _ {B K A : Type 0} where
         (λ ne. λ i. lane_behind (to.others m ne i) (to.lanes m i)))
 
     abbrev IsSoundBehind : Behind B K A → Type 0
-    IsSoundBehind c = (l : ℕ) → l < 8 → Sound c.tail (c.account l) (c.lane l) l
+    IsSoundBehind c = (l : ℕ) → l < LANES → Sound c.tail (c.account l) (c.lane l) l
 
     used_here : (c : Behind B K A) (l : ℕ) → Sound c.tail (c.account l) (c.lane l) l → (c.lane l).here ≡ true → IsUsed (c.account l).stand
     used_here c l sd here = used_by (c.account l).stand sd.counts.stands (λ e. true≢false (sym here ∙ sd.idles e)) (λ e. true≢false (sym here ∙ sd.vacates e))
 
-    opens_step : (c d : Behind B K A) (l : ℕ) → IsSoundBehind c → l < 8 → (c.lane l).here ≡ true → (c.lane l).begun ≡ false → LaneTo c d l (opened (c.lane l)) → Step (before c) (does.Open l) (after d)
+    opens_step : (c d : Behind B K A) (l : ℕ) → IsSoundBehind c → l < LANES → (c.lane l).here ≡ true → (c.lane l).begun ≡ false → LaneTo c d l (opened (c.lane l)) → Step (before c) (does.Open l) (after d)
     opens_step c d l sound small here fresh to =
         let sd = sound l small in let b : Account K A = c.account l in let v : LaneView B A = c.lane l in let used = used_here c l sd here in let u = sd.seen.unbegun here fresh in
         let long = length-take-le v.passed v.front (omega arith) in
@@ -205,26 +206,26 @@ module _ {B K A : Type 0} where
         steps.opens (before c) (after d) l (record_behind b) (lane_was c l _ small (admitted_is b v used here fresh))
         (grind (arith, lane_only, open_is))
 
-    look_step : (c d : Behind B K A) (l : ℕ) → IsSoundBehind c → l < 8 → (c.lane l).begun ≡ true → LaneTo c d l (seeing c.tail.log c.tail.closed (c.lane l)) → Step (before c) (does.Look l) (after d)
+    look_step : (c d : Behind B K A) (l : ℕ) → IsSoundBehind c → l < LANES → (c.lane l).begun ≡ true → LaneTo c d l (seeing c.tail.log c.tail.closed (c.lane l)) → Step (before c) (does.Look l) (after d)
     look_step c d l sound small begun to =
         let sd = sound l small in let b : Account K A = c.account l in let v : LaneView B A = c.lane l in let here = sd.seen.begun begun in let used = used_here c l sd here in
         let w : LaneView B A = seeing c.tail.log c.tail.closed v in
         steps.look (before c) (after d) l (record_behind b) (cursor_behind v) (lane_was c l _ small (open_is b v used here begun))
         (lane_only c d l w _ small to (open_is b w used here begun ∙ (λ i. Open (record_behind b) (record { passed = v.passed; held = v.held; seen = length c.tail.log; told = c.tail.closed; told_cut = v.cut; got = drop v.start (first_of v.front c.tail.log v.passed sd.seen.begins sd.seen.high i) }))))
 
-    take_step : (c d : Behind B K A) (l : ℕ) → IsSoundBehind c → l < 8 → (c.lane l).begun ≡ true → (c.account l).stand ≡ live → (c.lane l).held ≡ false → (c.lane l).passed < length (c.lane l).front → LaneTo c d l (holding (c.lane l)) → Step (before c) (does.Take l) (after d)
+    take_step : (c d : Behind B K A) (l : ℕ) → IsSoundBehind c → l < LANES → (c.lane l).begun ≡ true → (c.account l).stand ≡ live → (c.lane l).held ≡ false → (c.lane l).passed < length (c.lane l).front → LaneTo c d l (holding (c.lane l)) → Step (before c) (does.Take l) (after d)
     take_step c d l sound small begun alive held below to =
         let sd = sound l small in let b : Account K A = c.account l in let v : LaneView B A = c.lane l in let here = sd.seen.begun begun in let used = used_here c l sd here in
         steps.take (before c) (after d) l (record_behind b) (cursor_behind v) (lane_was c l _ small (open_is b v used here begun)) held below
         (grind (arith, lane_only, open_is))
 
-    take_cut_step : (c d : Behind B K A) (l : ℕ) → IsSoundBehind c → l < 8 → (c.lane l).begun ≡ true → (c.account l).stand ≡ cut → (c.lane l).held ≡ false → (c.lane l).passed < length (c.lane l).front → LaneTo c d l (cut_off (c.lane l)) → Step (before c) (does.Take l) (after d)
+    take_cut_step : (c d : Behind B K A) (l : ℕ) → IsSoundBehind c → l < LANES → (c.lane l).begun ≡ true → (c.account l).stand ≡ cut → (c.lane l).held ≡ false → (c.lane l).passed < length (c.lane l).front → LaneTo c d l (cut_off (c.lane l)) → Step (before c) (does.Take l) (after d)
     take_cut_step c d l sound small begun is_cut held below to =
         let sd = sound l small in let b : Account K A = c.account l in let v : LaneView B A = c.lane l in let here = sd.seen.begun begun in let used = used_here c l sd here in
         steps.take (before c) (after d) l (record_behind b) (cursor_behind v) (lane_was c l _ small (open_is b v used here begun)) held below
         (grind (arith, lane_only, open_is, cut_flag))
 
-    pass_step : (c d : Behind B K A) (l n : ℕ) → IsSoundBehind c → l < 8 → (c.lane l).begun ≡ true → (c.lane l).held ≡ true → n % 2 ≡ (c.account l).stand / 2 → LaneTo c d l (further n (c.lane l)) → Step (before c) (does.Pass l) (after d)
+    pass_step : (c d : Behind B K A) (l n : ℕ) → IsSoundBehind c → l < LANES → (c.lane l).begun ≡ true → (c.lane l).held ≡ true → n % 2 ≡ (c.account l).stand / 2 → LaneTo c d l (further n (c.lane l)) → Step (before c) (does.Pass l) (after d)
     pass_step c d l n sound small begun held odd to =
         let sd = sound l small in let b : Account K A = c.account l in let v : LaneView B A = c.lane l in let here = sd.seen.begun begun in let used = used_here c l sd here in
         let below = (sd.seen.holds held).1 in let p : ℕ = v.passed in let y = at_below v.front p below in let x : B = y.0 in let x_at : slice_get v.front p ≡ Some x = get_at v.front p x y.1 in
@@ -240,16 +241,16 @@ module _ {B K A : Type 0} where
             ap (λ (m : ℕ). m == 1) even ∙ (λ i. sym not_told i || sym (ne_eqb b.stand cut (λ z. omega arith)) i)
         told_by b v n (inr e) odd cuts = let is : n % 2 ≡ 1 = omega arith in ap (λ (m : ℕ). m == 1) is ∙ sym (or_true v.cut) ∙ (λ i. v.cut || sym (cut_flag b e) i)
 
-    leave_step : (c d : Behind B K A) (l : ℕ) → IsSoundBehind c → l < 8 → (c.lane l).begun ≡ true → LaneTo c d l (left (c.lane l)) → Step (before c) (does.Leave l) (after d)
+    leave_step : (c d : Behind B K A) (l : ℕ) → IsSoundBehind c → l < LANES → (c.lane l).begun ≡ true → LaneTo c d l (left (c.lane l)) → Step (before c) (does.Leave l) (after d)
     leave_step c d l sound small begun to =
         let sd = sound l small in let b : Account K A = c.account l in let v : LaneView B A = c.lane l in let here = sd.seen.begun begun in let used = used_here c l sd here in
         steps.leave (before c) (after d) l (record_behind b) (cursor_behind v) (lane_was c l _ small (open_is b v used here begun))
         (lane_only c d l (left v) _ small to (left_is b (left v) used refl))
 
-    has_room : (c : Behind B K A) → IsSoundBehind c → ((l : ℕ) → l < 8 → (c.account l).stand ≡ live → (c.account l).stop < (c.account l).cleared + c.tail.places) → MayGrow (before c)
+    has_room : (c : Behind B K A) → IsSoundBehind c → ((l : ℕ) → l < LANES → (c.account l).stand ≡ live → (c.account l).stop < (c.account l).cleared + c.tail.places) → MayGrow (before c)
     has_room c sound room l m is uncut = grind (arith, cases_lt, inside, standing_record, same_some, used_record, none-some, le-ltb, true≢false, cut_flag)
 
-    harvest_step : (c d : Behind B K A) (l n : ℕ) (b' : Account K A) → IsSoundBehind c → l < 8 → IsUsed (c.account l).stand → IsUsed b'.stand → (c.lane l).here ≡ true
+    harvest_step : (c d : Behind B K A) (l n : ℕ) (b' : Account K A) → IsSoundBehind c → l < LANES → IsUsed (c.account l).stand → IsUsed b'.stand → (c.lane l).here ≡ true
         → record_behind b' ≡ record (record_behind (c.account l)) { known = (c.lane l).passed; key_out = (c.lane l).held } → AccountTo c d l b' → Step (before c) (does.Harvest l) (after d)
     harvest_step c d l n b' sound small used used' here e to =
         let sd = sound l small in let b : Account K A = c.account l in let v : LaneView B A = c.lane l in
@@ -258,7 +259,7 @@ module _ {B K A : Type 0} where
         (ap (λ (x : Lane B). word_of x) (inside l (lane_behind b v) small) ∙ word_is c.tail b v l sd used here)
         (grind (arith, account_only, with_is, inside))
 
-    retire_step : (c d : Behind B K A) (l : ℕ) (b' : Account K A) → l < 8 → IsUsed (c.account l).stand → (c.lane l).here ≡ false → lane_behind b' (c.lane l) ≡ Idle → AccountTo c d l b' → Step (before c) (does.Retire l) (after d)
+    retire_step : (c d : Behind B K A) (l : ℕ) (b' : Account K A) → l < LANES → IsUsed (c.account l).stand → (c.lane l).here ≡ false → lane_behind b' (c.lane l) ≡ Idle → AccountTo c d l b' → Step (before c) (does.Retire l) (after d)
     retire_step c d l b' small used gone_from e to =
         steps.retire (before c) (after d) l (record_behind (c.account l)) (lane_was c l _ small (left_is (c.account l) (c.lane l) used gone_from))
         (account_only c d l b' Idle small to e)
@@ -267,7 +268,7 @@ module _ {B K A : Type 0} where
     from_after : (c d : Behind B K A) (l : ℕ) (v : Lane B) → OnlyLane (before c) l v (after d) → OnlyLane (after c) l v (after d)
     from_after c d l v o = record { same = record { places = o.same.places; log = o.same.log; closed = o.same.closed; lanes = o.same.lanes; posters = o.same.posters }; here = o.here; other = o.other; poster = λ p. refl }
 
-    leave_retire : (c d : Behind B K A) (l : ℕ) → IsSoundBehind c → l < 8 → (c.lane l).begun ≡ true → BothTo c d l (left (c.lane l)) (retired (c.account l)) → LeadsTo (before c) (does.Leave l ∷ does.Retire l ∷ []) (after d)
+    leave_retire : (c d : Behind B K A) (l : ℕ) → IsSoundBehind c → l < LANES → (c.lane l).begun ≡ true → BothTo c d l (left (c.lane l)) (retired (c.account l)) → LeadsTo (before c) (does.Leave l ∷ does.Retire l ∷ []) (after d)
     leave_retire c d l sound small begun to =
         let sd = sound l small in let b : Account K A = c.account l in let v : LaneView B A = c.lane l in let here = sd.seen.begun begun in let used = used_here c l sd here in
         let m : Behind B K A = record { tail = c.tail; account = c.account; lane = put c.lane l (left v) } in
@@ -277,7 +278,7 @@ module _ {B K A : Type 0} where
         (one (after m) (after d) (does.Retire l) (steps.retire (after m) (after d) l (record_behind b) (lane_was m l _ small (left_is b (m.lane l) used (ap (λ (w : LaneView B A). w.here) is_left)))
         (from_after m d l Idle (only m d l Idle small to.tail to.accounts (λ k ne. to.lanes k ne ∙ sym (put_else c.lane l (left v) k ne)) (λ i. lane_behind (to.account i) (to.lane i))))))
 
-    cut_step : (c d : Behind B K A) (l n : ℕ) → IsSoundBehind c → l < 8 → (c.account l).stand ≡ live → (c.lane l).here ≡ true → (c.lane l).passed ≡ (c.account l).known → n / 2 % 2 ≡ bit (c.lane l).held → n / 2 ≡ (c.account l).half
+    cut_step : (c d : Behind B K A) (l n : ℕ) → IsSoundBehind c → l < LANES → (c.account l).stand ≡ live → (c.lane l).here ≡ true → (c.lane l).passed ≡ (c.account l).known → n / 2 % 2 ≡ bit (c.lane l).held → n / 2 ≡ (c.account l).half
         → length c.tail.log ≡ (c.account l).known + c.tail.places → AccountTo c d l (severed (n / 2 % 2) (c.account l)) → Step (before c) (does.Cut l) (after d)
     cut_step c d l n sound small alive here passed bit_of half full to =
         let b : Account K A = c.account l in let v : LaneView B A = c.lane l in let used : IsUsed b.stand = used_live b.stand alive in

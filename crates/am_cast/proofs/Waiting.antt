@@ -1,5 +1,5 @@
 -- Rows of keys and accounts: which keys are out after a step.
-use Rattle.std.proofs.Common.{◌≡◌, ◌≢◌, ℕ, zero, suc, ◌+◌, ◌<◌, ◌≤◌, ◌⊎◌, List, [], ◌∷◌, ◌++◌, length, length-append, add-one, map, refl, sym, ap, ◌∙◌, subst, arith, Option, Some, None, Bool, true, false, cond, nat_eq, ◌&&◌, ◌||◌, count_by, get_or-set_same, get_or-set_other, eq-eqb}
+use Rattle.std.proofs.Common.{◌≡◌, ◌≢◌, ℕ, zero, suc, ◌+◌, ◌<◌, ◌≤◌, ◌⊎◌, List, [], ◌∷◌, ◌++◌, length, length-append, add-one, map, refl, sym, ap, ◌∙◌, subst, arith, Option, Some, None, Bool, true, false, cond, nat_eq, ◌&&◌, ◌||◌, count_by, get_or-set_same, get_or-set_other, eq-eqb, ◌-◌}
 use Rattle.std.specs.List.{All, range_with_len}
 use Rattle.std.proofs.lemmas.List.{append-nil, append_assoc}
 use Rattle.std.proofs.lemmas.Bool.{leb-true, le-leb, ltb-true, lt-ltb, eqb-true, false≢true}
@@ -10,6 +10,7 @@ use mathlib.Core.Option.{some, some-injective}
 use lib.ListN.{get_elem?}
 use native.Mathlib.Decide.{ℕ_discrete}
 use Rattle.am_segment.specs.Segments.{KeyView, AreAllKeys, MayJoin, MayJoinRest}
+use Rattle.am_cast.specs.declared.limits.TheConstants.{LANES}
 use Rattle.am_cast.specs.declared.batch_view.BatchView.{BatchView}
 use Rattle.am_cast.specs.declared.views.Account.{Account}
 use Rattle.am_cast.specs.declared.views.WriterView.{WriterView}
@@ -162,20 +163,20 @@ module _ {T P : Type 0} (x : BatchView T P) where
   gathered_same out out' n keys h g = grind (arith, outs_same)
 
   -- a lane's key that isn't among them may join them
-  pub gathered_joins : (out : ℕ → Bool) (l n : ℕ) (keys : List (KeyView T)) → Gathered x out n keys → length keys < 8 → count_by (λ k. nat_eq k.number l) keys ≡ 0 → MayJoin keys (key_of x l)
+  pub gathered_joins : (out : ℕ → Bool) (l n : ℕ) (keys : List (KeyView T)) → Gathered x out n keys → length keys < LANES → count_by (λ k. nat_eq k.number l) keys ≡ 0 → MayJoin keys (key_of x l)
   gathered_joins out l n keys g few new = record { of_one = g.each; new = new; few = few }
 
   -- the keys of the lanes from the next on may join them
-  pub gathered_joins_rest : (out : ℕ → Bool) (n : ℕ) (keys : List (KeyView T)) → Gathered x out n keys → n < 8 → MayJoinRest keys (key_of x n)
-  gathered_joins_rest out n keys g small = record { of_one = g.each; new = g.above 7 (omega arith); few = omega arith }
+  pub gathered_joins_rest : (out : ℕ → Bool) (n : ℕ) (keys : List (KeyView T)) → Gathered x out n keys → n < LANES → MayJoinRest keys (key_of x n)
+  gathered_joins_rest out n keys g small = record { of_one = g.each; new = g.above (LANES - 1) (omega arith); few = omega arith }
 
-  -- all eight are all
-  pub gathered_all : (out : ℕ → Bool) (keys : List (KeyView T)) → Gathered x out 8 keys → length keys ≡ 8 → AreAllKeys keys
-  gathered_all out keys g long = let none_out : outs out 8 ≡ 0 = omega arith in record {
+  -- the keys of all lanes are all keys
+  pub gathered_all : (out : ℕ → Bool) (keys : List (KeyView T)) → Gathered x out LANES keys → length keys ≡ LANES → AreAllKeys keys
+  gathered_all out keys g long = let none_out : outs out LANES ≡ 0 = omega arith in record {
     some = omega arith;
     of_one = λ k d h m e i. ap (λ (k : KeyView T). k.segment) (g.each m e i) ∙ sym (ap (λ (k : KeyView T). k.segment) (g.each k d h));
     as_many = λ k d h. ap (λ (k : KeyView T). k.keys) (g.each k d h) ∙ sym long;
-    each_once = λ l h. let once = g.below l (omega arith) in let b : bit (out l) ≡ 0 = ap bit (outs_none out 8 none_out l (omega arith)) in omega arith;
+    each_once = λ l h. let once = g.below l (omega arith) in let b : bit (out l) ≡ 0 = ap bit (outs_none out LANES none_out l (omega arith)) in omega arith;
   }
 
 same_name : {T P : Type 0} → (log : List (BatchView T P)) (i : ℕ) (x y : BatchView T P) → get_elem? log i ≡ some x → get_elem? log i ≡ some y → x ≡ y
@@ -183,9 +184,9 @@ same_name log i x y e f = some-injective x y (sym e ∙ f)
 
 module _ {T P A : Type 0} where
   pub fits_ext : (q q' : WriterView (BatchView T P) (KeyView T) A) (i : ℕ) (o : Option (List (KeyView T))) → ((x : BatchView T P) → get_elem? q.tail.log i ≡ some x → get_elem? q'.tail.log i ≡ some x)
-      → ((l : ℕ) → l < 8 → is_out (account_of q' l) i ≡ is_out (account_of q l) i) → FitsAt q i o → FitsAt q' i o
+      → ((l : ℕ) → l < LANES → is_out (account_of q' l) i ≡ is_out (account_of q l) i) → FitsAt q i o → FitsAt q' i o
   fits_ext q q' i None log same f = λ l h. same l h ∙ f l h
-  fits_ext q q' i (Some keys) log same f = (f.0, log f.0 f.1, gathered_same f.0 (λ l. is_out (account_of q l) i) (λ l. is_out (account_of q' l) i) 8 keys same f.2, f.3)
+  fits_ext q q' i (Some keys) log same f = (f.0, log f.0 f.1, gathered_same f.0 (λ l. is_out (account_of q l) i) (λ l. is_out (account_of q' l) i) LANES keys same f.2, f.3)
 
   account_here : (q : WriterView (BatchView T P) (KeyView T) A) (l : ℕ) (b : Account (KeyView T) A) → l < length q.accounts → account_of (with_account l b q) l ≡ b
   account_here q l b h = get_or-set_same q.accounts l b first_account h
@@ -206,7 +207,7 @@ module _ {T P A : Type 0} where
   fits_tail q q' rows log same fits i = grind (arith, fits_ext)
 
   -- the row of a place whose key is out
-  row_there : (q : WriterView (BatchView T P) (KeyView T) A) (i l : ℕ) (o : Option (List (KeyView T))) → FitsAt q i o → l < 8 → is_out (account_of q l) i ≡ true → (keys : List (KeyView T)) × (o ≡ Some keys) × FitsAt q i (Some keys)
+  row_there : (q : WriterView (BatchView T P) (KeyView T) A) (i l : ℕ) (o : Option (List (KeyView T))) → FitsAt q i o → l < LANES → is_out (account_of q l) i ≡ true → (keys : List (KeyView T)) × (o ≡ Some keys) × FitsAt q i (Some keys)
   row_there q i l o f h out = grind (arith, false≢true)
 
   -- what a key that comes home finds
@@ -215,12 +216,12 @@ module _ {T P A : Type 0} where
     pub row : row_at rows place ≡ Some keys
     pub x : BatchView T P
     pub batch : get_elem? q.tail.log place ≡ some x
-    pub gathered : Gathered x (λ l. is_out (account_of q l) place) 8 keys
-    pub few : length keys < 8
+    pub gathered : Gathered x (λ l. is_out (account_of q l) place) LANES keys
+    pub few : length keys < LANES
     pub key_is : key ≡ key_of x l
     pub out : is_out (account_of q l) place ≡ true
 
-  coming : (q : WriterView (BatchView T P) (KeyView T) A) (rows : List (BucketView T)) (l place : ℕ) (key : KeyView T) → l < 8 → place ≡ (account_of q l).cleared → place < (account_of q l).stop
+  coming : (q : WriterView (BatchView T P) (KeyView T) A) (rows : List (BucketView T)) (l place : ℕ) (key : KeyView T) → l < LANES → place ≡ (account_of q l).cleared → place < (account_of q l).stop
       → IsKeyAt key_of q.tail.log place l key → RowsFit q rows → Coming q rows l place key
   coming q rows l place key small at inside k fits = let b : Account (KeyView T) A = account_of q l in let out : is_out b place ≡ true = is_out_when b place (slotted (omega arith) inside) in
       let r = row_there q place l (row_at rows place) (fits place) small out in let same : k.0 ≡ r.2.0 = same_name q.tail.log place k.0 r.2.0 k.1 r.2.1 in record {
@@ -234,32 +235,32 @@ module _ {T P A : Type 0} where
         out = out;
       }
 
-  came : (q : WriterView (BatchView T P) (KeyView T) A) (rows : List (BucketView T)) (l place : ℕ) (key : KeyView T) (q' : WriterView (BatchView T P) (KeyView T) A) → Coming q rows l place key → l < length q.accounts → l < 8 → place ≡ (account_of q l).cleared
-      → ((account_of q l).away ≡ true → (account_of q l).known < (account_of q l).cleared) → q' ≡ with_account l (clearing (account_of q l)) q → (c : Coming q rows l place key) → Gathered c.x (λ l. is_out (account_of q' l) place) 8 (c.keys ++ key ∷ [])
-  came q rows l place key q' _ inside small at low is c = subst (λ (k : KeyView T). Gathered c.x (λ l. is_out (account_of q' l) place) 8 (c.keys ++ k ∷ [])) (sym c.key_is)
-      (gathered_one c.x (λ l. is_out (account_of q l) place) (λ l. is_out (account_of q' l) place) l 8 c.keys c.gathered small c.out
+  came : (q : WriterView (BatchView T P) (KeyView T) A) (rows : List (BucketView T)) (l place : ℕ) (key : KeyView T) (q' : WriterView (BatchView T P) (KeyView T) A) → Coming q rows l place key → l < length q.accounts → l < LANES → place ≡ (account_of q l).cleared
+      → ((account_of q l).away ≡ true → (account_of q l).known < (account_of q l).cleared) → q' ≡ with_account l (clearing (account_of q l)) q → (c : Coming q rows l place key) → Gathered c.x (λ l. is_out (account_of q' l) place) LANES (c.keys ++ key ∷ [])
+  came q rows l place key q' _ inside small at low is c = subst (λ (k : KeyView T). Gathered c.x (λ l. is_out (account_of q' l) place) LANES (c.keys ++ k ∷ [])) (sym c.key_is)
+      (gathered_one c.x (λ l. is_out (account_of q l) place) (λ l. is_out (account_of q' l) place) l LANES c.keys c.gathered small c.out
       (grind (arith, account_here, out_cleared))
       (grind (arith, account_else)))
 
-  pub may_bring : (q q' : WriterView (BatchView T P) (KeyView T) A) (rows : List (BucketView T)) (l place : ℕ) (key : KeyView T) → l < length q.accounts → l < 8 → place ≡ (account_of q l).cleared → place < (account_of q l).stop
+  pub may_bring : (q q' : WriterView (BatchView T P) (KeyView T) A) (rows : List (BucketView T)) (l place : ℕ) (key : KeyView T) → l < length q.accounts → l < LANES → place ≡ (account_of q l).cleared → place < (account_of q l).stop
       → ((account_of q l).away ≡ true → (account_of q l).known < (account_of q l).cleared) → q' ≡ with_account l (clearing (account_of q l)) q
       → IsKeyAt key_of q.tail.log place l key → RowsFit q rows → (keys : List (KeyView T)) × (row_at rows place ≡ Some keys) × MayTake keys key
   may_bring q q' rows l place key inside small at in_slot low is k fits = let c = coming q rows l place key small at in_slot k fits in
       (c.keys, c.row, (grind (arith, gathered_joins), c.few, λ e. gathered_all c.x (λ l. is_out (account_of q' l) place) (c.keys ++ key ∷ []) (came q rows l place key q' c inside small at low is c) (length-append c.keys (key ∷ []) ∙ ap (λ (n : ℕ). n + 1) e)))
 
-  pub brought : (q q' : WriterView (BatchView T P) (KeyView T) A) (rows rows' : List (BucketView T)) (l place : ℕ) (key : KeyView T) → l < length q.accounts → l < 8 → place ≡ (account_of q l).cleared → place < (account_of q l).stop
+  pub brought : (q q' : WriterView (BatchView T P) (KeyView T) A) (rows rows' : List (BucketView T)) (l place : ℕ) (key : KeyView T) → l < length q.accounts → l < LANES → place ≡ (account_of q l).cleared → place < (account_of q l).stop
       → ((account_of q l).away ≡ true → (account_of q l).known < (account_of q l).cleared) → q' ≡ with_account l (clearing (account_of q l)) q
       → IsKeyAt key_of q.tail.log place l key → RowsFit q rows
       → ((keys : List (KeyView T)) → row_at rows place ≡ Some keys → row_at rows' place ≡ row_with keys key) → ((p : ℕ) → p ≢ place → row_at rows' p ≡ row_at rows p) → RowsFit q' rows'
   brought q q' rows rows' l place key inside small at in_slot low is k fits here others i = dite (ℕ_discrete i place)
       (λ e. let c = coming q rows l place key small at in_slot k fits in let g = came q rows l place key q' c inside small at low is c in
-      subst (λ (j : ℕ). FitsAt q' j (row_at rows' j)) (sym e) (subst (λ (o : Option (List (KeyView T))). FitsAt q' place o) (sym (here c.keys c.row)) (now c.keys c.x (nat_eq (length c.keys) 7) refl (ap (λ (q : WriterView (BatchView T P) (KeyView T) A). get_elem? q.tail.log place) is ∙ c.batch) g c.few)))
+      subst (λ (j : ℕ). FitsAt q' j (row_at rows' j)) (sym e) (subst (λ (o : Option (List (KeyView T))). FitsAt q' place o) (sym (here c.keys c.row)) (now c.keys c.x (nat_eq (length c.keys) (LANES - 1)) refl (ap (λ (q : WriterView (BatchView T P) (KeyView T) A). get_elem? q.tail.log place) is ∙ c.batch) g c.few)))
       (λ ne. subst (λ (o : Option (List (KeyView T))). FitsAt q' i o) (sym (others i ne)) (fits_ext q q' i (row_at rows i) (λ x e. ap (λ (q : WriterView (BatchView T P) (KeyView T) A). get_elem? q.tail.log i) is ∙ e)
       (grind (arith, account_here, out_clearing, account_else)) (fits i)))
     where
-      now : (keys : List (KeyView T)) (x : BatchView T P) (b : Bool) → nat_eq (length keys) 7 ≡ b → get_elem? q'.tail.log place ≡ some x → Gathered x (λ l. is_out (account_of q' l) place) 8 (keys ++ key ∷ []) → length keys < 8 → FitsAt q' place (cond b None (Some (keys ++ key ∷ [])))
-      now keys x true e there g few = let seven = eqb-true (length keys) 7 e in let long = length-append keys (key ∷ []) in outs_none (λ l. is_out (account_of q' l) place) 8 (omega arith)
-      now keys x false e there g few = let long = length-append keys (key ∷ []) in (x, there, g, (let ne : length keys ≢ 7 = (λ z. false≢true (sym e ∙ eq-eqb (length keys) 7 z)) in omega arith))
+      now : (keys : List (KeyView T)) (x : BatchView T P) (b : Bool) → nat_eq (length keys) (LANES - 1) ≡ b → get_elem? q'.tail.log place ≡ some x → Gathered x (λ l. is_out (account_of q' l) place) LANES (keys ++ key ∷ []) → length keys < LANES → FitsAt q' place (cond b None (Some (keys ++ key ∷ [])))
+      now keys x true e there g few = let last = eqb-true (length keys) (LANES - 1) e in let long = length-append keys (key ∷ []) in outs_none (λ l. is_out (account_of q' l) place) LANES (omega arith)
+      now keys x false e there g few = let long = length-append keys (key ∷ []) in (x, there, g, (let ne : length keys ≢ LANES - 1 = (λ z. false≢true (sym e ∙ eq-eqb (length keys) (LANES - 1) z)) in omega arith))
 
   -- the same, of the writer's view
   pub fits_set : (w w' : View (BatchView T P) (KeyView T) A) (rows : List (BucketView T)) (l : ℕ) (b : Account (KeyView T) A) → w' ≡ with_writer (with_account l b (writer_of w)) w → l < length (writer_of w).accounts
@@ -267,10 +268,10 @@ module _ {T P A : Type 0} where
   fits_set w w' rows l b e small same fits = fits_one (writer_of w) (writer_of w') rows l b (ap (λ (w : View (BatchView T P) (KeyView T) A). writer_of w) e) small same fits
 
 -- where all keys are home, none is out
-pub gathered_clear : {T P : Type 0} (x : BatchView T P) (out : ℕ → Bool) (keys : List (KeyView T)) → Gathered x out 8 keys → length keys ≡ 8 → (l : ℕ) → l < 8 → out l ≡ false
-gathered_clear x out keys g long = outs_none out 8 (omega arith)
+pub gathered_clear : {T P : Type 0} (x : BatchView T P) (out : ℕ → Bool) (keys : List (KeyView T)) → Gathered x out LANES keys → length keys ≡ LANES → (l : ℕ) → l < LANES → out l ≡ false
+gathered_clear x out keys g long = outs_none out LANES (omega arith)
 
 module _ {T P A : Type 0} where
   -- where all lanes are idle no key waits for another
-  pub rows_gone : (q : WriterView (BatchView T P) (KeyView T) A) (rows : List (BucketView T)) → Calm q → ((l : ℕ) → l < 8 → (account_of q l).stand ≡ idle) → RowsFit q rows → (p : ℕ) → row_at rows p ≡ None
+  pub rows_gone : (q : WriterView (BatchView T P) (KeyView T) A) (rows : List (BucketView T)) → Calm q → ((l : ℕ) → l < LANES → (account_of q l).stand ≡ idle) → RowsFit q rows → (p : ℕ) → row_at rows p ≡ None
   rows_gone q rows calm idles fits p = grind (arith, out_clear, not_true, none_outs)

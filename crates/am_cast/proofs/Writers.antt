@@ -5,7 +5,7 @@ use Rattle.std.proofs.Common.{le_refl, true≢false, ◌≡◌, ◌≢◌, ℕ, 
 use mathlib.Core.Logic.{dite}
 use native.Mathlib.Decide.{ℕ_discrete}
 use Rattle.atomic_table.specs.Seated.{TableId}
-use Rattle.am_cast.specs.declared.limits.TheConstants.{LONGEST_LOG}
+use Rattle.am_cast.specs.declared.limits.TheConstants.{LANES, LONGEST_LOG}
 use Rattle.am_cast.specs.declared.views.Tail.{Tail}
 use Rattle.am_cast.specs.declared.views.Account.{Account}
 use Rattle.am_cast.specs.declared.views.WriterView.{WriterView}
@@ -38,7 +38,7 @@ module _ {B K A : Type 0} where
 
   -- one account has changed, and the numbers of its lane
   pub state_parts : (T t t' : TableId) (m m' : SeatState B K A) (places count : ℕ) (closed : Bool) (lanes lanes' : List LaneAccount) (l : ℕ) (b' : Account K A)
-      → WriterStateOk T t m places count closed lanes → t' ≡ t → m'.1 ≡ [] → m'.0.writer ≡ Some (with_account l b' (writer_of m.0)) → m'.0.lane ≡ None → m'.0.own ≡ [] → l < 8 → length lanes' ≡ 8 → IsKeptAs b' (get_or lanes' l no_lane)
+      → WriterStateOk T t m places count closed lanes → t' ≡ t → m'.1 ≡ [] → m'.0.writer ≡ Some (with_account l b' (writer_of m.0)) → m'.0.lane ≡ None → m'.0.own ≡ [] → l < LANES → length lanes' ≡ LANES → IsKeptAs b' (get_or lanes' l no_lane)
       → ((k : ℕ) → k ≢ l → get_or lanes' k no_lane ≡ get_or lanes k no_lane)
       → WriterStateOk T t' m' places count closed lanes'
   state_parts T t t' m m' places count closed lanes lanes' l b' ok same bare writer_is lane_is own_is small long sets_account others = grind (arith, length-set, account_same, account_else)
@@ -60,13 +60,13 @@ module _ {B K A : Type 0} (key : B → ℕ → K) where
   filled_fields : (n : ℕ) (x : B) (l : ℕ) (b : Account K A) → ((filled_as key n x l b).turn ≡ b.turn) × ((filled_as key n x l b).note ≡ b.note) × ((filled_as key n x l b).start ≡ b.start) × ((filled_as key n x l b).loads ≡ b.loads) × ((filled_as key n x l b).stand ≡ b.stand) × ((filled_as key n x l b).known ≡ b.known) × ((filled_as key n x l b).half ≡ b.half)
   filled_fields n x l b = grind arith
 
-  pub all_laid : (q q' : WriterView B K A) (x : B) → Calm q → FilledTo key q x 8 q' → AllLaid key q' x
+  pub all_laid : (q q' : WriterView B K A) (x : B) → Calm q → FilledTo key q x LANES q' → AllLaid key q' x
   all_laid q q' x c f l h = grind (arith, filled_else)
 
-  pub filled_ready : (q q' : WriterView B K A) (x : B) → Calm q → FilledTo key q x 8 q' → AreReady q'
+  pub filled_ready : (q q' : WriterView B K A) (x : B) → Calm q → FilledTo key q x LANES q' → AreReady q'
   filled_ready q q' x c f = grind (arith, filled_else)
 
-  pub calm_longer : (q q' : WriterView B K A) (x : B) → Calm q → HasRoom q 8 → FilledTo key q x 8 q' → Calm (longer x q')
+  pub calm_longer : (q q' : WriterView B K A) (x : B) → Calm q → HasRoom q LANES → FilledTo key q x LANES q' → Calm (longer x q')
   calm_longer q q' x c room f = (
     map_length (λ (b : Account K A). grown b) q'.accounts ∙ f.1,
     λ l small. let b : Account K A = account_of q l in let calm = c.1 l small in let n : ℕ = length q.tail.log in
@@ -77,7 +77,7 @@ module _ {B K A : Type 0} (key : B → ℕ → K) where
   )
 
   -- a publish counts no load, and admits nobody
-  pub longer_same : (q q' : WriterView B K A) (x : B) → FilledTo key q x 8 q' → (l : ℕ) → l < 8 → SameAdmission (account_of q l) (account_of (longer x q') l) × ((account_of (longer x q') l).stand ≡ (account_of q l).stand) × ((account_of (longer x q') l).known ≡ (account_of q l).known) × ((account_of (longer x q') l).half ≡ (account_of q l).half)
+  pub longer_same : (q q' : WriterView B K A) (x : B) → FilledTo key q x LANES q' → (l : ℕ) → l < LANES → SameAdmission (account_of q l) (account_of (longer x q') l) × ((account_of (longer x q') l).stand ≡ (account_of q l).stand) × ((account_of (longer x q') l).known ≡ (account_of q l).known) × ((account_of (longer x q') l).half ≡ (account_of q l).half)
   longer_same q q' x f l small = grind (arith, common_steps, account_longer, grown_fields, filled_fields)
 
 module _ {K A : Type 0} where
@@ -88,7 +88,7 @@ module _ {K A : Type 0} where
   retired_away b = either_bool b.away (λ e. ap (λ (h : Bool). (back_if h b).away) e) (λ e. ap (λ (h : Bool). (back_if h b).away) e ∙ e)
 
   -- a lane whose seat came home is idle, and its word is what it was
-  pub home_kept : (b : Account K A) (lanes : List LaneAccount) (l : ℕ) → l < 8 → length lanes ≡ 8 → IsKeptAs b (get_or lanes l no_lane)
+  pub home_kept : (b : Account K A) (lanes : List LaneAccount) (l : ℕ) → l < LANES → length lanes ≡ LANES → IsKeptAs b (get_or lanes l no_lane)
       → IsKeptAs (retired b) (get_or (set lanes l record { stand = Idle; word = (get_or lanes l no_lane).word }) l no_lane)
   home_kept b lanes l small long m = grind (arith, get_or-set_same, retired_known, retired_away)
 
@@ -111,7 +111,7 @@ module _ {K A : Type 0} where
       (λ ne. subst (λ (d : Account K A). IsCalm n places d) (sym (r.1 ne)) (calm_loaded n places b c))
 
   -- a lane that was given out has the log's length as its word
-  pub given_kept : (noted : Option A) (n count : ℕ) (b : Account K A) (lanes : List LaneAccount) (l : ℕ) → l < 8 → length lanes ≡ 8 → count ≡ n → n ≤ LONGEST_LOG
+  pub given_kept : (noted : Option A) (n count : ℕ) (b : Account K A) (lanes : List LaneAccount) (l : ℕ) → l < LANES → length lanes ≡ LANES → count ≡ n → n ≤ LONGEST_LOG
       → IsKeptAs (given_out noted n b) (get_or (set lanes l record { stand = Live; word = 4 * count }) l no_lane)
   given_kept noted n count b lanes l small long is few = grind (arith, get_or-set_same)
 
@@ -161,7 +161,7 @@ module _ {B K A : Type 0} (q q' : WriterView B K A) (k : ℕ) (tail : q'.tail �
   pub more_room : HasRoom q k → ((account_of q' k).stand ≡ live → length q'.tail.log < (account_of q' k).known + q'.tail.places) → HasRoom q' (k + 1)
   more_room room here l below alive = grind (arith, still_room, le_refl)
 
-  pub calm_only : k < 8 → Calm q → length q'.accounts ≡ length q.accounts → IsCalm (length q.tail.log) q.tail.places (account_of q' k) → Calm q'
+  pub calm_only : k < LANES → Calm q → length q'.accounts ≡ length q.accounts → IsCalm (length q.tail.log) q.tail.places (account_of q' k) → Calm q'
   calm_only small calm long here = (
     long ∙ calm.0,
     λ l below. dite (ℕ_discrete l k)
@@ -170,7 +170,7 @@ module _ {B K A : Type 0} (q q' : WriterView B K A) (k : ℕ) (tail : q'.tail �
   )
 
   -- one lane more was looked at
-  pub harvest_step : (q₀ : WriterView B K A) → k < 8 → Calm q → Harvested q₀ q k → length q'.accounts ≡ length q.accounts → IsCalm (length q.tail.log) q.tail.places (account_of q' k)
+  pub harvest_step : (q₀ : WriterView B K A) → k < LANES → Calm q → Harvested q₀ q k → length q'.accounts ≡ length q.accounts → IsCalm (length q.tail.log) q.tail.places (account_of q' k)
       → StaysAs (account_of q k) (account_of q' k) × ((account_of q k).stand ≡ live → (account_of q k).loads < (account_of q' k).loads) × ((account_of q k).away ≡ true → (account_of q k).loads < (account_of q' k).loads)
       → Calm q' × Harvested q₀ q' (k + 1)
   harvest_step q₀ small calm h long here looked =

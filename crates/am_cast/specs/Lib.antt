@@ -10,6 +10,7 @@ pub mod Loans
 pub mod Writers
 pub mod Posters
 pub mod Refusals
+pub mod Admissions
 pub mod Tables
 pub mod Core
 pub mod inside

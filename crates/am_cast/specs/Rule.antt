@@ -67,7 +67,7 @@ shown false n = gone
 -- the slot of the lane l's key of the place i: each lane has a ring of as many slots as there are places, and
 -- the lanes' slots of one place lie side by side
 abbrev pub slot : ℕ → ℕ → ℕ → ℕ
-slot places l i = 8 * (i % places) + l
+slot places l i = LANES * (i % places) + l
 
 -- the slots: a slot at home has a key or none, one in a seat's hand is missing
 abbrev pub Homes : Type 0 → Type 0

@@ -53,6 +53,10 @@ module _ {B K A : Type 0} where
   Calm q = (length q.accounts ≡ LANES) × ((l : ℕ) → l < LANES
       → IsCalm (length q.tail.log) q.tail.places (account_of q l))
 
+  -- no lane is given out
+  abbrev pub IsIdle : WriterView B K A → Type 0
+  IsIdle q = (l : ℕ) → l < LANES → (account_of q l).stand ≡ idle
+
   -- each live lane was looked at, and each whose key is away
   abbrev pub AreLoaded : WriterView B K A → WriterView B K A → Type 0
   AreLoaded q q' = (l : ℕ) → l < LANES

@@ -2,28 +2,51 @@
 //!
 //! The key is read where it lies, through a slot that the seat lends by `&mut`. So nothing is written to it,
 //! and its cache line stays the writer's too.
-ghost use Rattle.std.specs.Prelude.{◌≡◌, ◌+◌, ◌<◌, ◌≤◌, true, false, length, None, []};
+ghost use Rattle.std.specs.Prelude.{◌≡◌, ◌+◌, ◌-◌, ◌<◌, ◌≤◌, true, false, length, None, []};
 ghost use mathlib.Core.List.{IsPrefix};
 ghost use Rattle.am_cast.specs.declared.limits.TheConstants.{LANES, WORDS};
 ghost use Rattle.am_cast.specs.Rule.{bit};
 ghost use Rattle.am_cast.specs.Changes.{holding, cut_off, seeing};
 ghost use Rattle.am_cast.specs.Keys.{key_of};
 ghost use Rattle.am_cast.specs.Seats.{HoldsIf, IsLane};
-ghost use Rattle.am_cast.specs.Cursors.{shown_items, items_at};
+ghost use Rattle.am_cast.specs.Cursors.{GoesOn, shown_items, items_at};
 
 use crate::batch_view::{Board, LogSeat};
 use crate::board;
 use crate::feed::Feed;
+use crate::handle::AsCast;
 use crate::pass::Pass;
 use crate::ring_place::RingPlace;
+use crate::waiters::Waiters;
 use std::marker::{Model, PhantomData};
 
-/// The table of one log.
-pub struct Cast<T, P, A, N: Feed> {
+/// The table of one log of `T`s. `P` is what a post notes and `A` what a lane does, for contracts; who needs neither leaves
+/// them out.
+pub struct Cast<T, N: Feed, P = (), A = ()> {
     pub(crate) board: Board<T, P, A>,
+    pub(crate) waiters: Waiters,
     pub(crate) of: PhantomData<N>,
     ghost is: { board.shared.table_id ≡ N.table },
     ghost sized: { board.shared.table_id.words ≡ WORDS },
+}
+
+impl<T, N: Feed, P, A> Cast<T, N, P, A> {
+    /// Lets the table go without `end`. Its memory is freed. A batch that a lane hasn't passed never ends: its items
+    /// aren't dropped, and their memory is never given back.
+    pub fn leak(self) {
+        let Cast {
+            board,
+            waiters: _,
+            of: _,
+        } = self;
+        let mut closed = board.close();
+        for index in 0..closed.slot_count() {
+            if let Some(key) = closed.take(index) {
+                key.leak();
+            }
+        }
+        closed.free();
+    }
 }
 
 /// How far a subscription has read the log. It may be dropped, on any thread and without the writer: it leaves
@@ -31,8 +54,8 @@ pub struct Cast<T, P, A, N: Feed> {
 /// Contracts see it as what its lane knows, and how many items of the place in its hand it has shown. Each call
 /// writes to it, so keep it in its own thread's memory: two threads' cursors on one cache line slow each other
 /// down.
-pub struct Cursor<'a, T, P, A, N: Feed> {
-    pub(crate) cast: &'a Cast<T, P, A, N>,
+pub struct Cursor<C: AsCast<T, N, P, A>, T, N: Feed, P = (), A = ()> {
+    pub(crate) cast: C,
     pub(crate) seat: LogSeat<T, P, A>,
     pub(crate) number: usize,
     pub(crate) next: RingPlace,
@@ -42,9 +65,13 @@ pub struct Cursor<'a, T, P, A, N: Feed> {
     pub(crate) cut: bool,
     // How many items the place in hand has, if there is one.
     pub(crate) hand: Option<usize>,
+    pub(crate) of: PhantomData<N>,
 }
 
-impl<'a, T, P, A, N: Feed> Model for Cursor<'a, T, P, A, N> {
+/// A cursor that borrows its log.
+pub type LentCursor<'a, T, N, P = (), A = ()> = Cursor<&'a Cast<T, N, P, A>, T, N, P, A>;
+
+impl<C: AsCast<T, N, P, A>, T, N: Feed, P, A> Model for Cursor<C, T, N, P, A> {
     ghost use Rattle.am_cast.specs.Seats.{lane_of};
     ghost use Rattle.am_cast.specs.Cursors.{CursorView};
     ghost use Rattle.am_cast.specs.inside.Cursors.{CursorOk};
@@ -56,7 +83,7 @@ impl<'a, T, P, A, N: Feed> Model for Cursor<'a, T, P, A, N> {
     ghost invariant = { λ c. CursorOk N.table c.seat.table_id c.seat.me c.number c.next.places c.next.number c.seen c.shown c.closed c.cut c.hand };
 }
 
-impl<'a, T, P, A, N: Feed> Cursor<'a, T, P, A, N> {
+impl<C: AsCast<T, N, P, A>, T, N: Feed, P, A> Cursor<C, T, N, P, A> {
     /// The lane that it reads on.
     pub fn lane(&self) -> usize
         ensures { (result ≡ self.now.lane.number) × (result < LANES) }
@@ -109,57 +136,6 @@ impl<'a, T, P, A, N: Feed> Cursor<'a, T, P, A, N> {
         last
     }
 
-    // The slot in hand goes home, and its place is passed.
-    pub(crate) fn put_back(&mut self)
-        requires { self.old.lane.held ≡ true
-            → self.old.shown ≡ length (items_at self.old.lane.front self.old.lane.passed) }
-        ensures lane { let v = self.old.lane in let w = self.new.lane in
-            w ≡ record v { passed = v.passed + bit v.held; held = false; cut = w.cut } }
-        ensures shown { self.new.shown ≡ 0 }
-        ensures cut { self.old.lane.cut ≡ true → self.new.lane.cut ≡ true }
-        ensures same { self.old.lane.held ≡ false → self.new.lane.cut ≡ self.old.lane.cut }
-        ensures bounds { (self.new.lane.start ≤ self.new.lane.passed)
-            × (self.new.lane.passed ≤ length self.new.lane.front) }
-        ensures taken { shown_items self.new ≡ shown_items self.old }
-    {
-        if self.hand.is_some() {
-            self.cut = board::pass_place(&self.cast.board.shared, &mut self.seat, self.number);
-            self.next.go_on();
-            self.hand = None;
-            self.shown = 0;
-        }
-    }
-
-    pub(crate) fn look(&mut self)
-        requires { self.old.lane.held ≡ false }
-        ensures lane { let w = self.new.lane in w ≡ seeing w.front w.told self.old.lane }
-        ensures shown { self.new.shown ≡ self.old.shown }
-        ensures front { IsPrefix self.old.lane.front self.new.lane.front }
-    {
-        (self.seen, self.closed) = board::look_at_log(&self.cast.board.shared, &mut self.seat);
-    }
-
-    // The slot of the next place comes into the hand, and its first item is shown, or the lane was cut.
-    pub(crate) fn take(&mut self) -> bool
-        requires { (self.old.lane.held ≡ false) × (self.old.lane.cut ≡ false)
-            × (self.old.lane.passed < length self.old.lane.front) }
-        ensures taken { result ≡ true
-            → self.new ≡ record { lane = holding self.old.lane; shown = 1 } }
-        ensures cut { result ≡ false
-            → self.new ≡ record { lane = cut_off self.old.lane; shown = 0 } }
-    {
-        let top = &self.cast.board.shared;
-        if board::take_key(top, &mut self.seat, self.number, self.next.number()) {
-            let at = self.next.slot(self.number);
-            self.hand = Some(board::key_in(&mut self.seat, top, at).len());
-            self.shown = 1;
-            true
-        } else {
-            self.cut = true;
-            false
-        }
-    }
-
     pub(crate) fn has_more(&self) -> bool
         requires { self.now.lane.held ≡ false }
         ensures more { result ≡ true → self.now.lane.passed < length self.now.lane.front }
@@ -180,15 +156,15 @@ impl<'a, T, P, A, N: Feed> Cursor<'a, T, P, A, N> {
         self.cut
     }
 
-    // The lane's number and its seat, with the slot in hand.
-    pub(crate) fn into_seat(self) -> (usize, LogSeat<T, P, A>)
-        ensures same { (result.1.table_id ≡ N.table) × (self.entry.lane.number ≡ result.0) × (result.0 < LANES) }
+    // The lane's number, its seat with the slot in hand, and what has the table.
+    pub(crate) fn into_seat(self) -> (usize, LogSeat<T, P, A>, C)
+        ensures same { (result.1.table_id ≡ N.table) × (self.lane.number ≡ result.0) × (result.0 < LANES) }
         ensures seat { (result.1.me.0.writer ≡ None) × (result.1.me.0.own ≡ [])
-            × IsLane result.1.me self.entry.lane × (self.entry.lane.begun ≡ true) }
-        ensures hand { HoldsIf key_of self.entry.lane.held result.1.me self.entry.lane }
+            × IsLane result.1.me self.lane × (self.lane.begun ≡ true) }
+        ensures hand { HoldsIf key_of self.lane.held result.1.me self.lane }
     {
         let Cursor {
-            cast: _,
+            cast,
             seat,
             number,
             next: _,
@@ -197,12 +173,80 @@ impl<'a, T, P, A, N: Feed> Cursor<'a, T, P, A, N> {
             closed: _,
             cut: _,
             hand: _,
+            of: _,
         } = self;
-        (number, seat)
+        (number, seat, cast)
+    }
+}
+
+impl<C: AsCast<T, N, P, A>, T, N: Feed, P, A> Cursor<C, T, N, P, A> {
+    // The slot in hand goes home, and its place is passed.
+    pub(crate) fn put_back(&mut self)
+        requires { self.old.lane.held ≡ true
+            → self.old.shown ≡ length (items_at self.old.lane.front self.old.lane.passed) }
+        ensures lane { let v = self.old.lane in let w = self.new.lane in
+            w ≡ record v { passed = v.passed + bit v.held; held = false; cut = w.cut } }
+        ensures shown { self.new.shown ≡ 0 }
+        ensures cut { self.old.lane.cut ≡ true → self.new.lane.cut ≡ true }
+        ensures same { self.old.lane.held ≡ false → self.new.lane.cut ≡ self.old.lane.cut }
+        ensures bounds { (self.new.lane.start ≤ self.new.lane.passed)
+            × (self.new.lane.passed ≤ length self.new.lane.front) }
+        ensures taken { shown_items self.new ≡ shown_items self.old }
+    {
+        if self.hand.is_some() {
+            let top = &self.cast.as_cast().board.shared;
+            self.cut = board::pass_place(top, &mut self.seat, self.number);
+            self.next.go_on();
+            self.hand = None;
+            self.shown = 0;
+        }
+    }
+
+    pub(crate) fn look(&mut self)
+        ensures lane { let w = self.new.lane in w ≡ seeing w.front w.told self.old.lane }
+        ensures shown { self.new.shown ≡ self.old.shown }
+        ensures front { IsPrefix self.old.lane.front self.new.lane.front }
+        ensures taken { shown_items self.new ≡ shown_items self.old }
+    {
+        let cast = self.cast.as_cast();
+        (self.seen, self.closed) = board::look_at_log(&cast.board.shared, &mut self.seat);
+    }
+
+    /// By how many batches it lags, after one look at the log, as tokio's `broadcast::Receiver::len`. A batch in its hand is
+    /// one of them.
+    pub fn len(&mut self) -> u64
+        ensures looked { let w = self.new.lane in w ≡ seeing w.front w.told self.old.lane }
+        ensures on { GoesOn self.old self.new }
+        ensures taken { (self.new.shown ≡ self.old.shown) × (shown_items self.new ≡ shown_items self.old) }
+        ensures late { result ≡ length self.new.lane.front - self.new.lane.passed }
+    {
+        self.look();
+        self.seen - self.next.number()
+    }
+
+    // The slot of the next place comes into the hand, and its first item is shown, or the lane was cut.
+    pub(crate) fn take(&mut self) -> bool
+        requires { (self.old.lane.held ≡ false) × (self.old.lane.cut ≡ false)
+            × (self.old.lane.passed < length self.old.lane.front) }
+        ensures taken { result ≡ true
+            → self.new ≡ record { lane = holding self.old.lane; shown = 1 } }
+        ensures cut { result ≡ false
+            → self.new ≡ record { lane = cut_off self.old.lane; shown = 0 } }
+    {
+        let top = &self.cast.as_cast().board.shared;
+        if board::take_key(top, &mut self.seat, self.number, self.next.number()) {
+            let at = self.next.slot(self.number);
+            self.hand = Some(board::key_in(&mut self.seat, top, at).len());
+            self.shown = 1;
+            true
+        } else {
+            self.cut = true;
+            false
+        }
     }
 
     // A look, after which all that the pass knows is seen.
-    pub(crate) fn look_past(&mut self, pass: &mut Pass<T, P, A, N>)
+    pub(crate) fn look_past(&mut self, pass: &mut Pass<T, N, P, A>)
         requires { self.old.lane.held ≡ false }
         ensures lane { let w = self.new.lane in w ≡ seeing w.front w.told self.old.lane }
         ensures shown { self.new.shown ≡ self.old.shown }
@@ -210,17 +254,17 @@ impl<'a, T, P, A, N: Feed> Cursor<'a, T, P, A, N> {
             × IsPrefix pass.old.noted self.new.lane.front }
         ensures pass { pass.new ≡ pass.old }
     {
-        let top = &self.cast.board.shared;
+        let top = &self.cast.as_cast().board.shared;
         board::tell_seat(top, &mut pass.seat, &mut self.seat);
         (self.seen, self.closed) = board::look_at_log(top, &mut self.seat);
     }
 }
 
-/// The lane is left, and the slot in hand goes home. The lane is given out again after `Writer::reclaim`.
-impl<'a, T, P, A, N: Feed> Drop for Cursor<'a, T, P, A, N> {
+/// The lane is left, and the slot in hand goes home. The lane is given out again after `Writer::reclaim`. Then what has
+/// the table is dropped.
+impl<C: AsCast<T, N, P, A> + Drop, T, N: Feed, P, A> Drop for Cursor<C, T, N, P, A> {
     fn drop(self) {
-        let cast = self.cast;
-        let (lane, mut seat) = self.into_seat();
-        board::leave_lane(&cast.board.shared, &mut seat, lane);
+        let (lane, mut seat, cast) = self.into_seat();
+        board::leave_lane(&cast.as_cast().board.shared, &mut seat, lane);
     }
 }

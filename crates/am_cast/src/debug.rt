@@ -2,10 +2,12 @@
 
 use crate::batch_view::{BatchView, SegmentKeys};
 use crate::cursor::{Cast, Cursor};
-use crate::faults::Refused;
+use crate::faults::{Refused, RefusedItem};
 use crate::feed::Feed;
-use crate::parts::{Begun, Parts};
+use crate::handle::{AsCast, SharedCast};
+use crate::parts::{Begun, InUse, Parts};
 use crate::pass::Pass;
+use crate::sender::Sender;
 use crate::writer::Writer;
 use std::fmt;
 
@@ -21,13 +23,13 @@ impl<T, P> fmt::Debug for SegmentKeys<T, P> {
     }
 }
 
-impl<T, P, A, N: Feed> fmt::Debug for Cast<T, P, A, N> {
+impl<T, N: Feed, P, A> fmt::Debug for Cast<T, N, P, A> {
     fn fmt<W: fmt::Write>(&self, f: &mut fmt::Formatter<W>) -> fmt::Result {
         f.debug_struct("Cast").finish_non_exhaustive()
     }
 }
 
-impl<'a, T, P, A, N: Feed> fmt::Debug for Cursor<'a, T, P, A, N> {
+impl<C: AsCast<T, N, P, A>, T, N: Feed, P, A> fmt::Debug for Cursor<C, T, N, P, A> {
     fn fmt<W: fmt::Write>(&self, f: &mut fmt::Formatter<W>) -> fmt::Result {
         f.debug_struct("Cursor")
             .field("lane", &self.number)
@@ -43,6 +45,14 @@ impl<T> fmt::Debug for Refused<T> {
     }
 }
 
+impl<T> fmt::Debug for RefusedItem<T> {
+    fn fmt<W: fmt::Write>(&self, f: &mut fmt::Formatter<W>) -> fmt::Result {
+        f.debug_struct("RefusedItem")
+            .field("fault", &self.fault)
+            .finish_non_exhaustive()
+    }
+}
+
 impl<T, P, A> fmt::Debug for Parts<T, P, A> {
     fn fmt<W: fmt::Write>(&self, f: &mut fmt::Formatter<W>) -> fmt::Result {
         f.debug_struct("Parts")
@@ -51,20 +61,38 @@ impl<T, P, A> fmt::Debug for Parts<T, P, A> {
     }
 }
 
-impl<T, P, A, N: Feed> fmt::Debug for Begun<T, P, A, N> {
+impl<T, N: Feed, P, A> fmt::Debug for Begun<T, N, P, A> {
     fn fmt<W: fmt::Write>(&self, f: &mut fmt::Formatter<W>) -> fmt::Result {
         f.debug_struct("Begun").finish_non_exhaustive()
     }
 }
 
-impl<T, P, A, N: Feed> fmt::Debug for Pass<T, P, A, N> {
+impl<T, N: Feed, P, A> fmt::Debug for InUse<T, N, P, A> {
+    fn fmt<W: fmt::Write>(&self, f: &mut fmt::Formatter<W>) -> fmt::Result {
+        f.debug_struct("InUse").finish_non_exhaustive()
+    }
+}
+
+impl<T, N: Feed, P, A> fmt::Debug for SharedCast<T, N, P, A> {
+    fn fmt<W: fmt::Write>(&self, f: &mut fmt::Formatter<W>) -> fmt::Result {
+        f.debug_struct("SharedCast").finish_non_exhaustive()
+    }
+}
+
+impl<T, N: Feed, P, A> fmt::Debug for Pass<T, N, P, A> {
     fn fmt<W: fmt::Write>(&self, f: &mut fmt::Formatter<W>) -> fmt::Result {
         f.debug_struct("Pass").finish_non_exhaustive()
     }
 }
 
-impl<T, P, A, N: Feed> fmt::Debug for Writer<T, P, A, N> {
+impl<T, N: Feed, P, A> fmt::Debug for Writer<T, N, P, A> {
     fn fmt<W: fmt::Write>(&self, f: &mut fmt::Formatter<W>) -> fmt::Result {
         f.debug_struct("Writer").finish_non_exhaustive()
+    }
+}
+
+impl<C: AsCast<T, N, P, A>, T, N: Feed, P, A> fmt::Debug for Sender<C, T, N, P, A> {
+    fn fmt<W: fmt::Write>(&self, f: &mut fmt::Formatter<W>) -> fmt::Result {
+        f.debug_struct("Sender").finish_non_exhaustive()
     }
 }

@@ -34,6 +34,13 @@ impl<T> Refused<T> {
     }
 }
 
+/// An item that was not published. It comes back as it was.
+#[derive(Drop)]
+pub struct RefusedItem<T> {
+    pub fault: PublishFault,
+    pub item: T,
+}
+
 /// Why no lane was given out.
 #[derive(Clone, Copy, Debug, PartialEq, Eq, Error)]
 #[non_exhaustive]

@@ -124,6 +124,19 @@ impl<T> KeyRows<T> {
         self.buckets[index].insert(row);
     }
 
+    /// Lets the rows go: the segments of the keys in them never end.
+    pub(crate) fn leak(self) {
+        let KeyRows {
+            mut buckets,
+            spares,
+        } = self;
+        spares.end();
+        while let Some(bucket) = buckets.pop() {
+            bucket.leak();
+        }
+        buckets.destroy_empty();
+    }
+
     /// The end of rows that are all gone.
     pub(crate) fn end(self)
         requires { (p : ℕ) → row_at self p ≡ None }

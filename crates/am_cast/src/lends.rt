@@ -10,6 +10,7 @@ ghost use Rattle.am_cast.specs.inside.Moving.{TriesTake, AfterLook, NeedsLook, A
 use crate::board;
 use crate::cursor::Cursor;
 use crate::feed::Feed;
+use crate::handle::AsCast;
 use crate::pass::Pass;
 
 /// An answer of `next`.
@@ -48,16 +49,16 @@ pub enum Moved {
     Cut,
 }
 
-impl<'a, T, P, A, N: Feed> Cursor<'a, T, P, A, N> {
+impl<C: AsCast<T, N, P, A>, T, N: Feed, P, A> Cursor<C, T, N, P, A> {
     // The items of the place in hand, read where their key lies.
     fn items_in_hand(&mut self) -> &[T]
         requires { self.old.lane.held ≡ true }
-        ensures* lender { sem 𝓛 (AfterTheLoan T.row P.row A.row N.row N.Feed self.entry
+        ensures* lender { sem 𝓛 (AfterTheLoan C.row T.row P.row A.row N.row N.Feed self.entry
             (λ cursor. cursor ≡ self.old)) }
         ensures items { result.now ≡ items_at self.old.lane.front self.old.lane.passed }
     {
         let at = self.next.slot(self.number);
-        let top = &self.cast.board.shared;
+        let top = &self.cast.as_cast().board.shared;
         let seat = &mut self.seat;
         board::key_in(seat, top, at).as_slice()
     }
@@ -65,7 +66,7 @@ impl<'a, T, P, A, N: Feed> Cursor<'a, T, P, A, N> {
     /// The item that was shown last, while the place that it is of is in hand.
     pub fn in_hand(&mut self) -> &T
         requires { self.old.lane.held ≡ true }
-        ensures* lender { sem 𝓛 (AfterTheLoan T.row P.row A.row N.row N.Feed self.entry
+        ensures* lender { sem 𝓛 (AfterTheLoan C.row T.row P.row A.row N.row N.Feed self.entry
             (λ cursor. cursor ≡ self.old)) }
         ensures item { IsInHand self.old result.now }
     {
@@ -77,7 +78,7 @@ impl<'a, T, P, A, N: Feed> Cursor<'a, T, P, A, N> {
     pub fn in_hand_from(&mut self, index: usize) -> &[T]
         requires { (self.old.lane.held ≡ true)
             × (index ≤ length (items_at self.old.lane.front self.old.lane.passed)) }
-        ensures* lender { sem 𝓛 (AfterTheLoan T.row P.row A.row N.row N.Feed self.entry
+        ensures* lender { sem 𝓛 (AfterTheLoan C.row T.row P.row A.row N.row N.Feed self.entry
             (λ cursor. cursor ≡ self.old)) }
         ensures items { result.now ≡ drop index (items_at self.old.lane.front self.old.lane.passed) }
     {
@@ -177,7 +178,7 @@ impl<'a, T, P, A, N: Feed> Cursor<'a, T, P, A, N> {
     }
 
     /// As `advance`, but a look comes after what the pass knows.
-    pub fn advance_past(&mut self, pass: &mut Pass<T, P, A, N>) -> Moved
+    pub fn advance_past(&mut self, pass: &mut Pass<T, N, P, A>) -> Moved
         ensures on { GoesOn self.old self.new }
         ensures moves { Moves self.old self.new result }
         ensures past { MovesPast pass.old.noted self.new result }
@@ -193,7 +194,7 @@ impl<'a, T, P, A, N: Feed> Cursor<'a, T, P, A, N> {
     // The answer of `next` after a move: it lends the item in hand, or says why there is none.
     fn lend(&mut self, moved: Moved) -> Step<'_, T>
         requires { moved ≡ Moved.One → self.old.lane.held ≡ true }
-        ensures* lender { sem 𝓛 (AfterTheLoan T.row P.row A.row N.row N.Feed self.entry
+        ensures* lender { sem 𝓛 (AfterTheLoan C.row T.row P.row A.row N.row N.Feed self.entry
             (λ cursor. cursor ≡ self.old)) }
         ensures answer { without_item result ≡ moved }
         ensures item { LendsInHand self.old result }
@@ -208,7 +209,7 @@ impl<'a, T, P, A, N: Feed> Cursor<'a, T, P, A, N> {
 
     /// The next item, lent until the next call.
     pub fn next(&mut self) -> Step<'_, T>
-        ensures* lender { sem 𝓛 (AfterTheLoan T.row P.row A.row N.row N.Feed self.entry
+        ensures* lender { sem 𝓛 (AfterTheLoan C.row T.row P.row A.row N.row N.Feed self.entry
             (λ cursor. GoesOn self.old cursor × Lends self.old cursor result)) }
     {
         let moved = self.advance();
@@ -216,8 +217,8 @@ impl<'a, T, P, A, N: Feed> Cursor<'a, T, P, A, N> {
     }
 
     /// The next item. It isn't `Pending` while a place that the pass knows isn't passed.
-    pub fn next_past(&mut self, pass: &mut Pass<T, P, A, N>) -> Step<'_, T>
-        ensures* lender { sem 𝓛 (AfterTheLoan T.row P.row A.row N.row N.Feed self.entry
+    pub fn next_past(&mut self, pass: &mut Pass<T, N, P, A>) -> Step<'_, T>
+        ensures* lender { sem 𝓛 (AfterTheLoan C.row T.row P.row A.row N.row N.Feed self.entry
             (λ cursor. GoesOn self.old cursor × Lends self.old cursor result
             × LendsPast pass.old.noted cursor result)) }
         ensures pass { pass.new ≡ pass.old }
@@ -241,7 +242,7 @@ impl<'a, T, P, A, N: Feed> Cursor<'a, T, P, A, N> {
     /// The next items: what is left of the batch in hand, or the whole of the next one. They are lent
     /// until the next call.
     pub fn next_slice(&mut self) -> Slice<'_, T>
-        ensures* lender { sem 𝓛 (AfterTheLoan T.row P.row A.row N.row N.Feed self.entry
+        ensures* lender { sem 𝓛 (AfterTheLoan C.row T.row P.row A.row N.row N.Feed self.entry
             (λ cursor. GoesOn self.old cursor × LendsSlice self.old cursor result)) }
     {
         let (moved, from) = self.advance_slice();

@@ -18,6 +18,10 @@
 //! the segments that were kept for it. `Writer::retire` does so at once with a cursor that is given back, and
 //! its contract says what the cursor has shown.
 //!
+//! A cursor owns its handle of the table. That is a borrow, or a `SharedCast`, with which it may live in another thread or
+//! next to the log in a struct. When the last share of a log goes that was never ended, its table is freed. The batches that
+//! a lane hasn't passed are then never freed, which is safe.
+//!
 //! # Closing
 //!
 //! A closed log takes no batch and no subscriber. Those that it has read on to its end, and from
@@ -53,16 +57,45 @@
 //! It is one crate, with more functions than the others: a cut between its steps and its types
 //! would make the steps public.
 //!
-//! A caller:
+//! A caller that posts alone, and so has a `Sender`:
 //!
-//! <!-- from crates/am_cast_tests/src/owned.rt -->
+//! <!-- parts of crates/am_cast_tests/src/example.rt -->
 //! ```rust
-//! // The number of the next item, or 100 if there is none.
-//! fn shown<N: Feed>(cursor: &mut Cursor<'_, Vec<u64>, u64, u64, N>) -> u64 {
-//!     match cursor.next() {
-//!         Step::Item(item) => *item.get(0).unwrap_or(&101),
-//!         _ => 100,
+//! // The sum of all numbers, until the log is closed or the lane is cut.
+//! pub(crate) fn sum_of<C: AsCast<u64, N, (), ()>, N: Feed>(cursor: &mut Cursor<C, u64, N>) -> u64 {
+//!     let mut sum: u64 = 0;
+//!     for _turn in 0..u64::MAX {
+//!         match cursor.next() {
+//!             Step::Item(number) => sum = sum.wrapping_add(*number),
+//!             Step::Pending => thread::yield_now(),
+//!             Step::Closed | Step::Cut => return sum,
+//!         }
 //!     }
+//!     sum
+//! }
+//!
+//! // One thread posts. Another reads with two cursors, and drops one of them in the middle. The third cursor never
+//! // reads: whether it is cut, if there was memory.
+//! fn three_readers<N: Feed + Send + Sync, R: Threads + Sync>(
+//!     rt: &R,
+//!     alloc: Global,
+//!     sender: &mut LentSender<'_, u64, N>,
+//! ) -> Option<bool> {
+//!     let cast = *sender.handle();
+//!     let mut stays = sender.subscribe(cast, Snapshot::of(&())).ok()?;
+//!     let mut goes = sender.subscribe(cast, Snapshot::of(&())).ok()?;
+//!     let mut lags = sender.subscribe(cast, Snapshot::of(&())).ok()?;
+//!     let (posted, _sum) = thread::join(
+//!         rt,
+//!         || post_all(alloc, sender),
+//!         || {
+//!             let _first = goes.next();
+//!             drop(goes);
+//!             sum_of(&mut stays)
+//!         },
+//!     );
+//!     posted.ok()?;
+//!     Some(matches!(lags.next(), Step::Cut))
 //! }
 //! ```
 #![tactic(auto)]
@@ -73,6 +106,7 @@ mod cursor;
 mod debug;
 mod faults;
 mod feed;
+mod handle;
 mod key_rows;
 pub mod laws;
 mod lends;
@@ -81,15 +115,19 @@ mod parts;
 mod pass;
 mod ring_place;
 pub mod rule;
+mod sender;
 mod tag;
 pub mod views;
+mod waiters;
 mod writer;
 
-pub use cursor::{Cast, Cursor};
-pub use faults::{AdmitFault, CloseFault, PublishFault, Refused};
+pub use cursor::{Cast, Cursor, LentCursor};
+pub use faults::{AdmitFault, CloseFault, PublishFault, Refused, RefusedItem};
 pub use feed::Feed;
+pub use handle::{AsCast, SharedCast};
 pub use lends::{Moved, Slice, Step};
 pub use limits::{LANES, LONGEST_LOG, MAX_PLACES};
-pub use parts::{Begun, Parts, begin, end};
+pub use parts::{Begun, InUse, Parts, begin, end};
 pub use pass::Pass;
+pub use sender::{LentSender, Sender};
 pub use writer::{Published, Writer};

@@ -1,11 +1,11 @@
 //! The parts of a new log, before a type names it, and how a log begins and ends.
-ghost use Rattle.std.specs.Prelude.{false, ◌≡◌, ◌*◌, ◌<◌, ◌≤◌, IfOk, [], ℕ, slice_index, length};
+ghost use Rattle.std.specs.Prelude.{false, ◌≡◌, ◌*◌, ◌<◌, ◌≤◌, ◌↔◌, IsOk, IfOk, IfErr, [], ℕ, slice_index, length};
 ghost use Rattle.std.specs.List.{All};
 ghost use Rattle.am_cast.specs.declared.limits.TheConstants.{MAX_PLACES};
-ghost use Rattle.am_cast.specs.Rule.{gone, lane_word, idle, blank};
+ghost use Rattle.am_cast.specs.Rule.{gone, lane_word, blank};
 ghost use Rattle.am_cast.specs.Changes.{copied};
 ghost use Rattle.am_cast.specs.inside.Starts.{PartsOk};
-ghost use Rattle.am_cast.specs.Seats.{account_of};
+ghost use Rattle.am_cast.specs.Writers.{IsIdle};
 
 use crate::batch_view::{Board, LogSeat};
 use crate::board;
@@ -15,6 +15,7 @@ use crate::key_rows::KeyRows;
 use crate::limits::{LANES, WORDS};
 use crate::pass::Pass;
 use crate::ring_place::RingPlace;
+use crate::waiters::Waiters;
 use crate::writer::Writer;
 use crate::writer::lane_account::{LaneAccount, Stand};
 use crate::writer::state::WriterState;
@@ -22,7 +23,7 @@ use std::alloc::{AllocError, Global};
 use std::marker::PhantomData;
 
 /// A new table, and the memory of a writer. It must be spent by `begin`.
-pub struct Parts<T, P, A> {
+pub struct Parts<T, P = (), A = ()> {
     pub board: Board<T, P, A>,
     seat: LogSeat<T, P, A>,
     rows: KeyRows<T>,
@@ -67,19 +68,19 @@ impl<T, P, A> Parts<T, P, A> {
 }
 
 /// The ends of a log.
-pub struct Begun<T, P, A, N: Feed> {
-    pub cast: Cast<T, P, A, N>,
-    pub writer: Writer<T, P, A, N>,
-    pub passes: Vec<Pass<T, P, A, N>>,
+pub struct Begun<T, N: Feed, P = (), A = ()> {
+    pub cast: Cast<T, N, P, A>,
+    pub writer: Writer<T, N, P, A>,
+    pub passes: Vec<Pass<T, N, P, A>>,
 }
 
 // A pass for each poster. They know nothing yet.
-fn deal_passes<T, P, A, N: Feed>(
+fn deal_passes<T, N: Feed, P, A>(
     alloc: Global,
     board: &Board<T, P, A>,
     seat: &mut LogSeat<T, P, A>,
     posters: usize,
-) -> Result<Vec<Pass<T, P, A, N>>, AllocError>
+) -> Result<Vec<Pass<T, N, P, A>>, AllocError>
     requires table { (board.now.shared.table_id ≡ N.table) × (seat.old.table_id ≡ N.table)
         × (N.table.words ≡ WORDS) }
     requires fresh { (seat.old.me.1 ≡ []) × (copied seat.old.me.0 ≡ blank) }
@@ -98,14 +99,14 @@ fn deal_passes<T, P, A, N: Feed>(
 }
 
 // The writer of a log that has no batch, and whose lanes are all idle.
-fn first_writer<T, P, A, N: Feed>(
+fn first_writer<T, N: Feed, P, A>(
     seat: LogSeat<T, P, A>,
     rows: KeyRows<T>,
     places: u64,
-) -> Writer<T, P, A, N>
+) -> Writer<T, N, P, A>
     requires { PartsOk N.table seat.table_id seat.me rows places }
     ensures empty { result.tail ≡ record { places = places; log = []; closed = false } }
-    ensures idle { (l : ℕ) → l < LANES → (account_of result l).stand ≡ idle }
+    ensures idle { IsIdle result }
 {
     let state = WriterState {
         seat,
@@ -122,18 +123,17 @@ fn first_writer<T, P, A, N: Feed>(
 }
 
 /// A log over these parts, with one pass for each poster.
-pub fn begin<T: Drop, P, A, N: Feed>(
+pub fn begin<T: Drop, N: Feed, P, A>(
     parts: Parts<T, P, A>,
     posters: usize,
-) -> Result<Begun<T, P, A, N>, AllocError>
+) -> Result<Begun<T, N, P, A>, AllocError>
     requires { parts.board.shared.table_id ≡ N.table }
     ensures empty { IfOk result (λ begun. begun.writer.tail ≡ record {
       places = parts.places;
       log = [];
       closed = false;
     }) }
-    ensures idle { IfOk result (λ begun. (l : ℕ) → l < LANES
-        → (account_of begun.writer l).stand ≡ idle) }
+    ensures idle { IfOk result (λ begun. IsIdle begun.writer) }
     ensures passes { IfOk result (λ begun. (length begun.passes.items ≡ posters)
         × All (λ pass. pass ≡ record { noted = []; own = [] }) begun.passes.items) }
 {
@@ -147,6 +147,7 @@ pub fn begin<T: Drop, P, A, N: Feed>(
     let passes = deal_passes(alloc, &board, &mut seat, posters);
     let cast = Cast {
         board,
+        waiters: Waiters::new(),
         of: PhantomData,
     };
     let writer = first_writer(seat, rows, places);
@@ -157,17 +158,52 @@ pub fn begin<T: Drop, P, A, N: Feed>(
             passes,
         }),
         Err(_) => {
-            end(cast, writer);
+            free(cast, writer);
             Err(AllocError)
         }
     }
 }
 
-/// The end of a log whose lanes are all idle: its memory is freed.
-pub fn end<T: Drop, P, A, N: Feed>(cast: Cast<T, P, A, N>, writer: Writer<T, P, A, N>)
-    requires { (l : ℕ) → l < LANES → (account_of writer l).stand ≡ idle }
+/// A log that was not ended, since a lane is in use. It comes back as it was.
+pub struct InUse<T, N: Feed, P = (), A = ()> {
+    pub cast: Cast<T, N, P, A>,
+    pub writer: Writer<T, N, P, A>,
+}
+
+impl<T, N: Feed, P, A> InUse<T, N, P, A> {
+    /// Lets the log go, for a caller that can't go on until its lanes are idle. Its own memory is freed. A batch that a
+    /// lane hasn't passed never ends: its items aren't dropped, and their memory is never given back.
+    pub fn leak(self) {
+        let InUse { cast, writer } = self;
+        writer.leak();
+        cast.leak();
+    }
+}
+
+/// The end of a log: its memory is freed, if all its lanes are idle.
+pub fn end<T: Drop, N: Feed, P, A>(
+    cast: Cast<T, N, P, A>,
+    writer: Writer<T, N, P, A>,
+) -> Result<(), InUse<T, N, P, A>>
+    ensures ok { IsOk result ↔ IsIdle writer }
+    ensures err { IfErr result (λ back. (back.cast ≡ cast) × (back.writer ≡ writer)) }
 {
-    let Cast { board, of: _ } = cast;
+    if !writer.is_idle() {
+        return Err(InUse { cast, writer });
+    }
+    free(cast, writer);
+    Ok(())
+}
+
+// Frees a log whose lanes are all idle.
+fn free<T: Drop, N: Feed, P, A>(cast: Cast<T, N, P, A>, writer: Writer<T, N, P, A>)
+    requires { IsIdle writer }
+{
+    let Cast {
+        board,
+        waiters: _,
+        of: _,
+    } = cast;
     let Writer { state } = writer;
     let WriterState {
         seat,

@@ -12,16 +12,17 @@ use crate::batch_view::LogSeat;
 use crate::board;
 use crate::cursor::{Cast, Cursor};
 use crate::feed::Feed;
+use crate::handle::AsCast;
 use std::marker::{Model, PhantomData};
 
 /// Contracts see it as what it owns and has noted of the log.
 #[derive(Drop)]
-pub struct Pass<T, P, A, N: Feed> {
+pub struct Pass<T, N: Feed, P = (), A = ()> {
     pub(crate) seat: LogSeat<T, P, A>,
     pub(crate) of: PhantomData<N>,
 }
 
-impl<T, P, A, N: Feed> Model for Pass<T, P, A, N> {
+impl<T, N: Feed, P, A> Model for Pass<T, N, P, A> {
     ghost use Rattle.am_cast.specs.Posters.{PassView, pass_view};
     ghost use Rattle.am_cast.specs.inside.Posters.{PassOk};
 
@@ -32,9 +33,9 @@ impl<T, P, A, N: Feed> Model for Pass<T, P, A, N> {
     ghost invariant = { λ p. PassOk N.table p.seat.table_id p.seat.me };
 }
 
-impl<T, P, A, N: Feed> Pass<T, P, A, N> {
+impl<T, N: Feed, P, A> Pass<T, N, P, A> {
     // It notes how long the log is.
-    pub(crate) fn note(&mut self, cast: &Cast<T, P, A, N>)
+    pub(crate) fn note(&mut self, cast: &Cast<T, N, P, A>)
         ensures own { self.new.own ≡ self.old.own }
         ensures noted { IsPrefix self.old.noted self.new.noted × AreInLog self.new.own self.new.noted }
     {
@@ -43,7 +44,11 @@ impl<T, P, A, N: Feed> Pass<T, P, A, N> {
 
     /// Each own post that the cursor has seen is at its place there. From then on the pass knows at
     /// least as much of the log as the cursor.
-    pub fn meet(&mut self, cast: &Cast<T, P, A, N>, cursor: &mut Cursor<'_, T, P, A, N>)
+    pub fn meet<C: AsCast<T, N, P, A>>(
+        &mut self,
+        cast: &Cast<T, N, P, A>,
+        cursor: &mut Cursor<C, T, N, P, A>,
+    )
         ensures same { (self.new.own ≡ self.old.own) × (cursor.new ≡ cursor.old) }
         ensures own { (k : ℕ) (o : Own (BatchView T P)) → get_elem? self.old.own k ≡ some o
             → o.place < length cursor.old.lane.front
@@ -58,14 +63,14 @@ impl<T, P, A, N: Feed> Pass<T, P, A, N> {
     }
 
     /// All that another pass has posted is this one's too.
-    pub fn merge(&mut self, cast: &Cast<T, P, A, N>, other: Pass<T, P, A, N>)
+    pub fn merge(&mut self, cast: &Cast<T, N, P, A>, other: Pass<T, N, P, A>)
         ensures { (self.new.own ≡ self.old.own ++ other.own) × (self.new.noted ≡ self.old.noted) }
     {
         board::take_in(&cast.board.shared, &mut self.seat, other.seat);
     }
 
     // No place is its own twice.
-    pub(crate) fn weigh(&mut self, cast: &Cast<T, P, A, N>)
+    pub(crate) fn weigh(&mut self, cast: &Cast<T, N, P, A>)
         ensures same { self.new ≡ self.old }
         ensures once { Once self.old.own }
     {

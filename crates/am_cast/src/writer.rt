@@ -7,7 +7,7 @@ ghost use Rattle.am_cast.specs.declared.batch_view.BatchView.{BatchView};
 ghost use Rattle.am_cast.specs.Rule.{idle, cut, Once};
 ghost use Rattle.am_cast.specs.Changes.{AreInLog, shut_tail};
 ghost use Rattle.am_cast.specs.Seats.{account_of};
-ghost use Rattle.am_cast.specs.Writers.{Calm};
+ghost use Rattle.am_cast.specs.Writers.{Calm, IsIdle};
 ghost use Rattle.am_cast.specs.Freed.{Keeps, IsFreedFor};
 
 mod admit;
@@ -15,6 +15,7 @@ mod cut;
 mod harvest;
 pub(crate) mod lane_account;
 mod publish;
+mod publish_one;
 mod reclaim;
 mod retire;
 pub(crate) mod state;
@@ -31,11 +32,11 @@ use am_segment::{JoinedKeys, SegmentBuilder};
 use std::marker::Model;
 
 /// Contracts see it as what it knows of its log.
-pub struct Writer<T, P, A, N: Feed> {
-    pub(crate) state: WriterState<T, P, A, N>,
+pub struct Writer<T, N: Feed, P = (), A = ()> {
+    pub(crate) state: WriterState<T, N, P, A>,
 }
 
-impl<T, P, A, N: Feed> Model for Writer<T, P, A, N> {
+impl<T, N: Feed, P, A> Model for Writer<T, N, P, A> {
     ghost use Rattle.am_segment.specs.Segments.{KeyView};
     ghost use Rattle.am_cast.specs.declared.views.WriterView.{WriterView};
     ghost use Rattle.am_cast.specs.declared.batch_view.BatchView.{BatchView};
@@ -55,7 +56,24 @@ pub struct Published {
     pub cut: [bool; LANES],
 }
 
-impl<T: Drop, P, A, N: Feed> Writer<T, P, A, N> {
+impl<T, N: Feed, P, A> Writer<T, N, P, A> {
+    /// Lets the writer go without `end`, as where a cursor that doesn't come back has a share in the table. A batch that
+    /// a lane hasn't passed never ends, as with `Cast::leak`.
+    pub fn leak(self) {
+        let Writer { state } = self;
+        let WriterState {
+            seat: _,
+            rows,
+            next: _,
+            closed: _,
+            lanes: _,
+            of: _,
+        } = state;
+        rows.leak();
+    }
+}
+
+impl<T: Drop, N: Feed, P, A> Writer<T, N, P, A> {
     pub fn len(&self) -> u64
         ensures { (result ≡ length self.now.tail.log) × (result ≤ LONGEST_LOG) }
     {
@@ -95,7 +113,7 @@ impl<T: Drop, P, A, N: Feed> Writer<T, P, A, N> {
 
     /// Whether no lane is given out. Then the log may be ended.
     pub fn is_idle(&self) -> bool
-        ensures yes { result ≡ true → (l : ℕ) → l < LANES → (account_of self.now l).stand ≡ idle }
+        ensures yes { result ≡ true → IsIdle self.now }
         ensures no { result ≡ false → (l : ℕ) × (l < LANES) × ((account_of self.now l).stand ≢ idle) }
     {
         for lane in 0..LANES {
@@ -116,7 +134,7 @@ impl<T: Drop, P, A, N: Feed> Writer<T, P, A, N> {
     }
 
     /// Each place that a pass owns is in the log with its batch, and none twice.
-    pub fn confirm(&mut self, cast: &Cast<T, P, A, N>, pass: &mut Pass<T, P, A, N>)
+    pub fn confirm(&mut self, cast: &Cast<T, N, P, A>, pass: &mut Pass<T, N, P, A>)
         ensures same { self.new ≡ self.old }
         ensures own { pass.new.own ≡ pass.old.own }
         ensures noted { IsPrefix pass.old.noted pass.new.noted × AreInLog pass.new.own pass.new.noted }
@@ -130,7 +148,7 @@ impl<T: Drop, P, A, N: Feed> Writer<T, P, A, N> {
     }
 
     /// No place comes after it, and no lane.
-    pub fn close(&mut self, cast: &Cast<T, P, A, N>) -> Result<(), CloseFault>
+    pub fn close(&mut self, cast: &Cast<T, N, P, A>) -> Result<(), CloseFault>
         ensures ok { OnOk result (self.new ≡ record self.old { tail = shut_tail self.old.tail }) }
 
         ensures open { IsOk result ↔ (self.old.tail.closed ≡ false) }

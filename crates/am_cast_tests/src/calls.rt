@@ -7,7 +7,9 @@ ghost use Rattle.std.specs.Prelude.{◌≡◌, ◌<◌, length, IfOk};
 
 mod script;
 
-use am_cast::{Cast, Cursor, Feed, LANES, LONGEST_LOG, Pass, PublishFault, Refused, Step, Writer};
+use am_cast::{
+    Cast, Feed, LANES, LONGEST_LOG, LentCursor, Pass, PublishFault, Refused, Step, Writer,
+};
 use am_segment::{JoinedKeys, SegmentBuilder};
 use am_steps::{Event, Lane, State};
 use std::alloc::{AllocError, Global};
@@ -19,7 +21,7 @@ const KINDS: u64 = 14;
 /// A reader's lane, its cursor if it has one, and what that cursor was shown.
 struct Reader<'a, N: Feed> {
     lane: usize,
-    cursor: Option<Cursor<'a, u64, u64, u64, N>>,
+    cursor: Option<LentCursor<'a, u64, N>>,
     shown: Vec<u64>,
     // How many items of the place in its hand it was shown.
     of_hand: u64,
@@ -29,7 +31,7 @@ struct Reader<'a, N: Feed> {
 #[derive(Drop)]
 struct Both<'a, N: Feed> {
     alloc: Global,
-    cast: &'a Cast<u64, u64, u64, N>,
+    cast: &'a Cast<u64, N>,
     state: State,
     length: u64,
 }
@@ -56,7 +58,7 @@ fn are_keys_of(keys: &JoinedKeys<u64>, name: u64) -> bool {
 // A batch in what an earlier one of its size left, if there is such a one.
 fn batch_of<N: Feed>(
     alloc: Global,
-    writer: &mut Writer<u64, u64, u64, N>,
+    writer: &mut Writer<u64, N>,
     name: u64,
 ) -> Result<SegmentBuilder<u64>, AllocError>
     ensures some { IfOk result (λ batch. 0 < length batch.items) }
@@ -96,15 +98,14 @@ impl<'a, N: Feed> Both<'a, N> {
     // A post: refused by both, or published by both.
     fn publish(
         &mut self,
-        writer: &mut Writer<u64, u64, u64, N>,
-        pass: &mut Pass<u64, u64, u64, N>,
+        writer: &mut Writer<u64, N>,
+        pass: &mut Pass<u64, N>,
     ) -> Result<bool, AllocError> {
         let name = self.length;
-        let said = 7;
         self.harvest()?;
         let may = self.state.apply(Event::Publish(name))?;
         let batch = batch_of(self.alloc, writer, name)?;
-        match writer.publish(self.cast, batch, Snapshot::of(&said), pass) {
+        match writer.publish(self.cast, batch, Snapshot::of(&()), pass) {
             Ok(place) => Ok(may && place == name && self.note(name)?),
             Err(Refused { fault, batch }) => {
                 batch.discard();
@@ -120,11 +121,10 @@ impl<'a, N: Feed> Both<'a, N> {
     // takes none either.
     fn publish_harvested(
         &mut self,
-        writer: &mut Writer<u64, u64, u64, N>,
-        pass: &mut Pass<u64, u64, u64, N>,
+        writer: &mut Writer<u64, N>,
+        pass: &mut Pass<u64, N>,
     ) -> Result<bool, AllocError> {
         let name = self.length;
-        let said = 7;
         self.harvest()?;
         let full = writer.harvest(self.cast);
         let may = self.state.apply(Event::Publish(name))?;
@@ -135,7 +135,7 @@ impl<'a, N: Feed> Both<'a, N> {
             return Ok(!may && self.full_lane() == Some(lane));
         }
         let batch = batch_of(self.alloc, writer, name)?;
-        match writer.publish_harvested(self.cast, batch, Snapshot::of(&said), pass) {
+        match writer.publish_harvested(self.cast, batch, Snapshot::of(&()), pass) {
             Ok(place) => Ok(may && place == name && self.note(name)?),
             Err(batch) => {
                 batch.discard();
@@ -174,14 +174,13 @@ impl<'a, N: Feed> Both<'a, N> {
     // A post that cuts: the same lanes are cut, and it is refused only by a closed log.
     fn publish_cutting(
         &mut self,
-        writer: &mut Writer<u64, u64, u64, N>,
-        pass: &mut Pass<u64, u64, u64, N>,
+        writer: &mut Writer<u64, N>,
+        pass: &mut Pass<u64, N>,
     ) -> Result<bool, AllocError> {
         let name = self.length;
-        let said = 7;
         self.harvest()?;
         let batch = batch_of(self.alloc, writer, name)?;
-        match writer.publish_cutting(self.cast, batch, Snapshot::of(&said), pass) {
+        match writer.publish_cutting(self.cast, batch, Snapshot::of(&()), pass) {
             Ok(made) => {
                 let mut same = made.place == name;
                 for lane in 0..LANES {
@@ -204,14 +203,13 @@ impl<'a, N: Feed> Both<'a, N> {
     // The lowest idle lane, if it is the reader's and the log is open.
     fn admit(
         &mut self,
-        writer: &mut Writer<u64, u64, u64, N>,
+        writer: &mut Writer<u64, N>,
         reader: &mut Reader<'a, N>,
     ) -> Result<bool, AllocError> {
         if reader.cursor.is_some() {
             return Ok(true);
         }
-        let note = 0;
-        match writer.admit(self.cast, Snapshot::of(&note)) {
+        match writer.admit(self.cast, Snapshot::of(&())) {
             Ok(cursor) => {
                 let lane = cursor.lane();
                 reader.lane = lane;
@@ -230,7 +228,7 @@ impl<'a, N: Feed> Both<'a, N> {
 
     fn retire(
         &mut self,
-        writer: &mut Writer<u64, u64, u64, N>,
+        writer: &mut Writer<u64, N>,
         reader: &mut Reader<'a, N>,
     ) -> Result<bool, AllocError> {
         let Some(cursor) = reader.cursor.take() else {
@@ -299,7 +297,7 @@ impl<'a, N: Feed> Both<'a, N> {
     fn next_past(
         &mut self,
         reader: &mut Reader<'a, N>,
-        pass: &mut Pass<u64, u64, u64, N>,
+        pass: &mut Pass<u64, N>,
     ) -> Result<bool, AllocError> {
         let Some(cursor) = &mut reader.cursor else {
             return Ok(true);
@@ -350,7 +348,7 @@ impl<'a, N: Feed> Both<'a, N> {
     }
 
     // Whether both free the same places, and the writer keeps keys of the others alone.
-    fn frees_the_same(&self, writer: &Writer<u64, u64, u64, N>) -> bool {
+    fn frees_the_same(&self, writer: &Writer<u64, N>) -> bool {
         for place in 0..self.length {
             let freed = self.state.freed(place);
             let kept = match writer.kept(place) {
@@ -367,7 +365,7 @@ impl<'a, N: Feed> Both<'a, N> {
     fn meet(
         &mut self,
         reader: &mut Reader<'a, N>,
-        pass: &mut Pass<u64, u64, u64, N>,
+        pass: &mut Pass<u64, N>,
     ) -> Result<bool, AllocError> {
         let Some(cursor) = &mut reader.cursor else {
             return Ok(true);

@@ -5,6 +5,10 @@
 #[cfg(test)]
 mod calls;
 #[cfg(test)]
+mod ends;
+#[cfg(test)]
+mod example;
+#[cfg(test)]
 mod log;
 #[cfg(test)]
 mod longest;
@@ -12,5 +16,9 @@ mod longest;
 mod owned;
 #[cfg(test)]
 mod segments;
+#[cfg(test)]
+mod shared;
+#[cfg(test)]
+mod sleepers;
 #[cfg(test)]
 mod threads;

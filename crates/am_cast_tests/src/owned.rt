@@ -3,12 +3,11 @@
 ghost use Rattle.std.specs.Prelude.{◌≡◌, ◌<◌, length, IfOk};
 
 use crate::log::{Log, begin_log, end_log};
-use am_cast::{Cast, Cursor, Feed, Parts, Pass, PublishFault, Refused, Step, Writer};
+use am_cast::{Cast, Feed, LentCursor, Parts, Pass, PublishFault, Refused, Step, Writer};
 use am_segment::SegmentBuilder;
 use std::alloc::{AllocError, Global};
 use std::marker::Brand;
 use std::snapshot::Snapshot;
-use std::sync::Wait;
 use std::test::Fail;
 
 fn item_of(alloc: Global, value: u64) -> Result<Vec<u64>, AllocError> {
@@ -32,14 +31,13 @@ fn batch_of(alloc: Global, first: u64) -> Result<SegmentBuilder<Vec<u64>>, Alloc
 // Whether the batch was posted, and not refused because a lane is full.
 fn post<N: Feed>(
     alloc: Global,
-    cast: &Cast<Vec<u64>, u64, u64, N>,
-    writer: &mut Writer<Vec<u64>, u64, u64, N>,
-    pass: &mut Pass<Vec<u64>, u64, u64, N>,
+    cast: &Cast<Vec<u64>, N>,
+    writer: &mut Writer<Vec<u64>, N>,
+    pass: &mut Pass<Vec<u64>, N>,
     first: u64,
 ) -> Result<bool, AllocError> {
     let batch = batch_of(alloc, first)?;
-    let said = 7;
-    match writer.publish(cast, batch, Snapshot::of(&said), pass) {
+    match writer.publish(cast, batch, Snapshot::of(&()), pass) {
         Ok(_) => Ok(true),
         Err(Refused { fault, batch }) => {
             batch.discard();
@@ -52,7 +50,7 @@ fn post<N: Feed>(
 }
 
 // The number of the next item, or 100 if there is none.
-fn shown<N: Feed>(cursor: &mut Cursor<'_, Vec<u64>, u64, u64, N>) -> u64 {
+fn shown<N: Feed>(cursor: &mut LentCursor<'_, Vec<u64>, N>) -> u64 {
     match cursor.next() {
         Step::Item(item) => *item.get(0).unwrap_or(&101),
         _ => 100,
@@ -62,10 +60,10 @@ fn shown<N: Feed>(cursor: &mut Cursor<'_, Vec<u64>, u64, u64, N>) -> u64 {
 // Posts to a log of two places with a reader, which reads three items of four.
 fn read_some<N: Feed>(
     alloc: Global,
-    cast: &Cast<Vec<u64>, u64, u64, N>,
-    writer: &mut Writer<Vec<u64>, u64, u64, N>,
-    pass: &mut Pass<Vec<u64>, u64, u64, N>,
-    cursor: &mut Cursor<'_, Vec<u64>, u64, u64, N>,
+    cast: &Cast<Vec<u64>, N>,
+    writer: &mut Writer<Vec<u64>, N>,
+    pass: &mut Pass<Vec<u64>, N>,
+    cursor: &mut LentCursor<'_, Vec<u64>, N>,
 ) -> Result<[u64; 6], AllocError> {
     let one = post(alloc, cast, writer, pass, 1)?;
     let two = post(alloc, cast, writer, pass, 3)?;
@@ -84,12 +82,11 @@ fn read_some<N: Feed>(
 // The reader comes and leaves, and then there is a post that nobody reads.
 fn come_and_post<N: Feed>(
     alloc: Global,
-    cast: &Cast<Vec<u64>, u64, u64, N>,
-    writer: &mut Writer<Vec<u64>, u64, u64, N>,
-    pass: &mut Pass<Vec<u64>, u64, u64, N>,
+    cast: &Cast<Vec<u64>, N>,
+    writer: &mut Writer<Vec<u64>, N>,
+    pass: &mut Pass<Vec<u64>, N>,
 ) -> Result<[u64; 6], AllocError> {
-    let note = 0;
-    let Ok(mut cursor) = writer.admit(cast, Snapshot::of(&note)) else {
+    let Ok(mut cursor) = writer.admit(cast, Snapshot::of(&())) else {
         return Err(AllocError);
     };
     let saw = read_some(alloc, cast, writer, pass, &mut cursor);
@@ -98,11 +95,7 @@ fn come_and_post<N: Feed>(
     saw
 }
 
-fn run<N: Feed, R: Wait>(
-    rt: &R,
-    alloc: Global,
-    parts: Parts<Vec<u64>, u64, u64>,
-) -> Result<[u64; 6], AllocError>
+fn run<N: Feed>(alloc: Global, parts: Parts<Vec<u64>>) -> Result<[u64; 6], Fail>
     requires { parts.board.shared.table_id ≡ N.table }
 {
     let Log {
@@ -111,25 +104,24 @@ fn run<N: Feed, R: Wait>(
         mut pass,
     } = begin_log::<Vec<u64>, N>(parts)?;
     let saw = come_and_post(alloc, &cast, &mut writer, &mut pass);
-    end_log(rt, cast, writer);
-    saw
+    end_log(cast, writer)?;
+    Ok(saw?)
 }
 
-fn run_of<R: Wait>(rt: &R, alloc: Global) -> Result<[u64; 6], AllocError> {
+fn run_of(alloc: Global) -> Result<[u64; 6], Fail> {
     let parts = Parts::make(alloc, 2)?;
-    run::<Brand, R>(rt, alloc, parts)
+    run::<Brand>(alloc, parts)
 }
 
 // A reader with a place in its hand goes, and another comes on the same lane. Answers whether the first place
 // was freed before the lane was reclaimed, whether it was then, and which item the other reader is shown first.
 fn come_and_drop<N: Feed>(
     alloc: Global,
-    cast: &Cast<Vec<u64>, u64, u64, N>,
-    writer: &mut Writer<Vec<u64>, u64, u64, N>,
-    pass: &mut Pass<Vec<u64>, u64, u64, N>,
+    cast: &Cast<Vec<u64>, N>,
+    writer: &mut Writer<Vec<u64>, N>,
+    pass: &mut Pass<Vec<u64>, N>,
 ) -> Result<(bool, bool, u64), AllocError> {
-    let note = 0;
-    let Ok(mut cursor) = writer.admit(cast, Snapshot::of(&note)) else {
+    let Ok(mut cursor) = writer.admit(cast, Snapshot::of(&())) else {
         return Err(AllocError);
     };
     let lane = cursor.lane();
@@ -140,7 +132,7 @@ fn come_and_drop<N: Feed>(
     let before = writer.freed(0);
     let found = writer.reclaim(cast);
     let after = found[lane] && writer.is_idle() && writer.freed(0);
-    let Ok(mut next) = writer.admit(cast, Snapshot::of(&note)) else {
+    let Ok(mut next) = writer.admit(cast, Snapshot::of(&())) else {
         return Err(AllocError);
     };
     let same = next.lane() == lane;
@@ -151,11 +143,7 @@ fn come_and_drop<N: Feed>(
     Ok((before, after && same, item))
 }
 
-fn drop_in<N: Feed, R: Wait>(
-    rt: &R,
-    alloc: Global,
-    parts: Parts<Vec<u64>, u64, u64>,
-) -> Result<(bool, bool, u64), AllocError>
+fn drop_in<N: Feed>(alloc: Global, parts: Parts<Vec<u64>>) -> Result<(bool, bool, u64), Fail>
     requires { parts.board.shared.table_id ≡ N.table }
 {
     let Log {
@@ -165,18 +153,18 @@ fn drop_in<N: Feed, R: Wait>(
     } = begin_log::<Vec<u64>, N>(parts)?;
     let saw = come_and_drop(alloc, &cast, &mut writer, &mut pass);
     let _found = writer.reclaim(&cast);
-    end_log(rt, cast, writer);
-    saw
+    end_log(cast, writer)?;
+    Ok(saw?)
 }
 
-fn drop_of<R: Wait>(rt: &R, alloc: Global) -> Result<(bool, bool, u64), AllocError> {
+fn drop_of(alloc: Global) -> Result<(bool, bool, u64), Fail> {
     let parts = Parts::make(alloc, 2)?;
-    drop_in::<Brand, R>(rt, alloc, parts)
+    drop_in::<Brand>(alloc, parts)
 }
 
 #[test]
 fn a_dropped_readers_lane_is_given_out_again(rt: HostRuntime) -> Result<(), Fail> {
-    let (before, after, item) = drop_of(&rt, rt.alloc())?;
+    let (before, after, item) = drop_of(rt.alloc())?;
     assert!(rt; !before);
     assert!(rt; after);
     assert_eq!(rt; item, 3);
@@ -184,7 +172,7 @@ fn a_dropped_readers_lane_is_given_out_again(rt: HostRuntime) -> Result<(), Fail
 }
 
 // Whether a segment of that size that has ended can be had, which is then freed.
-fn frees_one<N: Feed>(writer: &mut Writer<Vec<u64>, u64, u64, N>, places: usize) -> bool {
+fn frees_one<N: Feed>(writer: &mut Writer<Vec<u64>, N>, places: usize) -> bool {
     match writer.spare(places) {
         Some(segment) => {
             let fits = segment.places() == places;
@@ -198,12 +186,11 @@ fn frees_one<N: Feed>(writer: &mut Writer<Vec<u64>, u64, u64, N>, places: usize)
 // Whether a segment that has ended can be had while a reader holds a batch, and once it has passed it.
 fn end_a_read_one<N: Feed>(
     alloc: Global,
-    cast: &Cast<Vec<u64>, u64, u64, N>,
-    writer: &mut Writer<Vec<u64>, u64, u64, N>,
-    pass: &mut Pass<Vec<u64>, u64, u64, N>,
+    cast: &Cast<Vec<u64>, N>,
+    writer: &mut Writer<Vec<u64>, N>,
+    pass: &mut Pass<Vec<u64>, N>,
 ) -> Result<[bool; 2], AllocError> {
-    let note = 0;
-    let Ok(mut cursor) = writer.admit(cast, Snapshot::of(&note)) else {
+    let Ok(mut cursor) = writer.admit(cast, Snapshot::of(&())) else {
         return Err(AllocError);
     };
     let posted = post(alloc, cast, writer, pass, 9);
@@ -222,9 +209,9 @@ fn end_a_read_one<N: Feed>(
 // keeps two; then one more, of which no segment of another size is made; and then one that is read.
 fn end_some<N: Feed>(
     alloc: Global,
-    cast: &Cast<Vec<u64>, u64, u64, N>,
-    writer: &mut Writer<Vec<u64>, u64, u64, N>,
-    pass: &mut Pass<Vec<u64>, u64, u64, N>,
+    cast: &Cast<Vec<u64>, N>,
+    writer: &mut Writer<Vec<u64>, N>,
+    pass: &mut Pass<Vec<u64>, N>,
 ) -> Result<[bool; 8], AllocError> {
     let before = frees_one(writer, 2);
     for number in 0..3 {
@@ -244,11 +231,7 @@ fn end_some<N: Feed>(
     ])
 }
 
-fn end_in<N: Feed, R: Wait>(
-    rt: &R,
-    alloc: Global,
-    parts: Parts<Vec<u64>, u64, u64>,
-) -> Result<[bool; 8], AllocError>
+fn end_in<N: Feed>(alloc: Global, parts: Parts<Vec<u64>>) -> Result<[bool; 8], Fail>
     requires { parts.board.shared.table_id ≡ N.table }
 {
     let Log {
@@ -257,18 +240,18 @@ fn end_in<N: Feed, R: Wait>(
         mut pass,
     } = begin_log::<Vec<u64>, N>(parts)?;
     let left = end_some(alloc, &cast, &mut writer, &mut pass);
-    end_log(rt, cast, writer);
-    left
+    end_log(cast, writer)?;
+    Ok(left?)
 }
 
-fn end_of<R: Wait>(rt: &R, alloc: Global) -> Result<[bool; 8], AllocError> {
+fn end_of(alloc: Global) -> Result<[bool; 8], Fail> {
     let parts = Parts::make(alloc, 2)?;
-    end_in::<Brand, R>(rt, alloc, parts)
+    end_in::<Brand>(alloc, parts)
 }
 
 #[test]
 fn as_many_segments_are_left_as_places(rt: HostRuntime) -> Result<(), Fail> {
-    let left = end_of(&rt, rt.alloc())?;
+    let left = end_of(rt.alloc())?;
     assert_eq!(rt;
         left.as_slice(),
         [false, true, true, false, false, false, false, true].as_slice()
@@ -278,7 +261,7 @@ fn as_many_segments_are_left_as_places(rt: HostRuntime) -> Result<(), Fail> {
 
 #[test]
 fn shown_unread_and_never_asked_for(rt: HostRuntime) -> Result<(), Fail> {
-    let saw = run_of(&rt, rt.alloc())?;
+    let saw = run_of(rt.alloc())?;
     assert_eq!(rt; saw.as_slice(), [1, 1, 0, 1, 2, 3].as_slice());
     Ok(())
 }

@@ -9,12 +9,11 @@ mod eight;
 mod races;
 
 use crate::log::{Log, begin_log, end_log};
-use am_cast::{Cast, Cursor, Feed, Parts, Pass, Refused, Step, Writer};
+use am_cast::{Cast, Feed, LentCursor, Parts, Pass, Refused, Step, Writer};
 use am_segment::SegmentBuilder;
 use std::alloc::{AllocError, Global};
 use std::marker::Brand;
 use std::snapshot::Snapshot;
-use std::sync::Wait;
 use std::test::Fail;
 use std::thread;
 use std::thread::Threads;
@@ -52,7 +51,7 @@ const NOTHING: Shown = Shown {
 // turn.
 fn read_all<R: Threads, N: Feed>(
     rt: &R,
-    cursor: &mut Cursor<'_, u64, u64, u64, N>,
+    cursor: &mut LentCursor<'_, u64, N>,
     first: u64,
     turns: u64,
     lazy: bool,
@@ -81,18 +80,17 @@ fn read_all<R: Threads, N: Feed>(
 // Posts a number of batches within a number of turns, and closes. Answers how many were posted.
 fn post_all<N: Feed>(
     alloc: Global,
-    cast: &Cast<u64, u64, u64, N>,
-    writer: &mut Writer<u64, u64, u64, N>,
-    pass: &mut Pass<u64, u64, u64, N>,
+    cast: &Cast<u64, N>,
+    writer: &mut Writer<u64, N>,
+    pass: &mut Pass<u64, N>,
     batches: u64,
     turns: u64,
 ) -> Result<u64, AllocError> {
     let mut posted: u64 = 0;
     for _turn in 0..turns {
         if posted < batches {
-            let said = 7;
             let batch = batch_of(alloc, posted.wrapping_mul(3))?;
-            match writer.publish(cast, batch, Snapshot::of(&said), pass) {
+            match writer.publish(cast, batch, Snapshot::of(&()), pass) {
                 Ok(_) => posted = posted.wrapping_add(1),
                 Err(Refused { fault: _, batch }) => {
                     batch.discard();
@@ -109,17 +107,16 @@ fn post_all<N: Feed>(
 // often a lane was cut.
 fn post_over<N: Feed>(
     alloc: Global,
-    cast: &Cast<u64, u64, u64, N>,
-    writer: &mut Writer<u64, u64, u64, N>,
-    pass: &mut Pass<u64, u64, u64, N>,
+    cast: &Cast<u64, N>,
+    writer: &mut Writer<u64, N>,
+    pass: &mut Pass<u64, N>,
     first: u64,
     batches: u64,
 ) -> Result<u64, AllocError> {
     let mut cuts: u64 = 0;
     for at in 0..batches {
-        let said = 7;
         let batch = batch_of(alloc, first.wrapping_add(at.wrapping_mul(3)))?;
-        match writer.publish_cutting(cast, batch, Snapshot::of(&said), pass) {
+        match writer.publish_cutting(cast, batch, Snapshot::of(&()), pass) {
             Ok(made) => {
                 for lane in 0..8 {
                     if made.cut[lane] {
@@ -152,9 +149,9 @@ struct Load {
 // Posts, cutting slow lanes or waiting for them.
 fn post<N: Feed>(
     alloc: Global,
-    cast: &Cast<u64, u64, u64, N>,
-    writer: &mut Writer<u64, u64, u64, N>,
-    pass: &mut Pass<u64, u64, u64, N>,
+    cast: &Cast<u64, N>,
+    writer: &mut Writer<u64, N>,
+    pass: &mut Pass<u64, N>,
     load: Load,
 ) -> Result<u64, AllocError> {
     if load.cuts {
@@ -167,8 +164,8 @@ fn post<N: Feed>(
 // A quick reader, and next to it a slow one.
 fn read_both<N: Feed + Send + Sync, R: Threads + Sync>(
     rt: &R,
-    quick: &mut Cursor<'_, u64, u64, u64, N>,
-    slow: &mut Cursor<'_, u64, u64, u64, N>,
+    quick: &mut LentCursor<'_, u64, N>,
+    slow: &mut LentCursor<'_, u64, N>,
     load: Load,
 ) -> (Shown, Shown) {
     thread::join(
@@ -181,16 +178,15 @@ fn read_both<N: Feed + Send + Sync, R: Threads + Sync>(
 fn drive<N: Feed + Send + Sync, R: Threads + Sync>(
     rt: &R,
     alloc: Global,
-    cast: &Cast<u64, u64, u64, N>,
-    writer: &mut Writer<u64, u64, u64, N>,
-    pass: &mut Pass<u64, u64, u64, N>,
+    cast: &Cast<u64, N>,
+    writer: &mut Writer<u64, N>,
+    pass: &mut Pass<u64, N>,
     load: Load,
 ) -> Result<Run, AllocError> {
-    let note = 0;
-    let Ok(mut a) = writer.admit(cast, Snapshot::of(&note)) else {
+    let Ok(mut a) = writer.admit(cast, Snapshot::of(&())) else {
         return Err(AllocError);
     };
-    let Ok(mut b) = writer.admit(cast, Snapshot::of(&note)) else {
+    let Ok(mut b) = writer.admit(cast, Snapshot::of(&())) else {
         writer.retire(cast, a);
         return Err(AllocError);
     };
@@ -208,12 +204,12 @@ fn drive<N: Feed + Send + Sync, R: Threads + Sync>(
     })
 }
 
-fn beside<N: Feed + Send + Sync, R: Threads + Wait + Sync>(
+fn beside<N: Feed + Send + Sync, R: Threads + Sync>(
     rt: &R,
     alloc: Global,
-    parts: Parts<u64, u64, u64>,
+    parts: Parts<u64>,
     load: Load,
-) -> Result<Run, AllocError>
+) -> Result<Run, Fail>
     requires { parts.board.shared.table_id ≡ N.table }
 {
     let Log {
@@ -222,16 +218,11 @@ fn beside<N: Feed + Send + Sync, R: Threads + Wait + Sync>(
         mut pass,
     } = begin_log::<u64, N>(parts)?;
     let run = drive(rt, alloc, &cast, &mut writer, &mut pass, load);
-    end_log(rt, cast, writer);
-    run
+    end_log(cast, writer)?;
+    Ok(run?)
 }
 
-fn beside_of<R: Threads + Wait + Sync>(
-    rt: &R,
-    alloc: Global,
-    places: u64,
-    load: Load,
-) -> Result<Run, AllocError>
+fn beside_of<R: Threads + Sync>(rt: &R, alloc: Global, places: u64, load: Load) -> Result<Run, Fail>
     requires { (0 < places) × (places ≤ MAX_PLACES) }
 {
     let parts = Parts::make(alloc, places)?;
@@ -280,21 +271,19 @@ fn a_slow_reader_is_cut_once(rt: HostRuntime) -> Result<(), Fail> {
 // A lane is admitted, reads a batch, and leaves with a part of the next one unread.
 fn come_once<N: Feed>(
     alloc: Global,
-    cast: &Cast<u64, u64, u64, N>,
-    writer: &mut Writer<u64, u64, u64, N>,
-    pass: &mut Pass<u64, u64, u64, N>,
+    cast: &Cast<u64, N>,
+    writer: &mut Writer<u64, N>,
+    pass: &mut Pass<u64, N>,
     round: u64,
 ) -> bool {
-    let note = 0;
-    let Ok(mut cursor) = writer.admit(cast, Snapshot::of(&note)) else {
+    let Ok(mut cursor) = writer.admit(cast, Snapshot::of(&())) else {
         return false;
     };
     let mut right = true;
     for part in 0..2_u64 {
-        let said = 7;
         let first = round.wrapping_mul(6).wrapping_add(part.wrapping_mul(3));
         match batch_of(alloc, first) {
-            Ok(batch) => match writer.publish(cast, batch, Snapshot::of(&said), pass) {
+            Ok(batch) => match writer.publish(cast, batch, Snapshot::of(&()), pass) {
                 Ok(_) => {}
                 Err(Refused { fault: _, batch }) => {
                     batch.discard();
@@ -314,12 +303,7 @@ fn come_once<N: Feed>(
     right
 }
 
-fn come_and_go<N: Feed, R: Wait>(
-    rt: &R,
-    alloc: Global,
-    parts: Parts<u64, u64, u64>,
-    rounds: u64,
-) -> Result<bool, AllocError>
+fn come_and_go<N: Feed>(alloc: Global, parts: Parts<u64>, rounds: u64) -> Result<bool, Fail>
     requires { parts.board.shared.table_id ≡ N.table }
 {
     let Log {
@@ -331,17 +315,17 @@ fn come_and_go<N: Feed, R: Wait>(
     for round in 0..rounds {
         right &= come_once(alloc, &cast, &mut writer, &mut pass, round);
     }
-    end_log(rt, cast, writer);
+    end_log(cast, writer)?;
     Ok(right)
 }
 
-fn come_and_go_of<R: Wait>(rt: &R, alloc: Global, rounds: u64) -> Result<bool, AllocError> {
+fn come_and_go_of(alloc: Global, rounds: u64) -> Result<bool, Fail> {
     let parts = Parts::make(alloc, 4)?;
-    come_and_go::<Brand, R>(rt, alloc, parts, rounds)
+    come_and_go::<Brand>(alloc, parts, rounds)
 }
 
 #[test]
 fn lanes_come_and_go(rt: HostRuntime) -> Result<(), Fail> {
-    assert!(rt; come_and_go_of(&rt, rt.alloc(), 10_000)?);
+    assert!(rt; come_and_go_of(rt.alloc(), 10_000)?);
     Ok(())
 }

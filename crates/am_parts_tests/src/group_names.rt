@@ -2,7 +2,7 @@
 
 use crate::configurations::{configuration, labels};
 use crate::expectation::expect;
-use am_labels::LabelSet;
+use am_config::GroupBy;
 use std::alloc::{AllocError, Global};
 use std::test::Fail;
 
@@ -26,17 +26,17 @@ fn push_names(text: &mut String, count: usize) -> Result<(), AllocError> {
     Ok(())
 }
 
-fn are(found: &LabelSet, wanted: &LabelSet) -> bool {
-    *found == *wanted
+// Whether of four labels those that are grouped by are the group's.
+fn has_three(alloc: Global, group_by: &GroupBy) -> Result<bool, AllocError> {
+    let given = labels(alloc, "alertname=Down job=node name00007=a name15999=b")?;
+    let wanted = labels(alloc, "alertname=Down name00007=a name15999=b")?;
+    Ok(group_by.labels_of(alloc, &given)? == wanted)
 }
 
 #[test]
 fn sixteen_thousand_names(rt: HostRuntime) -> Result<(), Fail> {
-    let alloc = rt.alloc();
-    let text = grouped_by_names(alloc, 16_000)?;
-    let config = configuration(alloc, &text)?;
-    let given = labels(alloc, "alertname=Down job=node name00007=a name15999=b")?;
-    let wanted = labels(alloc, "alertname=Down name00007=a name15999=b")?;
-    let group = config.tree.root.group_by.labels_of(alloc, &given)?;
-    expect(are(&group, &wanted), "another group")
+    let text = grouped_by_names(rt.alloc(), 16_000)?;
+    let config = configuration(rt.alloc(), &text)?;
+    let three = has_three(rt.alloc(), &config.tree.root.group_by)?;
+    expect(three, "another group")
 }

@@ -75,18 +75,25 @@ fn take_one(alloc: Global, dispatcher: &mut Dispatcher<'_>) -> Result<(), AllocE
     take(dispatcher, &alert(alloc, "job=a severity=crit team=db", 5)?)
 }
 
+// A dispatcher that has taken an alert.
+fn with_one(alloc: Global, tree: &RouteTree) -> Result<Dispatcher<'_>, AllocError> {
+    let mut one = dispatcher(alloc, tree)?;
+    take_one(alloc, &mut one)?;
+    Ok(one)
+}
+
+fn change_apart(alloc: Global, tree: &RouteTree) -> Result<bool, AllocError> {
+    let mut one = with_one(alloc, tree)?;
+    let mut other = with_one(alloc, tree)?;
+    Ok(goes_from_one(&mut one, &mut other))
+}
+
 // Two dispatchers share one tree and nothing else.
 #[test]
 fn two_dispatchers_of_one_tree(rt: HostRuntime) -> Result<(), Fail> {
     let config = configuration(rt.alloc(), TEAMS)?;
-    let mut one = dispatcher(rt.alloc(), &config.tree)?;
-    take_one(rt.alloc(), &mut one)?;
-    let mut other = dispatcher(rt.alloc(), &config.tree)?;
-    take_one(rt.alloc(), &mut other)?;
-    expect(
-        goes_from_one(&mut one, &mut other),
-        "the groups of one changed with the other's",
-    )
+    let apart = change_apart(rt.alloc(), &config.tree)?;
+    expect(apart, "the groups of one changed with the other's")
 }
 
 // The same of an alert that may be undone.
@@ -98,22 +105,19 @@ fn take_noted(dispatcher: &mut Dispatcher<'_>, alert: &Alert) -> Result<Noted, A
 }
 
 // Whether the alert has two groups of its own until it is undone.
-fn comes_and_goes(alloc: Global, dispatcher: &mut Dispatcher<'_>) -> Result<bool, AllocError> {
-    let noted = take_noted(dispatcher, &alert(alloc, "job=b severity=crit team=db", 6)?)?;
-    let taken = dispatcher.groups().len();
-    dispatcher.undo(noted);
-    Ok(taken == 4 && dispatcher.groups().len() == 2)
+fn comes_and_goes(alloc: Global, tree: &RouteTree) -> Result<bool, AllocError> {
+    let mut one = with_one(alloc, tree)?;
+    let noted = take_noted(&mut one, &alert(alloc, "job=b severity=crit team=db", 6)?)?;
+    let taken = one.groups().len();
+    one.undo(noted);
+    Ok(taken == 4 && one.groups().len() == 2)
 }
 
 #[test]
 fn undone_alert_leaves_no_group(rt: HostRuntime) -> Result<(), Fail> {
     let config = configuration(rt.alloc(), TEAMS)?;
-    let mut one = dispatcher(rt.alloc(), &config.tree)?;
-    take_one(rt.alloc(), &mut one)?;
-    expect(
-        comes_and_goes(rt.alloc(), &mut one)?,
-        "an alert that was undone has groups",
-    )
+    let gone = comes_and_goes(rt.alloc(), &config.tree)?;
+    expect(gone, "an alert that was undone has groups")
 }
 
 // One alert of each of `jobs` jobs.

@@ -187,24 +187,49 @@ fn come_in_order(labels: &LabelSet) -> bool {
     true
 }
 
+// The label set of a buffer that is filled anew.
+fn refilled(
+    alloc: Global,
+    buffer: &mut PairBuffer,
+    count: u32,
+    mark: &str,
+) -> Result<LabelSet, AllocError> {
+    buffer.clear();
+    fill(alloc, buffer, count, mark)?;
+    LabelSet::from_buffer(alloc, buffer)
+}
+
+// Whether a label set has what its buffer had, in order, and is copied and read back.
+fn is_filled(alloc: Global, labels: &LabelSet, count: u32, mark: &str) -> Result<bool, AllocError> {
+    Ok(
+        has_values(alloc, labels, count, mark)?
+            && come_in_order(labels)
+            && is_copied(labels)?
+            && is_read_back(alloc, labels)?,
+    )
+}
+
+// Whether the label set of a buffer comes once more from it, and is another one's only if it has no value that differs.
+fn differ(
+    alloc: Global,
+    buffer: &mut PairBuffer,
+    count: u32,
+    others: &LabelSet,
+) -> Result<bool, AllocError> {
+    let labels = refilled(alloc, buffer, count, "value")?;
+    let again = LabelSet::from_buffer(alloc, buffer)?;
+    let filled = is_filled(alloc, &labels, count, "value")?;
+    Ok(filled && labels == again && (labels == *others) == (count < 2))
+}
+
 #[test]
 fn many_labels_from_one_buffer(rt: HostRuntime) -> Result<(), Fail> {
     let alloc = rt.alloc();
     let mut buffer = PairBuffer::new(alloc);
     for count in [0, 1, 2, 7, 8, 9, 17, 40, 900] {
-        buffer.clear();
-        fill(alloc, &mut buffer, count, "value")?;
-        let labels = LabelSet::from_buffer(alloc, &buffer)?;
-        let again = LabelSet::from_buffer(alloc, &buffer)?;
-        buffer.clear();
-        fill(alloc, &mut buffer, count, "another")?;
-        let others = LabelSet::from_buffer(alloc, &buffer)?;
-        assert!(rt; has_values(alloc, &labels, count, "value")?, "{count}");
-        assert!(rt; has_values(alloc, &others, count, "another")?, "{count}");
-        assert!(rt; come_in_order(&labels) && come_in_order(&others), "{count}");
-        assert!(rt; labels == again && is_copied(&labels)?, "{count}");
-        assert!(rt; is_read_back(alloc, &labels)?, "{count}");
-        assert!(rt; (labels == others) == (count < 2), "{count}");
+        let others = refilled(alloc, &mut buffer, count, "another")?;
+        assert!(rt; is_filled(alloc, &others, count, "another")?, "{count}");
+        assert!(rt; differ(alloc, &mut buffer, count, &others)?, "{count}");
     }
     Ok(())
 }

@@ -3,7 +3,7 @@
 use crate::expectation::expect;
 use am_alert::{Alert, Moment, Post, PostFault, PostReader, TimeFault, read_post, read_time};
 use am_labels::{LabelSet, SharedText, Text};
-use std::alloc::Global;
+use std::alloc::{AllocError, Global};
 use std::test::Fail;
 use std::time::Duration;
 
@@ -213,22 +213,33 @@ fn is_alert(alloc: Global, body: &str, alert: &Alert) -> Result<bool, Fail> {
     }
 }
 
+fn pair(alloc: Global, name: &str, value: &str) -> Result<(Text, Text), AllocError> {
+    Ok((Text::from_str(alloc, name)?, Text::from_str(alloc, value)?))
+}
+
+fn two_labels(alloc: Global) -> Result<LabelSet, AllocError> {
+    let mut pairs = Vec::new(alloc);
+    pairs.push(pair(alloc, "a", "1")?)?;
+    pairs.push(pair(alloc, "b", "2")?)?;
+    LabelSet::from_texts(alloc, pairs)
+}
+
+fn empty_note(alloc: Global) -> Result<LabelSet, AllocError> {
+    let mut pairs = Vec::new(alloc);
+    pairs.push(pair(alloc, "n", "")?)?;
+    LabelSet::from_texts(alloc, pairs)
+}
+
 // The alert that the bodies have.
 fn written(alloc: Global) -> Result<Alert, Fail> {
-    let now = moment("2024-01-01T10:00:00Z")?;
-    let mut labels = Vec::new(alloc);
-    labels.push((Text::from_str(alloc, "a")?, Text::from_str(alloc, "1")?))?;
-    labels.push((Text::from_str(alloc, "b")?, Text::from_str(alloc, "2")?))?;
-    let mut annotations = Vec::new(alloc);
-    annotations.push((Text::from_str(alloc, "n")?, Text::from_str(alloc, "")?))?;
     Ok(Alert {
-        labels: LabelSet::from_texts(alloc, labels)?,
-        annotations: LabelSet::from_texts(alloc, annotations)?,
         start: moment("2024-01-01T09:00:00Z")?,
         end: moment("2024-01-01T10:05:00Z")?,
-        updated: now,
+        updated: moment("2024-01-01T10:00:00Z")?,
         timeout: true,
         generator: SharedText::new(),
+        labels: two_labels(alloc)?,
+        annotations: empty_note(alloc)?,
     })
 }
 

@@ -74,11 +74,15 @@ fn answers_into(
     Ok(first && second && are_numbered(&ids, &[2, 4, 6]))
 }
 
-fn prepared_answers_twice(alloc: Global, tree: &RouteTree) -> Result<bool, AllocError> {
+fn answers_each(alloc: Global, tree: &mut PreparedTree<'_>) -> Result<bool, AllocError> {
     let long = labels(alloc, "a=1 b=1 c=2")?;
     let short = labels(alloc, "b=1")?;
+    Ok(answers_twice(tree, &long)? && answers_into(tree, alloc, &long, &short)?)
+}
+
+fn prepared_answers_twice(alloc: Global, tree: &RouteTree) -> Result<bool, AllocError> {
     let mut tree = PreparedTree::new(alloc, tree)?;
-    Ok(answers_twice(&mut tree, &long)? && answers_into(&mut tree, alloc, &long, &short)?)
+    answers_each(alloc, &mut tree)
 }
 
 // A prepared tree answers the same when it is asked again.

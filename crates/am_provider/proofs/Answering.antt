@@ -24,14 +24,14 @@ use Rattle.am_provider.specs.declared.answers.Ended.{Ended}
 use Rattle.am_provider.specs.declared.answers.Page.{Page}
 use Rattle.am_provider.specs.declared.answers.Policy.{Policy}
 use Rattle.am_provider.specs.declared.answers.PostedIf.{PostedIf}
-use Rattle.am_provider.specs.declared.faults.PutFault.{PutFault}
-use Rattle.am_provider.specs.declared.faults.PutFault.TheVariants as put
+use Rattle.am_store.specs.declared.faults.PutFault.{PutFault}
+use Rattle.am_store.specs.declared.faults.PutFault.TheVariants as put
 use Rattle.am_provider.specs.Batches.{Batch}
 use Rattle.am_provider.specs.BookView.{BookView, IsFaithful, batches}
 use Rattle.am_provider.specs.Callers.{SeesCall}
 use Rattle.am_provider.specs.Headline.{AreSentSince, TakesItsDue, AnswersCollect, AnswersPost, AnswersTake, IsPage, IsPutRefusal, IsSubRefusal}
-use Rattle.am_provider.specs.declared.faults.SubFault.{SubFault}
-use Rattle.am_provider.specs.declared.faults.SubFault.TheVariants as sub
+use Rattle.am_store.specs.declared.faults.SubFault.{SubFault}
+use Rattle.am_store.specs.declared.faults.SubFault.TheVariants as sub
 use Rattle.am_provider.specs.Histories.{EntryView, Accepted, calls_of, whole, trimmed_by, stored_after, is_cut}
 use Rattle.am_provider.specs.Posts.{IsAsBefore, IsPutCause, WasAskedBefore}
 use Rattle.am_provider.specs.inside.Records.{IsRecorded}

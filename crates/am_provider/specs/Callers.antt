@@ -13,9 +13,9 @@ use Rattle.am_cast.specs.Posters.{PassView}
 use Rattle.am_provider.specs.declared.answers.Policy.{Policy}
 use Rattle.am_provider.specs.declared.answers.Posted.{Posted}
 use Rattle.am_provider.specs.declared.answers.PostedIf.{PostedIf}
-use Rattle.am_provider.specs.declared.faults.BodyFault.{BodyFault}
-use Rattle.am_provider.specs.declared.faults.BodyFault.TheVariants as refused
-use Rattle.am_provider.specs.declared.faults.PutFault.{PutFault}
+use Rattle.am_store.specs.declared.faults.BodyFault.{BodyFault}
+use Rattle.am_store.specs.declared.faults.BodyFault.TheVariants as refused
+use Rattle.am_store.specs.declared.faults.PutFault.{PutFault}
 use Rattle.am_provider.specs.Headline.{AnswersPost, IsPutRefusal}
 use Rattle.am_provider.specs.Posts.{AddsOwn, WasAskedBefore}
 use Rattle.am_provider.specs.Batches.{sent_in}

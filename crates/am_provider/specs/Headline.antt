@@ -26,10 +26,10 @@ use Rattle.am_provider.specs.declared.answers.Policy.TheVariants.{Refuse}
 use Rattle.am_provider.specs.declared.answers.Posted as answers
 use Rattle.am_provider.specs.declared.answers.Ended.{Ended}
 use Rattle.am_provider.specs.declared.answers.Page.{Page}
-use Rattle.am_provider.specs.declared.faults.PutFault.{PutFault}
-use Rattle.am_provider.specs.declared.faults.PutFault.TheVariants as put
-use Rattle.am_provider.specs.declared.faults.SubFault.{SubFault}
-use Rattle.am_provider.specs.declared.faults.SubFault.TheVariants as sub
+use Rattle.am_store.specs.declared.faults.PutFault.{PutFault}
+use Rattle.am_store.specs.declared.faults.PutFault.TheVariants as put
+use Rattle.am_store.specs.declared.faults.SubFault.{SubFault}
+use Rattle.am_store.specs.declared.faults.SubFault.TheVariants as sub
 use Rattle.am_provider.specs.Histories.{EntryView, Accepted, Trimmed, Compacted, only_call, calls_of, whole}
 use Rattle.am_provider.specs.Histories.{trimmed_by, gone_by, stored_after, sent_by, is_cut}
 use Rattle.am_provider.specs.Subscriptions.{SubscriptionView, taken}

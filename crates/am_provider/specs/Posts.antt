@@ -21,8 +21,8 @@ use Rattle.am_cast.specs.Writers.{StaysAs, SameAdmission, IsCutAs}
 use Rattle.am_provider.specs.declared.answers.Policy.TheVariants.{Refuse}
 use Rattle.am_provider.specs.declared.answers.Posted as answers
 use Rattle.am_provider.specs.declared.answers.PostedIf.{PostedIf}
-use Rattle.am_provider.specs.declared.faults.PutFault.{PutFault}
-use Rattle.am_provider.specs.declared.faults.PutFault.TheVariants as put_fault
+use Rattle.am_store.specs.declared.faults.PutFault.{PutFault}
+use Rattle.am_store.specs.declared.faults.PutFault.TheVariants as put_fault
 use Rattle.am_provider.specs.Batches.{Batch, LogView}
 use Rattle.am_provider.specs.BookView.{BookView, batches}
 use Rattle.am_provider.specs.Sending.{IsLogCause}

@@ -14,8 +14,8 @@ use Rattle.am_cast.specs.Writers.{HasRoom, StaysAs, SameAdmission, IsCutAs}
 use Rattle.am_cast.specs.Refusals.{IsOpen, IsRefusal}
 use Rattle.am_provider.specs.declared.answers.Policy.{Policy}
 use Rattle.am_provider.specs.declared.answers.Policy.TheVariants.{Refuse}
-use Rattle.am_provider.specs.declared.faults.PutFault.{PutFault}
-use Rattle.am_provider.specs.declared.faults.PutFault.TheVariants as put_fault
+use Rattle.am_store.specs.declared.faults.PutFault.{PutFault}
+use Rattle.am_store.specs.declared.faults.PutFault.TheVariants as put_fault
 use Rattle.am_provider.specs.Batches.{Batch, LogView}
 
 -- the batch is the log's next place, which the pass owns and knows

@@ -7,9 +7,7 @@
 //! what the journal owes it, and is all of it if `next` answered `Closed`. A refused call
 //! changes nothing but how far the writer knows its readers.
 //!
-//! A post looks at the lanes before it grows anything, so that E13 is reported before E0. `end`
-//! asks that no lane is open by the journal, which a caller knows, and not by what the writer
-//! knows.
+//! A post looks at the lanes before it grows anything, so that E13 is reported before E0.
 
 ghost use Rattle.std.specs.Prelude.{◌≡◌, ◌≢◌, ◌↔◌, ◌≤◌, ◌<◌, ◌+◌, IsTrue, IfOk, IfErr, OnOk, OnErr, IsErr, ℕ, ◌-◌, None, false, [], length, filter, drop, nat_le, slice_index_or, take};
 ghost use Rattle.std.specs.Arc.{arc_value};
@@ -34,7 +32,7 @@ mod subscribe;
 mod trim;
 
 use crate::answers::{Counts, Ended, Page, Policy};
-use crate::feed::{Cast, Origin, Writer};
+use crate::feed::{Cast, Origin, Writer, end_log};
 use crate::item::Item;
 use crate::kept_endings::KeptEndings;
 use crate::parts::{Begun, Parts};
@@ -45,7 +43,7 @@ use am_labels::LabelSet;
 use am_store::lanes::{LANES, Lanes, OpenLane};
 use am_store::store::absorb::Change;
 use am_store::store::{AlertMap, Store};
-use am_store::{Call, Journal, KeptJournal, SharedAlert, StoredAlerts};
+use am_store::{Call, Discarded, Journal, KeptJournal, SharedAlert, StoredAlerts};
 use std::alloc::{AllocError, Global};
 use std::marker::Model;
 use std::mem;
@@ -70,10 +68,11 @@ pub struct Book<N: Origin> {
     posters: u32,
     // It counts the places of all passes.
     tally: ledger::Book<N>,
-    // What the last post replaced, and the opening of the subscription that left last, as its lane and itself had it: for
-    // who drops them once the lock is given back.
+    // What the last post replaced, the opening of the subscription that left last, as its lane and itself had it, and
+    // what a trim or a compaction discarded: for who drops them once the lock is given back.
     replaced: Vec<Change>,
     left: Left,
+    discarded: Discarded,
 }
 
 impl<N: Origin> Model for Book<N> {
@@ -144,16 +143,17 @@ impl<N: Origin> Book<N> {
             history: _,
             posters,
         } = parts;
-        Book::begin_over(alloc, log, ledger, posters, policy)
+        Book::begin_over(alloc, log, ledger, posters, policy, false)
     }
 
-    /// The same over a log and a ledger.
+    /// The same over a log and a ledger. It says whether what trims and compactions discard is kept for `take_discarded`.
     pub(crate) fn begin_over(
         alloc: Global,
         log: am_cast::Parts<Item, Call, OpenLane>,
         ledger: ledger::Blank,
         posters: u32,
         policy: Policy,
+        keeps: bool,
     ) -> Result<Begun<N>, AllocError>
         requires table { log.board.shared.table_id ≡ N.table }
         requires ledger { (ledger.name ≡ N.name) × (ledger.parts ≡ N.parts) }
@@ -168,18 +168,18 @@ impl<N: Origin> Book<N> {
             cast,
             writer,
             passes,
-        } = am_cast::begin::<Item, Call, OpenLane, N>(log, posters as usize)?;
+        } = am_cast::begin::<Item, N, Call, OpenLane>(log, posters as usize)?;
         let (tally, share) = ledger.open::<N>();
         match deal(alloc, passes, share) {
-            Ok(passes) => match Book::over(alloc, writer, tally, posters, policy) {
+            Ok(passes) => match Book::over(alloc, writer, tally, posters, policy, keeps) {
                 Ok(book) => Ok(Begun { cast, book, passes }),
                 Err(writer) => {
-                    am_cast::end(cast, writer);
+                    end_log(cast, writer);
                     Err(AllocError)
                 }
             },
             Err(error) => {
-                am_cast::end(cast, writer);
+                end_log(cast, writer);
                 Err(error)
             }
         }
@@ -192,6 +192,7 @@ impl<N: Origin> Book<N> {
         tally: ledger::Book<N>,
         posters: u32,
         policy: Policy,
+        keeps: bool,
     ) -> Result<Book<N>, Writer<N>>
         requires posters { (posters ≡ N.parts) × (1 ≤ posters) }
         requires empty { (log.tail.log ≡ []) × (log.tail.closed ≡ false) }
@@ -217,13 +218,12 @@ impl<N: Origin> Book<N> {
             tally,
             replaced: Vec::new(alloc),
             left: (None, None),
+            discarded: Discarded::new(alloc, keeps),
         })
     }
 
-    /// Drops a Book that has no subscription, with its log.
-    pub(crate) fn discard(self, cast: Cast<N>)
-        requires { (lane : ℕ) → lane < 8 → (account_of self.log lane).stand ≡ idle }
-    {
+    /// Drops a Book, with its log.
+    pub(crate) fn discard(self, cast: Cast<N>) {
         let Held {
             journal: _,
             store: _,
@@ -233,7 +233,7 @@ impl<N: Origin> Book<N> {
             log,
             tally: _,
         } = self.into_parts();
-        am_cast::end(cast, log);
+        end_log(cast, log);
     }
 
     // What memory has of it.
@@ -259,6 +259,7 @@ impl<N: Origin> Book<N> {
             tally,
             replaced: _,
             left: _,
+            discarded: _,
         } = self;
         let (ended, early) = endings.into_held();
         Held {

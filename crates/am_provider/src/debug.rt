@@ -6,6 +6,7 @@ use crate::feed::{Origin, Recorded};
 use crate::parts::{Begun, Parts};
 use crate::pass::Pass;
 use crate::register::Register;
+use crate::subscription::Subscription;
 use am_history::Timeline;
 use std::fmt;
 
@@ -38,6 +39,12 @@ impl<N: Origin> fmt::Debug for Begun<N> {
 impl<N: Origin> fmt::Debug for Pass<N> {
     fn fmt<W: fmt::Write>(&self, f: &mut fmt::Formatter<W>) -> fmt::Result {
         f.debug_struct("Pass").finish_non_exhaustive()
+    }
+}
+
+impl<'a, N: Origin> fmt::Debug for Subscription<'a, N> {
+    fn fmt<W: fmt::Write>(&self, f: &mut fmt::Formatter<W>) -> fmt::Result {
+        f.debug_struct("Subscription").finish_non_exhaustive()
     }
 }
 

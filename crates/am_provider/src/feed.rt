@@ -34,8 +34,16 @@ impl Recorded for Brand {
 }
 
 /// The log of one provider, from which its subscriptions read.
-pub type Cast<N> = am_cast::Cast<Item, Call, OpenLane, N>;
+pub type Cast<N> = am_cast::Cast<Item, N, Call, OpenLane>;
 
-pub(crate) type Writer<N> = am_cast::Writer<Item, Call, OpenLane, N>;
+pub(crate) type Writer<N> = am_cast::Writer<Item, N, Call, OpenLane>;
 
-pub(crate) type Cursor<'a, N> = am_cast::Cursor<'a, Item, Call, OpenLane, N>;
+pub(crate) type Cursor<'a, N> = am_cast::LentCursor<'a, Item, N, Call, OpenLane>;
+
+/// The end of a log. No subscription is open, since each borrows it; no contract follows that, so a log that had one
+/// would be let go.
+pub(crate) fn end_log<N: Origin>(cast: Cast<N>, log: Writer<N>) {
+    if let Err(open) = am_cast::end(cast, log) {
+        open.leak();
+    }
+}

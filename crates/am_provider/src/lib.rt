@@ -30,7 +30,6 @@
 //! let mut subscription = book.subscribe(cast)?;
 //! let posted = post_three(alloc, book, cast, pass);
 //! let shown = matches!(subscription.next(), Step::Item(_));
-//! let open = !book.is_idle();
 //! let ended = book.leave(cast, subscription);
 //! ```
 //!
@@ -56,7 +55,6 @@ mod book;
 mod caller;
 mod debug;
 mod entry;
-mod faults;
 mod feed;
 mod gate;
 mod item;
@@ -71,14 +69,13 @@ mod register;
 mod sending;
 mod settled;
 mod subscription;
-mod waiters;
 
 pub use am_cast::{CloseFault, MAX_PLACES};
+pub use am_store::{BodyFault, PutFault, SubFault};
 pub use answers::{Counts, Ended, Page, Policy, Posted, PostedIf, Slice, Step};
 pub use book::Book;
 pub use caller::Caller;
 pub use entry::Entry;
-pub use faults::{BodyFault, PutFault, SubFault};
 pub use feed::{Cast, Origin, Recorded};
 pub use gate::{Gate, NoGate};
 pub use item::Item;

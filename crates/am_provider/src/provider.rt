@@ -26,7 +26,6 @@ use crate::feed::{Cast, Recorded};
 use crate::parts::{Begun, Parts};
 use crate::recorded_book::RecordedBook;
 use crate::settled::Settled;
-use crate::waiters::Waiters;
 use am_history::{Front, HistoryTable, Opened, open};
 use std::alloc::{AllocError, Global};
 use std::fmt;
@@ -42,7 +41,6 @@ pub struct Provider<N: Recorded> {
     cast: Cast<N>,
     table: HistoryTable<Entry, N>,
     book: Mutex<RecordedBook<N>>,
-    pub(crate) waiters: Waiters,
     alloc: Global,
     /// How long a report without an end lasts.
     resolve_timeout: Duration,
@@ -68,7 +66,9 @@ impl<N: Recorded> Provider<N> {
             history,
             posters,
         } = parts;
-        let Begun { cast, book, passes } = Book::begin_over(alloc, log, ledger, posters, policy)?;
+        let Begun { cast, book, passes } = Book::begin_over(
+            alloc, log, ledger, posters, policy, true,
+        )?;
         let Ok(room) = Vec::with_capacity(alloc, posters as usize) else {
             book.discard(cast);
             return Err(AllocError);
@@ -83,7 +83,6 @@ impl<N: Recorded> Provider<N> {
             cast,
             table,
             book: Mutex::new(RecordedBook { book, history }),
-            waiters: Waiters::new(),
             alloc,
             resolve_timeout,
         };
@@ -123,9 +122,8 @@ impl<N: Recorded> Provider<N> {
     }
 
     /// Ends the provider. Each pass's posts have rising places, in the order in which it posted them. While a
-    /// subscription is open it doesn't compile, since the subscription borrows the provider; no proof follows
-    /// that, so a lane that is still given out would be waited for.
-    pub fn settle<R: Wait>(self, rt: &R, callers: Vec<Caller<N>>) -> Settled
+    /// subscription is open it doesn't compile, since the subscription borrows the provider.
+    pub fn settle(self, callers: Vec<Caller<N>>) -> Settled
         ensures settled { IsSettledFrom (map (λ caller. caller.pass) callers.items)
             (map (λ caller. caller.front) callers.items) result }
         ensures rising { All (λ caller. IsRising caller.pass.own) callers.items }
@@ -142,7 +140,7 @@ impl<N: Recorded> Provider<N> {
             }
             None => None,
         };
-        book.settle_joined(rt, cast, passes, count)
+        book.settle_joined(cast, passes, count)
     }
 
     // The Book, once no other call has it.
@@ -160,7 +158,6 @@ impl<N: Recorded> Provider<N> {
             cast,
             table,
             book,
-            waiters: _,
             alloc: _,
             resolve_timeout: _,
         } = self;

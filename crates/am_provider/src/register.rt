@@ -60,8 +60,10 @@ impl<N: Recorded, M: Timeline> Register<N, M> {
         }
     }
 
-    /// What a thread has seen of the turns before its first.
-    pub fn onlooker<R: Wait>(&self, rt: &R) -> TurnsSeen<N, M> {
+    /// What a thread has seen of the turns before its first. It made none.
+    pub fn onlooker<R: Wait>(&self, rt: &R) -> TurnsSeen<N, M>
+        ensures { (result.made ≡ []) × (result.parts ≡ 0) × (result.looks ≡ 0) }
+    {
         self.taken.lock(rt).maker.onlooker(&self.table)
     }
 

@@ -10,18 +10,17 @@ ghost use Rattle.am_provider.specs.Rising.{AreBelow};
 ghost use Rattle.am_provider.specs.Sending.{IsLogCause, IsSent, IsUnsent, NamesALane, fault_as_put};
 
 use crate::answers::Policy;
-use crate::faults::PutFault;
 use crate::feed::{Cast, Origin, Writer};
 use crate::item::Item;
 use am_cast::{LONGEST_LOG, PublishFault, Published, Refused};
 use am_segment::SegmentBuilder;
 use am_store::lanes::OpenLane;
-use am_store::{Call, SharedAlert};
+use am_store::{Call, PutFault, SharedAlert};
 use std::alloc::AllocError;
 use std::snapshot::Snapshot;
 
 /// The pass as the log has it.
-pub(crate) type LogPass<N> = am_cast::Pass<Item, Call, OpenLane, N>;
+pub(crate) type LogPass<N> = am_cast::Pass<Item, N, Call, OpenLane>;
 
 // A segment of these alerts. If one of their number has ended, it lies where that one was.
 fn segment_of<N: Origin>(

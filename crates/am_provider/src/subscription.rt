@@ -7,7 +7,7 @@ ghost use Rattle.std.specs.Prelude.{◌≡◌, ℕ, ◌+◌, ◌<◌, ◌^◌, I
 ghost use Rattle.am_cast.specs.Cursors.{shown_items};
 ghost use Rattle.am_provider.specs.Subscriptions.{taken};
 ghost use Rattle.am_cast.specs.Lent.{IsPending};
-ghost use Rattle.am_provider.specs.Showings.{HasNews, ShowsNone};
+ghost use Rattle.am_provider.specs.Showings.{HasNews, ShowsNone, StaysShown};
 ghost use Rattle.am_provider.specs.inside.Advances.{Advances, AdvancesPast, LetsGo, Notes};
 ghost use Rattle.am_provider.specs.inside.Slices.{AdvancesSlice, ShowsOpening};
 ghost use Rattle.am_provider.specs.Posts.{HasMet};
@@ -19,8 +19,9 @@ use crate::feed::{Cast, Cursor, Origin, Writer};
 use crate::pass::Pass;
 use am_cast::Moved;
 use am_store::{BLOCK, Past, StoredAlerts};
-use std::fmt;
 use std::marker::Model;
+use std::sync::Wait;
+use std::time::Duration;
 
 /// One subscriber's place. It must be given back by `leave`. Contracts see it as what was stored when
 /// it came, how much of that was shown, and its cursor in the log. Each call writes to it, so keep it in its
@@ -158,6 +159,24 @@ impl<'a, N: Origin> Subscription<'a, N> {
             return true;
         }
         self.cursor.has_news()
+    }
+
+    /// Sleeps until a post, a close or a cut, unless there are news already. It may also return for no reason.
+    pub fn wait<R: Wait>(&mut self, rt: &R)
+        ensures { StaysShown self.old self.new }
+    {
+        if self.shown >= self.stored && !self.closed_told {
+            self.cursor.wait(rt);
+        }
+    }
+
+    /// As `wait`, at most for this long.
+    pub fn wait_timeout<R: Wait>(&mut self, rt: &R, timeout: Duration)
+        ensures { StaysShown self.old self.new }
+    {
+        if self.shown >= self.stored && !self.closed_told {
+            self.cursor.wait_timeout(rt, timeout);
+        }
     }
 
     /// How many alerts were stored at the subscription.
@@ -377,11 +396,5 @@ fn note(moved: Moved, count: &mut u64, closed_told: &mut bool) -> Advance
             Advance::Closed
         }
         Moved::Cut => Advance::Cut,
-    }
-}
-
-impl<'a, N: Origin> fmt::Debug for Subscription<'a, N> {
-    fn fmt<W: fmt::Write>(&self, f: &mut fmt::Formatter<W>) -> fmt::Result {
-        f.debug_struct("Subscription").finish_non_exhaustive()
     }
 }

@@ -11,7 +11,6 @@ use am_provider::{Begun, Book, Cast, Counts, Ended, Origin, Parts, Pass, Policy,
 use am_store::StoredAlerts;
 use std::alloc::{AllocError, Global};
 use std::marker::Brand;
-use std::sync::Wait;
 use std::test::Fail;
 use std::time::Duration;
 
@@ -24,17 +23,14 @@ fn starts_of(alloc: Global, alerts: &StoredAlerts) -> Result<Vec<Moment>, AllocE
     Ok(starts)
 }
 
-/// What a Book's reads and its collection answered, whether it was idle while a subscription was open and
-/// after that, and that subscription's ending.
+/// What a Book's reads and its collection answered, and a subscription's ending.
 #[derive(Debug, Drop)]
 struct Answers {
     stored: Vec<Moment>,
     found: Option<Moment>,
     removed: Vec<Moment>,
     left: Vec<Moment>,
-    open: bool,
     ended: Ended,
-    idle: bool,
     // The place of a post of which a filter refused all, and how many those were.
     none: (Option<u64>, usize),
 }
@@ -98,7 +94,6 @@ fn spend<N: Origin>(
     let mut subscription = book.subscribe(cast)?;
     let posted = post_three(alloc, book, cast, pass);
     let shown = matches!(subscription.next(), Step::Item(_));
-    let open = !book.is_idle();
     let ended = book.leave(cast, subscription);
     posted?;
     if !shown {
@@ -114,19 +109,13 @@ fn spend<N: Origin>(
         found,
         removed,
         left,
-        open,
         ended,
-        idle: book.is_idle(),
         none,
     })
 }
 
-// A Book's day. It ends without the handle if it can.
-fn spend_over<N: Origin, R: Wait>(
-    rt: &R,
-    alloc: Global,
-    parts: Parts,
-) -> Result<(Answers, Settled), Stopped>
+// A Book's day.
+fn spend_over<N: Origin>(alloc: Global, parts: Parts) -> Result<(Answers, Settled), Stopped>
     requires table { parts.log.board.shared.table_id ≡ N.table }
     requires ledger { (parts.ledger.name ≡ N.name) × (parts.ledger.parts ≡ N.parts) }
 {
@@ -139,11 +128,7 @@ fn spend_over<N: Origin, R: Wait>(
         Some(pass) => spend(alloc, &mut book, &cast, pass),
         None => Err(Stopped::Refused),
     };
-    let settled = if book.is_idle() {
-        book.end(cast, passes)
-    } else {
-        book.settle(rt, cast, passes)
-    };
+    let settled = book.settle(cast, passes);
     Ok((answers?, settled))
 }
 
@@ -151,12 +136,11 @@ fn spend_over<N: Origin, R: Wait>(
 fn a_book_ends_without_a_handle(rt: HostRuntime) -> Result<(), Fail> {
     let alloc = rt.alloc();
     let parts = Parts::make(alloc, 4, 1)?;
-    let (answers, settled) = spend_over::<Brand, HostRuntime>(&rt, alloc, parts)?;
+    let (answers, settled) = spend_over::<Brand>(alloc, parts)?;
     assert!(rt; answers.stored.as_slice() == [moment(10), moment(11), moment(12)].as_slice());
     assert_eq!(rt; answers.found, Some(moment(11)));
     assert!(rt; answers.removed.as_slice() == [moment(11)].as_slice());
     assert!(rt; answers.left.as_slice() == [moment(10), moment(12)].as_slice());
-    assert!(rt; answers.open && answers.idle);
     assert_eq!(rt; answers.none, (None, 1));
     assert_eq!(rt;
         answers.ended,

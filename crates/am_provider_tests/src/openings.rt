@@ -1,5 +1,5 @@
-//! Openings of more alerts than a block has: each shows what was stored when it came, whatever came since, also
-//! where it has blocks in common with an earlier one.
+//! Openings of more alerts than a block has, and than a group of blocks: each shows what was stored when it came,
+//! whatever came since, also where it has blocks or groups in common with an earlier one.
 
 use crate::bodies::{Report, moment};
 use crate::posts::{post_many, post_reports};
@@ -13,9 +13,6 @@ use std::sync::Wait;
 use std::test::Fail;
 
 const ONE_BLOCK: u32 = BLOCK as u32;
-
-// Two whole blocks, and a few alerts more.
-const MANY: u32 = 2 * ONE_BLOCK + 3;
 
 // The alert that is posted again, in the second block.
 const CHANGED: u32 = ONE_BLOCK + 5;
@@ -57,7 +54,7 @@ impl Shown {
 fn opening_of<N: Recorded>(subscription: &mut Subscription<'_, N>) -> Shown {
     let mut shown = Shown::NOTHING;
     let mut last = Moment::MAX;
-    for _ in 0..10 {
+    for _ in 0..100 {
         let Slice::Stored(alerts) = subscription.next_slice() else {
             return shown;
         };
@@ -79,19 +76,27 @@ fn stored<N: Recorded, R: Wait>(rt: &R, client: &mut Client<'_, N>) -> Result<Sh
     Ok(shown)
 }
 
+// How many alerts are stored first: some whole blocks, and a few alerts more.
+fn many(blocks: u32) -> u32 {
+    blocks.wrapping_mul(ONE_BLOCK).wrapping_add(3)
+}
+
 #[derive(Drop)]
-struct Sharing;
+struct Sharing {
+    blocks: u32,
+}
 
 impl<R: Wait + AllocGlobal> Program<R> for Sharing {
     type Outcome = Result<[Shown; 4], Stopped>;
 
     fn run<N: Recorded>(self, rt: &R, clients: &mut [Client<'_, N>]) -> Self::Outcome {
         let client = &mut clients[0];
-        post_many(rt, client, 0, ONE_BLOCK, END)?;
-        post_many(rt, client, ONE_BLOCK, ONE_BLOCK, END)?;
-        post_many(rt, client, 2 * ONE_BLOCK, 3, END)?;
+        for block in 0..self.blocks {
+            post_many(rt, client, block.wrapping_mul(ONE_BLOCK), ONE_BLOCK, END)?;
+        }
+        post_many(rt, client, self.blocks.wrapping_mul(ONE_BLOCK), 3, END)?;
         let mut first = client.subscribe(rt)?;
-        let posted = change(rt, client);
+        let posted = change(rt, client, many(self.blocks));
         let stored = stored(rt, client);
         let second = client.subscribe(rt);
         let removed = client.collect_resolved(rt, moment(END + 1));
@@ -109,25 +114,30 @@ impl<R: Wait + AllocGlobal> Program<R> for Sharing {
     }
 }
 
-// One alert of the second block is posted again, and a new one.
+// One alert of the second block is posted again, and a new one, the one of this number.
 fn change<N: Recorded, R: Wait + AllocGlobal>(
     rt: &R,
     client: &mut Client<'_, N>,
+    new: u32,
 ) -> Result<(), Stopped> {
     let again = [Report::new(CHANGED, CHANGED, LATER)];
     post_reports(rt, client, again.as_slice(), 20)?;
-    post_many(rt, client, MANY, 1, END)
+    post_many(rt, client, new, 1, END)
 }
 
-#[test]
-fn openings_with_blocks_in_common(rt: HostRuntime) -> Result<(), Fail> {
+// What is shown with this number of whole blocks stored, and what should be.
+fn shown_and_wanted<R: Wait + AllocGlobal>(
+    rt: &R,
+    blocks: u32,
+) -> Result<(Result<[Shown; 4], Stopped>, [Shown; 4]), Fail> {
     let limits = Limits::with_callers(1).places(8);
-    let (shown, _settled) = run(&rt, rt.alloc(), limits, Sharing)?;
-    let many = MANY as usize;
+    let (shown, _settled) = run(rt, rt.alloc(), limits, Sharing { blocks })?;
+    let many = many(blocks) as usize;
+    let slices = blocks.wrapping_add(1);
     let wanted = [
-        (3, many, true, moment(END)),
-        (0, many + 1, true, moment(LATER)),
-        (3, many + 1, true, moment(LATER)),
+        (slices, many, true, moment(END)),
+        (0, many.wrapping_add(1), true, moment(LATER)),
+        (slices, many.wrapping_add(1), true, moment(LATER)),
         (1, 1, true, moment(LATER)),
     ]
     .map(|(slices, alerts, rising, end)| Shown {
@@ -136,6 +146,20 @@ fn openings_with_blocks_in_common(rt: HostRuntime) -> Result<(), Fail> {
         rising,
         end,
     });
+    Ok((shown, wanted))
+}
+
+#[test]
+fn openings_with_blocks_in_common(rt: HostRuntime) -> Result<(), Fail> {
+    let (shown, wanted) = shown_and_wanted(&rt, 2)?;
+    assert_eq!(rt; shown?.as_slice(), wanted.as_slice());
+    Ok(())
+}
+
+// The first group is full, and the last alerts are in a second one.
+#[test]
+fn openings_with_groups_in_common(rt: HostRuntime) -> Result<(), Fail> {
+    let (shown, wanted) = shown_and_wanted(&rt, 32)?;
     assert_eq!(rt; shown?.as_slice(), wanted.as_slice());
     Ok(())
 }

@@ -45,7 +45,7 @@ impl Heard {
                 Step::Item(_alert) => {
                     self.alerts.fetch_add(1, Ordering::SeqCst);
                 }
-                Step::Pending => reader.subscription.wait_past(rt, reader.provider),
+                Step::Pending => reader.subscription.wait(rt),
                 Step::Closed | Step::Cut => break,
             }
         }
@@ -177,6 +177,8 @@ fn news_of<N: Recorded, R: Wait + AllocGlobal>(
     subscription: &mut Subscription<'_, N>,
 ) -> Result<[bool; 5], Stopped> {
     let stored = subscription.has_news();
+    // A sleep would last for ever.
+    subscription.wait(rt);
     let stored_shown = show(subscription) && !subscription.has_news();
     post(rt, client, body_of(rt.alloc(), 2)?.as_bytes(), 11)?;
     let posted = subscription.has_news();

@@ -6,13 +6,13 @@ use Rattle.std.specs.Option.{option_and_then}
 use Rattle.std.specs.List.{list_any}
 use Rattle.std.specs.Fmt.{decimal}
 use Rattle.am_provider.specs.declared.answers.Counts.{Counts}
-use Rattle.am_runner.specs.Answers.{is_out_of_memory}
+use Rattle.am_answers.specs.Answers.{is_out_of_memory}
 use Rattle.json.specs.Json.{object, Members, no_members, member}
 use Rattle.am_script.specs.JsonLines.{object_line, decimal_json, worded}
-use Rattle.am_runner.specs.Forms.{answers_printed}
+use Rattle.am_answers.specs.Forms.{answers_printed}
 use Rattle.am_script.specs.declared.form.Form.{Form}
 use Rattle.am_script.specs.declared.form.Form.TheVariants.{Text, Json}
-use Rattle.am_runner.specs.declared.answer.Answer.{Answer}
+use Rattle.am_answers.specs.declared.answer.Answer.{Answer}
 use Rattle.am_script.specs.declared.command.Line.{Line}
 
 -- the answers, or none

@@ -5,12 +5,12 @@
 
 ghost use Rattle.std.specs.Prelude.{◌≡◌, ◌++◌, ◌∷◌, [], IfOk, OnOk, Some, string_bytes};
 ghost use Rattle.std.specs.List.{list_any};
-ghost use Rattle.am_runner.specs.Answers.{is_out_of_memory};
+ghost use Rattle.am_answers.specs.Answers.{is_out_of_memory};
 ghost use Rattle.am_replay.specs.Printing.{counts_line, counts_text, given_at, lines_text};
 ghost use Rattle.am_replay.specs.Printing.{ran_out_of_memory, transcript_text};
 
+use am_answers::{Answer, write_answers};
 use am_provider::Counts;
-use am_runner::{Answer, write_answers};
 use am_script::{Form, JsonLine, Line, Thread};
 use std::alloc::{AllocError, Global};
 use std::fmt;

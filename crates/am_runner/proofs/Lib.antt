@@ -1,6 +1,5 @@
 pub mod Nexts
 pub mod Named
-pub mod Notifying
 pub mod Results
 pub mod Reading
 pub mod Taking

@@ -24,13 +24,13 @@ use Rattle.am_script.specs.declared.command.Command.TheVariants.{Subscribe}
 use Rattle.am_script.specs.declared.command.Verb.{Verb}
 use Rattle.am_script.specs.declared.kind.Kind.{Kind}
 use Rattle.am_script.specs.declared.kind.Kind.TheVariants.{Plain, Dispatch, Inhibit, Notify}
-use Rattle.am_runner.specs.Consuming.{HasTaken, fresh_consumer}
+use Rattle.am_answers.specs.Consuming.{HasTaken, fresh_consumer}
 use Rattle.am_runner.specs.Reading.{OpenView}
 use Rattle.am_runner.specs.Sessions.{Setting, SessionView, Does, subscribed, swept, forgot, SweepsNamed, sweep_command, OnNamed, one_named, none_named, index_named}
-use Rattle.am_runner.specs.declared.answer.Answer.{Answer}
-use Rattle.am_runner.specs.declared.answer.Answer.TheVariants.{Subscribed}
-use Rattle.am_runner.specs.declared.consumer.Half.{Half}
-use Rattle.am_runner.specs.declared.consumer.Half.TheVariants as half
+use Rattle.am_answers.specs.declared.answer.Answer.{Answer}
+use Rattle.am_answers.specs.declared.answer.Answer.TheVariants.{Subscribed}
+use Rattle.am_answers.specs.declared.consumer.Half.{Half}
+use Rattle.am_answers.specs.declared.consumer.Half.TheVariants as half
 
 -- none of the first so many passes, nor does the next
 pub none_more : {A : Type 0} (p : A → Bool) (xs : List A) (i : ℕ) (one : A) → ((k : ℕ) (d : A) → k < i → p (get_or xs k d) ≡ false) → i < length xs → one ≡ get_or xs i one → p one ≡ false

@@ -4,8 +4,8 @@ use Rattle.am_provider.specs.Showings.{ShowsItem, Shows}
 use Rattle.am_provider.specs.Subscriptions.{SubscriptionView}
 use Rattle.am_provider.specs.declared.answers.Step.TheVariants as step
 use Rattle.am_runner.specs.Reading.{NextIs}
-use Rattle.am_runner.specs.declared.answer.Answer.{Answer}
-use Rattle.am_runner.specs.declared.answer.Answer.TheVariants as answer
+use Rattle.am_answers.specs.declared.answer.Answer.{Answer}
+use Rattle.am_answers.specs.declared.answer.Answer.TheVariants as answer
 
 -- what holds of an alert, of Pending, of Closed and of Cut holds of each of them
 pub by_next : {old new : SubscriptionView} (P : Answer → Type 0) → ((alert : Alert) → ShowsItem old alert new → P (answer.Item alert))

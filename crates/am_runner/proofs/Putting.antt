@@ -9,8 +9,8 @@ use Rattle.am_store.specs.declared.call.Call.{Call}
 use Rattle.am_provider.specs.Histories.{EntryView}
 use Rattle.am_provider.specs.declared.answers.Policy.{Policy}
 use Rattle.am_provider.specs.declared.answers.Posted.{Posted}
-use Rattle.am_provider.specs.declared.faults.BodyFault.{BodyFault}
-use Rattle.am_provider.specs.declared.faults.BodyFault.TheVariants as refused
+use Rattle.am_store.specs.declared.faults.BodyFault.{BodyFault}
+use Rattle.am_store.specs.declared.faults.BodyFault.TheVariants as refused
 use Rattle.am_runner.specs.Putting.{AnswersRead}
 
 pub read_as : (is_read : Result Post PostFault → Type 0) (read : Result Post PostFault) → is_read read

@@ -6,8 +6,8 @@ use Rattle.am_provider.specs.Showings.{Shows}
 use Rattle.am_provider.specs.declared.answers.Step.TheVariants as step
 use Rattle.am_script.specs.declared.command.Verb.TheVariants as verb
 use Rattle.am_runner.specs.Reading.{EndsPending, NextIs, OpenView, ReadsOne, takes, misses, ends, ReadsSome, nothing, one_more}
-use Rattle.am_runner.specs.declared.answer.Answer.{Answer}
-use Rattle.am_runner.specs.declared.answer.Answer.TheVariants as answer
+use Rattle.am_answers.specs.declared.answer.Answer.{Answer}
+use Rattle.am_answers.specs.declared.answer.Answer.TheVariants as answer
 
 -- the last of answers that end with Pending is that
 pub last_pending : (before all : List Answer) (last : Answer) → all ≡ before ++ last ∷ [] → EndsPending all → last ≡ answer.Pending

@@ -14,15 +14,15 @@ use Rattle.am_inhibit.specs.LastAlerts.{last_alerts}
 use Rattle.am_inhibit.specs.InhibitionLaws.{KeptAlertsGoOn}
 use Rattle.am_routes.specs.Groups.{DispatcherView, Take, Sweep, Follows}
 use Rattle.am_script.specs.declared.command.Verb.TheVariants as verb
-use Rattle.am_runner.specs.Answers.{is_item}
-use Rattle.am_runner.specs.Consumers.{ConsumerView}
-use Rattle.am_runner.specs.Consuming.{HasTaken, DispatcherTook, InhibitorTook, InhibitorTakes, OnHalf, TakesAlert, IsSwept, DispatcherSwept, InhibitorSwept, alert_kept, alert_taken}
+use Rattle.am_answers.specs.Answers.{is_item}
+use Rattle.am_answers.specs.Consumers.{ConsumerView}
+use Rattle.am_answers.specs.Consuming.{HasTaken, DispatcherTook, InhibitorTook, InhibitorTakes, OnHalf, TakesAlert, IsSwept, DispatcherSwept, InhibitorSwept, alert_kept, alert_taken}
 use Rattle.am_runner.specs.Reading.{OpenView, NextIs, IsTaken, ReadsOne, takes, misses, ends, TookAll}
 use Rattle.am_runner.proofs.Nexts.{by_next}
-use Rattle.am_runner.specs.declared.answer.Answer.{Answer}
-use Rattle.am_runner.specs.declared.answer.Answer.TheVariants as answer
-use Rattle.am_runner.specs.declared.consumer.Half.{Half}
-use Rattle.am_runner.specs.declared.consumer.Half.TheVariants as half
+use Rattle.am_answers.specs.declared.answer.Answer.{Answer}
+use Rattle.am_answers.specs.declared.answer.Answer.TheVariants as answer
+use Rattle.am_answers.specs.declared.consumer.Half.{Half}
+use Rattle.am_answers.specs.declared.consumer.Half.TheVariants as half
 
 -- one alert more was taken
 dispatcher_taken : (alerts : List Alert) (alert : Alert) (old new : DispatcherView) → Follows (Take alert) old new → DispatcherTook alerts old → DispatcherTook (alerts ++ alert ∷ []) new

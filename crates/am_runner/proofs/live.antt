@@ -1,4 +1,2 @@
 pub mod Lines
 pub mod OneByOne
-pub mod Same
-pub mod Runs

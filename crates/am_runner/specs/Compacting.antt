@@ -11,7 +11,7 @@ use Rattle.am_provider.specs.Histories.{EntryView}
 use Rattle.am_script.specs.declared.command.Command.TheVariants.{Compact, StoredPage}
 use Rattle.am_runner.specs.Reading.{OpenView}
 use Rattle.am_runner.specs.Sessions.{Setting, SessionView, Does}
-use Rattle.am_runner.specs.declared.answer.Answer.{Answer}
+use Rattle.am_answers.specs.declared.answer.Answer.{Answer}
 
 -- the store is asked how many alerts it has, by a page of none of them
 abbrev pub CountsStored : Config → Setting → SessionView → SessionView → Type 0

@@ -1,11 +1,3 @@
-pub mod Answers
-pub mod Codes
-pub mod Printing
-pub mod PrintingJson
-pub mod Forms
-pub mod Consumers
-pub mod Consuming
-pub mod Asking
 pub mod Reading
 pub mod Putting
 pub mod Sessions

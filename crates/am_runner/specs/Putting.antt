@@ -15,8 +15,8 @@ use Rattle.am_provider.specs.Histories.{EntryView}
 use Rattle.am_provider.specs.Posts.{AddsOwn}
 use Rattle.am_provider.specs.declared.answers.Policy.{Policy}
 use Rattle.am_provider.specs.declared.answers.Posted.{Posted}
-use Rattle.am_provider.specs.declared.faults.BodyFault.{BodyFault}
-use Rattle.am_provider.specs.declared.faults.BodyFault.TheVariants as refused
+use Rattle.am_store.specs.declared.faults.BodyFault.{BodyFault}
+use Rattle.am_store.specs.declared.faults.BodyFault.TheVariants as refused
 
 -- how a post is answered whose reading answers this: one that isn't read is refused for its fault before the
 -- history is looked at; another is posted, and then the pass owns its place

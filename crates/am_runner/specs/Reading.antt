@@ -6,12 +6,12 @@ use Rattle.am_provider.specs.Batches.{Batch}
 use Rattle.am_provider.specs.Subscriptions.{SubscriptionView, taken}
 use Rattle.am_provider.specs.Showings.{ShowsItem, Shows}
 use Rattle.am_provider.specs.declared.answers.Step.TheVariants as step
-use Rattle.am_runner.specs.Answers.{is_item}
-use Rattle.am_runner.specs.Consumers.{ConsumerView}
-use Rattle.am_runner.specs.Consuming.{TakesAlert, HasTaken}
+use Rattle.am_answers.specs.Answers.{is_item}
+use Rattle.am_answers.specs.Consumers.{ConsumerView}
+use Rattle.am_answers.specs.Consuming.{TakesAlert, HasTaken}
 use Rattle.am_script.specs.declared.command.Verb.TheVariants as verb
-use Rattle.am_runner.specs.declared.answer.Answer.{Answer}
-use Rattle.am_runner.specs.declared.answer.Answer.TheVariants as answer
+use Rattle.am_answers.specs.declared.answer.Answer.{Answer}
+use Rattle.am_answers.specs.declared.answer.Answer.TheVariants as answer
 
 -- a subscription, its name, its consumer, and whether that had no memory for an alert that was shown
 pub record OpenView : Type 0 where

@@ -28,8 +28,8 @@ use Rattle.am_provider.specs.declared.answers.Policy.{Policy}
 use Rattle.am_provider.specs.declared.answers.Ended.{Ended}
 use Rattle.am_provider.specs.declared.answers.Page.{Page}
 use Rattle.am_provider.specs.declared.answers.Posted.{Posted}
-use Rattle.am_provider.specs.declared.faults.BodyFault.{BodyFault}
-use Rattle.am_provider.specs.declared.faults.SubFault.{SubFault}
+use Rattle.am_store.specs.declared.faults.BodyFault.{BodyFault}
+use Rattle.am_store.specs.declared.faults.SubFault.{SubFault}
 use Rattle.am_labels.specs.LabelSets.{Labels}
 use Rattle.am_script.specs.declared.kind.Kind.{Kind}
 use Rattle.am_config.specs.RouteLists.{root_of}
@@ -43,15 +43,15 @@ use Rattle.am_script.specs.declared.command.GivenMoment.{GivenMoment}
 use Rattle.am_script.specs.Commands.{moment_in}
 use Rattle.am_script.specs.declared.command.Verb.{Verb}
 use Rattle.am_script.specs.declared.command.Verb.TheVariants as verb
-use Rattle.am_runner.specs.Asking.{AsksTree, ShowsTree}
-use Rattle.am_runner.specs.Consuming.{answers_of_groups, fresh_consumer, has_both, sweep_word}
-use Rattle.am_runner.specs.Consuming.{IsAsked, IsSwept}
+use Rattle.am_answers.specs.Asking.{AsksTree, ShowsTree}
+use Rattle.am_answers.specs.Consuming.{answers_of_groups, fresh_consumer, has_both, sweep_word}
+use Rattle.am_answers.specs.Consuming.{IsAsked, IsSwept}
 use Rattle.am_runner.specs.Putting.{AnswersPosted, AnswersPut}
 use Rattle.am_runner.specs.Reading.{OpenView, ReadAnswers, EndsPending}
-use Rattle.am_runner.specs.declared.answer.Answer.{Answer}
-use Rattle.am_runner.specs.declared.answer.Answer.TheVariants as answer
-use Rattle.am_runner.specs.declared.consumer.Half.{Half}
-use Rattle.am_runner.specs.declared.consumer.Half.TheVariants as half
+use Rattle.am_answers.specs.declared.answer.Answer.{Answer}
+use Rattle.am_answers.specs.declared.answer.Answer.TheVariants as answer
+use Rattle.am_answers.specs.declared.consumer.Half.{Half}
+use Rattle.am_answers.specs.declared.consumer.Half.TheVariants as half
 
 -- what a script is run under: a resolve timeout in nanoseconds, how many places the log has, and what a post
 -- does if it is full

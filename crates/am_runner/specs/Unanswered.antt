@@ -5,7 +5,7 @@ use Rattle.am_script.specs.declared.command.Command.{Command}
 use Rattle.am_script.specs.declared.command.Command.TheVariants.{Post, Put, Read, Take, Groups, Mutes, Stored}
 use Rattle.am_script.specs.declared.command.Command.TheVariants.{StoredPage, Get, Routes, Route}
 use Rattle.am_runner.specs.Sessions.{Setting, SessionView, Does}
-use Rattle.am_runner.specs.declared.answer.Answer.{Answer}
+use Rattle.am_answers.specs.declared.answer.Answer.{Answer}
 
 -- whether a command only asks: what is lost with its answer can be asked again
 abbrev pub is_question : Command → Bool

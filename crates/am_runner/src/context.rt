@@ -1,6 +1,6 @@
 //! What the lines of a thread are run on.
 
-use crate::prepared_config::PreparedConfig;
+use am_answers::PreparedConfig;
 use am_provider::{Provider, Recorded};
 use std::alloc::Global;
 

@@ -23,26 +23,16 @@
 //! ```
 #![tactic(auto)]
 
-mod answer;
-mod answer_json;
-mod codes;
-mod consumer;
 mod context;
 mod debug;
-mod group_answers;
 mod live;
 mod open_subscription;
-mod prepared_config;
-mod room_for_answer;
 mod session;
 mod turns;
 mod unanswered;
 
-pub use answer::{Answer, GroupHead, PageHead, write_answers};
-pub use consumer::{Consumer, Half};
 pub use context::Context;
 pub use live::{InputLine, LiveRun, Serving, answer_line, next_line, serve, serve_all};
 pub use open_subscription::OpenSubscription;
-pub use prepared_config::PreparedConfig;
 pub use session::Session;
 pub use turns::{Turn, Turns};

@@ -10,12 +10,10 @@
 //! Who has lines of its own, and no reader, calls `answer_line` for each, and then `LiveRun::compact_if_due`.
 
 mod answering;
-mod known;
 mod live_run;
 mod pace;
 mod reading;
 mod serving;
-mod showing;
 mod standing;
 
 pub use answering::answer_line;

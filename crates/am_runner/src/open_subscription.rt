@@ -9,14 +9,13 @@ ghost use mathlib.Core.List.{IsPrefix};
 ghost use Rattle.am_provider.specs.Callers.{KnowsAllSent, SeesCall};
 ghost use Rattle.am_provider.specs.Headline.{AnswersVouch};
 ghost use Rattle.am_provider.specs.Subscriptions.{taken};
-ghost use Rattle.am_runner.specs.Consuming.{HasTaken, IsAsked, answers_of_groups, has_both};
-ghost use Rattle.am_runner.specs.Answers.{is_item};
+ghost use Rattle.am_answers.specs.Consuming.{HasTaken, IsAsked, answers_of_groups, has_both};
+ghost use Rattle.am_answers.specs.Answers.{is_item};
 ghost use Rattle.am_runner.specs.Reading.{EndsPending, IsTaken, NextIs, ReadAnswers, ReadsOne, SaysPendingPast, TookAll};
 ghost use Rattle.am_runner.specs.Sessions.{SweepsOne};
 
-use crate::answer::Answer;
-use crate::consumer::{Consumer, Half};
 use am_alert::Moment;
+use am_answers::{Answer, Consumer, Half};
 use am_inhibit::laws::kept_laws;
 use am_labels::{LabelSet, Text};
 use am_provider::{Caller, Origin, Pass, Provider, Recorded, Step, Subscription};
@@ -40,7 +39,7 @@ impl<'p, 'c, N: Origin> Model for OpenSubscription<'p, 'c, N> {
     ghost use Rattle.am_alert.specs.Alerts.{coded_alert};
     ghost use Rattle.am_store.specs.contracts.call.Call as call;
     ghost use Rattle.am_store.specs.contracts.lanes.OpenLane as lane;
-    ghost use Rattle.am_runner.specs.contracts.consumer.Consumer as beside;
+    ghost use Rattle.am_answers.specs.contracts.consumer.Consumer as beside;
     ghost use Rattle.std.specs.Prelude.{[]};
     ghost use mir.Syntax.{named};
     ghost use Rattle.am_runner.specs.Reading.{OpenView, TookAll};

@@ -9,17 +9,13 @@ ghost use Rattle.am_runner.specs.Unanswered.{IsUnanswered, loses_nothing};
 mod consumer;
 mod journal;
 mod post;
-mod routes;
 mod stored;
 mod subscription;
 
-use crate::answer::Answer;
-use crate::consumer::Half;
 use crate::context::Context;
 use crate::open_subscription::OpenSubscription;
-use crate::room_for_answer::RoomForAnswer;
-use crate::session::routes::{ask_tree, show_tree};
 use crate::turns::{Turn, Turns};
+use am_answers::{Answer, Half, RoomForAnswer, ask_tree, show_tree};
 use am_history::Timeline;
 use am_labels::Text;
 use am_provider::{Caller, Gate, Recorded, Register, TurnsSeen};
@@ -40,7 +36,7 @@ impl<'p, 'c, N: Recorded> Model for Session<'p, 'c, N> {
     ghost use Rattle.am_alert.specs.Alerts.{coded_alert};
     ghost use Rattle.am_store.specs.contracts.call.Call as call;
     ghost use Rattle.am_store.specs.contracts.lanes.OpenLane as lane;
-    ghost use Rattle.am_runner.specs.contracts.consumer.Consumer as beside;
+    ghost use Rattle.am_answers.specs.contracts.consumer.Consumer as beside;
     ghost use Rattle.std.specs.Prelude.{[]};
     ghost use mir.Syntax.{named};
     ghost use Rattle.am_runner.specs.Sessions.{SessionView};

@@ -1,8 +1,9 @@
 //! A script's run from its text: read, run in eight threads, and settled.
 
+use am_answers::{Answer, write_answers};
 use am_config::{Config, ConfigFault};
 use am_provider::{Counts, Ended, Settled};
-use am_runner::{Answer, Turns, write_answers};
+use am_runner::Turns;
 use am_script::{Form, Line, ScriptFault, config_line, read_script};
 use am_store::Call;
 use am_threads::{InOrder, LogLimits, RunFault, WholeRun, run_whole};

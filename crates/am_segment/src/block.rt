@@ -149,6 +149,11 @@ impl<T, A: Allocator> Claim<T, A> {
             by: PhantomData,
         }
     }
+
+    /// Lets the claim go. If it is there, the block is never had back.
+    pub(crate) fn leak(self) {
+        let Claim { by: _ } = self;
+    }
 }
 
 /// The right to read a shared block's items. A block has 2^63 parts, and this is `count` of them.
@@ -218,5 +223,10 @@ impl<T> Part<T> {
         let Part { ptr } = self;
         let Part { ptr: _ } = other;
         Part { ptr }
+    }
+
+    /// Lets the part go. Its block is never had back.
+    pub(crate) fn leak(self) {
+        let Part { ptr: _ } = self;
     }
 }

@@ -1,7 +1,7 @@
 //! A segment while it is filled.
 
 ghost use Rattle.std.specs.Prelude.{◌≡◌, ◌↔◌, ℕ, ◌≤◌, ◌<◌, [], ◌∷◌, ◌++◌, length};
-ghost use Rattle.std.specs.Prelude.{IsOk, IfOk, IfErr, OnOk};
+ghost use Rattle.std.specs.Prelude.{IsOk, IfOk, IfErr, OnOk, IfSome, IfNone};
 ghost use Rattle.am_segment.specs.Segments.{key_with, keys_of, AreAllKeys};
 
 use crate::block::Block;
@@ -79,6 +79,19 @@ impl<T> SegmentBuilder<T> {
         self.block.push(self.count, item);
         self.count += 1;
         Ok(())
+    }
+
+    /// Takes the last item out.
+    pub fn pop(&mut self) -> Option<T>
+        ensures some { IfSome result (λ item. self.old.items ≡ self.new.items ++ item ∷ []) }
+        ensures none { IfNone result ((self.old.items ≡ []) × (self.new ≡ self.old)) }
+        ensures places { self.new.places ≡ self.old.places }
+    {
+        if self.count == 0 {
+            return None;
+        }
+        self.count -= 1;
+        Some(self.block.pop(self.count))
     }
 
     /// Drops the items, and frees the block.

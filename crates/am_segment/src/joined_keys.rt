@@ -124,6 +124,14 @@ impl<T> JoinedKeys<T> {
         held.into_builder()
     }
 
+    /// Lets the keys go, with the same effect as `SegKey::leak` for each of them.
+    pub fn leak(self) {
+        let JoinedKeys { count: _, held } = self;
+        if let Some(share) = held {
+            share.leak();
+        }
+    }
+
     /// Drops the segment's items and frees it, for all of its keys.
     pub fn reunite(self)
     where

@@ -53,4 +53,11 @@ impl<T> SegKey<T> {
     {
         self.share.items()
     }
+
+    /// Lets the key go without the others. Its segment never ends: the items aren't dropped, and their memory is
+    /// never given back.
+    pub fn leak(self) {
+        let SegKey { share } = self;
+        share.leak();
+    }
 }

@@ -139,6 +139,19 @@ impl<T> Share<T> {
             alloc,
         }
     }
+
+    /// Lets it go. The segment never ends.
+    pub(crate) fn leak(self) {
+        let Share {
+            part,
+            len: _,
+            places: _,
+            claim,
+            alloc: _,
+        } = self;
+        part.leak();
+        claim.leak();
+    }
 }
 
 impl<T: Drop> Share<T> {

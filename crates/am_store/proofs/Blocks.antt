@@ -1,68 +1,69 @@
 -- How a list lies in blocks, and which of them stay as they are.
-use Rattle.std.proofs.Common.{◌≡◌, ◌≢◌, ℕ, zero, suc, ◌+◌, ◌*◌, ◌-◌, ◌/◌, ◌%◌, ◌<◌, ◌≤◌, List, [], ◌∷◌, ◌++◌, Bool, true, false, Option, Some, None, length, take, drop, get_or, min, set, refl, sym, ap, subst, ◌∙◌, inl, inr, arith, length-drop, length-take}
+use Rattle.std.proofs.Common.{◌≡◌, ◌≢◌, ℕ, zero, suc, ◌+◌, ◌*◌, ◌-◌, ◌/◌, ◌%◌, ◌<◌, ◌≤◌, List, [], ◌∷◌, ◌++◌, Bool, true, false, Option, Some, None, Result, Ok, Err, IfOk, length, take, drop, get_or, min, set, refl, sym, ap, subst, ◌∙◌, inl, inr, arith, length-drop, length-take, mul-zero, mul-suc, mul_comm}
 use Rattle.std.proofs.lemmas.Bool.{cases_lt}
-use Rattle.std.proofs.lemmas.List.{nil_from_length, take-append-drop, drop-drop, drop-take, drop_all, drop_min, drop-map, take_min, take-map, length-map, length_push, get_or_append_left, get_or_push, get_or-take, get_or_past, take_more}
+use Rattle.std.proofs.lemmas.List.{nil_from_length, take-append-drop, drop-drop, drop-take, drop_all, drop_min, drop-map, take_min, take-map, length-map, length_push, get_or_append_left, get_or_push, get_or-take, get_or_past, take_more, take-take}
 use Rattle.std.proofs.lemmas.Option.{slice_get-map}
 use Rattle.std.specs.Arc.{arc_value}
 use Rattle.std.specs.declared.sync.Arc.{Arc}
 use Rattle.std.specs.declared.alloc.Global.{Global}
-use Rattle.std.specs.List.{slice_get}
+use Rattle.std.specs.List.{slice_get, flat_map}
+use Rattle.std.specs.Option.{IfSome}
+use Rattle.std.specs.declared.alloc.AllocError.{AllocError}
 use Rattle.std.specs.Option.{option_map}
 use Rattle.indexmap.specs.IndexMap.{set_value_at}
 use Rattle.am_labels.specs.LabelSets.{Labels}
 use Rattle.am_alert.specs.declared.alert.Alert.{Alert}
-use Rattle.am_store.specs.declared.shared_alerts.TheConstants.{BLOCK}
+use Rattle.am_store.specs.declared.shared_alerts.TheConstants.{BLOCK, GROUP}
 use Rattle.am_store.specs.declared.store.absorb.Change.{Change}
 use Rattle.am_store.specs.declared.store.absorb.Change.TheVariants.{Added, Replaced}
 use Rattle.am_store.specs.Shared.{alerts_in}
 use Rattle.am_store.specs.AlertMaps.{stored_in, all_taken_back}
-use Rattle.am_store.specs.inside.Blocks.{Block, alerts_of_block, alerts_of, AreBlocksOf, IsCurrent}
+use Rattle.am_store.specs.inside.Blocks.{Block, alerts_of_block, AreChunks, AreBlocksOf, AreGroupsOf, IsCurrent, IsGroupCurrent}
 use Rattle.am_store.specs.inside.Changed.{IsUntouched}
 
--- blocks of a list have all its alerts
-pub blocks_joined : (blocks : List Block) (alerts : List Alert) → AreBlocksOf alerts blocks → alerts_of blocks ≡ alerts
-blocks_joined [] alerts are = sym (nil_from_length alerts (omega (arith, are.all)))
-blocks_joined (block ∷ blocks) alerts are =
-    let first : alerts_of_block block ≡ take BLOCK alerts = are.each 0 block (omega arith) in
-    let later : AreBlocksOf (drop BLOCK alerts) blocks = record {
-      each = λ k d short. are.each (suc k) d (omega (arith, short)) ∙ ap (take BLOCK) (ap (λ n. drop n alerts) (omega arith) ∙ sym (drop-drop (BLOCK * k) BLOCK alerts));
-      all = omega (arith, are.all, length-drop BLOCK alerts);
+-- chunks of a list have all of it
+pub chunks_joined : {X Y : Type 0} (part : ℕ) (items : Y → List X) (parts : List Y) (all : List X) → AreChunks part items all parts → flat_map items parts ≡ all
+chunks_joined part items [] all are = sym (nil_from_length all (omega (arith, are.beyond, mul-zero part)))
+chunks_joined part items (first ∷ parts) all are =
+    let front : items first ≡ take part all = are.each 0 first (omega arith) ∙ ap (λ n. take part (drop n all)) (mul-zero part) in
+    let later : AreChunks part items (drop part all) parts = record {
+      each = λ k d short. are.each (suc k) d (omega (arith, short)) ∙ ap (take part) (ap (λ n. drop n all) (omega (arith, mul-suc part k)) ∙ sym (drop-drop (part * k) part all));
+      beyond = omega (arith, are.beyond, length-drop part all, mul-suc part (length parts));
     } in
-    let rest : alerts_of blocks ≡ drop BLOCK alerts = blocks_joined blocks (drop BLOCK alerts) later in
-    ap (λ front. front ++ alerts_of blocks) first ∙ (ap (λ back. take BLOCK alerts ++ back) rest ∙ take-append-drop BLOCK alerts)
+    let rest : flat_map items parts ≡ drop part all = chunks_joined part items parts (drop part all) later in
+    ap (λ xs. xs ++ flat_map items parts) front ∙ (ap (λ back. take part all ++ back) rest ∙ take-append-drop part all)
 
--- blocks that have the alerts of a list are those of what they have
-pub blocks_of_joined : (blocks : List Block) (alerts : List Alert) → AreBlocksOf alerts blocks → AreBlocksOf (alerts_of blocks) blocks
-blocks_of_joined blocks alerts are = subst (λ all. AreBlocksOf all blocks) (sym (blocks_joined blocks alerts are)) are
+-- chunks of a list are those of what they have
+pub chunks_of_joined : {X Y : Type 0} (part : ℕ) (items : Y → List X) (parts : List Y) (all : List X) → AreChunks part items all parts → AreChunks part items (flat_map items parts) parts
+chunks_of_joined part items parts all are = subst (λ xs. AreChunks part items xs parts) (sym (chunks_joined part items parts all are)) are
 
--- one block more has the alerts from its place on
-pub one_block_more : (alerts : List Alert) (blocks : List Block) (block : Block) → ((k : ℕ) (d : Block) → k < length blocks → alerts_of_block (get_or blocks k d) ≡ take BLOCK (drop (BLOCK * k) alerts))
-    → alerts_of_block block ≡ take BLOCK (drop (BLOCK * length blocks) alerts)
-    → (k : ℕ) (d : Block) → k < length (blocks ++ block ∷ []) → alerts_of_block (get_or (blocks ++ block ∷ []) k d) ≡ take BLOCK (drop (BLOCK * k) alerts)
-one_block_more alerts blocks block each is k d short = elim (cases_lt k (length blocks)) [
-  | inl below ↦ ap alerts_of_block (get_or_append_left blocks (block ∷ []) d k below) ∙ each k d below
+-- one chunk more has what the list has from its place on
+pub one_chunk_more : {X Y : Type 0} (part : ℕ) (items : Y → List X) (all : List X) (parts : List Y) (new : Y)
+    → ((k : ℕ) (d : Y) → k < length parts → items (get_or parts k d) ≡ take part (drop (part * k) all)) → items new ≡ take part (drop (part * length parts) all)
+    → (k : ℕ) (d : Y) → k < length (parts ++ new ∷ []) → items (get_or (parts ++ new ∷ []) k d) ≡ take part (drop (part * k) all)
+one_chunk_more part items all parts new each is k d short = elim (cases_lt k (length parts)) [
+  | inl below ↦ ap items (get_or_append_left parts (new ∷ []) d k below) ∙ each k d below
   | inr past ↦
-      let last : length blocks ≡ k = omega (arith, past, short, length_push blocks block) in
-      ap alerts_of_block (get_or_push blocks block d k last) ∙ (is ∙ ap (λ n. take BLOCK (drop (BLOCK * n) alerts)) last)
+      let last : length parts ≡ k = omega (arith, past, short, length_push parts new) in
+      ap items (get_or_push parts new d k last) ∙ (is ∙ ap (λ n. take part (drop (part * n) all)) last)
 ]
 
--- a part of some alerts is a block of them
-pub part_is_block : (items rest some : List (Arc Alert Global)) (at : ℕ) → rest ≡ drop (at * BLOCK) items → some ≡ take (min BLOCK (length rest)) rest → alerts_in some ≡ take BLOCK (drop (BLOCK * at) (alerts_in items))
-part_is_block items rest some at since is =
-    let place : at * BLOCK ≡ BLOCK * at = omega arith in
-    ap alerts_in (is ∙ (take_min BLOCK rest ∙ ap (take BLOCK) (since ∙ ap (λ n. drop n items) place)))
-    ∙ (sym (take-map arc_value BLOCK (drop (BLOCK * at) items)) ∙ ap (take BLOCK) (sym (drop-map arc_value (BLOCK * at) items)))
+-- what is cut out of some alerts is a chunk of them
+pub cut_is_chunk : (part : ℕ) (items rest some : List (Arc Alert Global)) (at : ℕ) → rest ≡ drop (at * part) items → some ≡ take (min part (length rest)) rest → alerts_in some ≡ take part (drop (part * at) (alerts_in items))
+cut_is_chunk part items rest some at since is =
+    ap alerts_in (is ∙ (take_min part rest ∙ ap (take part) (since ∙ ap (λ n. drop n items) (mul_comm at part))))
+    ∙ (sym (take-map arc_value part (drop (part * at) items)) ∙ ap (take part) (sym (drop-map arc_value (part * at) items)))
 
 take_nil : {X : Type 0} (n : ℕ) → take {A = X} n [] ≡ []
 take_nil zero = refl
 take_nil (suc n) = refl
 
--- what lies together from an index on in one block
-run_in_block : (alerts : List Alert) (q r : ℕ) → r < BLOCK → drop r (take BLOCK (drop (BLOCK * q) alerts)) ≡ take (BLOCK - r) (drop (BLOCK * q + r) alerts)
-run_in_block alerts q r small =
-    let parts : BLOCK ≡ r + (BLOCK - r) = omega (arith, small) in
-    ap (λ n. drop r (take n (drop (BLOCK * q) alerts))) parts
-    ∙ (drop-take r (BLOCK - r) (drop (BLOCK * q) alerts) ∙ ap (take (BLOCK - r)) (drop-drop r (BLOCK * q) alerts))
+-- what a chunk has from an index on
+run_in_chunk : {X : Type 0} (part : ℕ) (xs : List X) (start r : ℕ) → r < part → drop r (take part (drop start xs)) ≡ take (part - r) (drop (start + r) xs)
+run_in_chunk part xs start r small =
+    let parts : part ≡ r + (part - r) = omega (arith, small) in
+    ap (λ n. drop r (take n (drop start xs))) parts
+    ∙ (drop-take r (part - r) (drop start xs) ∙ ap (take (part - r)) (drop-drop r start xs))
 
 -- ---- lists that agree at each index
 
@@ -90,11 +91,11 @@ got_take (suc n) [] at below = refl
 got_take (suc n) (x ∷ xs) zero below = refl
 got_take (suc n) (x ∷ xs) (suc at) below = got_take n xs at (omega (arith, below))
 
--- lists that agree within a block have the same block there
-pub same_block : (from : ℕ) (xs ys : List Alert) → ((at : ℕ) → from ≤ at → at < from + BLOCK → slice_get xs at ≡ slice_get ys at) → take BLOCK (drop from xs) ≡ take BLOCK (drop from ys)
-same_block from xs ys same = same_got _ _ (λ at. elim (cases_lt at BLOCK) [
-  | inl below ↦ got_take BLOCK (drop from xs) at below ∙ (got_drop from xs at ∙ (same (from + at) (omega arith) (omega (arith, below)) ∙ sym (got_take BLOCK (drop from ys) at below ∙ got_drop from ys at)))
-  | inr past ↦ got_past (take BLOCK (drop from xs)) at (omega (arith, past, length-take BLOCK (drop from xs))) ∙ sym (got_past (take BLOCK (drop from ys)) at (omega (arith, past, length-take BLOCK (drop from ys))))
+-- lists that agree within a chunk have the same there
+same_chunk : (part from : ℕ) (xs ys : List Alert) → ((at : ℕ) → from ≤ at → at < from + part → slice_get xs at ≡ slice_get ys at) → take part (drop from xs) ≡ take part (drop from ys)
+same_chunk part from xs ys same = same_got _ _ (λ at. elim (cases_lt at part) [
+  | inl below ↦ got_take part (drop from xs) at below ∙ (got_drop from xs at ∙ (same (from + at) (omega arith) (omega (arith, below)) ∙ sym (got_take part (drop from ys) at below ∙ got_drop from ys at)))
+  | inr past ↦ got_past (take part (drop from xs)) at (omega (arith, past, length-take part (drop from xs))) ∙ sym (got_past (take part (drop from ys)) at (omega (arith, past, length-take part (drop from ys))))
 ])
 
 -- ---- what an index finds
@@ -126,7 +127,29 @@ run_got alerts blocks from block rest are within got is =
     ap alerts_in (is ∙ drop_min (from % BLOCK) items)
     ∙ (sym (drop-map arc_value (from % BLOCK) items)
     ∙ (ap (drop (from % BLOCK)) (ap alerts_of_block got ∙ are.each (from / BLOCK) block within)
-    ∙ (run_in_block alerts (from / BLOCK) (from % BLOCK) small ∙ ap (λ n. take (BLOCK - from % BLOCK) (drop n alerts)) whole)))
+    ∙ (run_in_chunk BLOCK alerts (BLOCK * (from / BLOCK)) (from % BLOCK) small ∙ ap (λ n. take (BLOCK - from % BLOCK) (drop n alerts)) whole)))
+
+-- and in the group that has it
+pub run_of_group : (alerts : List Alert) (groups : List (List Alert)) (from : ℕ) (group : List Alert) → AreGroupsOf alerts groups → from / GROUP < length groups
+    → group ≡ get_or groups (from / GROUP) group → take (BLOCK - from % GROUP % BLOCK) (drop (from % GROUP) group) ≡ take (BLOCK - from % BLOCK) (drop from alerts)
+run_of_group alerts groups from group are within got =
+    let r = from % GROUP in
+    let small : r < GROUP = omega arith in
+    let whole : GROUP * (from / GROUP) + r ≡ from = omega arith in
+    let run : BLOCK - r % BLOCK ≡ BLOCK - from % BLOCK = omega arith in
+    ap (λ xs. take (BLOCK - r % BLOCK) (drop r xs)) (got ∙ are.each (from / GROUP) group within)
+    ∙ (ap (take (BLOCK - r % BLOCK)) (run_in_chunk GROUP alerts (GROUP * (from / GROUP)) r small)
+    ∙ (take-take (BLOCK - r % BLOCK) (GROUP - r) (drop (GROUP * (from / GROUP) + r) alerts) (omega arith)
+    ∙ (ap (λ n. take n (drop (GROUP * (from / GROUP) + r) alerts)) run ∙ ap (λ n. take (BLOCK - from % BLOCK) (drop n alerts)) whole)))
+
+-- a block of a group is one of the whole list
+pub block_in_group : (alerts : List Alert) (group at : ℕ) → at < 32 → take BLOCK (drop (BLOCK * at) (take GROUP (drop (GROUP * group) alerts))) ≡ take BLOCK (drop (BLOCK * (32 * group + at)) alerts)
+block_in_group alerts group at within =
+    let small : BLOCK * at < GROUP = omega (arith, within) in
+    let place : GROUP * group + BLOCK * at ≡ BLOCK * (32 * group + at) = omega arith in
+    ap (take BLOCK) (run_in_chunk GROUP alerts (GROUP * group) (BLOCK * at) small)
+    ∙ (take-take BLOCK (GROUP - BLOCK * at) (drop (GROUP * group + BLOCK * at) alerts) (omega (arith, within))
+    ∙ ap (λ n. take BLOCK (drop n alerts)) place)
 
 -- the first alert of a run is the one at its index
 pub first_of_run : (alerts : List Alert) (at : ℕ) (run : List (Arc Alert Global)) → alerts_in run ≡ take (BLOCK - at % BLOCK) (drop at alerts) → option_map arc_value (slice_get run 0) ≡ slice_get alerts at
@@ -136,11 +159,9 @@ first_of_run alerts at run is =
     sym (slice_get-map arc_value run 0) ∙ (ap (λ xs. slice_get xs 0) is
     ∙ (got_take (BLOCK - at % BLOCK) (drop at alerts) 0 some ∙ (got_drop at alerts 0 ∙ ap (slice_get alerts) here)))
 
--- no block has an index beyond the last one
-pub run_missing : (alerts : List Alert) (blocks : List Block) (from : ℕ) → AreBlocksOf alerts blocks → length blocks ≤ from / BLOCK → [] ≡ take (BLOCK - from % BLOCK) (drop from alerts)
-run_missing alerts blocks from are past =
-    let beyond : length alerts ≤ from = omega (arith, are.all, past) in
-    sym (ap (take (BLOCK - from % BLOCK)) (drop_all from alerts beyond) ∙ take_nil (BLOCK - from % BLOCK))
+-- no chunk has an index beyond the last one
+pub run_missing : {X Y : Type 0} (part : ℕ) (items : Y → List X) (all : List X) (parts : List Y) (from run : ℕ) → AreChunks part items all parts → part * length parts ≤ from → [] ≡ take run (drop from all)
+run_missing part items all parts from run are past = sym (ap (take run) (drop_all from all (omega (arith, are.beyond, past))) ∙ take_nil run)
 
 -- ---- what a post leaves as it was
 
@@ -200,7 +221,13 @@ still_current current flags (Some shared) changes olds entries was back flagged 
 pub current_block : (current : List Bool) (shared stored : List Alert) (at : ℕ) → IsCurrent current (Some shared) stored → get_or current at false ≡ true
     → take BLOCK (drop (BLOCK * at) shared) ≡ take BLOCK (drop (BLOCK * at) stored)
 current_block current shared stored at is flag =
-    same_block (BLOCK * at) shared stored (λ i low high. let here : i / BLOCK ≡ at = omega (arith, low, high) in is i (ap (λ k. get_or current k false) here ∙ flag))
+    same_chunk BLOCK (BLOCK * at) shared stored (λ i low high. let here : i / BLOCK ≡ at = omega (arith, low, high) in is i (ap (λ k. get_or current k false) here ∙ flag))
+
+-- and so does a group of such blocks
+pub current_group : (current : List Bool) (shared stored : List Alert) (group : ℕ) → IsCurrent current (Some shared) stored → IsGroupCurrent current group
+    → take GROUP (drop (GROUP * group) shared) ≡ take GROUP (drop (GROUP * group) stored)
+current_group current shared stored group is flags =
+    same_chunk GROUP (GROUP * group) shared stored (λ i low high. is i (flags i (omega (arith, low, high))))
 
 -- a list as long as what is stored, with each block current, is what is stored
 pub all_current : (current : List Bool) (shared stored : List Alert) → IsCurrent current (Some shared) stored → length shared ≡ length stored → length shared ≤ BLOCK * length current
@@ -236,3 +263,19 @@ pub untouched_next : (at : ℕ) (changes : List Change) (i : ℕ) (change : Chan
     → IsUntouched at (take (i + 1) changes)
 untouched_next at changes i change within is before last =
     subst (IsUntouched at) (sym (take_more changes i change within ∙ ap (λ c. take i changes ++ c ∷ []) (sym is))) (untouched_more at (take i changes) change before last)
+
+-- ---- what was found
+
+-- what holds of a block that was found, by what another fact says of it
+pub found_so : {P Q : Block → Type 0} (found : Result (Option Block) AllocError) → ((block : Block) → P block → Q block) → IfOk found (λ one. IfSome one P) → IfOk found (λ one. IfSome one Q)
+found_so (Ok (Some block)) so is = so block is
+found_so (Ok None) so is = tt
+found_so (Err error) so is = tt
+
+-- the block at an index among the blocks of all groups
+pub block_of_groups : (alerts : List Alert) (groups : List (List Alert)) (at : ℕ) (group : List Alert) → AreGroupsOf alerts groups → at / 32 < length groups → group ≡ get_or groups (at / 32) group
+    → take BLOCK (drop (BLOCK * (at % 32)) group) ≡ take BLOCK (drop (BLOCK * at) alerts)
+block_of_groups alerts groups at group are within got =
+    let place : 32 * (at / 32) + at % 32 ≡ at = omega arith in
+    ap (λ xs. take BLOCK (drop (BLOCK * (at % 32)) xs)) (got ∙ are.each (at / 32) group within)
+    ∙ (block_in_group alerts (at / 32) (at % 32) (omega arith) ∙ ap (λ n. take BLOCK (drop (BLOCK * n) alerts)) place)

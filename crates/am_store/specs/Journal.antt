@@ -143,10 +143,6 @@ pub record IsLowestIdle (journal : JournalView) (lane : ℕ) : Type 0 where
 abbrev pub AreAllOpen : JournalView → Type 0
 AreAllOpen journal = (lane : ℕ) → lane < 8 → is_open journal lane ≡ true
 
--- none of the eight lanes is open
-abbrev pub AreAllIdle : JournalView → Type 0
-AreAllIdle journal = (lane : ℕ) → lane < 8 → is_open journal lane ≡ false
-
 -- the call may come after those: once the log is closed only a collection or the end of a
 -- subscription may
 abbrev pub MayFollow : JournalView → Call → Type 0

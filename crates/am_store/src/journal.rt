@@ -10,10 +10,12 @@ ghost use Rattle.am_store.specs.Journal.{journal_of, AreCounted};
 ghost use Rattle.am_store.specs.inside.Journals.{IsCounted, IsOnALane};
 
 use crate::call::Call;
+use crate::discarded::Discarded;
 use crate::lane_set::LaneSet;
 use crate::shared_alerts::StoredAlerts;
 use std::alloc::{AllocError, Global};
 use std::collections::VecDeque;
+use std::mem;
 
 /// How many calls can be discarded from a journal in all.
 pub const MAX_BEFORE: u64 = 9_223_372_036_854_775_807;
@@ -65,7 +67,7 @@ impl Journal {
     }
 
     /// Discards that many of the calls that are left. What was stored after them is given.
-    pub fn drop_first(&mut self, count: usize, store: StoredAlerts)
+    pub fn drop_first(&mut self, count: usize, store: StoredAlerts, discarded: &mut Discarded)
         requires within { count ≤ length self.old.calls.items }
         requires countable { self.old.before + count ≤ MAX_BEFORE }
         requires counted { AreCounted self.old }
@@ -75,13 +77,15 @@ impl Journal {
         ensures counted { AreCounted self.new }
         ensures capacity { deque_capacity self.new.calls ≡ deque_capacity self.old.calls }
     {
+        discarded.reserve(count);
         for _ in 0..count {
             if let Some(call) = self.calls.pop_front() {
                 self.count_dropped(&call);
+                discarded.add_call(call);
             }
         }
         self.before += count as u64;
-        self.store = store;
+        discarded.add_list(mem::replace(&mut self.store, store));
     }
 
     // Counts a call among those that were discarded.

@@ -12,6 +12,7 @@ ghost use Rattle.am_store.specs.Stored.{updates, stored};
 ghost use Rattle.am_store.specs.Trims.{IsTrimmed};
 
 use crate::call::Call;
+use crate::discarded::Discarded;
 use crate::journal::{Journal, MAX_BEFORE};
 use crate::past::Past;
 use crate::shared_alerts::StoredAlerts;
@@ -124,7 +125,7 @@ impl KeptJournal {
     }
 
     /// Lets go of all calls in memory, and answers how many. What is stored is given. The journal stays.
-    pub fn compact(&mut self, store: StoredAlerts) -> u64
+    pub fn compact(&mut self, store: StoredAlerts, discarded: &mut Discarded) -> u64
         requires { store ≡ stored (updates self.old.journal) }
         ensures same { self.new.journal ≡ self.old.journal }
         ensures gone { self.new.gone ≡ call_count self.old.journal }
@@ -132,13 +133,13 @@ impl KeptJournal {
         ensures room { self.old.room ≤ self.new.room }
     {
         let count = self.held.calls.len();
-        self.held.drop_first(count, store);
+        self.held.drop_first(count, store, discarded);
         count as u64
     }
 
     /// Discards that many of the calls since the last trim. What was stored after them is given, which is
     /// needed only if memory still has one of them.
-    pub fn trim(&mut self, count: u64, store: StoredAlerts)
+    pub fn trim(&mut self, count: u64, store: StoredAlerts, discarded: &mut Discarded)
         requires within { count ≤ length self.old.journal.calls }
         requires store { self.old.gone < self.old.journal.before + count
             → store ≡ stored (updates (first_calls count self.old.journal)) }
@@ -149,7 +150,7 @@ impl KeptJournal {
         self.before += count;
         if self.held.before < self.before {
             let more = self.before - self.held.before;
-            self.held.drop_first(more as usize, store);
+            self.held.drop_first(more as usize, store, discarded);
         }
     }
 

@@ -5,7 +5,9 @@
 ghost use Rattle.std.specs.Prelude.{◌≡◌, ◌<◌, None, IsSome, IfSome, IfNone, ℕ};
 ghost use Rattle.am_store.specs.Lanes.{all_subscribed_at, lane_at, IsLowestFree, IsEarliest};
 
+use crate::discarded::Discarded;
 use crate::shared_alerts::StoredAlerts;
+use std::mem;
 
 /// How many lanes there are.
 pub const LANES: usize = 8;
@@ -55,13 +57,14 @@ pub fn earliest(lanes: &Lanes) -> Option<&OpenLane>
 
 /// Each open lane lets go of its opening, and shares this list in its place. Were that shared 2^63 times already,
 /// the opening would stay.
-pub fn let_openings_go(lanes: &mut Lanes, others: &StoredAlerts)
+pub fn let_openings_go(lanes: &mut Lanes, others: &StoredAlerts, discarded: &mut Discarded)
     ensures { all_subscribed_at lanes.new ≡ all_subscribed_at lanes.old }
 {
     for lane in 0..LANES {
         if let (Some(open), Ok(opening)) = (&lanes[lane], others.share()) {
             let at = open.at;
-            lanes[lane] = Some(OpenLane { at, opening });
+            let open = Some(OpenLane { at, opening });
+            discarded.add_opening(mem::replace(&mut lanes[lane], open));
         }
     }
 }

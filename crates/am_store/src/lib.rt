@@ -25,6 +25,8 @@
 #![tactic(auto)]
 
 mod call;
+mod discarded;
+mod faults;
 mod journal;
 mod kept_journal;
 mod lane_set;
@@ -35,6 +37,8 @@ mod shared_alerts;
 pub mod store;
 
 pub use call::Call;
+pub use discarded::Discarded;
+pub use faults::{BodyFault, PutFault, SubFault};
 pub use journal::{Journal, MAX_BEFORE};
 pub use kept_journal::KeptJournal;
 pub use lane_set::LaneSet;

@@ -1,16 +1,19 @@
 //! Alerts that the store, the log and openings have in common, so that none of them copies one.
 //!
-//! A list of stored alerts lies in blocks, which have several owners too: of two lists that were shared one
-//! after the other, blocks in which nothing changed are the same.
+//! A list of stored alerts is a tree of two levels: groups of blocks of alerts. Groups and blocks have several
+//! owners too: of two lists that were shared one after the other, those in which nothing changed are the same.
 
 ghost use Rattle.std.specs.Prelude.{◌≡◌, ◌↔◌, ◌<◌, ◌*◌, ◌-◌, ◌%◌, ◌^◌, [], IfOk, IfSome, IsTrue, drop, length, slice_get, take};
 ghost use Rattle.std.specs.Arc.{arc_value};
 ghost use Rattle.std.specs.Option.{option_map, option_copied};
-ghost use Rattle.am_store.specs.declared.shared_alerts.TheConstants.{BLOCK};
+ghost use Rattle.am_store.specs.declared.shared_alerts.TheConstants.{BLOCK, GROUP};
 ghost use Rattle.am_store.specs.Shared.{alerts_in};
-ghost use Rattle.am_store.specs.inside.Blocks.{alerts_of, AreBlocksOf};
+ghost use Rattle.am_store.specs.inside.Blocks.{all_of, AreGroupsOf};
+
+mod block_group;
 
 use am_alert::Alert;
+pub(crate) use block_group::{Block, BlockGroup};
 use std::alloc::{AllocError, Global};
 use std::marker::Model;
 use std::sync::Arc;
@@ -18,17 +21,17 @@ use std::sync::Arc;
 /// How many alerts a block has. The last one of a list may have fewer.
 pub const BLOCK: usize = 1_024;
 
+/// How many alerts a group has, in 32 blocks. The last one of a list may have fewer.
+pub(crate) const GROUP: usize = 32_768;
+
 /// An alert with several owners.
 pub type SharedAlert = Arc<Alert, Global>;
-
-/// Alerts that follow each other in a list.
-pub(crate) type Block = Arc<Vec<SharedAlert>, Global>;
 
 /// What was stored at one moment, seen by contracts as the list of the alerts. It is shared as a
 /// whole, so that a subscription, its lane and the journal have one list in common.
 #[derive(Debug, Drop)]
 pub struct StoredAlerts {
-    blocks: Arc<Vec<Block>, Global>,
+    groups: Arc<Vec<BlockGroup>, Global>,
     len: usize,
 }
 
@@ -38,15 +41,15 @@ impl Model for StoredAlerts {
     ghost use Rattle.std.specs.Coded.{coded_list};
     ghost use Rattle.am_alert.specs.declared.alert.Alert.{Alert};
     ghost use Rattle.am_alert.specs.Alerts.{coded_alert};
-    ghost use Rattle.am_store.specs.inside.Blocks.{alerts_of, AreBlocksOf};
+    ghost use Rattle.am_store.specs.inside.Blocks.{all_of, AreGroupsOf};
 
     ghost Value = { List Alert };
 
     ghost coded = { coded_list coded_alert };
 
-    ghost view = { λ a. alerts_of (arc_value a.blocks).items };
+    ghost view = { λ a. all_of (arc_value a.groups).items };
 
-    ghost invariant = { λ a. let alerts = alerts_of (arc_value a.blocks).items in AreBlocksOf alerts (arc_value a.blocks).items × (a.len ≡ length alerts) × (a.len < 2 ^ 63) };
+    ghost invariant = { λ a. let alerts = all_of (arc_value a.groups).items in AreGroupsOf alerts (arc_value a.groups).items × (a.len ≡ length alerts) × (a.len < 2 ^ 63) };
 }
 
 impl StoredAlerts {
@@ -54,37 +57,37 @@ impl StoredAlerts {
     pub fn new(alloc: Global, alerts: Vec<SharedAlert>) -> Result<StoredAlerts, AllocError>
         ensures { IfOk result (λ stored. stored ≡ alerts_in alerts.items) }
     {
-        let count = alerts.len().div_ceil(BLOCK);
-        let mut blocks = Vec::with_capacity(alloc, count)?;
+        let count = alerts.len().div_ceil(GROUP);
+        let mut groups = Vec::with_capacity(alloc, count)?;
         for at in 0..count {
-            let (_, rest) = alerts.split_at(at * BLOCK);
-            let (some, _) = rest.split_at(BLOCK.min(rest.len()));
-            blocks.push_reserved(block_of(alloc, some)?);
+            let (_, rest) = alerts.split_at(at * GROUP);
+            let (some, _) = rest.split_at(GROUP.min(rest.len()));
+            groups.push_reserved(BlockGroup::new(alloc, some)?);
         }
-        StoredAlerts::of_blocks(alloc, blocks, alerts.len())
+        StoredAlerts::of_groups(alloc, groups, alerts.len())
     }
 
-    // The alerts of these blocks, and how many there are.
-    pub(crate) fn of_blocks(
+    // The alerts of these groups, and how many there are.
+    pub(crate) fn of_groups(
         alloc: Global,
-        blocks: Vec<Block>,
+        groups: Vec<BlockGroup>,
         len: usize,
     ) -> Result<StoredAlerts, AllocError>
-        requires blocks { AreBlocksOf (alerts_of blocks.items) blocks.items }
-        requires len { (len ≡ length (alerts_of blocks.items)) × (len < 2 ^ 63) }
-        ensures { IfOk result (λ stored. stored ≡ alerts_of blocks.items) }
+        requires groups { AreGroupsOf (all_of groups.items) groups.items }
+        requires len { (len ≡ length (all_of groups.items)) × (len < 2 ^ 63) }
+        ensures { IfOk result (λ stored. stored ≡ all_of groups.items) }
     {
-        let blocks = Arc::new(alloc, blocks)?;
-        Ok(StoredAlerts { blocks, len })
+        let groups = Arc::new(alloc, groups)?;
+        Ok(StoredAlerts { groups, len })
     }
 
     /// The same list once more.
     pub fn share(&self) -> Result<StoredAlerts, AllocError>
         ensures { IfOk result (λ shared. shared ≡ self.now) }
     {
-        let blocks = Arc::try_clone(&self.blocks)?;
+        let groups = Arc::try_clone(&self.groups)?;
         Ok(StoredAlerts {
-            blocks,
+            groups,
             len: self.len,
         })
     }
@@ -116,22 +119,30 @@ impl StoredAlerts {
     pub fn run_from(&self, from: usize) -> &[SharedAlert]
         ensures { alerts_in result.now ≡ take (BLOCK - from % BLOCK) (drop from self.now) }
     {
-        match self.blocks.get(from / BLOCK) {
-            Some(block) => {
-                let (_, rest) = block.split_at((from % BLOCK).min(block.len()));
-                rest
-            }
+        match self.groups.get(from / GROUP) {
+            Some(group) => group.run_from(from % GROUP),
             None => &[],
         }
     }
 
-    // The block at an index among the blocks, once more.
+    // The group at an index among the groups, once more.
+    pub(crate) fn share_group(&self, at: usize) -> Result<Option<BlockGroup>, AllocError>
+        ensures { IfOk result (λ found. IfSome found (λ group. group ≡ take GROUP (drop (GROUP * at) self.now))) }
+    {
+        match self.groups.get(at) {
+            Some(group) => Ok(Some(group.share()?)),
+            None => Ok(None),
+        }
+    }
+
+    // The block at an index among the blocks of all groups, once more.
     pub(crate) fn share_block(&self, at: usize) -> Result<Option<Block>, AllocError>
         ensures { IfOk result (λ found. IfSome found (λ block.
             alerts_in (arc_value block).items ≡ take BLOCK (drop (BLOCK * at) self.now))) }
     {
-        match self.blocks.get(at) {
-            Some(block) => Ok(Some(Arc::try_clone(block)?)),
+        let blocks = GROUP / BLOCK;
+        match self.groups.get(at / blocks) {
+            Some(group) => group.share_block(at % blocks),
             None => Ok(None),
         }
     }
@@ -142,17 +153,6 @@ impl StoredAlerts {
     {
         StoredIter { list: self, at: 0 }
     }
-}
-
-// These alerts as a block. None is copied.
-fn block_of(alloc: Global, alerts: &[SharedAlert]) -> Result<Block, AllocError>
-    ensures { IfOk result (λ block. alerts_in (arc_value block).items ≡ alerts_in alerts.now) }
-{
-    let mut block = Vec::with_capacity(alloc, alerts.len())?;
-    for alert in alerts {
-        block.push_reserved(Arc::try_clone(alert)?);
-    }
-    Ok(Arc::new(alloc, block)?)
 }
 
 /// The alerts of a list that are left, in order.

@@ -5,23 +5,23 @@
 //! post.
 //!
 //! A Store keeps the list that it shared last, and knows in which blocks of it nothing has changed since: the next
-//! list has those in common with it, and only the others are made anew. So what a subscription takes under the
-//! lock depends on what has changed, and hardly on how many alerts are stored.
+//! list has those, and groups of such blocks, in common with it, and only the others are made anew. So what a
+//! subscription takes under the lock depends on what has changed, and hardly on how many alerts are stored.
 
 ghost use Rattle.std.specs.Prelude.{◌≡◌, ◌≢◌, ◌<◌, ◌≤◌, ◌*◌, ◌^◌, [], IfOk, IfSome, None, OnErr, true, false, drop, filter, length, not, count_by, take};
 ghost use Rattle.std.specs.Arc.{arc_value};
 ghost use Rattle.std.specs.Option.{option_map};
 ghost use Rattle.am_alert.specs.Merging.{is_resolved_at};
-ghost use Rattle.am_store.specs.declared.shared_alerts.TheConstants.{BLOCK};
+ghost use Rattle.am_store.specs.declared.shared_alerts.TheConstants.{BLOCK, GROUP};
 ghost use Rattle.am_store.specs.AlertList.{lookup};
 ghost use Rattle.am_store.specs.AlertMaps.{stored_in};
 ghost use Rattle.am_store.specs.Shared.{alerts_in};
-ghost use Rattle.am_store.specs.inside.Blocks.{AreBlocksOf};
+ghost use Rattle.am_store.specs.inside.Blocks.{AreBlocksOf, AreGroupsOf, IsGroupCurrent};
 
 pub mod absorb;
 pub mod judge;
 
-use crate::shared_alerts::{BLOCK, Block, SharedAlert, StoredAlerts};
+use crate::shared_alerts::{BLOCK, Block, BlockGroup, GROUP, SharedAlert, StoredAlerts};
 use am_alert::Moment;
 use am_labels::LabelSet;
 use indexmap::IndexMap;
@@ -106,9 +106,9 @@ impl Store {
             return shared.share();
         }
         let alloc = *self.alerts.allocator();
-        let blocks = self.blocks()?;
-        let current = vec![in alloc; true; blocks.len()]?;
-        let shared = StoredAlerts::of_blocks(alloc, blocks, self.alerts.len())?;
+        let groups = self.groups()?;
+        let current = vec![in alloc; true; self.alerts.len().div_ceil(BLOCK)]?;
+        let shared = StoredAlerts::of_groups(alloc, groups, self.alerts.len())?;
         let kept = shared.share()?;
         self.outdated = mem::replace(&mut self.shared, Some(kept));
         self.current = current;
@@ -129,14 +129,46 @@ impl Store {
         Some(shared)
     }
 
-    // The stored alerts in blocks.
-    fn blocks(&self) -> Result<Vec<Block>, AllocError>
-        ensures { IfOk result (λ blocks. AreBlocksOf (stored_in self.now) blocks.items) }
+    // The stored alerts in groups.
+    fn groups(&self) -> Result<Vec<BlockGroup>, AllocError>
+        ensures { IfOk result (λ groups. AreGroupsOf (stored_in self.now) groups.items) }
     {
-        let count = self.alerts.len().div_ceil(BLOCK);
+        let count = self.alerts.len().div_ceil(GROUP);
+        let mut groups = Vec::with_capacity(*self.alerts.allocator(), count)?;
+        for at in 0..count {
+            groups.push_reserved(self.group(at)?);
+        }
+        Ok(groups)
+    }
+
+    // One of these groups: the shared one, if nothing in it has changed.
+    fn group(&self, at: usize) -> Result<BlockGroup, AllocError>
+        requires within { GROUP * at ≤ length (stored_in self.now) }
+        requires few { length (stored_in self.now) < 2 ^ 63 }
+        ensures { IfOk result (λ group. group ≡ take GROUP (drop (GROUP * at) (stored_in self.now))) }
+    {
+        if let Some(shared) = &self.shared {
+            if is_group_current(&self.current, at) {
+                if let Some(group) = shared.share_group(at)? {
+                    return Ok(group);
+                }
+            }
+        }
+        BlockGroup::of_blocks(*self.alerts.allocator(), self.blocks(at)?)
+    }
+
+    // The blocks of a group.
+    fn blocks(&self, group: usize) -> Result<Vec<Block>, AllocError>
+        requires within { GROUP * group ≤ length (stored_in self.now) }
+        requires few { length (stored_in self.now) < 2 ^ 63 }
+        ensures { IfOk result (λ blocks.
+            AreBlocksOf (take GROUP (drop (GROUP * group) (stored_in self.now))) blocks.items) }
+    {
+        let first = GROUP / BLOCK * group;
+        let count = (self.alerts.len().div_ceil(BLOCK) - first).min(GROUP / BLOCK);
         let mut blocks = Vec::with_capacity(*self.alerts.allocator(), count)?;
         for at in 0..count {
-            blocks.push_reserved(self.block(at)?);
+            blocks.push_reserved(self.block(first + at)?);
         }
         Ok(blocks)
     }
@@ -231,6 +263,20 @@ impl Store {
         } = self;
         alerts
     }
+}
+
+// Whether each block of a group is there and current.
+fn is_group_current(current: &[bool], group: usize) -> bool
+    requires { GROUP * group < 2 ^ 63 }
+    ensures { result ≡ true → IsGroupCurrent current.now group }
+{
+    let first = GROUP / BLOCK * group;
+    for at in first..first + GROUP / BLOCK {
+        if current.get(at) != Some(&true) {
+            return false;
+        }
+    }
+    true
 }
 
 // Gives the list that was shared last, if it has changed.

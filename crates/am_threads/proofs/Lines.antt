@@ -6,7 +6,7 @@ use Rattle.am_script.specs.declared.command.Line.{Line}
 use Rattle.am_runner.specs.Sessions.{Setting, SessionView}
 use Rattle.am_runner.specs.Turning.{Order}
 use Rattle.am_threads.specs.Working.{Works, RunsLine, Adds, one_more}
-use Rattle.am_runner.specs.declared.answer.Answer.{Answer}
+use Rattle.am_answers.specs.declared.answer.Answer.{Answer}
 
 pub more_work : {E : Type 0} (config : Config) (setting : Setting) (order : Order) (thread first : ℕ) (begun old new : SessionView) (lines : List Line) (line : Line) (answers all : List (Vec Answer)) (given : Result (Vec Answer) E)
     → Works config setting order thread first begun lines answers old

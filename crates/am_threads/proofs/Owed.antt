@@ -20,8 +20,8 @@ use Rattle.am_provider.specs.Owing.{StaysFrontOfDue}
 use Rattle.am_provider.specs.Showings.{ShowsNone}
 use Rattle.am_provider.specs.Subscriptions.{SubscriptionView, taken}
 use Rattle.am_provider.specs.declared.answers.Ended.{Ended}
-use Rattle.am_provider.specs.declared.faults.BodyFault.{BodyFault}
-use Rattle.am_provider.specs.declared.faults.BodyFault.TheVariants as refused
+use Rattle.am_store.specs.declared.faults.BodyFault.{BodyFault}
+use Rattle.am_store.specs.declared.faults.BodyFault.TheVariants as refused
 use Rattle.am_cast.specs.Posters.{PassView}
 use Rattle.am_store.specs.declared.call.Call.{Call}
 use Rattle.am_config.specs.declared.config.Config.{Config}
@@ -29,7 +29,7 @@ use Rattle.am_script.specs.declared.command.Command.{Command}
 use Rattle.am_script.specs.declared.command.Line.{Line}
 use Rattle.am_script.specs.declared.command.Verb.{Verb}
 use Rattle.am_script.specs.declared.command.Verb.TheVariants as verb
-use Rattle.am_runner.specs.Answers.{is_item}
+use Rattle.am_answers.specs.Answers.{is_item}
 use Rattle.am_threads.specs.Owed.{AreOwed, ReadIsDue, ReadsContinue, item_in, items_in}
 use Rattle.am_runner.specs.Putting.{AnswersPosted, AnswersPut}
 use Rattle.am_runner.specs.Reading.{OpenView, NextIs, ReadsOne, takes, misses, ends, ReadsSome, nothing, one_more, ReadAnswers, all, ended}
@@ -40,10 +40,10 @@ use Rattle.am_runner.specs.Turning.{Order}
 use Rattle.am_threads.specs.Working.{LeavesLast, LooksOn, Works, RunsLine}
 use Rattle.am_threads.specs.Working as works
 use Rattle.am_provider.proofs.Turns.{prefix_then}
-use Rattle.am_runner.specs.declared.answer.Answer.{Answer}
-use Rattle.am_runner.specs.declared.answer.Answer.TheVariants as answer
-use Rattle.am_runner.specs.declared.consumer.Half.{Half}
-use Rattle.am_runner.specs.declared.consumer.Half.TheVariants as half
+use Rattle.am_answers.specs.declared.answer.Answer.{Answer}
+use Rattle.am_answers.specs.declared.answer.Answer.TheVariants as answer
+use Rattle.am_answers.specs.declared.consumer.Half.{Half}
+use Rattle.am_answers.specs.declared.consumer.Half.TheVariants as half
 
 -- ---- what a read takes
 

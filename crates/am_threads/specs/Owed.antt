@@ -16,8 +16,8 @@ use Rattle.am_runner.specs.Reading.{OpenView, ReadAnswers}
 use Rattle.am_runner.specs.Sessions.{Setting, SessionView}
 use Rattle.am_runner.specs.Turning.{Order}
 use Rattle.am_threads.specs.Working.{Works, LeavesLast}
-use Rattle.am_runner.specs.declared.answer.Answer.{Answer}
-use Rattle.am_runner.specs.declared.answer.Answer.TheVariants as answer
+use Rattle.am_answers.specs.declared.answer.Answer.{Answer}
+use Rattle.am_answers.specs.declared.answer.Answer.TheVariants as answer
 
 -- the alert that an answer shows
 abbrev pub item_in : Answer → Option Alert

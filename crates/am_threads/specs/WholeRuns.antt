@@ -4,7 +4,7 @@ use Rattle.std.specs.Global.{Vec}
 use Rattle.am_provider.specs.declared.settled.Settled.{Settled}
 use Rattle.am_config.specs.declared.config.Config.{Config}
 use Rattle.am_script.specs.declared.command.Line.{Line}
-use Rattle.am_runner.specs.declared.answer.Answer.{Answer}
+use Rattle.am_answers.specs.declared.answer.Answer.{Answer}
 use Rattle.am_runner.specs.Sessions.{Setting}
 use Rattle.am_runner.specs.Turning.{order_of}
 use Rattle.am_threads.specs.Working.{IsWork}

@@ -11,7 +11,7 @@ use Rattle.am_script.specs.declared.command.Line.{Line}
 use Rattle.am_runner.specs.Sessions.{Setting, SessionView, Does, LeavesAll, new_session}
 use Rattle.am_provider.specs.Turns.{SeesMore}
 use Rattle.am_runner.specs.Turning.{Order, IsTurn}
-use Rattle.am_runner.specs.declared.answer.Answer.{Answer}
+use Rattle.am_answers.specs.declared.answer.Answer.{Answer}
 
 -- a session's caller sees more of the history, and makes no call
 abbrev pub LooksOn : SessionView → SessionView → Type 0

@@ -7,10 +7,11 @@ ghost use Rattle.am_threads.specs.WholeRuns.{IsWholeRun};
 
 use crate::configured::Configured;
 use crate::work::work;
+use am_answers::{Answer, PreparedConfig};
 use am_config::Config;
 use am_history::Timeline;
 use am_provider::{Caller, Policy, Provider, Recorded, Register, Settled};
-use am_runner::{Answer, Context, PreparedConfig, Turns};
+use am_runner::{Context, Turns};
 use am_script::{Line, THREADS, Thread};
 use sinnoraku::{Crew, Limits, RunFault, Worked, run_crew};
 use std::alloc::{AllocError, Global};

@@ -9,9 +9,10 @@ ghost use Rattle.am_runner.specs.Sessions.{LeavesAll, setting_of};
 ghost use Rattle.am_runner.specs.Turning.{Ends, order_of};
 ghost use Rattle.am_threads.specs.Working.{Adds, IsWork, RunsLine, Works};
 
+use am_answers::Answer;
 use am_history::Timeline;
 use am_provider::{Caller, Recorded, Register, TurnsSeen};
-use am_runner::{Answer, Context, Session, Turn, Turns};
+use am_runner::{Context, Session, Turn, Turns};
 use am_script::{Line, Thread};
 use sinnoraku::Worked;
 use std::alloc::AllocError;

@@ -3,7 +3,7 @@ use Rattle.std.specs.Prelude.{List, Result, Ok, Err}
 use Rattle.am_provider.specs.Headline.{AnswersSubscribe}
 use Rattle.am_provider.specs.Histories.{EntryView}
 use Rattle.am_provider.specs.Subscriptions.{SubscriptionView}
-use Rattle.am_provider.specs.declared.faults.SubFault.{SubFault}
+use Rattle.am_store.specs.declared.faults.SubFault.{SubFault}
 
 -- a reader whose subscription is what a subscription answers, or why there is none
 abbrev pub AnswersReader : {A : Type 0} → (A → SubscriptionView) → Result A SubFault → List EntryView

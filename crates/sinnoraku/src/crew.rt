@@ -112,11 +112,11 @@ fn run_over<N: Recorded + Send + Sync, C: Crew<R> + Sync, R: Threads + Wait + Sy
     )?;
     match run_threads(rt, alloc, limits, crew, &provider, callers) {
         Ok(Done { outcomes, callers }) => {
-            let settled = provider.settle(rt, callers);
+            let settled = provider.settle(callers);
             Ok((outcomes, settled))
         }
         Err(fault) => {
-            let _settled = provider.settle(rt, Vec::new(alloc));
+            let _settled = provider.settle(Vec::new(alloc));
             Err(fault)
         }
     }

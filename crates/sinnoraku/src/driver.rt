@@ -90,6 +90,6 @@ fn run_over<N: Recorded, D: Driver<R>, R: Wait>(
         limits.resolve_timeout,
     )?;
     let (outcome, callers) = driver.drive(rt, limits, &provider, callers);
-    let settled = provider.settle(rt, callers);
+    let settled = provider.settle(callers);
     Ok((outcome, settled))
 }

@@ -73,7 +73,7 @@ fn run_over<N: Recorded, P: Program<R> + Drop, R: Wait>(
     let rooms = match ClientRooms::make(alloc, limits.callers) {
         Ok(rooms) => rooms,
         Err(error) => {
-            provider.settle(rt, callers);
+            provider.settle(callers);
             return Err(error);
         }
     };
@@ -84,6 +84,6 @@ fn run_over<N: Recorded, P: Program<R> + Drop, R: Wait>(
     let mut clients = clients_of(&provider, limits, callers, clients);
     let outcome = program.run(rt, clients.as_mut_slice());
     let callers = callers_of(clients, back);
-    let settled = provider.settle(rt, callers);
+    let settled = provider.settle(callers);
     Ok((outcome, settled))
 }

@@ -31,7 +31,7 @@ impl<'p, N: Recorded> Reader<'p, N> {
                     Ok(copy) => return Ok(Next::Alert(copy)),
                     Err(error) => return Err(error),
                 },
-                Step::Pending => self.subscription.wait_past(rt, self.provider),
+                Step::Pending => self.subscription.wait(rt),
                 Step::Closed => return Ok(Next::Closed),
                 Step::Cut => return Ok(Next::Cut),
             }

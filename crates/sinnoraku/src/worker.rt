@@ -75,7 +75,7 @@ fn run_over<N: Recorded + Send + Sync, W: Worker<R> + Sync, R: Threads + Wait + 
     let rooms = match Rooms::make(alloc, limits.callers) {
         Ok(rooms) => rooms,
         Err(error) => {
-            provider.settle(rt, callers);
+            provider.settle(callers);
             return Err(error);
         }
     };
@@ -87,7 +87,7 @@ fn run_over<N: Recorded + Send + Sync, W: Worker<R> + Sync, R: Threads + Wait + 
     let seats = seat_all(&provider, limits, callers, seats);
     let seats = work_all(rt, limits, worker, seats);
     let (outcomes, callers) = unseat_all(seats, outcomes, back);
-    let settled = provider.settle(rt, callers);
+    let settled = provider.settle(callers);
     Ok((outcomes, settled))
 }
 

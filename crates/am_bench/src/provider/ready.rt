@@ -125,7 +125,7 @@ pub(crate) fn run_ready<N: Origin + Send + Sync, R: Threads + Wait + Clock + Syn
             &|_reader| read_book(rt, log, shared, come),
         ),
     );
-    let settled = book.into_inner().settle(rt, cast, passes);
+    let settled = book.into_inner().settle(cast, passes);
     Ok(Measured {
         posted,
         shown: sum_of(shown),

@@ -6,6 +6,7 @@ use native.Mathlib.Decide.{ℕ_discrete}
 use lib.ListN.{get_elem?}
 use Rattle.atomic_table.specs.Table.{step, Act, keeps, gives, homes_after, carried_after, Valid, Allows}
 use Rattle.atomic_table.proofs.Lists.{set_else}
+use Rattle.am_cast.specs.declared.limits.TheConstants.{LANES}
 use Rattle.am_cast.specs.declared.views.Tail.{Tail}
 use Rattle.am_cast.specs.declared.views.Account.{Account}
 use Rattle.am_cast.specs.declared.views.LaneView.{LaneView}
@@ -41,11 +42,11 @@ module _ {B K A : Type 0} (key : B → ℕ → K) where
     pub act : Act (Option K)
     pub valid : Valid homes c act
     pub long : length (homes_after homes c act) ≡ length homes
-    pub others : (m i : ℕ) → m < 8 → m ≢ v.number → get_elem? (homes_after homes c act) (slot t.places m i) ≡ get_elem? homes (slot t.places m i)
+    pub others : (m i : ℕ) → m < LANES → m ≢ v.number → get_elem? (homes_after homes c act) (slot t.places m i) ≡ get_elem? homes (slot t.places m i)
     pub ok : LaneOk key t b (left v) words (homes_after homes c act) v.number
     pub hand : carried_after c act ≡ laid_down v.held c
 
-  pub leaves_it : (t : Tail B) (b : Account K A) (v : LaneView B A) (words words' : List ℕ) (homes : Homes K) (me : SeatState B K A) → v.number < 8 → 0 < t.places → length homes ≡ 8 * t.places → b.stand ≢ idle → LaneOk key t b v words homes v.number → Carries me v → get_or words' (lane_word v.number) 0 ≡ gone → IsLeft t b v words' homes me.1
+  pub leaves_it : (t : Tail B) (b : Account K A) (v : LaneView B A) (words words' : List ℕ) (homes : Homes K) (me : SeatState B K A) → v.number < LANES → 0 < t.places → length homes ≡ LANES * t.places → b.stand ≢ idle → LaneOk key t b v words homes v.number → Carries me v → get_or words' (lane_word v.number) 0 ≡ gone → IsLeft t b v words' homes me.1
   leaves_it t b v words words' homes me small pos deep used ok carried word = either_bool v.held
       (λ (e : v.held ≡ true). let has = carried e in let x : B = has.0 in let l : ℕ = v.number in let k : ℕ = slot t.places l v.passed in let all = comes_home key t b v words homes l x small pos deep ok used e has.2 in
       let hand : me.1 ≡ (k, Some (key x l)) ∷ has.1 = has.3 ∙ ap (λ (q : ℕ). let c : List (ℕ × Option K) = (slot q l v.passed, Some (key x l)) ∷ has.1 in c) ok.sound.seen.places in

@@ -1,6 +1,6 @@
 -- Keys that came home, and wait in rows for the others of their segment. This project's own.
 use Rattle.std.specs.Prelude.{◌≡◌, ◌≢◌, ℕ, ◌%◌, ◌<◌, nat_eq, List, [], ◌∷◌, ◌++◌, length, Option, Some, None}
-use Rattle.std.specs.Prelude.{cond, refl, slice_index_or, ⊤}
+use Rattle.std.specs.Prelude.{◌-◌, cond, refl, slice_index_or, ⊤}
 use Rattle.std.specs.Coded.{Coded, code_by, coded×, coded_list, coded_ℕ}
 use Rattle.am_segment.specs.Segments.{KeyView, coded_key, AreAllKeys, MayJoin}
 use Rattle.am_cast.specs.declared.limits.TheConstants.{LANES}
@@ -50,11 +50,11 @@ module _ {X : Type 0} where
   -- a place's row may take the key, as one of several or as the last of all
   abbrev pub MayTake : List (KeyView X) → KeyView X → Type 0
   MayTake keys key = MayJoin keys key × (length keys < LANES)
-      × (length keys ≡ 7 → AreAllKeys (keys ++ key ∷ []))
+      × (length keys ≡ LANES - 1 → AreAllKeys (keys ++ key ∷ []))
 
-  -- a place's row with a key more: it ends with the eighth
+  -- a place's row with a key more: it ends with the last of all
   abbrev pub row_with : List (KeyView X) → KeyView X → Option (List (KeyView X))
-  row_with keys key = cond (nat_eq (length keys) 7) None (Some (keys ++ key ∷ []))
+  row_with keys key = cond (nat_eq (length keys) (LANES - 1)) None (Some (keys ++ key ∷ []))
 
   -- the row at the index is the place's
   abbrev pub IsRowOf : ℕ → List (RowView X) → ℕ → Type 0

@@ -113,6 +113,15 @@ impl<T> Bucket<T> {
         self.rows.push_reserved(row);
     }
 
+    /// Lets the rows go, each as `Row::leak`.
+    pub(crate) fn leak(self) {
+        let Bucket { mut rows } = self;
+        while let Some(row) = rows.pop() {
+            row.leak();
+        }
+        rows.destroy_empty();
+    }
+
     /// The end of a bucket without rows.
     pub(crate) fn end(self)
         requires { self.rows ≡ [] }

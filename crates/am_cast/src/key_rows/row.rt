@@ -68,6 +68,12 @@ impl<T> Row<T> {
         self.keys.add_rest(rest);
     }
 
+    /// Lets the keys go: the segment never ends.
+    pub(crate) fn leak(self) {
+        let Row { place: _, keys } = self;
+        keys.leak();
+    }
+
     /// The segment ends: its items are dropped, and an empty builder is left of it.
     pub(crate) fn end(self) -> SegmentBuilder<T>
     where

@@ -1,44 +1,40 @@
 //! Admitting, from the call down to the steps: the lowest idle lane is given out.
 ghost use Rattle.std.specs.Prelude.{◌≡◌, ◌≢◌, ◌*◌, ◌<◌, false, length, None, Some, ℕ, IfSome, IfNone, IfOk, IfErr, OnErr};
 ghost use Rattle.am_cast.specs.declared.batch_view.BatchView.{BatchView};
-ghost use Rattle.am_cast.specs.Rule.{idle, live, cut};
+ghost use Rattle.am_cast.specs.Rule.{idle, cut};
 ghost use Rattle.am_cast.specs.Changes.{given_out, new_lane, opened};
 ghost use Rattle.am_cast.specs.Seats.{account_of};
 ghost use Rattle.am_cast.specs.Cursors.{as_cursor};
 ghost use Rattle.am_cast.specs.Writers.{Calm};
 ghost use Rattle.am_cast.specs.inside.WriterStates.{OneAccount};
+ghost use Rattle.am_cast.specs.Admissions.{IsAdmitted, IsGivenOut};
 ghost use Rattle.am_cast.specs.Refusals.{IsAdmitRefusal};
 
 use crate::batch_view::{BatchView, SegmentKeys};
 use crate::board;
-use crate::cursor::{Cast, Cursor};
+use crate::cursor::Cursor;
 use crate::faults::AdmitFault;
 use crate::feed::Feed;
+use crate::handle::AsCast;
 use crate::limits::LANES;
 use crate::ring_place::RingPlace;
 use crate::writer::Writer;
 use crate::writer::lane_account::{LaneAccount, Stand};
 use crate::writer::state::WriterState;
 use am_segment::SegKey;
-use std::marker::Brand;
+use std::marker::{Brand, PhantomData};
 use std::snapshot::Snapshot;
 
-impl<T: Drop, P, A, N: Feed> Writer<T, P, A, N> {
+impl<T: Drop, N: Feed, P, A> Writer<T, N, P, A> {
     /// The lowest idle lane, starting at the log's length. It takes no memory.
-    pub fn admit<'a>(
+    pub fn admit<C: AsCast<T, N, P, A> + Drop>(
         &mut self,
-        cast: &'a Cast<T, P, A, N>,
+        cast: C,
         note: Snapshot<A>,
-    ) -> Result<Cursor<'a, T, P, A, N>, AdmitFault>
+    ) -> Result<Cursor<C, T, N, P, A>, AdmitFault>
         ensures tail { self.new.tail ≡ self.old.tail }
-        ensures ok { IfOk result (λ c. (c.lane.number < LANES)
-            × ((account_of self.old c.lane.number).stand ≡ idle) × ((m : ℕ) → m < c.lane.number
-            → (account_of self.old m).stand ≢ idle)
-            × (c ≡ as_cursor (opened (new_lane (Some note.value) c.lane.number self.old.tail
-            (account_of self.old c.lane.number))))) }
-        ensures lane { IfOk result (λ c. let b = account_of self.new c.lane.number in
-            (b.stand ≡ live) × (b.turn ≡ c.lane.turn) × (b.note ≡ Some note.value)
-            × (b.start ≡ length self.old.tail.log) × (b.known ≡ length self.old.tail.log)) }
+        ensures ok { IfOk result (IsAdmitted note.value self.old) }
+        ensures lane { IfOk result (IsGivenOut note.value self.old self.new) }
         ensures others { IfOk result (λ c. (m : ℕ) → m ≢ c.lane.number
             → account_of self.new m ≡ account_of self.old m) }
 
@@ -56,7 +52,7 @@ impl<T: Drop, P, A, N: Feed> Writer<T, P, A, N> {
     }
 }
 
-impl<T: Drop, P, A, N: Feed> WriterState<T, P, A, N> {
+impl<T: Drop, N: Feed, P, A> WriterState<T, N, P, A> {
     /// The lowest lane that is idle.
     fn idle_lane(&self) -> Option<usize>
         ensures some { IfSome result (λ l. (l < LANES) × ((account_of self.now.known l).stand ≡ idle)
@@ -72,12 +68,12 @@ impl<T: Drop, P, A, N: Feed> WriterState<T, P, A, N> {
     }
 
     /// The lane begins at the next place.
-    fn admit<'a>(
+    fn admit<C: AsCast<T, N, P, A>>(
         &mut self,
-        cast: &'a Cast<T, P, A, N>,
+        cast: C,
         lane: usize,
         note: &Snapshot<A>,
-    ) -> Cursor<'a, T, P, A, N>
+    ) -> Cursor<C, T, N, P, A>
         requires { (lane < LANES) × Calm self.old.known
             × ((account_of self.old.known lane).stand ≡ idle) × (self.old.known.tail.closed ≡ false) }
         ensures writer { OneAccount self.old self.new lane (given_out (Some note.now.value)
@@ -85,7 +81,7 @@ impl<T: Drop, P, A, N: Feed> WriterState<T, P, A, N> {
         ensures cursor { result ≡ as_cursor (opened
             (new_lane (Some note.now.value) lane self.old.known.tail (account_of self.old.known lane))) }
     {
-        let top = &cast.board.shared;
+        let top = &cast.as_cast().board.shared;
         let count = self.next.number();
         let mut seat = board::admit_lane::<BatchView<T, P>, SegKey<T>, A, SegmentKeys<T, P>, Brand>(
             top,
@@ -109,6 +105,7 @@ impl<T: Drop, P, A, N: Feed> WriterState<T, P, A, N> {
             cut: false,
             shown: 0,
             hand: None,
+            of: PhantomData,
         }
     }
 }

@@ -1,15 +1,13 @@
 //! Publishing that cuts, from the call down to the steps: a lane that lags by as many batches as the log has
 //! places gets no more keys.
-ghost use Rattle.std.specs.Prelude.{◌≡◌, ◌≢◌, ◌+◌, ◌/◌, ◌%◌, ◌<◌, ◌≤◌, true, false, length, [], ℕ, IfOk, ◌++◌, ◌∷◌, slice_index_or, IfErr, OnOk, OnErr};
-ghost use Rattle.am_cast.specs.declared.batch_view.BatchView.{BatchView};
+ghost use Rattle.std.specs.Prelude.{◌≡◌, ◌≢◌, ◌+◌, ◌/◌, ◌%◌, ◌<◌, ◌≤◌, true, false, length, ℕ, IfOk, slice_index_or, IfErr, OnOk, OnErr};
 ghost use Rattle.am_cast.specs.Rule.{live, cut, vacated, gone};
-ghost use Rattle.am_cast.specs.Changes.{longer_tail, marked, severed, known_to, own_at};
+ghost use Rattle.am_cast.specs.Changes.{marked, severed, known_to};
 ghost use Rattle.am_cast.specs.Seats.{account_of};
-ghost use Rattle.am_cast.specs.Keys.{batch_items};
 ghost use Rattle.am_cast.specs.Writers.{AreLoaded, IsCalm, Calm, HasRoom, IsBehind, IsCutAs, SameAdmission, StaysAs};
-ghost use Rattle.am_cast.specs.Posters.{KnowsOwn};
+ghost use Rattle.am_cast.specs.Posters.{IsPosted, KnowsOwn};
 ghost use Rattle.am_cast.specs.inside.WriterStates.{OneAccount, OnlyAccount, KeepsRoom};
-ghost use Rattle.am_cast.specs.Refusals.{IsCutRefusal, IsOpen};
+ghost use Rattle.am_cast.specs.Refusals.{IsCutRefusal};
 
 use crate::board;
 use crate::cursor::Cast;
@@ -23,21 +21,19 @@ use crate::writer::{Published, Writer};
 use am_segment::SegmentBuilder;
 use std::snapshot::Snapshot;
 
-impl<T: Drop, P, A, N: Feed> Writer<T, P, A, N> {
+impl<T: Drop, N: Feed, P, A> Writer<T, N, P, A> {
     /// As `publish`, but a lane that lags by as many batches as the log has places is cut. Answers which
     /// lanes were.
     pub fn publish_cutting(
         &mut self,
-        cast: &Cast<T, P, A, N>,
+        cast: &Cast<T, N, P, A>,
         batch: SegmentBuilder<T>,
         post: Snapshot<P>,
-        pass: &mut Pass<T, P, A, N>,
+        pass: &mut Pass<T, N, P, A>,
     ) -> Result<Published, Refused<T>>
         requires { 0 < length batch.items }
-        ensures ok { IfOk result (λ r. (r.place ≡ length self.old.tail.log) × IsOpen self.old
-            × ((x : BatchView T P) × (x.post ≡ post.value) × (batch_items x ≡ batch.items)
-            × (self.new.tail ≡ longer_tail x self.old.tail)
-            × (pass.new.own ≡ pass.old.own ++ own_at r.place x ∷ []))) }
+        ensures ok { IfOk result (λ r. IsPosted batch.items post.value self.old self.new pass.old
+            pass.new r.place) }
         ensures cut { IfOk result (λ r. (l : ℕ) → l < LANES
             → IsCutAs (length self.old.tail.log) self.old.tail.places (account_of self.old l)
             (account_of self.new l) (slice_index_or r.cut l false)) }
@@ -68,9 +64,9 @@ impl<T: Drop, P, A, N: Feed> Writer<T, P, A, N> {
     }
 }
 
-impl<T: Drop, P, A, N: Feed> WriterState<T, P, A, N> {
+impl<T: Drop, N: Feed, P, A> WriterState<T, N, P, A> {
     /// Each lane has room for one place more, or gets no key. Answers which lanes were cut.
-    fn make_all_room(&mut self, cast: &Cast<T, P, A, N>) -> [bool; LANES]
+    fn make_all_room(&mut self, cast: &Cast<T, N, P, A>) -> [bool; LANES]
         requires { Calm self.old.known }
         ensures calm { Calm self.new.known }
         ensures tail { self.new.known.tail ≡ self.old.known.tail }
@@ -90,7 +86,7 @@ impl<T: Drop, P, A, N: Feed> WriterState<T, P, A, N> {
     }
 
     /// After it the lane has room for one place more, or gets no key. Answers whether it was cut.
-    fn make_room(&mut self, cast: &Cast<T, P, A, N>, lane: usize) -> bool
+    fn make_room(&mut self, cast: &Cast<T, N, P, A>, lane: usize) -> bool
         requires { (lane < LANES) × Calm self.old.known }
         ensures only { OnlyAccount self.old self.new lane (account_of self.new.known lane) }
         ensures rows { KeepsRoom self.old.rows self.new.rows }
@@ -111,7 +107,7 @@ impl<T: Drop, P, A, N: Feed> WriterState<T, P, A, N> {
     }
 
     // A lane whose word was `word` has room for one place more, or is cut by one of two exchanges.
-    fn cut_or_move(&mut self, cast: &Cast<T, P, A, N>, lane: usize, word: u64) -> bool
+    fn cut_or_move(&mut self, cast: &Cast<T, N, P, A>, lane: usize, word: u64) -> bool
         requires calm { (lane < LANES) × Calm self.old.known }
         requires word { (word < gone) × IsBehind self.old.known lane
             × (word / 4 ≡ (account_of self.old.known lane).known)
@@ -143,7 +139,7 @@ impl<T: Drop, P, A, N: Feed> WriterState<T, P, A, N> {
 
     // One exchange on the word of a lane that lags by as many batches as the log has places. The keys that
     // are free then come home.
-    fn cut_once(&mut self, cast: &Cast<T, P, A, N>, lane: usize, word: u64) -> u64
+    fn cut_once(&mut self, cast: &Cast<T, N, P, A>, lane: usize, word: u64) -> u64
         requires calm { (lane < LANES) × Calm self.old.known }
         requires word { (word < gone) × IsBehind self.old.known lane
             × (word / 4 ≡ (account_of self.old.known lane).known)
@@ -181,7 +177,7 @@ impl<T: Drop, P, A, N: Feed> WriterState<T, P, A, N> {
     }
 
     // The lane is cut, if its word is still `word`. Answers the word that was found.
-    fn sever(&mut self, cast: &Cast<T, P, A, N>, lane: usize, word: u64) -> u64
+    fn sever(&mut self, cast: &Cast<T, N, P, A>, lane: usize, word: u64) -> u64
         requires account { let b = account_of self.old.known lane in (lane < LANES) × (word < gone)
             × IsBehind self.old.known lane
             × IsCalm (length self.old.known.tail.log) self.old.known.tail.places b

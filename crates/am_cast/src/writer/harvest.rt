@@ -15,10 +15,10 @@ use crate::writer::Writer;
 use crate::writer::lane_account::Stand;
 use crate::writer::state::WriterState;
 
-impl<T: Drop, P, A, N: Feed> Writer<T, P, A, N> {
+impl<T: Drop, N: Feed, P, A> Writer<T, N, P, A> {
     /// Loads the word of each live lane and of each cut lane whose key is away, and ends the segments that
     /// all lanes have passed. Answers the lane that a publish would name as full.
-    pub fn harvest(&mut self, cast: &Cast<T, P, A, N>) -> Option<(usize, u64)>
+    pub fn harvest(&mut self, cast: &Cast<T, N, P, A>) -> Option<(usize, u64)>
         ensures harvested { Harvested self.old self.new LANES }
 
         ensures full { IfSome result (λ r. (r.0 < LANES) × (r.1 ≡ (account_of self.new r.0).known)
@@ -32,10 +32,10 @@ impl<T: Drop, P, A, N: Feed> Writer<T, P, A, N> {
     }
 }
 
-impl<T: Drop, P, A, N: Feed> WriterState<T, P, A, N> {
+impl<T: Drop, N: Feed, P, A> WriterState<T, N, P, A> {
     /// Loads the lanes' words, in order of lanes, and takes out all keys that they have passed. Answers the
     /// lowest lane that lags by as many batches as the log has places.
-    pub(crate) fn harvest(&mut self, cast: &Cast<T, P, A, N>) -> Option<usize>
+    pub(crate) fn harvest(&mut self, cast: &Cast<T, N, P, A>) -> Option<usize>
         requires { Calm self.old.known }
         ensures calm { Calm self.new.known }
         ensures same { Harvested self.old.known self.new.known LANES }
@@ -63,7 +63,7 @@ impl<T: Drop, P, A, N: Feed> WriterState<T, P, A, N> {
 
     /// Loads the lane's word if the lane is given out, and takes out the keys that it has passed. Answers the
     /// word of a lane that is live then, or the greatest u64.
-    fn harvest_lane(&mut self, cast: &Cast<T, P, A, N>, lane: usize) -> u64
+    fn harvest_lane(&mut self, cast: &Cast<T, N, P, A>, lane: usize) -> u64
         requires { (lane < LANES) × Calm self.old.known }
         ensures only { OnlyAccount self.old self.new lane (account_of self.new.known lane) }
         ensures calm { IsCalm (length self.old.known.tail.log) self.old.known.tail.places
@@ -84,7 +84,7 @@ impl<T: Drop, P, A, N: Feed> WriterState<T, P, A, N> {
     }
 
     /// Loads the word of a live lane, and takes out the keys that it has passed. Answers the word.
-    fn harvest_live(&mut self, cast: &Cast<T, P, A, N>, lane: usize) -> u64
+    fn harvest_live(&mut self, cast: &Cast<T, N, P, A>, lane: usize) -> u64
         requires { (lane < LANES) × Calm self.old.known
             × ((account_of self.old.known lane).stand ≡ live) }
         ensures only { OnlyAccount self.old self.new lane (account_of self.new.known lane) }
@@ -109,7 +109,7 @@ impl<T: Drop, P, A, N: Feed> WriterState<T, P, A, N> {
     }
 
     /// Loads the lane's word, and answers it.
-    fn load(&mut self, cast: &Cast<T, P, A, N>, lane: usize) -> u64
+    fn load(&mut self, cast: &Cast<T, N, P, A>, lane: usize) -> u64
         requires { (lane < LANES) × ((account_of self.old.known lane).stand ≡ live)
             × ((account_of self.old.known lane).laid ≡ None)
             × ((account_of self.old.known lane).away ≡ false) }
@@ -131,7 +131,7 @@ impl<T: Drop, P, A, N: Feed> WriterState<T, P, A, N> {
     }
 
     /// Looks whether the key of a cut lane is back, and then takes it out.
-    fn harvest_cut(&mut self, cast: &Cast<T, P, A, N>, lane: usize)
+    fn harvest_cut(&mut self, cast: &Cast<T, N, P, A>, lane: usize)
         requires { (lane < LANES) × Calm self.old.known × ((account_of self.old.known lane).away ≡ true) }
         ensures only { OnlyAccount self.old self.new lane (account_of self.new.known lane) }
         ensures calm { IsCalm (length self.old.known.tail.log) self.old.known.tail.places
@@ -147,7 +147,7 @@ impl<T: Drop, P, A, N: Feed> WriterState<T, P, A, N> {
     }
 
     /// A look at a cut lane whose key is away. Answers whether it is back.
-    fn recover(&mut self, cast: &Cast<T, P, A, N>, lane: usize) -> bool
+    fn recover(&mut self, cast: &Cast<T, N, P, A>, lane: usize) -> bool
         requires { let b = account_of self.old.known lane in (lane < LANES) × (b.stand ≡ cut)
             × (b.away ≡ true) × (b.cleared ≡ b.stop) × (b.out ≡ 0) }
         ensures back { let b = account_of self.old.known lane in

@@ -4,7 +4,7 @@
 //! All lanes' words loaded first, so that their lines come together, brought nothing. Nor does a fill
 //! exchange the new key for an old one: that would keep keys of passed places for a turn, which
 //! `Writer::freed` promises it doesn't.
-ghost use Rattle.std.specs.Prelude.{◌≡◌, ◌≢◌, ◌+◌, ◌<◌, ◌≤◌, true, false, length, None, Some, [], ℕ, IfOk, ◌++◌, ◌∷◌, IfErr, OnOk, OnErr};
+ghost use Rattle.std.specs.Prelude.{◌≡◌, ◌≢◌, ◌+◌, ◌<◌, ◌≤◌, true, false, length, None, Some, [], ℕ, IfOk, IfSome, IfNone, ◌++◌, ◌∷◌, IfErr, OnOk, OnErr};
 ghost use Rattle.am_segment.specs.Segments.{MayJoin};
 ghost use Rattle.am_cast.specs.declared.batch_view.BatchView.{BatchView};
 ghost use Rattle.am_cast.specs.Rule.{live};
@@ -12,8 +12,8 @@ ghost use Rattle.am_cast.specs.Changes.{longer_tail, back, laying, longer, both_
 ghost use Rattle.am_cast.specs.Seats.{account_of};
 ghost use Rattle.am_cast.specs.Keys.{batch_items, key_of};
 ghost use Rattle.am_cast.specs.inside.Tags.{batch_of_tag};
-ghost use Rattle.am_cast.specs.Writers.{AreLoaded, Calm, HasRoom, SameAdmission, StaysAs};
-ghost use Rattle.am_cast.specs.Posters.{KnowsOwn};
+ghost use Rattle.am_cast.specs.Writers.{AreLoaded, Calm, HasRoom, IsBehind, SameAdmission, StaysAs};
+ghost use Rattle.am_cast.specs.Posters.{IsPosted, KnowsOwn};
 ghost use Rattle.am_cast.specs.inside.Filling.{FilledTo, AllLaid, AreReady, owner_of};
 ghost use Rattle.am_cast.specs.inside.WriterStates.{OneAccount};
 ghost use Rattle.am_cast.specs.inside.KeyRows.{bucket_of};
@@ -36,22 +36,19 @@ use std::alloc::AllocError;
 use std::marker::Brand;
 use std::snapshot::Snapshot;
 
-impl<T: Drop, P, A, N: Feed> Writer<T, P, A, N> {
+impl<T: Drop, N: Feed, P, A> Writer<T, N, P, A> {
     /// A new place, with the batch. Its number is the length before, and the pass owns it. Whatever it
     /// answers, it loads the word of each live lane and of each cut lane whose key is away first, and ends
     /// the segments that all lanes have passed.
     pub fn publish(
         &mut self,
-        cast: &Cast<T, P, A, N>,
+        cast: &Cast<T, N, P, A>,
         batch: SegmentBuilder<T>,
         post: Snapshot<P>,
-        pass: &mut Pass<T, P, A, N>,
+        pass: &mut Pass<T, N, P, A>,
     ) -> Result<u64, Refused<T>>
         requires { 0 < length batch.items }
-        ensures ok { IfOk result (λ place. (place ≡ length self.old.tail.log) × IsOpen self.old
-            × ((x : BatchView T P) × (x.post ≡ post.value) × (batch_items x ≡ batch.items)
-            × (self.new.tail ≡ longer_tail x self.old.tail)
-            × (pass.new.own ≡ pass.old.own ++ own_at place x ∷ []))) }
+        ensures ok { IfOk result (IsPosted batch.items post.value self.old self.new pass.old pass.new) }
         ensures known { OnOk result (KnowsOwn pass.old pass.new) }
         ensures lanes { (l : ℕ) → l < LANES → StaysAs (account_of self.old l) (account_of self.new l) }
         ensures loads { AreLoaded self.old self.new }
@@ -61,14 +58,8 @@ impl<T: Drop, P, A, N: Feed> Writer<T, P, A, N> {
             × IsRefusal self.old self.new e.fault) }
     {
         let full = self.harvest(cast);
-        if self.is_closed() {
-            return Err(Refused::new(PublishFault::Closed, batch));
-        }
-        if self.len() >= LONGEST_LOG {
-            return Err(Refused::new(PublishFault::LogEnd, batch));
-        }
-        if let Some((lane, passed)) = full {
-            return Err(Refused::new(PublishFault::Full { lane, passed }, batch));
+        if let Some(fault) = self.fault_of(full) {
+            return Err(Refused::new(fault, batch));
         }
         match self.publish_harvested(cast, batch, post, pass) {
             Ok(place) => Ok(place),
@@ -76,14 +67,34 @@ impl<T: Drop, P, A, N: Feed> Writer<T, P, A, N> {
         }
     }
 
+    // Why nothing can be published, after a harvest that answered so.
+    pub(crate) fn fault_of(&self, full: Option<(usize, u64)>) -> Option<PublishFault>
+        requires full { IfSome full (λ r. (r.0 < LANES) × (r.1 ≡ (account_of self.now r.0).known)
+            × IsBehind self.now r.0 × HasRoom self.now r.0) }
+        requires room { IfNone full (HasRoom self.now LANES) }
+        ensures some { IfSome result (λ e. IsRefusal self.now self.now e) }
+        ensures none { IfNone result (IsOpen self.now × HasRoom self.now LANES) }
+    {
+        if self.is_closed() {
+            return Some(PublishFault::Closed);
+        }
+        if self.len() >= LONGEST_LOG {
+            return Some(PublishFault::LogEnd);
+        }
+        match full {
+            Some((lane, passed)) => Some(PublishFault::Full { lane, passed }),
+            None => None,
+        }
+    }
+
     /// As `publish`, after a `harvest` that answered that no lane is full: the lanes aren't looked at
     /// again, and only a lack of memory refuses the batch.
     pub fn publish_harvested(
         &mut self,
-        cast: &Cast<T, P, A, N>,
+        cast: &Cast<T, N, P, A>,
         batch: SegmentBuilder<T>,
         post: Snapshot<P>,
-        pass: &mut Pass<T, P, A, N>,
+        pass: &mut Pass<T, N, P, A>,
     ) -> Result<u64, SegmentBuilder<T>>
         requires some { 0 < length batch.items }
         requires room { IsOpen self.old × HasRoom self.old LANES }
@@ -107,7 +118,7 @@ impl<T: Drop, P, A, N: Feed> Writer<T, P, A, N> {
     }
 }
 
-impl<T: Drop, P, A, N: Feed> WriterState<T, P, A, N> {
+impl<T: Drop, N: Feed, P, A> WriterState<T, N, P, A> {
     /// Makes the room that the next place's keys need.
     pub(crate) fn reserve(&mut self) -> Result<(), AllocError>
         ensures known { self.new.known ≡ self.old.known }
@@ -119,7 +130,7 @@ impl<T: Drop, P, A, N: Feed> WriterState<T, P, A, N> {
     /// One place more, which is the other seat's own.
     pub(crate) fn post(
         &mut self,
-        cast: &Cast<T, P, A, N>,
+        cast: &Cast<T, N, P, A>,
         batch: SegmentBuilder<T>,
         post: Snapshot<P>,
         to: &mut LogSeat<T, P, A>,
@@ -152,7 +163,7 @@ impl<T: Drop, P, A, N: Feed> WriterState<T, P, A, N> {
     // idle lanes at the end all at once.
     fn fill(
         &mut self,
-        cast: &Cast<T, P, A, N>,
+        cast: &Cast<T, N, P, A>,
         tag: &Tag<T, P>,
         first: SegKey<T>,
         rest: KeyRun<T>,
@@ -184,7 +195,7 @@ impl<T: Drop, P, A, N: Feed> WriterState<T, P, A, N> {
     }
 
     // The lane's key of the next place goes into its slot if the lane is live, or else into the place's row.
-    fn put_key(&mut self, cast: &Cast<T, P, A, N>, lane: usize, key: SegKey<T>, row: &mut Row<T>)
+    fn put_key(&mut self, cast: &Cast<T, N, P, A>, lane: usize, key: SegKey<T>, row: &mut Row<T>)
         requires account { let b = account_of self.old.known lane in (lane < LANES) × (b.stand ≡ live
             → (b.out ≡ 0) × (b.laid ≡ None) × (b.stop ≡ length self.old.known.tail.log)
             × (b.stop < b.cleared + self.old.known.tail.places)) }
@@ -204,7 +215,7 @@ impl<T: Drop, P, A, N: Feed> WriterState<T, P, A, N> {
     }
 
     /// The key goes into the lane's slot of the next place.
-    fn fill_one(&mut self, cast: &Cast<T, P, A, N>, lane: usize, key: SegKey<T>)
+    fn fill_one(&mut self, cast: &Cast<T, N, P, A>, lane: usize, key: SegKey<T>)
         requires account { (lane < LANES) × ((account_of self.old.known lane).stand ≡ live)
             × ((account_of self.old.known lane).out ≡ 0)
             × ((account_of self.old.known lane).laid ≡ None) }
@@ -220,7 +231,7 @@ impl<T: Drop, P, A, N: Feed> WriterState<T, P, A, N> {
     // The place is there, and becomes the other seat's own. Its row waits for the keys that are out.
     fn store(
         &mut self,
-        cast: &Cast<T, P, A, N>,
+        cast: &Cast<T, N, P, A>,
         tag: &Tag<T, P>,
         row: Row<T>,
         to: &mut LogSeat<T, P, A>,

@@ -14,10 +14,10 @@ use crate::writer::Writer;
 use crate::writer::lane_account::Stand;
 use crate::writer::state::WriterState;
 
-impl<T: Drop, P, A, N: Feed> Writer<T, P, A, N> {
+impl<T: Drop, N: Feed, P, A> Writer<T, N, P, A> {
     /// Loads the word of each lane that is given out. A lane whose cursor was dropped is idle then, and its keys
     /// come home, as if it were retired. Answers which lanes were found so. It takes no memory.
-    pub fn reclaim(&mut self, cast: &Cast<T, P, A, N>) -> [bool; LANES]
+    pub fn reclaim(&mut self, cast: &Cast<T, N, P, A>) -> [bool; LANES]
         ensures tail { self.new.tail ≡ self.old.tail }
         ensures lanes { (l : ℕ) → l < LANES → IsReclaimedAs (account_of self.old l) (account_of self.new l)
             (slice_index_or result l false) }
@@ -26,9 +26,9 @@ impl<T: Drop, P, A, N: Feed> Writer<T, P, A, N> {
     }
 }
 
-impl<T: Drop, P, A, N: Feed> WriterState<T, P, A, N> {
+impl<T: Drop, N: Feed, P, A> WriterState<T, N, P, A> {
     // Each lane that has left is idle. Answers which were found so.
-    fn reclaim(&mut self, cast: &Cast<T, P, A, N>) -> [bool; LANES]
+    fn reclaim(&mut self, cast: &Cast<T, N, P, A>) -> [bool; LANES]
         requires { Calm self.old.known }
         ensures calm { Calm self.new.known }
         ensures tail { self.new.known.tail ≡ self.old.known.tail }
@@ -44,7 +44,7 @@ impl<T: Drop, P, A, N: Feed> WriterState<T, P, A, N> {
     }
 
     // The lane is idle if it has left. Answers whether it was found so.
-    fn reclaim_lane(&mut self, cast: &Cast<T, P, A, N>, lane: usize) -> bool
+    fn reclaim_lane(&mut self, cast: &Cast<T, N, P, A>, lane: usize) -> bool
         requires { (lane < LANES) × Calm self.old.known }
         ensures only { OnlyAccount self.old self.new lane (account_of self.new.known lane) }
         ensures lane { IsReclaimedAs (account_of self.old.known lane) (account_of self.new.known lane) result }
@@ -58,7 +58,7 @@ impl<T: Drop, P, A, N: Feed> WriterState<T, P, A, N> {
     }
 
     // Loads the lane's word. Answers whether it has left, and then it is idle.
-    fn find_left(&mut self, cast: &Cast<T, P, A, N>, lane: usize) -> bool
+    fn find_left(&mut self, cast: &Cast<T, N, P, A>, lane: usize) -> bool
         requires { let b = account_of self.old.known lane in (lane < LANES) × Calm self.old.known
             × (b.stand ≢ idle) }
         ensures left { result ≡ true

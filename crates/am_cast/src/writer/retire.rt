@@ -14,36 +14,41 @@ use crate::batch_view::LogSeat;
 use crate::board;
 use crate::cursor::{Cast, Cursor};
 use crate::feed::Feed;
+use crate::handle::AsCast;
 use crate::writer::Writer;
 use crate::writer::lane_account::Stand;
 use crate::writer::state::WriterState;
 
-impl<T: Drop, P, A, N: Feed> Writer<T, P, A, N> {
+impl<T: Drop, N: Feed, P, A> Writer<T, N, P, A> {
     /// The cursor leaves, whatever it hasn't passed, and its lane is idle.
-    pub fn retire(&mut self, cast: &Cast<T, P, A, N>, cursor: Cursor<'_, T, P, A, N>)
+    pub fn retire<C: AsCast<T, N, P, A> + Drop>(
+        &mut self,
+        cast: &Cast<T, N, P, A>,
+        cursor: Cursor<C, T, N, P, A>,
+    )
         ensures tail { self.new.tail ≡ self.old.tail }
-        ensures lane { (cursor.entry.lane.number < LANES)
-            × ((account_of self.new cursor.entry.lane.number).stand ≡ idle) }
-        ensures others { (m : ℕ) → m ≢ cursor.entry.lane.number
+        ensures lane { (cursor.lane.number < LANES)
+            × ((account_of self.new cursor.lane.number).stand ≡ idle) }
+        ensures others { (m : ℕ) → m ≢ cursor.lane.number
             → account_of self.new m ≡ account_of self.old m }
-        ensures given { (account_of self.old cursor.entry.lane.number).stand ≢ idle }
-        ensures cut { cursor.entry.lane.cut ≡ true
-            → (account_of self.old cursor.entry.lane.number).stand ≡ cut }
-        ensures sound { Sound self.old.tail (account_of self.old cursor.entry.lane.number)
-            (left cursor.entry.lane) cursor.entry.lane.number }
-        ensures taken { IsPrefix (shown_items cursor.entry) (all_items
-            (drop cursor.entry.lane.start self.old.tail.log)) }
-        ensures ended { HasEnded cursor.entry
-            → shown_items cursor.entry ≡ all_items (drop cursor.entry.lane.start self.old.tail.log) }
+        ensures given { (account_of self.old cursor.lane.number).stand ≢ idle }
+        ensures cut { cursor.lane.cut ≡ true
+            → (account_of self.old cursor.lane.number).stand ≡ cut }
+        ensures sound { Sound self.old.tail (account_of self.old cursor.lane.number)
+            (left cursor.lane) cursor.lane.number }
+        ensures taken { IsPrefix (shown_items cursor) (all_items
+            (drop cursor.lane.start self.old.tail.log)) }
+        ensures ended { HasEnded cursor
+            → shown_items cursor ≡ all_items (drop cursor.lane.start self.old.tail.log) }
     {
-        let (lane, seat) = cursor.into_seat();
+        let (lane, seat, _handle) = cursor.into_seat();
         self.state.bring_home(cast, lane, seat);
     }
 }
 
-impl<T: Drop, P, A, N: Feed> WriterState<T, P, A, N> {
+impl<T: Drop, N: Feed, P, A> WriterState<T, N, P, A> {
     // A lane that is here is left and idle, and its keys come home.
-    fn bring_home(&mut self, cast: &Cast<T, P, A, N>, lane: usize, other: LogSeat<T, P, A>)
+    fn bring_home(&mut self, cast: &Cast<T, N, P, A>, lane: usize, other: LogSeat<T, P, A>)
         requires calm { (lane < LANES) × Calm self.old.known }
         requires other { (other.table_id ≡ N.table) × (other.me.0.writer ≡ None) × (other.me.0.own ≡ []) }
         requires lane { let v = lane_of other.me.0 in IsLane other.me v × (v.number ≡ lane)
@@ -58,7 +63,7 @@ impl<T: Drop, P, A, N: Feed> WriterState<T, P, A, N> {
     }
 
     // The lane is left and idle.
-    fn take_home(&mut self, cast: &Cast<T, P, A, N>, lane: usize, other: LogSeat<T, P, A>)
+    fn take_home(&mut self, cast: &Cast<T, N, P, A>, lane: usize, other: LogSeat<T, P, A>)
         requires calm { (lane < LANES) × Calm self.old.known }
         requires other { (other.table_id ≡ N.table) × (other.me.0.writer ≡ None) × (other.me.0.own ≡ []) }
         requires lane { let v = lane_of other.me.0 in IsLane other.me v × (v.number ≡ lane)

@@ -22,7 +22,7 @@ use crate::writer::lane_account::{LaneAccount, Stand};
 use std::marker::{Model, PhantomData};
 
 /// Contracts see it as what its seat knows, and the rows of keys that came home.
-pub(crate) struct WriterState<T, P, A, N: Feed> {
+pub(crate) struct WriterState<T, N: Feed, P, A> {
     pub(crate) seat: LogSeat<T, P, A>,
     pub(crate) rows: KeyRows<T>,
     /// The next place. Its number is the log's length, and a live lane may lag by a whole ring.
@@ -32,7 +32,7 @@ pub(crate) struct WriterState<T, P, A, N: Feed> {
     pub(crate) of: PhantomData<N>,
 }
 
-impl<T, P, A, N: Feed> Model for WriterState<T, P, A, N> {
+impl<T, N: Feed, P, A> Model for WriterState<T, N, P, A> {
     ghost use Rattle.std.specs.Prelude.{◌≡◌, length};
     ghost use Rattle.am_cast.specs.inside.WriterStates.{WriterStateView};
     ghost use Rattle.am_cast.specs.Seats.{writer_of};
@@ -47,7 +47,7 @@ impl<T, P, A, N: Feed> Model for WriterState<T, P, A, N> {
         × RowsFit (writer_of w.seat.me.0) w.rows × (length w.rows ≡ w.next.places) };
 }
 
-impl<T: Drop, P, A, N: Feed> WriterState<T, P, A, N> {
+impl<T: Drop, N: Feed, P, A> WriterState<T, N, P, A> {
     /// The lane's standing, as the writer has it.
     pub(crate) fn stand(&self, lane: usize) -> Stand
         requires { lane < LANES }
@@ -105,7 +105,7 @@ impl<T: Drop, P, A, N: Feed> WriterState<T, P, A, N> {
     }
 
     /// The lane's key of the place, which it has passed, joins the others of its place.
-    fn bring_one(&mut self, cast: &Cast<T, P, A, N>, lane: usize, place: u64)
+    fn bring_one(&mut self, cast: &Cast<T, N, P, A>, lane: usize, place: u64)
         requires { let b = account_of self.old.known lane in (lane < LANES) × (place ≡ b.cleared)
             × (place < length self.old.known.tail.log) × IsPast b × (b.out ≡ 0) × (place < b.stop)
             × (b.away ≡ true → b.known < b.cleared) × (length self.old.known.accounts ≡ LANES) }
@@ -121,7 +121,7 @@ impl<T: Drop, P, A, N: Feed> WriterState<T, P, A, N> {
     /// The lane's keys of the places from `from` to `to` are taken out. It is part of its callers, since it is
     /// mostly one key.
     #[inline(always)]
-    pub(crate) fn clear_to(&mut self, cast: &Cast<T, P, A, N>, lane: usize, from: u64, to: u64)
+    pub(crate) fn clear_to(&mut self, cast: &Cast<T, N, P, A>, lane: usize, from: u64, to: u64)
         requires bounds { (lane < LANES) × (from ≤ to) × (to ≤ length self.old.known.tail.log)
             × (length self.old.known.accounts ≡ LANES) }
         requires account { let b = account_of self.old.known lane in (from ≡ b.cleared)
@@ -138,7 +138,7 @@ impl<T: Drop, P, A, N: Feed> WriterState<T, P, A, N> {
 
     /// The keys of a lane that became idle come home: those in its slots if it was live, and the one that was
     /// away if it was cut.
-    pub(crate) fn empty(&mut self, cast: &Cast<T, P, A, N>, lane: usize, was: LaneAccount)
+    pub(crate) fn empty(&mut self, cast: &Cast<T, N, P, A>, lane: usize, was: LaneAccount)
         requires { (lane < LANES) × (length self.old.known.accounts ≡ LANES)
             × WasIdled (length self.old.known.tail.log) self.old.known.tail.places
             (account_of self.old.known lane) was }
@@ -155,7 +155,7 @@ impl<T: Drop, P, A, N: Feed> WriterState<T, P, A, N> {
         }
     }
 
-    pub(crate) fn close(&mut self, cast: &Cast<T, P, A, N>)
+    pub(crate) fn close(&mut self, cast: &Cast<T, N, P, A>)
         requires { self.old.known.tail.closed ≡ false }
         ensures { self.new ≡ record self.old { known = shut self.old.known } }
     {
@@ -164,7 +164,7 @@ impl<T: Drop, P, A, N: Feed> WriterState<T, P, A, N> {
     }
 
     /// What another seat has noted of the log begins it.
-    pub(crate) fn hear(&mut self, cast: &Cast<T, P, A, N>, other: &mut LogSeat<T, P, A>)
+    pub(crate) fn hear(&mut self, cast: &Cast<T, N, P, A>, other: &mut LogSeat<T, P, A>)
         requires { (other.old.table_id ≡ N.table) × (other.old.me.0.writer ≡ None)
             × (other.old.me.0.lane ≡ None) }
         ensures same { self.new ≡ self.old }

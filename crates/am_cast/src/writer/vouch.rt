@@ -12,14 +12,19 @@ use crate::batch_view::LogSeat;
 use crate::board;
 use crate::cursor::{Cast, Cursor};
 use crate::feed::Feed;
+use crate::handle::AsCast;
 use crate::pass::Pass;
 use crate::writer::Writer;
 use crate::writer::state::WriterState;
 
-impl<T: Drop, P, A, N: Feed> Writer<T, P, A, N> {
+impl<T: Drop, N: Feed, P, A> Writer<T, N, P, A> {
     /// What the cursor has shown begins what the log has for it, and is all of that if the cursor has ended: what
     /// `retire` says, of a cursor that stays. Nothing changes.
-    pub fn vouch(&mut self, cast: &Cast<T, P, A, N>, cursor: &mut Cursor<'_, T, P, A, N>)
+    pub fn vouch<C: AsCast<T, N, P, A>>(
+        &mut self,
+        cast: &Cast<T, N, P, A>,
+        cursor: &mut Cursor<C, T, N, P, A>,
+    )
         ensures same { (self.new ≡ self.old) × (cursor.new ≡ cursor.old) }
         ensures lane { cursor.old.lane.number < LANES }
         ensures given { (account_of self.old cursor.old.lane.number).stand ≢ idle }
@@ -35,7 +40,7 @@ impl<T: Drop, P, A, N: Feed> Writer<T, P, A, N> {
     }
 
     /// The pass knows the whole log. Who reads past it then is shown all that was published so far.
-    pub fn tell(&mut self, cast: &Cast<T, P, A, N>, pass: &mut Pass<T, P, A, N>)
+    pub fn tell(&mut self, cast: &Cast<T, N, P, A>, pass: &mut Pass<T, N, P, A>)
         ensures same { self.new ≡ self.old }
         ensures own { (pass.new.own ≡ pass.old.own) × AreInLog pass.new.own pass.new.noted }
         ensures noted { pass.new.noted ≡ self.old.tail.log }
@@ -46,9 +51,9 @@ impl<T: Drop, P, A, N: Feed> Writer<T, P, A, N> {
     }
 }
 
-impl<T: Drop, P, A, N: Feed> WriterState<T, P, A, N> {
+impl<T: Drop, N: Feed, P, A> WriterState<T, N, P, A> {
     // The other seat notes the whole log.
-    fn tell(&mut self, cast: &Cast<T, P, A, N>, other: &mut LogSeat<T, P, A>)
+    fn tell(&mut self, cast: &Cast<T, N, P, A>, other: &mut LogSeat<T, P, A>)
         requires { (other.old.table_id ≡ N.table) × (other.old.me.0.writer ≡ None)
             × (other.old.me.0.lane ≡ None) }
         ensures same { self.new ≡ self.old }
@@ -65,7 +70,7 @@ impl<T: Drop, P, A, N: Feed> WriterState<T, P, A, N> {
     }
 
     // What the writer knows of a lane and what the lane's seat does agree.
-    fn weigh(&mut self, cast: &Cast<T, P, A, N>, other: &mut LogSeat<T, P, A>)
+    fn weigh(&mut self, cast: &Cast<T, N, P, A>, other: &mut LogSeat<T, P, A>)
         requires { let v = lane_of other.old.me.0 in (other.old.table_id ≡ N.table)
             × (other.old.me.0.lane ≡ Some v) × (v.number < LANES) × (other.old.me.0.writer ≡ None) }
         ensures same { self.new ≡ self.old }

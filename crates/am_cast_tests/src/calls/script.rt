@@ -8,7 +8,6 @@ use am_cast::{Cast, Feed, LANES, Parts, Pass, Writer};
 use am_steps::{Event, State};
 use std::alloc::{AllocError, Global};
 use std::marker::Brand;
-use std::sync::Wait;
 use std::test::Fail;
 
 impl<'a, N: Feed> Both<'a, N> {
@@ -16,8 +15,8 @@ impl<'a, N: Feed> Both<'a, N> {
     fn call(
         &mut self,
         kind: u64,
-        writer: &mut Writer<u64, u64, u64, N>,
-        pass: &mut Pass<u64, u64, u64, N>,
+        writer: &mut Writer<u64, N>,
+        pass: &mut Pass<u64, N>,
         first: &mut Reader<'a, N>,
         second: &mut Reader<'a, N>,
     ) -> Result<bool, AllocError> {
@@ -61,8 +60,8 @@ fn next_seed(seed: u64) -> u64 {
 fn play<'a, N: Feed>(
     both: &mut Both<'a, N>,
     script: Script,
-    writer: &mut Writer<u64, u64, u64, N>,
-    pass: &mut Pass<u64, u64, u64, N>,
+    writer: &mut Writer<u64, N>,
+    pass: &mut Pass<u64, N>,
     first: &mut Reader<'a, N>,
     second: &mut Reader<'a, N>,
 ) -> Result<bool, AllocError> {
@@ -99,11 +98,7 @@ fn new_reader<'a, N: Feed>(alloc: Global) -> Reader<'a, N> {
 }
 
 // The reader's cursor goes back to the writer.
-fn give_back<N: Feed>(
-    cast: &Cast<u64, u64, u64, N>,
-    writer: &mut Writer<u64, u64, u64, N>,
-    reader: Reader<'_, N>,
-) {
+fn give_back<N: Feed>(cast: &Cast<u64, N>, writer: &mut Writer<u64, N>, reader: Reader<'_, N>) {
     let Reader {
         lane: _,
         cursor,
@@ -117,12 +112,7 @@ fn give_back<N: Feed>(
 }
 
 // A whole run on a new log. Answers whether both did the same throughout.
-fn run<N: Feed, R: Wait>(
-    rt: &R,
-    parts: Parts<u64, u64, u64>,
-    alloc: Global,
-    script: Script,
-) -> Result<bool, AllocError>
+fn run<N: Feed>(parts: Parts<u64>, alloc: Global, script: Script) -> Result<bool, Fail>
     requires { parts.board.shared.table_id ≡ N.table }
 {
     let Log {
@@ -154,20 +144,20 @@ fn run<N: Feed, R: Wait>(
     };
     give_back(log, &mut writer, first);
     give_back(log, &mut writer, second);
-    end_log(rt, cast, writer);
-    same
+    end_log(cast, writer)?;
+    Ok(same?)
 }
 
-fn run_of<R: Wait>(rt: &R, alloc: Global, script: Script) -> Result<bool, AllocError> {
+fn run_of(alloc: Global, script: Script) -> Result<bool, Fail> {
     let parts = Parts::make(alloc, 1)?;
-    run::<Brand, R>(rt, parts, alloc, script)
+    run::<Brand>(parts, alloc, script)
 }
 
 #[test]
 fn each_kind_after_each_other_kind(rt: HostRuntime) -> Result<(), Fail> {
     for one in 0..KINDS {
         for other in 0..KINDS {
-            assert!(rt; run_of(&rt, rt.alloc(), Script::Two(one, other))?);
+            assert!(rt; run_of(rt.alloc(), Script::Two(one, other))?);
         }
     }
     Ok(())
@@ -176,7 +166,7 @@ fn each_kind_after_each_other_kind(rt: HostRuntime) -> Result<(), Fail> {
 #[test]
 fn two_thousand_calls(rt: HostRuntime) -> Result<(), Fail> {
     for start in 1..5 {
-        assert!(rt; run_of(&rt, rt.alloc(), Script::Seeded(start, 500))?);
+        assert!(rt; run_of(rt.alloc(), Script::Seeded(start, 500))?);
     }
     Ok(())
 }

@@ -8,7 +8,6 @@ use am_cast::{Cast, Feed, Parts, Pass, Step, Writer};
 use std::alloc::{AllocError, Global};
 use std::marker::Brand;
 use std::snapshot::Snapshot;
-use std::sync::Wait;
 use std::test::Fail;
 use std::thread;
 use std::thread::Threads;
@@ -18,18 +17,17 @@ use std::thread::Threads;
 fn part<N: Feed + Send + Sync, R: Threads + Sync>(
     rt: &R,
     alloc: Global,
-    cast: &Cast<u64, u64, u64, N>,
-    writer: &mut Writer<u64, u64, u64, N>,
-    pass: &mut Pass<u64, u64, u64, N>,
+    cast: &Cast<u64, N>,
+    writer: &mut Writer<u64, N>,
+    pass: &mut Pass<u64, N>,
 ) -> Result<[bool; 3], AllocError> {
-    let note = 0;
-    let Ok(mut stays) = writer.admit(cast, Snapshot::of(&note)) else {
+    let Ok(mut stays) = writer.admit(cast, Snapshot::of(&())) else {
         return Err(AllocError);
     };
-    let Ok(mut goes) = writer.admit(cast, Snapshot::of(&note)) else {
+    let Ok(mut goes) = writer.admit(cast, Snapshot::of(&())) else {
         return Err(AllocError);
     };
-    let Ok(mut slow) = writer.admit(cast, Snapshot::of(&note)) else {
+    let Ok(mut slow) = writer.admit(cast, Snapshot::of(&())) else {
         return Err(AllocError);
     };
     let gone = goes.lane();
@@ -50,11 +48,11 @@ fn part<N: Feed + Send + Sync, R: Threads + Sync>(
     Ok([wrong == 0, found[gone], cut])
 }
 
-fn part_in<N: Feed + Send + Sync, R: Threads + Wait + Sync>(
+fn part_in<N: Feed + Send + Sync, R: Threads + Sync>(
     rt: &R,
     alloc: Global,
-    parts: Parts<u64, u64, u64>,
-) -> Result<[bool; 3], AllocError>
+    parts: Parts<u64>,
+) -> Result<[bool; 3], Fail>
     requires { parts.board.shared.table_id ≡ N.table }
 {
     let Log {
@@ -64,11 +62,11 @@ fn part_in<N: Feed + Send + Sync, R: Threads + Wait + Sync>(
     } = begin_log::<u64, N>(parts)?;
     let ended = part(rt, alloc, &cast, &mut writer, &mut pass);
     let _found = writer.reclaim(&cast);
-    end_log(rt, cast, writer);
-    ended
+    end_log(cast, writer)?;
+    Ok(ended?)
 }
 
-fn part_of<R: Threads + Wait + Sync>(rt: &R, alloc: Global) -> Result<[bool; 3], AllocError> {
+fn part_of<R: Threads + Sync>(rt: &R, alloc: Global) -> Result<[bool; 3], Fail> {
     let parts = Parts::make(alloc, 16)?;
     part_in::<Brand, R>(rt, alloc, parts)
 }

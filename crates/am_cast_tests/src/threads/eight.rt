@@ -3,12 +3,13 @@
 ghost use Rattle.std.specs.Prelude.{◌≡◌};
 
 use crate::log::end_log;
-use am_cast::{Begun, Cast, Cursor, Feed, LANES, Parts, Pass, Refused, Slice, Step, Writer, begin};
+use am_cast::{
+    Begun, Cast, Feed, LANES, LentCursor, Parts, Pass, Refused, Slice, Step, Writer, begin,
+};
 use am_segment::SegmentBuilder;
 use std::alloc::{AllocError, Global};
 use std::marker::Brand;
 use std::snapshot::Snapshot;
-use std::sync::Wait;
 use std::test::Fail;
 use std::thread;
 use std::thread::Threads;
@@ -20,9 +21,9 @@ const BATCHES: u64 = 1_000;
 /// Two lanes of one thread, and how many items the one ahead was shown.
 #[derive(Drop)]
 struct Pair<'a, N: Feed> {
-    ahead: Cursor<'a, u64, u64, u64, N>,
-    after: Cursor<'a, u64, u64, u64, N>,
-    pass: Pass<u64, u64, u64, N>,
+    ahead: LentCursor<'a, u64, N>,
+    after: LentCursor<'a, u64, N>,
+    pass: Pass<u64, N>,
     shown: u64,
     wrong: bool,
     closed: bool,
@@ -36,9 +37,9 @@ type Ended = (u64, u64, [bool; LANES]);
 // took new memory.
 fn post_spares<N: Feed>(
     alloc: Global,
-    cast: &Cast<u64, u64, u64, N>,
-    writer: &mut Writer<u64, u64, u64, N>,
-    pass: &mut Pass<u64, u64, u64, N>,
+    cast: &Cast<u64, N>,
+    writer: &mut Writer<u64, N>,
+    pass: &mut Pass<u64, N>,
 ) -> Result<u64, AllocError> {
     let mut new: u64 = 0;
     let mut next: u64 = 0;
@@ -61,11 +62,10 @@ fn post_spares<N: Feed>(
         let _pushed = batch.push(next.wrapping_add(1));
         let _pushed = batch.push(next.wrapping_add(2));
         next = next.wrapping_add(3);
-        let said = 7;
         if let Err(Refused { fault: _, batch }) = writer.publish(
             cast,
             batch,
-            Snapshot::of(&said),
+            Snapshot::of(&()),
             pass,
         ) {
             batch.discard();
@@ -77,7 +77,7 @@ fn post_spares<N: Feed>(
 
 // The lane ahead is shown an item, and then a slice of what is left of its batch. The pass learns of them, so that
 // the other lane is shown them too before it has to wait.
-fn read_pair<N: Feed>(cast: &Cast<u64, u64, u64, N>, pair: &mut Pair<'_, N>) {
+fn read_pair<N: Feed>(cast: &Cast<u64, N>, pair: &mut Pair<'_, N>) {
     for _turn in 0..u64::MAX {
         let from = pair.shown;
         if let Step::Item(item) = pair.ahead.next() {
@@ -116,20 +116,19 @@ fn read_pair<N: Feed>(cast: &Cast<u64, u64, u64, N>, pair: &mut Pair<'_, N>) {
 fn read_beside<N: Feed + Send + Sync, R: Threads + Sync>(
     rt: &R,
     alloc: Global,
-    cast: &Cast<u64, u64, u64, N>,
-    writer: &mut Writer<u64, u64, u64, N>,
-    mut passes: Vec<Pass<u64, u64, u64, N>>,
+    cast: &Cast<u64, N>,
+    writer: &mut Writer<u64, N>,
+    mut passes: Vec<Pass<u64, N>>,
 ) -> Result<(u64, u64), AllocError> {
     let Some(mut own) = passes.pop() else {
         return Err(AllocError);
     };
-    let note = 0;
     let mut pairs = Vec::new(alloc);
     for pass in passes {
-        let Ok(ahead) = writer.admit(cast, Snapshot::of(&note)) else {
+        let Ok(ahead) = writer.admit(cast, Snapshot::of(&())) else {
             return Err(AllocError);
         };
-        let Ok(after) = writer.admit(cast, Snapshot::of(&note)) else {
+        let Ok(after) = writer.admit(cast, Snapshot::of(&())) else {
             return Err(AllocError);
         };
         pairs.push(Pair {
@@ -160,26 +159,26 @@ fn read_beside<N: Feed + Send + Sync, R: Threads + Sync>(
     Ok((new?, right))
 }
 
-fn eight_in<N: Feed + Send + Sync, R: Threads + Wait + Sync>(
+fn eight_in<N: Feed + Send + Sync, R: Threads + Sync>(
     rt: &R,
     alloc: Global,
-    parts: Parts<u64, u64, u64>,
-) -> Result<Ended, AllocError>
+    parts: Parts<u64>,
+) -> Result<Ended, Fail>
     requires { parts.board.shared.table_id ≡ N.table }
 {
     let Begun {
         cast,
         mut writer,
         passes,
-    } = begin::<u64, u64, u64, N>(parts, 5)?;
+    } = begin::<u64, N, (), ()>(parts, 5)?;
     let ended = read_beside(rt, alloc, &cast, &mut writer, passes);
     let found = writer.reclaim(&cast);
-    end_log(rt, cast, writer);
+    end_log(cast, writer)?;
     let (new, right) = ended?;
     Ok((new, right, found))
 }
 
-fn eight_of<R: Threads + Wait + Sync>(rt: &R, alloc: Global) -> Result<Ended, AllocError> {
+fn eight_of<R: Threads + Sync>(rt: &R, alloc: Global) -> Result<Ended, Fail> {
     let parts = Parts::make(alloc, PLACES)?;
     eight_in::<Brand, R>(rt, alloc, parts)
 }

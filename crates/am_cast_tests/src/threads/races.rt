@@ -8,7 +8,6 @@ use am_cast::{Cast, Feed, Parts, Pass, Writer};
 use std::alloc::{AllocError, Global};
 use std::marker::Brand;
 use std::snapshot::Snapshot;
-use std::sync::Wait;
 use std::test::Fail;
 use std::thread;
 use std::thread::Threads;
@@ -18,13 +17,12 @@ use std::thread::Threads;
 fn race_once<N: Feed + Send + Sync, R: Threads + Sync>(
     rt: &R,
     alloc: Global,
-    cast: &Cast<u64, u64, u64, N>,
-    writer: &mut Writer<u64, u64, u64, N>,
-    pass: &mut Pass<u64, u64, u64, N>,
+    cast: &Cast<u64, N>,
+    writer: &mut Writer<u64, N>,
+    pass: &mut Pass<u64, N>,
     round: u64,
 ) -> Result<bool, AllocError> {
-    let note = 0;
-    let Ok(mut cursor) = writer.admit(cast, Snapshot::of(&note)) else {
+    let Ok(mut cursor) = writer.admit(cast, Snapshot::of(&())) else {
         return Err(AllocError);
     };
     let first = round.wrapping_mul(9);
@@ -42,12 +40,12 @@ fn race_once<N: Feed + Send + Sync, R: Threads + Sync>(
     Ok(shown.wrong == 0 && !shown.closed && shown.items <= 9 && told <= cuts && cuts <= 1)
 }
 
-fn race<N: Feed + Send + Sync, R: Threads + Wait + Sync>(
+fn race<N: Feed + Send + Sync, R: Threads + Sync>(
     rt: &R,
     alloc: Global,
-    parts: Parts<u64, u64, u64>,
+    parts: Parts<u64>,
     rounds: u64,
-) -> Result<bool, AllocError>
+) -> Result<bool, Fail>
     requires { parts.board.shared.table_id ≡ N.table }
 {
     let Log {
@@ -61,15 +59,11 @@ fn race<N: Feed + Send + Sync, R: Threads + Wait + Sync>(
             right = race_once(rt, alloc, &cast, &mut writer, &mut pass, round);
         }
     }
-    end_log(rt, cast, writer);
-    right
+    end_log(cast, writer)?;
+    Ok(right?)
 }
 
-fn race_of<R: Threads + Wait + Sync>(
-    rt: &R,
-    alloc: Global,
-    rounds: u64,
-) -> Result<bool, AllocError> {
+fn race_of<R: Threads + Sync>(rt: &R, alloc: Global, rounds: u64) -> Result<bool, Fail> {
     let parts = Parts::make(alloc, 1)?;
     race::<Brand, R>(rt, alloc, parts, rounds)
 }

@@ -12,7 +12,6 @@ ghost use Rattle.am_provider.specs.Posts.{IsAsBefore, Loads, KeepsRest, WasAsked
 
 use crate::answers::{Posted, PostedIf};
 use crate::book::{Book, ENTRIES};
-use crate::faults::PutFault;
 use crate::feed::{Cast, Origin};
 use crate::pass::Pass;
 use crate::prepared_post::PreparedPost;
@@ -21,7 +20,7 @@ use am_alert::{Alert, Alerts, Moment, Post};
 use am_cast::Published;
 use am_store::store::absorb::{Absorbed, PreparedReports};
 use am_store::store::judge::Judged;
-use am_store::{Call, LaneSet};
+use am_store::{Call, LaneSet, PutFault};
 use std::alloc::AllocError;
 
 impl<N: Origin> Book<N> {

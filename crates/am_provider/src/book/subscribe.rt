@@ -12,12 +12,11 @@ ghost use Rattle.am_provider.specs.Vouching.{HasTakenDue, KnowsWholeLog};
 
 use crate::answers::Ended;
 use crate::book::{Book, ENTRIES};
-use crate::faults::SubFault;
 use crate::feed::{Cast, Origin};
 use crate::pass::Pass;
 use crate::subscription::Subscription;
-use am_store::Call;
 use am_store::lanes::{LANES, OpenLane, idle_lane};
+use am_store::{Call, SubFault};
 use std::mem;
 use std::snapshot::Snapshot;
 

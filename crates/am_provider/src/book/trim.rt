@@ -9,8 +9,9 @@ ghost use Rattle.am_provider.specs.Posts.{HasSameLimits};
 use crate::book::Book;
 use crate::feed::Origin;
 use am_store::lanes::{earliest, let_openings_go};
-use am_store::{MAX_BEFORE, StoredAlerts};
+use am_store::{Discarded, MAX_BEFORE, StoredAlerts};
 use std::alloc::AllocError;
+use std::mem;
 
 impl<N: Origin> Book<N> {
     /// Discards the calls before the earliest open subscription from the journal, or all if none is
@@ -38,7 +39,7 @@ impl<N: Origin> Book<N> {
             return Ok(0);
         }
         let store = self.stored_then()?;
-        self.journal.trim(count, store);
+        self.journal.trim(count, store, &mut self.discarded);
         self.endings.trim(before + count, self.journal.gone());
         Ok(count)
     }
@@ -80,9 +81,17 @@ impl<N: Origin> Book<N> {
     {
         let store = self.stored.share_all()?;
         let others = store.share()?;
-        let count = self.journal.compact(store);
+        let count = self.journal.compact(store, &mut self.discarded);
         self.endings.let_go(self.journal.gone());
-        let_openings_go(&mut self.lanes, &others);
+        let_openings_go(&mut self.lanes, &others, &mut self.discarded);
         Ok(count)
+    }
+
+    // What trims and compactions have discarded, if it is kept. It is given once.
+    pub(crate) fn take_discarded(&mut self) -> Discarded
+        ensures { self.new ≡ self.old }
+    {
+        let alloc = *self.stored.allocator();
+        mem::replace(&mut self.discarded, Discarded::new(alloc, true))
     }
 }

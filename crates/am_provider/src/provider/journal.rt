@@ -38,7 +38,7 @@ impl<N: Recorded> Provider<N> {
                 caller,
             );
         }
-        self.waiters.wake();
+        self.cast.wake();
         Ok(())
     }
 
@@ -47,19 +47,22 @@ impl<N: Recorded> Provider<N> {
         ensures sees { SeesCall caller.old.front caller.new.front (AnswersTrim result) }
         ensures pass { caller.new.pass ≡ caller.old.pass }
     {
-        let recorded = &mut *self.lock(rt);
-        let count = match recorded.book.trim() {
-            Ok(count) => count,
-            Err(error) => {
-                recorded.history.show(&self.table, &mut caller.front);
-                return Err(error);
-            }
+        let (count, _discarded) = {
+            let recorded = &mut *self.lock(rt);
+            let count = match recorded.book.trim() {
+                Ok(count) => count,
+                Err(error) => {
+                    recorded.history.show(&self.table, &mut caller.front);
+                    return Err(error);
+                }
+            };
+            recorded.book.kept();
+            let entry = Entry::trimmed(count);
+            recorded
+                .history
+                .push(&self.table, &Snapshot::of(&entry), &mut caller.front);
+            (count, recorded.book.take_discarded())
         };
-        recorded.book.kept();
-        let entry = Entry::trimmed(count);
-        recorded
-            .history
-            .push(&self.table, &Snapshot::of(&entry), &mut caller.front);
         Ok(count)
     }
 
@@ -70,7 +73,7 @@ impl<N: Recorded> Provider<N> {
         ensures sees { SeesCall caller.old.front caller.new.front (AnswersCompact result) }
         ensures pass { caller.new.pass ≡ caller.old.pass }
     {
-        let (count, _outdated) = {
+        let (count, _discarded, _outdated) = {
             let recorded = &mut *self.lock(rt);
             let count = match recorded.book.compact() {
                 Ok(count) => count,
@@ -83,7 +86,11 @@ impl<N: Recorded> Provider<N> {
             recorded
                 .history
                 .push(&self.table, &Snapshot::of(&entry), &mut caller.front);
-            (count, recorded.take_outdated())
+            (
+                count,
+                recorded.book.take_discarded(),
+                recorded.take_outdated(),
+            )
         };
         Ok(count)
     }

@@ -8,12 +8,12 @@ ghost use Rattle.am_provider.specs.Posts.{AddsOwn};
 
 use crate::answers::{Posted, PostedIf};
 use crate::caller::Caller;
-use crate::faults::{BodyFault, PutFault};
 use crate::feed::Recorded;
 use crate::gate::Gate;
 use crate::prepared_post::PreparedPost;
 use crate::provider::Provider;
 use am_alert::{Alert, Moment, Post, read_post};
+use am_store::{BodyFault, PutFault};
 use std::sync::Wait;
 
 impl<N: Recorded> Provider<N> {
@@ -62,7 +62,7 @@ impl<N: Recorded> Provider<N> {
             let answer = recorded.post(&self.cast, &self.table, caller, post, now);
             (answer, recorded.book.take_replaced())
         };
-        self.waiters.wake();
+        self.cast.wake();
         answer
     }
 
@@ -104,7 +104,7 @@ impl<N: Recorded> Provider<N> {
             };
             (PostedIf { posted, refused }, recorded.book.take_replaced())
         };
-        self.waiters.wake();
+        self.cast.wake();
         Ok(done)
     }
 }

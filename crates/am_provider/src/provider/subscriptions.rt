@@ -7,13 +7,12 @@ ghost use Rattle.am_provider.specs.Posts.{HasMet};
 
 use crate::answers::Ended;
 use crate::caller::Caller;
-use crate::faults::SubFault;
 use crate::feed::Recorded;
 use crate::pass::Pass;
 use crate::provider::Provider;
 use crate::recorded_book::record;
 use crate::subscription::Subscription;
-use am_store::{Call, LaneSet};
+use am_store::{Call, LaneSet, SubFault};
 use std::sync::Wait;
 
 impl<N: Recorded> Provider<N> {

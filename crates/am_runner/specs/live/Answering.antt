@@ -14,15 +14,15 @@ use Rattle.am_script.specs.declared.limits.TheConstants.{LONGEST_LINE}
 use Rattle.am_script.specs.declared.script.Fault.{Fault}
 use Rattle.am_script.specs.declared.script.Fault.TheVariants.{BadLine, BadName, TooLarge}
 use Rattle.am_script.specs.JsonLines.{about_line, object_line, worded}
-use Rattle.am_runner.specs.PrintingJson.{count_members}
+use Rattle.am_answers.specs.PrintingJson.{count_members}
 use Rattle.am_script.specs.declared.form.Form.{Form}
 use Rattle.am_script.specs.declared.form.Form.TheVariants.{Text, Json}
 use Rattle.am_runner.specs.Reading.{OpenView}
 use Rattle.am_runner.specs.Sessions.{Setting, SessionView, Does, has_notifier, index_named}
 use Rattle.am_runner.specs.Unanswered.{IsUnanswered}
-use Rattle.am_runner.specs.declared.answer.Answer.{Answer}
-use Rattle.am_runner.specs.live.Known.{known_after, places_after}
-use Rattle.am_runner.specs.live.Showing.{AnswersArePrinted, kept_printed}
+use Rattle.am_answers.specs.declared.answer.Answer.{Answer}
+use Rattle.am_answers.specs.Known.{known_after, places_after}
+use Rattle.am_answers.specs.Showing.{AnswersArePrinted, kept_printed}
 use Rattle.am_runner.specs.live.Standing.{ReadOn, RunView, stands_after}
 use Rattle.am_runner.specs.declared.live.standing.StandingRead.{StandingRead}
 

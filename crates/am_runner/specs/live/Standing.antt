@@ -6,12 +6,12 @@ use Rattle.std.specs.Str.{bytes_eq}
 use Rattle.am_config.specs.declared.config.Config.{Config}
 use Rattle.am_script.specs.declared.command.Command.{Command}
 use Rattle.am_script.specs.declared.command.Command.TheVariants.{Leave, Read}
-use Rattle.am_runner.specs.Answers.{is_item}
+use Rattle.am_answers.specs.Answers.{is_item}
 use Rattle.am_runner.specs.Sessions.{Setting, SessionView, Does}
-use Rattle.am_runner.specs.declared.answer.Answer.{Answer}
+use Rattle.am_answers.specs.declared.answer.Answer.{Answer}
 use Rattle.am_script.specs.declared.form.Form.{Form}
-use Rattle.am_runner.specs.live.Known.{Known}
-use Rattle.am_runner.specs.live.Showing.{CameIsPrinted, is_pending}
+use Rattle.am_answers.specs.Known.{Known}
+use Rattle.am_answers.specs.Showing.{CameIsPrinted, is_pending}
 use Rattle.am_runner.specs.declared.live.standing.StandingRead.{StandingRead}
 
 -- a run's session, whether the run follows, its reads that go on, and the alerts that it knows

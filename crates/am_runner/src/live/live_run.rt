@@ -6,10 +6,10 @@ ghost use Rattle.am_config.specs.declared.config.Config.{Config};
 ghost use Rattle.am_runner.specs.Sessions.{Setting};
 
 use crate::context::Context;
-use crate::live::known::KnownAlerts;
 use crate::live::pace::Pace;
 use crate::live::standing::StandingRead;
 use crate::session::Session;
+use am_answers::KnownAlerts;
 use am_provider::Recorded;
 use indexmap::IndexMap;
 use std::alloc::Global;
@@ -34,7 +34,7 @@ impl<'p, 'c, N: Recorded> Model for LiveRun<'p, 'c, N> {
     ghost use Rattle.am_labels.specs.LabelSets.{coded_labels};
     ghost use Rattle.am_store.specs.contracts.call.Call as call;
     ghost use Rattle.am_store.specs.contracts.lanes.OpenLane as lane;
-    ghost use Rattle.am_runner.specs.contracts.consumer.Consumer as beside;
+    ghost use Rattle.am_answers.specs.contracts.consumer.Consumer as beside;
     ghost use Rattle.std.specs.Prelude.{[]};
     ghost use mir.Syntax.{named};
     ghost use Rattle.am_runner.specs.live.Standing.{RunView};

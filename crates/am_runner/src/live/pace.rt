@@ -15,7 +15,7 @@
 ghost use Rattle.std.specs.Prelude.{◌≡◌, ◌+◌, ◌/◌, ◌<◌, ◌↔◌, IsTrue, min, unwrap_or};
 ghost use Rattle.am_runner.specs.live.inside.Paces.{growth_by, growth_of};
 
-use crate::answer::Answer;
+use am_answers::Answer;
 
 // What makes no compaction due, however little is stored.
 const LITTLE: u64 = 1_024;

@@ -9,15 +9,13 @@
 //! ```
 
 ghost use Rattle.std.specs.Prelude.{◌≡◌, ◌++◌, ◌-◌, ℕ, List, IfOk, OnOk, filter, length, string_bytes};
-ghost use Rattle.am_runner.specs.Answers.{is_item};
+ghost use Rattle.am_answers.specs.Answers.{is_item};
 ghost use Rattle.am_runner.specs.Sessions.{Does, setting_of};
 ghost use Rattle.am_runner.specs.live.Standing.{ReadOn, ends_pending, index_of_read, others, left_to_read, stands_after};
 
-use crate::answer::Answer;
 use crate::context::Context;
-use crate::live::known::KnownAlerts;
-use crate::live::showing::{is_pending, write_came};
 use crate::session::Session;
+use am_answers::{Answer, KnownAlerts, is_pending, write_came};
 use am_labels::Text;
 use am_provider::{Gate, Recorded};
 use am_script::{Command, Form};

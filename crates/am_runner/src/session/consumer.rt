@@ -5,12 +5,10 @@ ghost use Rattle.am_config.specs.declared.config.Config.{Config};
 ghost use Rattle.am_runner.specs.Sessions.{Does, IsAskedAt, IsOne, Setting, SweepsNamed, groups_told};
 ghost use Rattle.am_runner.specs.Sessions.{named_in, sweep_command};
 
-use crate::answer::{Answer, one};
-use crate::consumer::Half;
 use crate::open_subscription::OpenSubscription;
-use crate::room_for_answer::RoomForAnswer;
 use crate::session::{Session, index_named};
 use am_alert::Moment;
+use am_answers::{Answer, Half, RoomForAnswer, one};
 use am_labels::{LabelSet, Text};
 use am_provider::Recorded;
 use am_script::{Command, GivenMoment, Verb};

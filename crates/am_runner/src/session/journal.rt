@@ -5,10 +5,10 @@ ghost use Rattle.am_config.specs.declared.config.Config.{Config};
 ghost use Rattle.am_runner.specs.Sessions.{Does, Setting};
 ghost use Rattle.am_runner.specs.Compacting.{Compacts, CountsStored, Vouches};
 
-use crate::answer::Answer;
 use crate::context::Context;
 use crate::open_subscription::OpenSubscription;
 use crate::session::Session;
+use am_answers::Answer;
 use am_provider::{Caller, Recorded};
 use am_script::{Command, Verb};
 use std::sync::Wait;

@@ -5,10 +5,10 @@ ghost use Rattle.am_runner.specs.Putting.{AnswersRead};
 ghost use Rattle.am_config.specs.declared.config.Config.{Config};
 ghost use Rattle.am_runner.specs.Sessions.{Does, cut_below, setting_of, posted_answers};
 
-use crate::answer::{Answer, one};
 use crate::context::Context;
 use crate::session::Session;
 use am_alert::{AlertFault, Body, Moment, Post, PostFault};
+use am_answers::{Answer, one};
 use am_provider::{BodyFault, Caller, Gate, Posted, Recorded};
 use am_script::{Command, PutAlerts};
 use am_store::LaneSet;

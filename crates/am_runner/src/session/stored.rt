@@ -9,11 +9,10 @@ ghost use Rattle.am_runner.specs.Unanswered.{IsDone};
 ghost use Rattle.am_provider.specs.Callers.{SeesCall};
 ghost use Rattle.am_provider.specs.Headline.{AnswersPage};
 
-use crate::answer::{Answer, PageHead, one};
 use crate::context::Context;
-use crate::room_for_answer::RoomForAnswer;
 use crate::session::Session;
 use am_alert::Moment;
+use am_answers::{Answer, PageHead, RoomForAnswer, one};
 use am_labels::LabelSet;
 use am_provider::{Page, Recorded};
 use am_script::{Command, Verb};

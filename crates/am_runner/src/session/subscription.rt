@@ -7,12 +7,10 @@ ghost use Rattle.std.specs.Prelude.{◌≡◌, ◌<◌, ◌∷◌, [], IfOk, OnE
 ghost use Rattle.am_config.specs.declared.config.Config.{Config};
 ghost use Rattle.am_runner.specs.Sessions.{Does, LeavesAll, LeavesAt, ReadsAt, Setting};
 
-use crate::answer::{Answer, one};
-use crate::consumer::Consumer;
 use crate::context::Context;
 use crate::open_subscription::OpenSubscription;
-use crate::room_for_answer::RoomForAnswer;
 use crate::session::{Session, index_named};
+use am_answers::{Answer, Consumer, RoomForAnswer, one};
 use am_labels::Text;
 use am_provider::laws::history_laws;
 use am_provider::{Caller, Ended, Recorded};

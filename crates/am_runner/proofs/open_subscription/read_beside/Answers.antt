@@ -1,7 +1,7 @@
 use Rattle.std.proofs.Common.{◌≡◌, ◌∙◌, ◌++◌, ◌∷◌, [], true, List, ap}
-use Rattle.am_runner.specs.declared.answer.Answer.{Answer}
+use Rattle.am_answers.specs.declared.answer.Answer.{Answer}
 use Rattle.am_script.specs.declared.command.Verb.TheVariants as verb
-use Rattle.am_runner.specs.declared.answer.Answer.TheVariants.{OutOfMemory, Pending}
+use Rattle.am_answers.specs.declared.answer.Answer.TheVariants.{OutOfMemory, Pending}
 use Rattle.am_runner.proofs.Reading.{last_pending}
 use Rattle.am_runner.proofs.Taking.{took_shown, read_one, missed_read}
 use Rattle.am_runner.proofs.open_subscription.read_beside.Goals as goal

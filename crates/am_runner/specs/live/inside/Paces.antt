@@ -1,7 +1,7 @@
 -- By how much the journal grows with what a line asks for.
 use Rattle.std.specs.Prelude.{ℕ, ◌+◌, List, [], ◌∷◌}
-use Rattle.am_runner.specs.declared.answer.Answer.{Answer}
-use Rattle.am_runner.specs.declared.answer.Answer.TheVariants as answer
+use Rattle.am_answers.specs.declared.answer.Answer.{Answer}
+use Rattle.am_answers.specs.declared.answer.Answer.TheVariants as answer
 
 -- the call that was answered so, and the alerts that it posted or removed; nothing, if no call of the journal
 -- was

@@ -15,7 +15,7 @@ replaced (one ∷ lanes) (suc lane) was is other here same = ap (λ rest. option
 pub loop-lane-preserved : goal.loop-lane-preserved
 loop-lane-preserved c =
     elim c.match-lanes-lane.branch [
-      | in-Some-Ok w ↦ ap all_subscribed_at w.lanes-is ∙ (replaced c.loop-lane.lanes c.loop-lane.lane _ _ c.index-lanes-lane.result (sym w.in-Some-Ok.is-0) refl ∙ c.loop-lane.invariant)
+      | in-Some-Ok w ↦ ap all_subscribed_at w.lanes-is ∙ (replaced c.loop-lane.lanes c.loop-lane.lane _ _ c.index-lanes-lane.result (sym w.in-Some-Ok.is-0) (ap (option_map subscribed_at) w.replace.ensures.after) ∙ c.loop-lane.invariant)
       | in_default+in-Ok-1 w ↦ ap all_subscribed_at w.lanes-is ∙ c.loop-lane.invariant
       | in_default+in-Err-1 w ↦ ap all_subscribed_at w.lanes-is ∙ c.loop-lane.invariant
     ]

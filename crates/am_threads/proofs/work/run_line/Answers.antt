@@ -3,7 +3,7 @@ use Rattle.std.specs.Global.{Vec}
 use Rattle.am_runner.specs.Sessions.{setting_of, SessionView}
 use Rattle.am_runner.specs.Turning.{order_of}
 use Rattle.am_threads.specs.Working.{LooksOn, RunsLine, own, others}
-use Rattle.am_runner.specs.declared.answer.Answer.{Answer}
+use Rattle.am_answers.specs.declared.answer.Answer.{Answer}
 use Rattle.am_runner.proofs.Results.{if_ok_map}
 use Rattle.am_provider.proofs.Turns.{prefix_self, prefix_then}
 use Rattle.am_runner.proofs.Turning.{begins_more, ends_more, turn_of}

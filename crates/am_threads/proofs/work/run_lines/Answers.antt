@@ -7,7 +7,7 @@ use Rattle.am_script.specs.declared.command.Line.{Line}
 use Rattle.am_runner.specs.Sessions.{setting_of}
 use Rattle.am_runner.specs.Turning.{order_of}
 use Rattle.am_threads.specs.Working.{RunsLine, Works, nothing}
-use Rattle.am_runner.specs.declared.answer.Answer.{Answer}
+use Rattle.am_answers.specs.declared.answer.Answer.{Answer}
 use Rattle.am_threads.proofs.Lines.{more_work}
 use Rattle.am_runner.proofs.Results.{on_ok_of}
 use Rattle.am_provider.proofs.Turns.{prefix_then}

@@ -1,4 +1,4 @@
-use Rattle.std.proofs.Common.{arith, ◌≡◌, ◌<◌, length, sym, ap, ◌∙◌, subst}
+use Rattle.std.proofs.Common.{◌≡◌, ◌<◌, length, ap, ◌∙◌, subst, false}
 use Rattle.am_cast.specs.declared.limits.TheConstants.{LONGEST_LOG}
 use Rattle.am_cast.specs.declared.batch_view.BatchView.{BatchView}
 use Rattle.am_cast.specs.declared.views.Tail.{Tail}
@@ -9,12 +9,8 @@ pub returns-in-Ok-clause-ok : goal.returns-in-Ok-clause-ok
 returns-in-Ok-clause-ok g c =
     let sent = c.in-Ok.ensures.ok in
     let x = sent.1 in
-    let tail : c.harvest-full.new.self.tail ≡ c.args.self.now.tail = c.harvest-full.ensures.harvested.tail in
-    let few = c.if-len-ge-LONGEST_LOG.false in let len = c.len.ensures.0 in (
+    let tail : c.harvest-full.new.self.tail ≡ c.args.self.now.tail = c.harvest-full.ensures.harvested.tail in (
       sent.0 ∙ ap (λ (t : Tail (BatchView g.row.T.Denot g.row.P.Denot)). length t.log) tail,
-      (
-        sym (ap (λ (t : Tail (BatchView g.row.T.Denot g.row.P.Denot)). t.closed) tail) ∙ (sym c.is_closed.ensures ∙ c.if-is_closed.false),
-        subst (λ (t : Tail (BatchView g.row.T.Denot g.row.P.Denot)). length t.log < LONGEST_LOG) tail (omega arith),
-      ),
+      subst (λ (t : Tail (BatchView g.row.T.Denot g.row.P.Denot)). (t.closed ≡ false) × (length t.log < LONGEST_LOG)) tail c.in_default.ensures.none.0,
       (x.0, x.1, x.2, x.3 ∙ ap (λ (t : Tail (BatchView g.row.T.Denot g.row.P.Denot)). longer_tail x.0 t) tail, x.4),
     )

@@ -1,4 +1,4 @@
-use Rattle.std.proofs.Common.{arith, ◌≡◌, ◌+◌, ◌<◌, ◌++◌, ◌∷◌, [], ℕ, List, length, sym, ap, ◌∙◌, subst, false, Bool}
+use Rattle.std.proofs.Common.{arith, ◌≡◌, ◌<◌, ◌++◌, ◌∷◌, [], ℕ, List, length, sym, ap, ◌∙◌, subst, Bool}
 use Rattle.am_segment.specs.Segments.{KeyView}
 use Rattle.am_cast.specs.declared.limits.TheConstants.{LONGEST_LOG}
 use Rattle.am_cast.specs.declared.batch_view.BatchView.{BatchView}
@@ -8,7 +8,6 @@ use Rattle.am_cast.specs.declared.views.View.{View}
 use Rattle.am_cast.specs.declared.views.WriterView.{WriterView}
 use Rattle.am_cast.specs.Changes.{longer_tail, own_at}
 use Rattle.am_cast.specs.Posters.{PassView}
-use Rattle.am_cast.specs.Rule.{cut}
 use Rattle.am_cast.specs.declared.views.Account.{Account}
 use Rattle.am_cast.specs.Writers.{StandsOn, IsCutAs}
 use Rattle.am_cast.proofs.writer.Writer.publish_cutting.Goals as goal

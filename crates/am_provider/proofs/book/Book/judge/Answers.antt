@@ -6,8 +6,8 @@ use Rattle.am_alert.specs.declared.post.Post.{Post}
 use Rattle.am_store.specs.Judging.{AreJudged, WasAsked}
 use Rattle.am_provider.specs.BookView.{BookView}
 use Rattle.am_provider.specs.Posts.{WasAskedBefore}
-use Rattle.am_provider.specs.declared.faults.PutFault.{PutFault}
-use Rattle.am_provider.specs.declared.faults.PutFault.TheVariants.{NoMemory, Closed}
+use Rattle.am_store.specs.declared.faults.PutFault.{PutFault}
+use Rattle.am_store.specs.declared.faults.PutFault.TheVariants.{NoMemory, Closed}
 use Rattle.am_alert.specs.ValidAlerts.{IsWellFormed}
 use Rattle.am_store.specs.AlertMaps.{stored_in}
 use Rattle.am_store.proofs.Judging.{accepted_all, accepted_few}

@@ -2,7 +2,7 @@ use Rattle.std.proofs.Common.{◌≡◌, length, inl, inr, Result, Err, sym, sub
 use Rattle.am_provider.specs.BookView.{BookView}
 use Rattle.std.specs.Prelude.{IfErr}
 use Rattle.am_provider.specs.declared.answers.PostedIf.{PostedIf}
-use Rattle.am_provider.specs.declared.faults.PutFault.{PutFault}
+use Rattle.am_store.specs.declared.faults.PutFault.{PutFault}
 use Rattle.am_provider.specs.Posts.{IsPutCause, IsPutIfCause, Puts}
 use Rattle.am_provider.proofs.book.Book.post_if.Goals as goal
 

@@ -20,8 +20,8 @@ use Rattle.am_provider.specs.BookView.{BookView}
 use Rattle.am_provider.specs.Posts.{IsPutCause}
 use Rattle.am_provider.specs.inside.Shelves.{view_of}
 use Rattle.am_provider.specs.Sending.{IsLogCause}
-use Rattle.am_provider.specs.declared.faults.PutFault.{PutFault}
-use Rattle.am_provider.specs.declared.faults.PutFault.TheVariants as put_fault
+use Rattle.am_store.specs.declared.faults.PutFault.{PutFault}
+use Rattle.am_store.specs.declared.faults.PutFault.TheVariants as put_fault
 use Rattle.am_provider.proofs.Shelves.{GoesOnAs, stays_as, cut_as, goes_on_twice, kept_alike}
 use Rattle.am_provider.proofs.Calls.{kept_posted}
 use Rattle.am_provider.proofs.Endings.{still_endings_of}
@@ -79,6 +79,27 @@ invariant_of-self-in-Err g c =
       kept_alike _ _ _ _ c.self.invariant.0 same.0 same.1 c.in_ok-reserve.ensures.kept (ap stored_in entries) (unsent.tail ∙ c.look_for_room.ensures.harvested.tail)
           (λ lane small. goes_on_twice (account_of c.self.inside.log lane) (account_of c.look_for_room.new.writer lane) (account_of c.send_batch.new.writer lane)
           (stays_as _ _ (c.look_for_room.ensures.harvested.each lane small)) (stays_as _ _ (unsent.lanes lane small))) refl refl refl refl,
+      c.self.invariant.1,
+      c.self.invariant.2,
+      still_endings_of _ _ _ _ c.self.invariant.3 refl refl (ap (λ (j : JournalView). j.before) same.0) same.1,
+    )
+
+-- what the log knows of a lane goes on through the harvest
+pub invariant_of-self-in_err-reserve : goal.invariant_of-self-in_err-reserve
+invariant_of-self-in_err-reserve g c =
+    let same = c.in_err-reserve.ensures.same in (
+      kept_alike _ _ _ _ c.self.invariant.0 same.0 same.1 c.in_err-reserve.ensures.kept refl c.look_for_room.ensures.harvested.tail
+          (λ lane small. stays_as _ _ (c.look_for_room.ensures.harvested.each lane small)) refl refl refl refl,
+      c.self.invariant.1,
+      c.self.invariant.2,
+      still_endings_of _ _ _ _ c.self.invariant.3 refl refl (ap (λ (j : JournalView). j.before) same.0) same.1,
+    )
+
+pub invariant_of-self-in_err-batch : goal.invariant_of-self-in_err-batch
+invariant_of-self-in_err-batch g c =
+    let same = c.in_ok-reserve.ensures.same in (
+      kept_alike _ _ _ _ c.self.invariant.0 same.0 same.1 c.in_ok-reserve.ensures.kept (ap stored_in c.in_err-batch.ensures.err) c.look_for_room.ensures.harvested.tail
+          (λ lane small. stays_as _ _ (c.look_for_room.ensures.harvested.each lane small)) refl refl refl refl,
       c.self.invariant.1,
       c.self.invariant.2,
       still_endings_of _ _ _ _ c.self.invariant.3 refl refl (ap (λ (j : JournalView). j.before) same.0) same.1,

@@ -8,8 +8,9 @@ use Rattle.am_provider.proofs.provider.Provider.trim.Goals as goal
 pub invariant_of-recorded-2 : goal.invariant_of-recorded-2
 invariant_of-recorded-2 g c =
     let entry : c.of.result.value ≡ Trimmed c.in-Ok.count = search rules in (
-      subst (IsRecorded g.N.Recorded.policy g.N.Recorded.places c.trim.new.self) (sym (c.push.ensures.longer ∙ ap (λ e. c.recorded.inside.history ++ e ∷ []) entry))
-          (recorded_trimmed c.recorded.inside.book c.trim.new.self c.recorded.inside.history c.in-Ok.count c.recorded.invariant.0 c.in-Ok.ensures.dropped c.in-Ok.ensures.journal c.in-Ok.ensures.log c.in-Ok.ensures.limits c.in-Ok.ensures.endings c.in-Ok.ensures.early c.in-Ok.ensures.gone),
+      subst (λ b. IsRecorded g.N.Recorded.policy g.N.Recorded.places b c.push.new.self) (sym c.take_discarded.ensures)
+          (subst (IsRecorded g.N.Recorded.policy g.N.Recorded.places c.trim.new.self) (sym (c.push.ensures.longer ∙ ap (λ e. c.recorded.inside.history ++ e ∷ []) entry))
+          (recorded_trimmed c.recorded.inside.book c.trim.new.self c.recorded.inside.history c.in-Ok.count c.recorded.invariant.0 c.in-Ok.ensures.dropped c.in-Ok.ensures.journal c.in-Ok.ensures.log c.in-Ok.ensures.limits c.in-Ok.ensures.endings c.in-Ok.ensures.early c.in-Ok.ensures.gone)),
       c.recorded.invariant.1,
     )
 

@@ -19,14 +19,14 @@ invariant_of-self g c =
     let no = c.in_default.ensures.none in
     let from = c.advance_slice.result.1 in
     let old : SubscriptionView = record { at = c.self.inside.at; opening = c.self.inside.opening.value; shown = c.self.inside.shown; cursor = c.self.inside.cursor; closed_told = c.self.inside.closed_told } in
-    let new : SubscriptionView = record old { cursor = c.in_hand_from-shown.follows.lender-at-none } in
+    let new : SubscriptionView = record old { cursor = c.in_hand_from.follows.lender-at-none } in
     let same : old ≡ c.args.self.now = c.self.view_is ∙ no.1 in
     let all : old.shown ≡ length old.opening = ap (λ (s : SubscriptionView). s.shown) same ∙ (no.0 ∙ ap (λ (s : SubscriptionView). length s.opening) (sym same)) in
-    let lent : Cursor = c.in_hand_from-shown.follows.lender-at-none in
-    let is : c.advance_slice.new.self ≡ lent = sym c.in_hand_from-shown.follows.holds-at-none in
+    let lent : Cursor = c.in_hand_from.follows.lender-at-none in
+    let is : c.advance_slice.new.self ≡ lent = sym c.in_hand_from.follows.holds-at-none in
     let on = subst (λ (d : Cursor). GoesOn old.cursor d) is c.advance_slice.ensures.on in
     let moves = subst (λ (d : Cursor). MovesSlice old.cursor d moved.One from) is (subst (λ (m : Moved). MovesSlice old.cursor c.advance_slice.new.self m from) c.in-One-default.is-0 c.advance_slice.ensures.moves) in
-    let items = subst (λ (d : Cursor). c.in_hand_from-shown.result.now ≡ drop from (items_at d.lane.front d.lane.passed)) is c.in_hand_from-shown.ensures.items in (
+    let items = subst (λ (d : Cursor). c.in_hand_from.result.now ≡ drop from (items_at d.lane.front d.lane.passed)) is c.in_hand_from.ensures.items in (
       (batch_shown old new c.self.inside.count _ from c.self.invariant.0 all refl on moves (ap (λ (shown : List _). (c.self.inside.count + length shown) % 2 ^ 64) items)).0,
       may_go old.opening old.cursor new.cursor c.self.inside.held c.let_go_after.new.held c.self.inside.stored c.self.invariant.1 _ moves.1.taken moves.1.some,
     )

@@ -2,10 +2,10 @@ use Rattle.std.proofs.Common.{◌≡◌, ◌∙◌, ◌++◌, List, ℕ, Bool, t
 use Rattle.std.proofs.lemmas.Result.{IfOk-weaker}
 use Rattle.am_runner.specs.Sessions.{setting_of}
 use Rattle.am_runner.specs.Unanswered.{is_question, loses_nothing, not_done, only_asked}
-use Rattle.am_runner.specs.declared.answer.Answer.{Answer}
+use Rattle.am_answers.specs.declared.answer.Answer.{Answer}
 use Rattle.am_runner.specs.live.Answering.{Obeys, has_free_name, has_moment_if_needed, ran, unanswered}
-use Rattle.am_runner.specs.live.Known.{Known, known_after, places_after}
-use Rattle.am_runner.specs.live.Showing.{AnswersArePrinted, kept_printed}
+use Rattle.am_answers.specs.Known.{Known, known_after, places_after}
+use Rattle.am_answers.specs.Showing.{AnswersArePrinted, kept_printed}
 use Rattle.am_runner.specs.live.Standing.{ReadOn, RunView, stands_after}
 use Rattle.am_runner.proofs.live.answering.run_command.Goals as goal
 

@@ -1,5 +1,5 @@
 use Rattle.std.proofs.Common.{◌≡◌, ◌-◌, length, filter, take}
-use Rattle.am_runner.specs.Answers.{is_item}
+use Rattle.am_answers.specs.Answers.{is_item}
 use Rattle.am_runner.proofs.live.standing.left_of.Given as goal
 
 -- what is left after those so far

@@ -1,9 +1,9 @@
 use Rattle.std.proofs.Common.{◌≡◌, ◌∙◌, ◌++◌, ◌∷◌, ◌<◌, ◌≤◌, ◌+◌, [], ℕ, List, length, take, refl, ap, sym, subst, arith, append_assoc, append-nil}
 use Rattle.std.proofs.lemmas.List.{take_all, take_more}
 use Rattle.am_script.specs.declared.command.Command.TheVariants.{Read}
-use Rattle.am_runner.specs.declared.answer.Answer.{Answer}
+use Rattle.am_answers.specs.declared.answer.Answer.{Answer}
 use Rattle.am_runner.specs.Sessions.{Setting, Does, setting_of}
-use Rattle.am_runner.specs.live.Showing.{CameIsPrinted}
+use Rattle.am_answers.specs.Showing.{CameIsPrinted}
 use Rattle.am_runner.specs.live.Standing.{ReadOn, none_stands, one_more, left_to_read}
 use Rattle.am_runner.specs.declared.live.standing.StandingRead.{StandingRead}
 use Rattle.am_runner.proofs.live.standing.read_on.Goals as goal

@@ -4,7 +4,7 @@ use Rattle.am_alert.specs.declared.alert.Alert.{Alert}
 use Rattle.am_cast.specs.Posters.{PassView}
 use Rattle.am_store.specs.declared.call.Call.{Call}
 use Rattle.am_runner.specs.Reading.{ReadsSome, ReadsOne, nothing, one_more, all, ended}
-use Rattle.am_runner.specs.declared.answer.Answer.{Answer}
+use Rattle.am_answers.specs.declared.answer.Answer.{Answer}
 use Rattle.am_runner.proofs.Reading.{ended_pending, never_pending, read_stays}
 use Rattle.am_runner.proofs.open_subscription.OpenSubscription.read.Goals as goal
 

@@ -1,6 +1,6 @@
 use Rattle.std.proofs.Common.{ap, subst}
 use Rattle.am_provider.specs.Subscriptions.{taken}
-use Rattle.am_runner.specs.Consuming.{IsSwept}
+use Rattle.am_answers.specs.Consuming.{IsSwept}
 use Rattle.am_runner.specs.Reading.{OpenView}
 use Rattle.am_runner.proofs.Taking.{sweep_takes_none}
 use Rattle.am_runner.proofs.open_subscription.OpenSubscription.sweep.Goals as goal

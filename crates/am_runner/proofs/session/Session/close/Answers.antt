@@ -3,7 +3,7 @@ use Rattle.am_alert.specs.declared.alert.Alert.{Alert}
 use Rattle.am_store.specs.declared.call.Call.{Call}
 use Rattle.am_cast.specs.Posters.{PassView}
 use Rattle.am_runner.specs.Sessions.{SessionView, Does, closed, close_refused}
-use Rattle.am_runner.specs.declared.answer.Answer.TheVariants.{CloseAccepted, CloseRefused}
+use Rattle.am_answers.specs.declared.answer.Answer.TheVariants.{CloseAccepted, CloseRefused}
 use Rattle.am_script.specs.declared.command.Command.TheVariants.{Close}
 use Rattle.am_runner.proofs.session.Session.close.Goals as goal
 

@@ -3,10 +3,10 @@ use Rattle.am_alert.specs.declared.alert.Alert.{Alert}
 use Rattle.am_store.specs.declared.call.Call.{Call}
 use Rattle.am_cast.specs.Posters.{PassView}
 use Rattle.am_runner.specs.Sessions.{SessionView, Does, collected, collect_refused}
-use Rattle.am_runner.specs.declared.answer.Answer.TheVariants.{Collected, OutOfMemory}
+use Rattle.am_answers.specs.declared.answer.Answer.TheVariants.{Collected, OutOfMemory}
 use Rattle.am_script.specs.declared.command.Command.TheVariants.{Collect}
 use Rattle.am_script.specs.declared.command.Verb.TheVariants as verb
-use Rattle.am_runner.specs.declared.answer.Answer.{Answer}
+use Rattle.am_answers.specs.declared.answer.Answer.{Answer}
 use Rattle.am_runner.proofs.session.Session.collect.Goals as goal
 
 pub returns-clause-does : goal.returns-clause-does

@@ -3,7 +3,7 @@ use Rattle.am_alert.specs.declared.alert.Alert.{Alert}
 use Rattle.am_store.specs.declared.call.Call.{Call}
 use Rattle.am_cast.specs.Posters.{PassView}
 use Rattle.am_runner.specs.Sessions.{SessionView, Does, compacted, compact_refused}
-use Rattle.am_runner.specs.declared.answer.Answer.TheVariants.{Compacted, OutOfMemory}
+use Rattle.am_answers.specs.declared.answer.Answer.TheVariants.{Compacted, OutOfMemory}
 use Rattle.am_script.specs.declared.command.Command.TheVariants.{Compact}
 use Rattle.am_script.specs.declared.command.Verb.TheVariants as verb
 use Rattle.am_runner.proofs.session.Session.compact.Goals as goal

@@ -1,6 +1,6 @@
 use Rattle.std.proofs.Common.{◌∷◌, [], sym, subst}
 use Rattle.am_runner.specs.Sessions.{SessionView, Does, paged, page_refused, page_answers}
-use Rattle.am_runner.specs.declared.answer.Answer.TheVariants.{OutOfMemory}
+use Rattle.am_answers.specs.declared.answer.Answer.TheVariants.{OutOfMemory}
 use Rattle.am_script.specs.declared.command.Command.TheVariants.{StoredPage}
 use Rattle.am_script.specs.declared.command.Verb.TheVariants as verb
 use Rattle.am_runner.proofs.session.Session.count_stored.Goals as goal

@@ -1,6 +1,6 @@
 use Rattle.std.proofs.Common.{◌∷◌, [], sym, subst}
 use Rattle.am_runner.specs.Sessions.{SessionView, Does, got, get_refused}
-use Rattle.am_runner.specs.declared.answer.Answer.{Answer}
+use Rattle.am_answers.specs.declared.answer.Answer.{Answer}
 use Rattle.am_script.specs.declared.command.Command.TheVariants.{Get}
 use Rattle.am_runner.proofs.Named.{on_front}
 use Rattle.am_runner.proofs.Results.{if_ok_map, on_err}

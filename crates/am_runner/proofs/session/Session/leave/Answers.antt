@@ -1,7 +1,7 @@
 use Rattle.std.proofs.Common.{◌≡◌, ◌∙◌, List, Some, ap, sym, subst}
 use Rattle.am_runner.specs.Sessions.{SessionView, Does, left, nothing_to_leave, index_named}
 use Rattle.am_script.specs.declared.command.Command.TheVariants.{Leave}
-use Rattle.am_runner.specs.declared.answer.Answer.{Answer}
+use Rattle.am_answers.specs.declared.answer.Answer.{Answer}
 use Rattle.am_runner.proofs.session.Session.leave.Goals as goal
 
 pub returns-in-Some-clause-does : goal.returns-in-Some-clause-does

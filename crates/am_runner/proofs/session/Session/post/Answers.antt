@@ -3,8 +3,8 @@ use Rattle.std.specs.Duration.{as_nanos}
 use Rattle.std.specs.declared.time.Duration.{Duration}
 use Rattle.am_alert.specs.Bodies.{IsPostOfBody}
 use Rattle.am_runner.specs.Sessions.{SessionView, Does, posted, post_refused, posted_answers, setting_of}
-use Rattle.am_runner.specs.declared.answer.Answer.{Answer}
-use Rattle.am_runner.specs.declared.answer.Answer.TheVariants.{PostRefused}
+use Rattle.am_answers.specs.declared.answer.Answer.{Answer}
+use Rattle.am_answers.specs.declared.answer.Answer.TheVariants.{PostRefused}
 use Rattle.am_script.specs.declared.command.Command.TheVariants.{Post}
 use Rattle.am_runner.proofs.Putting.{read_as}
 use Rattle.am_runner.proofs.Results.{if_ok_map}

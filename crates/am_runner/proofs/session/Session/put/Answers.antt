@@ -2,8 +2,8 @@ use Rattle.std.proofs.Common.{◌∷◌, [], List, Ok, Err, sym, subst}
 use Rattle.am_alert.specs.FromParts.{IsPostOfAlerts}
 use Rattle.am_alert.specs.declared.alert.Alert.{Alert}
 use Rattle.am_runner.specs.Sessions.{SessionView, Does, put, put_refused, posted_answers, setting_of}
-use Rattle.am_runner.specs.declared.answer.Answer.{Answer}
-use Rattle.am_runner.specs.declared.answer.Answer.TheVariants.{PostRefused}
+use Rattle.am_answers.specs.declared.answer.Answer.{Answer}
+use Rattle.am_answers.specs.declared.answer.Answer.TheVariants.{PostRefused}
 use Rattle.am_script.specs.declared.command.Command.TheVariants.{Put}
 use Rattle.am_runner.proofs.Putting.{read_as}
 use Rattle.am_runner.proofs.Results.{if_ok_map}

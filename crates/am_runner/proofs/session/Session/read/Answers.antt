@@ -1,6 +1,6 @@
 use Rattle.std.proofs.Common.{◌≡◌, ◌∙◌, List, Some, None, ap, sym, subst}
 use Rattle.am_runner.specs.Sessions.{SessionView, Does, read, nothing_to_read, index_named}
-use Rattle.am_runner.specs.declared.answer.Answer.{Answer}
+use Rattle.am_answers.specs.declared.answer.Answer.{Answer}
 use Rattle.am_script.specs.declared.command.Command.TheVariants.{Read}
 use Rattle.am_runner.proofs.Results.{if_ok_map}
 use Rattle.am_runner.proofs.session.Session.read.Goals as goal

@@ -3,7 +3,7 @@ use Rattle.am_config.specs.RouteLists.{root_of}
 use Rattle.am_config.specs.declared.config.Config.{Config}
 use Rattle.am_script.specs.declared.command.Command.{Command}
 use Rattle.am_script.specs.declared.command.Command.TheVariants.{Get, Stored, StoredPage}
-use Rattle.am_runner.specs.Asking.{ShowsTree}
+use Rattle.am_answers.specs.Asking.{ShowsTree}
 use Rattle.am_runner.specs.Sessions.{Does, routes, route, setting_of}
 use Rattle.am_runner.specs.Unanswered.{not_done}
 use Rattle.am_runner.proofs.LostAnswers.{asked, kept}

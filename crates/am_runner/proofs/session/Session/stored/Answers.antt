@@ -1,6 +1,6 @@
 use Rattle.std.proofs.Common.{List, sym, subst}
 use Rattle.am_runner.specs.Sessions.{SessionView, Does, stored, stored_refused}
-use Rattle.am_runner.specs.declared.answer.Answer.{Answer}
+use Rattle.am_answers.specs.declared.answer.Answer.{Answer}
 use Rattle.am_script.specs.declared.command.Command.TheVariants.{Stored}
 use Rattle.am_runner.proofs.Named.{on_front}
 use Rattle.am_runner.proofs.Results.{if_ok_map, on_err}

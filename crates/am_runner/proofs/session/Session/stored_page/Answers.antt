@@ -1,8 +1,8 @@
 use Rattle.std.proofs.Common.{◌∷◌, [], List, sym, subst}
 use Rattle.am_runner.specs.Sessions.{SessionView, Does, paged, page_refused, page_answers}
 use Rattle.am_runner.specs.Unanswered.{IsDone}
-use Rattle.am_runner.specs.declared.answer.Answer.{Answer}
-use Rattle.am_runner.specs.declared.answer.Answer.TheVariants.{OutOfMemory}
+use Rattle.am_answers.specs.declared.answer.Answer.{Answer}
+use Rattle.am_answers.specs.declared.answer.Answer.TheVariants.{OutOfMemory}
 use Rattle.am_script.specs.declared.command.Command.TheVariants.{StoredPage}
 use Rattle.am_script.specs.declared.command.Verb.TheVariants as verb
 use Rattle.am_runner.proofs.Results.{if_ok_map, on_err}

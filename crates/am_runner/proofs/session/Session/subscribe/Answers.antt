@@ -3,11 +3,11 @@ use Rattle.am_config.specs.declared.config.Config.{Config}
 use Rattle.am_provider.specs.Callers.{SeesCall}
 use Rattle.am_provider.specs.Headline.{AnswersSubscribe}
 use Rattle.am_provider.specs.Subscriptions.{SubscriptionView}
-use Rattle.am_runner.specs.Consuming.{HasTaken, fresh_consumer}
+use Rattle.am_answers.specs.Consuming.{HasTaken, fresh_consumer}
 use Rattle.am_runner.specs.Reading.{OpenView}
 use Rattle.am_runner.specs.Sessions.{SessionView, Does, subscribe_refused}
-use Rattle.am_runner.specs.declared.answer.Answer.TheVariants.{Subscribed, SubscribeRefused}
-use Rattle.am_runner.specs.Consumers.{ConsumerView}
+use Rattle.am_answers.specs.declared.answer.Answer.TheVariants.{Subscribed, SubscribeRefused}
+use Rattle.am_answers.specs.Consumers.{ConsumerView}
 use Rattle.am_script.specs.declared.command.Command.TheVariants.{Subscribe}
 use Rattle.am_runner.proofs.Named.{fresh_took, subscribed_so}
 use Rattle.am_runner.proofs.session.Session.subscribe.Goals as goal

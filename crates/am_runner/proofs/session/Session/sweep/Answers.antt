@@ -1,6 +1,6 @@
 use Rattle.std.proofs.Common.{◌≡◌, ◌∙◌, List, ap, sym, subst, length}
 use Rattle.std.proofs.lemmas.List.{with_items_is}
-use Rattle.am_runner.specs.Consuming.{sweep_word}
+use Rattle.am_answers.specs.Consuming.{sweep_word}
 use Rattle.am_runner.specs.Reading.{OpenView}
 use Rattle.am_runner.specs.Sessions.{SessionView, Does, IsOne, SweepsNamed, SweepsOne, sweep_command}
 use Rattle.am_runner.proofs.Named.{as_many, swept_so}

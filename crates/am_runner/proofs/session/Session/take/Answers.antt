@@ -3,8 +3,8 @@ use Rattle.am_alert.specs.declared.alert.Alert.{Alert}
 use Rattle.am_store.specs.declared.call.Call.{Call}
 use Rattle.am_cast.specs.Posters.{PassView}
 use Rattle.am_runner.specs.Sessions.{SessionView, Does, took, take_refused, taken_answers}
-use Rattle.am_runner.specs.declared.answer.Answer.{Answer}
-use Rattle.am_runner.specs.declared.answer.Answer.TheVariants.{OutOfMemory}
+use Rattle.am_answers.specs.declared.answer.Answer.{Answer}
+use Rattle.am_answers.specs.declared.answer.Answer.TheVariants.{OutOfMemory}
 use Rattle.am_script.specs.declared.command.Command.TheVariants.{Take}
 use Rattle.am_script.specs.declared.command.Verb.TheVariants as verb
 use Rattle.am_runner.proofs.Results.{if_ok_map}

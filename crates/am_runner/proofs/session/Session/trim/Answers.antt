@@ -3,7 +3,7 @@ use Rattle.am_alert.specs.declared.alert.Alert.{Alert}
 use Rattle.am_store.specs.declared.call.Call.{Call}
 use Rattle.am_cast.specs.Posters.{PassView}
 use Rattle.am_runner.specs.Sessions.{SessionView, Does, trimmed, trim_refused}
-use Rattle.am_runner.specs.declared.answer.Answer.TheVariants.{Trimmed, OutOfMemory}
+use Rattle.am_answers.specs.declared.answer.Answer.TheVariants.{Trimmed, OutOfMemory}
 use Rattle.am_script.specs.declared.command.Command.TheVariants.{Trim}
 use Rattle.am_script.specs.declared.command.Verb.TheVariants as verb
 use Rattle.am_runner.proofs.session.Session.trim.Goals as goal

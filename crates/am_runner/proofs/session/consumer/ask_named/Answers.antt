@@ -3,8 +3,8 @@ use Rattle.std.proofs.lemmas.List.{set-get_or}
 use Rattle.std.specs.Option.{option_and_then}
 use Rattle.am_runner.specs.Reading.{OpenView}
 use Rattle.am_runner.specs.Sessions.{IsAskedAt, IsOne, just, named_in}
-use Rattle.am_runner.specs.declared.answer.Answer.{Answer}
-use Rattle.am_runner.specs.declared.answer.Answer.TheVariants.{NotOpen}
+use Rattle.am_answers.specs.declared.answer.Answer.{Answer}
+use Rattle.am_answers.specs.declared.answer.Answer.TheVariants.{NotOpen}
 use Rattle.am_script.specs.declared.command.Verb.TheVariants.{Mutes}
 use Rattle.am_runner.proofs.Named.{lent}
 use Rattle.am_runner.proofs.Results.{if_ok_map}

@@ -1,9 +1,9 @@
 use Rattle.std.proofs.Common.{◌∙◌, ◌∷◌, [], List, ap, sym, subst}
 use Rattle.std.specs.List.{slice_set}
-use Rattle.am_runner.specs.Consuming.{sweep_word}
+use Rattle.am_answers.specs.Consuming.{sweep_word}
 use Rattle.am_runner.specs.Sessions.{SweepsNamed, SweepsOne, IsOne, just, none_named}
-use Rattle.am_runner.specs.declared.answer.Answer.{Answer}
-use Rattle.am_runner.specs.declared.answer.Answer.TheVariants.{NotOpen}
+use Rattle.am_answers.specs.declared.answer.Answer.{Answer}
+use Rattle.am_answers.specs.declared.answer.Answer.TheVariants.{NotOpen}
 use Rattle.am_script.specs.declared.command.Verb.{Verb}
 use Rattle.am_runner.proofs.Named.{on_index}
 use Rattle.am_runner.proofs.Results.{if_ok_map}

@@ -1,5 +1,5 @@
 use Rattle.std.proofs.Common.{◌≡◌, ◌++◌, map, take}
-use Rattle.am_runner.specs.declared.answer.Answer.TheVariants.{Invalid}
+use Rattle.am_answers.specs.declared.answer.Answer.TheVariants.{Invalid}
 use Rattle.am_runner.proofs.session.post.add_invalid.Given as goal
 
 -- the faults so far stand

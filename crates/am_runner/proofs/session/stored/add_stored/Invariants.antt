@@ -1,5 +1,5 @@
 use Rattle.std.proofs.Common.{◌≡◌, ◌++◌, map}
-use Rattle.am_runner.specs.declared.answer.Answer.TheVariants.{StoredAlert}
+use Rattle.am_answers.specs.declared.answer.Answer.TheVariants.{StoredAlert}
 use Rattle.am_runner.proofs.session.stored.add_stored.Given as goal
 
 -- the alerts so far stand

@@ -2,7 +2,7 @@ use Rattle.std.proofs.Common.{◌≡◌, ◌+◌, sym, subst, arith, rules}
 use Rattle.std.specs.VecDeque.{deque_len}
 use Rattle.am_store.specs.inside.Journals.{AreDropped}
 use Rattle.am_store.proofs.Dropping.{next_at, one_dropped, next_lane, call_left}
-use Rattle.am_store.proofs.journal.Journal.drop_first.Goals.{in-Some+in-Posted-1, in-Some+in-Collected-1, in_default}
+use Rattle.am_store.proofs.journal.Journal.drop_first.Goals.{in-Some, in_default}
 use Rattle.am_store.proofs.journal.Journal.drop_first.Goals as goal
 
 pub count_dropped-requires-clause-lane : goal.count_dropped-requires-clause-lane
@@ -13,10 +13,7 @@ count_dropped-requires-clause-lane c =
 pub loop-preserved : goal.loop-preserved
 loop-preserved c =
     elim c.match-pop_front.branch [
-      | in-Some+in-Posted-1 w ↦
-          subst (AreDropped c.args.self.now (c.loop.counter + 1)) (sym w.self-is)
-          (one_dropped c.args.self.now c.loop.self w.count_dropped.new.self c.loop.counter w.in-Some.call c.pop_front.new.self c.loop.invariant w.in-Some.ensures.items w.in-Some.ensures.capacity w.count_dropped.ensures)
-      | in-Some+in-Collected-1 w ↦
+      | in-Some w ↦
           subst (AreDropped c.args.self.now (c.loop.counter + 1)) (sym w.self-is)
           (one_dropped c.args.self.now c.loop.self w.count_dropped.new.self c.loop.counter w.in-Some.call c.pop_front.new.self c.loop.invariant w.in-Some.ensures.items w.in-Some.ensures.capacity w.count_dropped.ensures)
       | in_default w ↦

@@ -1,12 +1,12 @@
-use Rattle.std.proofs.Common.{◌≡◌, ◌*◌, ◌<◌, ◌≤◌, ℕ, take, drop, length, get_or, vec_len, vec_capacity}
-use Rattle.am_store.specs.declared.shared_alerts.TheConstants.{BLOCK}
+use Rattle.std.proofs.Common.{◌≡◌, ◌*◌, ◌<◌, ◌≤◌, ℕ, List, take, drop, length, get_or, vec_len, vec_capacity}
+use Rattle.am_alert.specs.declared.alert.Alert.{Alert}
+use Rattle.am_store.specs.declared.shared_alerts.TheConstants.{GROUP}
 use Rattle.am_store.specs.Shared.{alerts_in}
-use Rattle.am_store.specs.inside.Blocks.{Block, alerts_of_block}
 use Rattle.am_store.proofs.shared_alerts.StoredAlerts.new.Given as goal
 
 abbrev pub invariant-loop-at : goal.invariant-loop-at
 invariant-loop-at l = record {
-  each : (k : ℕ) (d : Block) → k < length l.blocks.items → alerts_of_block (get_or l.blocks.items k d) ≡ take BLOCK (drop (BLOCK * k) (alerts_in l.alerts.items));
-  len : vec_len l.blocks ≡ l.at;
-  room : l.count ≤ vec_capacity l.blocks;
+  each : (k : ℕ) (d : List Alert) → k < length l.groups.items → get_or l.groups.items k d ≡ take GROUP (drop (GROUP * k) (alerts_in l.alerts.items));
+  len : vec_len l.groups ≡ l.at;
+  room : l.count ≤ vec_capacity l.groups;
 }

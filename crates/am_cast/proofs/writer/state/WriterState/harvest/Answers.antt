@@ -1,11 +1,12 @@
 use Rattle.std.proofs.Common.{le_refl, true≢false, ◌≤◌, arith, refl, sym, ◌<◌, ◌+◌, ◌/◌, ℕ, Option, subst, length}
+use Rattle.am_cast.specs.declared.limits.TheConstants.{LANES}
 use Rattle.am_cast.proofs.Writers.{harvest_step, still_room, more_room, Lowest, none_lowest, none_more, lowest_stays}
 use Rattle.am_cast.proofs.writer.state.WriterState.harvest.Goals as goal
 use Rattle.am_cast.proofs.writer.state.WriterState.harvest.Goals.{then-is_none+then-word+then-is_full_ring, else-is_none, else-is_none-via-then-is_none+then-word+else-is_full_ring, else-is_none-via-then-is_none+else-word, else-is_none-via-else-is_none}
 
 pub loop-lane-preserved : goal.loop-lane-preserved
 loop-lane-preserved g c = let i = c.loop-lane.invariant in let lane = c.loop-lane.lane in let q = c.loop-lane.self.known in let q' = c.harvest_lane-word.new.self.known in let here = c.harvest_lane-word.ensures in
-    let below = c.loop-lane-test.true in let bounds = c.used_end-lane-end.ensures.bounds in let small : lane < 8 = omega (arith, below, bounds.1) in let others = here.only.3 in let tail = here.only.0 in
+    let below = c.loop-lane-test.true in let bounds = c.used_end-lane-end.ensures.bounds in let small : lane < LANES = omega (arith, below, bounds.1) in let others = here.only.3 in let tail = here.only.0 in
     let step = harvest_step q q' lane tail others c.args.self.now.known small i.calm i.same here.only.1 here.calm here.account in record {
       calm = step.0;
       same = step.1;

@@ -1,5 +1,6 @@
 use Rattle.std.proofs.Common.{arith, ◌≡◌, ◌≤◌, ◌∷◌, List, ℕ, length, drop, sym, ap, ◌∙◌, subst}
 use Rattle.am_segment.specs.Segments.{KeyView}
+use Rattle.am_cast.specs.declared.limits.TheConstants.{LANES}
 use Rattle.am_cast.specs.declared.batch_view.BatchView.{BatchView}
 use Rattle.am_cast.specs.declared.views.Tail.{Tail}
 use Rattle.am_cast.specs.declared.views.View.{View}
@@ -24,7 +25,7 @@ store-requires-clause-writer g c = let r = c.requires.writer in let f = c.fill-r
 pub store-requires-clause-row : goal.store-requires-clause-row
 store-requires-clause-row g c = let f = c.fill-row.ensures.writer in let r = c.fill-row.ensures.row in let log = ap (λ (t : Tail (BatchView g.row.T.Denot g.row.P.Denot)). length t.log) f.0 in (
   r.0 ∙ sym log,
-  gathered_same (batch_of_tag c.tag_batch-tag.result) (λ l. is_live (account_of c.args.self.now.known l)) (λ l. is_live (account_of c.fill-row.new.self.known l)) 8 c.fill-row.result.keys (λ l h. filled_live c.args.self.now.known c.fill-row.new.self.known (batch_of_tag c.tag_batch-tag.result) l h f) r.1,
+  gathered_same (batch_of_tag c.tag_batch-tag.result) (λ l. is_live (account_of c.args.self.now.known l)) (λ l. is_live (account_of c.fill-row.new.self.known l)) LANES c.fill-row.result.keys (λ l h. filled_live c.args.self.now.known c.fill-row.new.self.known (batch_of_tag c.tag_batch-tag.result) l h f) r.1,
   subst (λ (z : List (BucketView g.row.T.Denot) × ℕ). 1 ≤ (bucket_of z.0 z.1).room) (λ i. (sym c.fill-row.ensures.rows i, sym r.0 i)) c.requires.row,
 )
 

@@ -1,0 +1,3 @@
+pub mod Notifying
+pub mod Same
+pub mod Runs

@@ -1,0 +1,24 @@
+use Rattle.std.proofs.Common.{rules, ◌≡◌, ◌∙◌, ◌++◌, ◌∷◌, [], List, codes}
+use Rattle.std.proofs.lemmas.Result.{IfOk-weaker}
+use Rattle.json.specs.Json.{string}
+use Rattle.json.specs.Token.{Token, end_object}
+use Rattle.am_script.specs.JsonLines.{labels_json, named, decimal_json}
+use Rattle.am_script.proofs.JsonLines.{and_then}
+use Rattle.am_answers.proofs.answer_json.write_group.Goals as goal
+
+pub returns : goal.returns
+returns c =
+    let part-0 : List Token = named (codes "answer") (string (codes "group")) in
+    let step-0 : c.text.new.self ≡ c.args.line.now ++ part-0 = c.in_ok-text.ensures in
+    let part-1 : List Token = named (codes "route") (decimal_json c.args.group.now.route) in
+    let step-1 : c.number.new.self ≡ c.text.new.self ++ part-1 = c.in_ok-number.ensures in
+    let part-2 : List Token = named (codes "receiver") (string c.args.group.now.receiver) in
+    let step-2 : c.text-2.new.self ≡ c.number.new.self ++ part-2 = search rules in
+    let part-3 : List Token = named (codes "labels") (labels_json c.args.group.now.labels) in
+    let step-3 : c.labels.new.self ≡ c.text-2.new.self ++ part-3 = c.in_ok-labels.ensures in
+    let part-4 : List Token = named (codes "alerts") (decimal_json c.args.group.now.alerts) in
+    IfOk-weaker c.number-2.result _ _ (λ _ last. and_then c.labels.new.self c.number-2.new.self part-4 (end_object ∷ []) last
+    ∙ (and_then c.text-2.new.self c.labels.new.self part-3 _ step-3
+    ∙ (and_then c.number.new.self c.text-2.new.self part-2 _ step-2
+    ∙ (and_then c.text.new.self c.number.new.self part-1 _ step-1
+    ∙ (and_then c.args.line.now c.text.new.self part-0 _ step-0))))) c.number-2.ensures

@@ -1,0 +1,15 @@
+use Rattle.std.proofs.Common.{◌≡◌, ◌∙◌, ◌++◌, ◌∷◌, [], List, codes}
+use Rattle.std.proofs.lemmas.Result.{IfOk-weaker}
+use Rattle.json.specs.Json.{string}
+use Rattle.json.specs.Token.{Token, end_object}
+use Rattle.am_script.specs.JsonLines.{named, decimal_json}
+use Rattle.am_script.proofs.JsonLines.{and_then}
+use Rattle.am_answers.proofs.answer_json.write_number.Goals as goal
+
+pub returns : goal.returns
+returns c =
+    let part-0 : List Token = named (codes "answer") (string c.args.word.now) in
+    let step-0 : c.text.new.self ≡ c.args.line.now ++ part-0 = c.in_ok-text.ensures in
+    let part-1 : List Token = named c.args.name.now (decimal_json c.args.number) in
+    IfOk-weaker c.number.result _ _ (λ _ last. and_then c.text.new.self c.number.new.self part-1 (end_object ∷ []) last
+    ∙ (and_then c.args.line.now c.text.new.self part-0 _ step-0)) c.number.ensures

@@ -1,0 +1,10 @@
+pub mod Answers
+pub mod Codes
+pub mod Printing
+pub mod PrintingJson
+pub mod Forms
+pub mod Consumers
+pub mod Consuming
+pub mod Asking
+pub mod Known
+pub mod Showing
