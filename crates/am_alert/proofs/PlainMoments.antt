@@ -7,7 +7,7 @@ use Rattle.jiff_core.specs.declared.error.Error.{Error}
 use Rattle.jiff_core.specs.DateTime.{civil_nanos}
 use Rattle.jiff_core.specs.Timestamp.{nanos_of_seconds}
 use Rattle.jiff_core.proofs.SignedLemmas.{signed_arith}
-use Rattle.core.specs.Result.{result_ok}
+use Rattle.std.specs.Result.{result_ok}
 use Rattle.jiff_fmt.specs.Text.{pad2, pad4, year_text, datetime_text, zulu_text, fraction_part}
 use Rattle.jiff.specs.Words.{parse_timestamp}
 use Rattle.jiff.proofs.Family.{parse_timestamp-text}
