@@ -1,6 +1,7 @@
 -- What a cursor has taken.
 use Rattle.std.proofs.Common.{◌≡◌, ℕ, zero, suc, ◌+◌, ◌-◌, ◌<◌, ◌≤◌, List, [], ◌∷◌, ◌++◌, length, take, drop, sym, refl, ap, ◌∙◌, subst, arith, Bool, true, false, add-one, append_assoc, Option, Some, None, is_some, slice_get}
 use Rattle.std.proofs.lemmas.Bool.{false≢true}
+use Rattle.std.proofs.lemmas.List.{drop_all}
 use mathlib.Core.Option.{some, some-ne-none, some-injective}
 use mathlib.Core.List.{IsPrefix}
 use lib.ListN.{get_elem?}
@@ -348,3 +349,15 @@ module _ {T P A : Type 0} where
   -- the same, of a cursor whose lane has come home
   pub taken_home : (t : Tail (BatchView T P)) (b : Account (KeyView T) A) (c : CursorView T P A) (l : ℕ) → Sound t b (left c.lane) l → IsPrefix (shown_items c) (all_items (drop c.lane.start t.log))
   taken_home t b c l sd = grind (arith, taken_front)
+
+  -- what a cursor has shown that has passed all that it has seen
+  pub shown_all : (c : CursorView T P A) → c.lane.passed ≡ length c.lane.front → shown_items c ≡ all_items (drop c.lane.start c.lane.front)
+  shown_all c passed = let front : List (BatchView T P) = c.lane.front in let all : List T = all_items (drop c.lane.start front) in
+      ap (λ (n : ℕ). all_items (drop c.lane.start (take n front)) ++ take c.shown (items_at front n)) passed
+      ∙ ap (λ (l : List (BatchView T P)). all_items (drop c.lane.start l) ++ take c.shown (items_at front (length front))) (take_all front (length front) refl)
+      ∙ ap (λ (l : List (BatchView T P)). all ++ take c.shown (all_items (take 1 l))) (drop_all (length front) front (omega arith))
+      ∙ ap (λ (l : List T). all ++ l) (none_of c.shown) ∙ append_none all
+    where
+      none_of : (n : ℕ) → take {A = T} n [] ≡ []
+      none_of zero = refl
+      none_of (suc n) = refl

@@ -38,3 +38,9 @@ module _ {T P A : Type 0} where
   abbrev pub GoesOn : CursorView T P A → CursorView T P A → Type 0
   GoesOn c d = (d.lane.number ≡ c.lane.number) × (d.lane.turn ≡ c.lane.turn) × (d.lane.note ≡ c.lane.note)
       × (d.lane.start ≡ c.lane.start) × IsPrefix c.lane.front d.lane.front
+
+-- a cursor that has passed all places that it has seen has shown all their items, from its start on. So has
+-- each one whose last answer was Closed or Pending
+abbrev pub ShowsAllItems : (T P A : Type 0) → Type 0
+ShowsAllItems T P A = (c : CursorView T P A) → c.lane.passed ≡ length c.lane.front
+    → shown_items c ≡ all_items (drop c.lane.start c.lane.front)

@@ -3,6 +3,7 @@
 //! nothing. `B` is what is known of a batch, `K` a key of one, `A` what a subscription notes down,
 //! and `R` says which key of a batch is each lane's.
 ghost use Rattle.std.specs.Prelude.{◌^◌, ◌≡◌};
+ghost use Rattle.am_cast.specs.Cursors.{ShowsAllItems};
 ghost use Rattle.am_cast.specs.Laws.{BeginsAtTheFirstState};
 ghost use Rattle.am_cast.specs.Laws.{ShowsASoundState, KnowsWhatIsFreed, FreedIsHome, HomeIsFreed};
 ghost use Rattle.am_cast.specs.Laws.{NeededIsNotFreedFor, NotesTheLog, WeighsTheView, TellsASeat};
@@ -181,4 +182,10 @@ pub fn the_limits()
     ensures subscribers { LANES ≡ 8 }
     ensures places { (MAX_PLACES ≡ 65_536) × (LONGEST_LOG ≡ 2 ^ 51) }
     ensures words { WORDS ≡ 152 }
+{}
+
+/// A cursor that has passed all places that it has seen has shown all their items, from its start on: one whose
+/// last answer was Closed or Pending.
+pub fn a_cursor_at_the_end_has_shown_all<T, P, A>()
+    ensures { ShowsAllItems T P A }
 {}
