@@ -1,5 +1,5 @@
 -- What the Book answers is what the history of its calls says.
-use Rattle.std.proofs.Common.{◌≡◌, ◌↔◌, ◌⊎◌, inr, ℕ, suc, ◌+◌, ◌-◌, ◌≤◌, ◌<◌, Bool, true, false, IsTrue, List, [], ◌∷◌, ◌++◌, length, filter, take, drop, Option, None, Result, Ok, Err, refl, sym, ap, subst, ◌∙◌, arith, slice_index_or, length-append}
+use Rattle.std.proofs.Common.{◌≡◌, ◌↔◌, ◌⊎◌, inl, inr, cond, nat_le, ⊎_elim, ℕ, suc, ◌+◌, ◌-◌, ◌≤◌, ◌<◌, Bool, true, false, IsTrue, List, [], ◌∷◌, ◌++◌, length, filter, take, drop, Option, None, Result, Ok, Err, refl, sym, ap, subst, ◌∙◌, arith, slice_index_or, length-append, length-drop}
 use mathlib.Core.List.{IsPrefix}
 use mathlib.Core.Logic.{dite}
 use native.Mathlib.Decide.{ℕ_discrete}
@@ -19,7 +19,7 @@ use Rattle.am_store.specs.declared.call.Call.{Call}
 use Rattle.am_store.specs.declared.call.Call.TheVariants.{Collected, Posted}
 use Rattle.am_store.specs.declared.lanes.OpenLane.{OpenLane}
 use Rattle.am_store.specs.Judging.{Filter, AreJudged}
-use Rattle.am_store.specs.Journal.{JournalView, with_call, is_closed, is_open, AreAllOpen}
+use Rattle.am_store.specs.Journal.{JournalView, new_journal, with_call, is_closed, is_open, first_calls, until, AreAllOpen, IsOpenSubscription}
 use Rattle.am_provider.specs.declared.answers.Ended.{Ended}
 use Rattle.am_provider.specs.declared.answers.Page.{Page}
 use Rattle.am_provider.specs.declared.answers.Policy.{Policy}
@@ -29,18 +29,22 @@ use Rattle.am_store.specs.declared.faults.PutFault.TheVariants as put
 use Rattle.am_provider.specs.Batches.{Batch}
 use Rattle.am_provider.specs.BookView.{BookView, IsFaithful, batches}
 use Rattle.am_provider.specs.Callers.{SeesCall}
-use Rattle.am_provider.specs.Headline.{AreSentSince, TakesItsDue, AnswersCollect, AnswersPost, AnswersTake, IsPage, IsPutRefusal, IsSubRefusal}
+use Rattle.am_provider.specs.Headline.{AreSentSince, Discards, TakesItsDue, AnswersCollect, AnswersPost, AnswersTake, IsPage, IsPutRefusal, IsSubRefusal}
 use Rattle.am_store.specs.declared.faults.SubFault.{SubFault}
 use Rattle.am_store.specs.declared.faults.SubFault.TheVariants as sub
-use Rattle.am_provider.specs.Histories.{EntryView, Accepted, calls_of, whole, trimmed_by, stored_after, is_cut}
+use Rattle.am_provider.specs.Histories.{EntryView, Accepted, batch_count, calls_of, whole, trimmed_by, stored_after, is_cut}
 use Rattle.am_provider.specs.Posts.{IsAsBefore, IsPutCause, WasAskedBefore}
 use Rattle.am_provider.specs.inside.Records.{IsRecorded}
-use Rattle.am_store.proofs.Opens.{lane_low}
+use Rattle.am_store.proofs.Opens.{is_still_open, lane_low, one_open}
 use Rattle.am_store.proofs.Trims.{sent_until}
-use Rattle.am_store.specs.Broadcast.{items_of, IsFront}
+use Rattle.am_store.specs.declared.journal.TheConstants.{MAX_BEFORE}
+use Rattle.am_store.specs.Trims.{Drops}
+use Rattle.am_store.specs.Broadcast.{broadcast, items_of, IsFront}
+use Rattle.am_store.specs.Stored.{first_reports}
 use Rattle.am_provider.specs.Subscriptions.{SubscriptionView, taken}
 use Rattle.am_provider.specs.Vouching.{HasTakenDue}
-use Rattle.am_provider.proofs.Recording.{lagged_within, open_whole, same, same_closed, same_open, same_places, tells_of}
+use Rattle.am_provider.proofs.Recording.{lagged_within, open_whole, same, same_closed, same_count, same_open, tells_of}
+use Rattle.am_provider.proofs.Trimming.{sent_each}
 
 -- ---- a caller that has seen its call
 
@@ -176,7 +180,10 @@ module _ {policy : Policy} {places : ℕ} (book : BookView) (entries : List Entr
       let own = of_lane.begun (sym (same_open book entries of lane) ∙ opened) in
       let start = of_lane.start own.0 own.1 in
       let all = sent_until (whole entries) book.journal (trimmed_by entries) own.0 of.journal own.1.begun in
-      (own.0, open_whole book entries of lane own.0 own.1, omega (arith, start, all, own.2, known, lags, same_places book entries of))
+      let none : own.0 - 0 ≡ own.0 = omega arith in
+      let front : length (broadcast (until (whole entries) own.0)) ≡ batch_count (take own.0 (calls_of entries)) =
+      ap (λ n. length (broadcast (first_calls n (whole entries)))) none ∙ sent_each (first_reports new_journal.store) (take own.0 (calls_of entries)) in
+      (own.0, open_whole book entries of lane own.0 own.1, omega (arith, start, all, front, own.2, known, lags, same_count book entries of))
 
   -- what a subscription has taken by the Book, it has by the history
   pub due_whole : (s : SubscriptionView) → HasTakenDue book s → TakesItsDue s entries
@@ -202,16 +209,43 @@ module _ {policy : Policy} {places : ℕ} (book : BookView) (entries : List Entr
       was_cut true e stands = e
       was_cut false e stands = absurd ((tells_of book entries of s.cursor.lane.number (lane_low book.journal s.cursor.lane.number s.at kept.journal.legal it.lane)).no e stands)
 
+  -- what a trim discards of the Book's journal, it discards of the history's calls
+  pub discards : (dropped : ℕ) → Drops book.journal dropped → Discards entries dropped
+  discards dropped drops =
+      let n = drops.0 in
+      let before : book.journal.before + n ≡ trimmed_by entries + n = let base = of.journal.before in omega (arith, base) in
+      let first : book.journal.before + n ≡ (whole entries).before + (trimmed_by entries + n) = omega (arith, before) in
+      let long : length book.journal.calls ≡ length (calls_of entries) - trimmed_by entries = ap length of.journal.calls ∙ length-drop (trimmed_by entries) (calls_of entries) in
+      let few = of.few in (
+        n,
+        record {
+          within = let within = drops.1.within in omega (arith, within, long, few);
+          kept = λ lane at opened. let low = drops.1.kept lane at (open_here lane at opened) in omega (arith, low, before);
+          most = ⊎_elim (λ (all : n ≡ length book.journal.calls). inl (omega (arith, all, long, few)))
+              (λ (least : (lane : ℕ) × IsOpenSubscription book.journal lane (book.journal.before + n)).
+              inr (least.0, subst (IsOpenSubscription (whole entries) least.0) first (open_whole book entries of least.0 (book.journal.before + n) least.1)))
+              drops.1.most;
+        },
+        drops.2 ∙ ap (λ all. cond (nat_le all MAX_BEFORE) n 0) before,
+      )
+    where
+      open_here : (lane at : ℕ) → IsOpenSubscription (whole entries) lane at → IsOpenSubscription book.journal lane at
+      open_here lane at opened =
+          let small = lane_low (whole entries) lane at of.legal opened in
+          let own = (kept.lanes lane small).begun (sym (same_open book entries of lane) ∙ is_still_open (whole entries) lane at opened) in
+          let same : at ≡ own.0 = one_open (whole entries) lane at own.0 of.legal opened (open_whole book entries of lane own.0 own.1) in
+          subst (IsOpenSubscription book.journal lane) (sym same) own.1
+
 -- ---- why a post is refused
 
 pub put_refusal : {policy : Policy} {places : ℕ} (a b : BookView) (entries : List EntryView) (count : ℕ) (fault : PutFault) → IsRecorded policy places a entries → IsFaithful a
     → IsAsBefore a b → IsPutCause a b count fault → IsPutRefusal policy places count entries fault
 put_refusal a b entries count put.Closed of kept same why = same_closed a entries of ∙ why
 put_refusal a b entries count put.NoMemory of kept same why =
-    let long = same_places a entries of in
+    let long = same_count a entries of in
     (same_closed a entries of ∙ why.0, λ some. let still = (why.1 some).0 in let room = still.1 in omega (arith, long, room))
 put_refusal a b entries count put.LogEnd of kept same why =
-    let long = same_places a entries of in
+    let long = same_count a entries of in
     let most = why.2.1 in
     (same_closed a entries of ∙ why.0, why.1, omega (arith, long, most))
 put_refusal {policy} {places} a b entries count (put.Full lane passed) of kept same why =
@@ -221,7 +255,7 @@ put_refusal {policy} {places} a b entries count (put.Full lane passed) of kept s
     let lives : (account_of a.log lane).stand ≡ live = was_live (account_of a.log lane) (account_of b.log lane) (same.lanes lane small) behind.0 in
     let opened = live_lane a entries of kept lane small lives in
     let moved = (same.lanes lane small).0 in
-    let long = same_places a entries of in
+    let long = same_count a entries of in
     let log = ap (λ (t : Tail Batch). length t.log) same.tail in
     let limit = ap (λ (t : Tail Batch). t.places) same.tail in
     let known = refusal.2 in

@@ -33,7 +33,8 @@ use Rattle.am_store.proofs.Flags.{sound_subscribed, sound_left, lane_set, due_of
 use Rattle.am_store.proofs.Items.{all_small}
 use Rattle.am_provider.specs.declared.answers.Ended.{Ended}
 use Rattle.am_provider.specs.Batches.{Batch, LogView, posts_in, sent_in}
-use Rattle.am_provider.specs.BookView.{sends, IsEndingOf}
+use Rattle.am_provider.specs.BookView.{IsEndingOf}
+use Rattle.am_provider.specs.Histories.{sends}
 use Rattle.am_provider.specs.Subscriptions.{SubscriptionView, taken}
 use Rattle.am_provider.specs.Vouching.{HasTakenDue}
 use Rattle.am_provider.specs.inside.Shelves.{Shelf, pages_of, view_of, IsKeptLane, IsKeptBook}

@@ -1,14 +1,10 @@
 -- How endings are kept as one comes, as trims discard some, and as memory lets go of some.
-use Rattle.std.proofs.Common.{◌≡◌, ℕ, ◌+◌, ◌-◌, ◌<◌, ◌≤◌, Bool, true, false, cond, List, [], ◌∷◌, ◌++◌, length, filter, refl, sym, ap, ◌∙◌, arith, length-append}
-use Rattle.am_store.specs.declared.past.Past.{Past}
-use Rattle.std.proofs.lemmas.List.{append-nil}
-use Rattle.std.proofs.lemmas.List.Elements.{filter-append}
+use Rattle.std.proofs.Common.{◌≡◌, ℕ, ◌+◌, ◌-◌, ◌≤◌, Bool, true, false, cond, List, [], ◌∷◌, length, filter, refl, sym, ap, ◌∙◌, arith}
 use Rattle.std.proofs.lemmas.List.Sums.{length-filter, count_by-le-length}
 use Rattle.std.proofs.lemmas.Bool.{le-leb, leb-true}
-use borrow.Author.Tests.{lt-leb}
 use Rattle.am_provider.specs.declared.answers.Ended.{Ended}
 use Rattle.am_store.specs.KeptJournals.{KeptView}
-use Rattle.am_provider.specs.inside.Endings.{EndingsView, endings_in, is_since, AreHeld, AreEndingsOf}
+use Rattle.am_provider.specs.inside.Endings.{EndingsView, is_since, AreHeld, AreEndingsOf}
 
 -- of what was kept after some trims, what is kept after more
 pub kept_twice : (few many : ℕ) → few ≤ many → (endings : List Ended) → filter (is_since many) (filter (is_since few) endings) ≡ filter (is_since many) endings

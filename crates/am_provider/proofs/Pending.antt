@@ -1,12 +1,11 @@
 -- A subscription to which nothing is left has taken its due.
-use Rattle.std.proofs.Common.{◌≡◌, ◌∙◌, ℕ, zero, suc, ◌-◌, List, [], ◌∷◌, ◌++◌, length, take, drop, refl, sym, ap, arith}
+use Rattle.std.proofs.Common.{◌≡◌, ◌∙◌, ℕ, zero, suc, ◌-◌, List, [], ◌∷◌, ◌++◌, length, take, drop, sym, ap, arith}
 use Rattle.std.proofs.lemmas.Grind.{flat_map-append}
-use Rattle.std.proofs.lemmas.List.{append_assoc, append-nil, map-append, drop-map, take_all}
+use Rattle.std.proofs.lemmas.List.{append_assoc, map-append, drop-map, take_all}
 use Rattle.am_alert.specs.declared.alert.Alert.{Alert}
 use Rattle.am_cast.specs.Cursors as cast
 use Rattle.am_cast.specs.Keys.{all_items, batch_items}
-use Rattle.am_store.specs.declared.call.Call.{Call}
-use Rattle.am_store.specs.declared.lanes.OpenLane.{OpenLane}
+use Rattle.am_cast.proofs.Cursors.{shown_all}
 use Rattle.am_store.specs.Broadcast.{items_of}
 use Rattle.am_provider.specs.Batches.{Batch, sent_in}
 use Rattle.am_provider.specs.Histories.{sent_by}
@@ -19,27 +18,9 @@ dropped zero xs ys = let none : 0 - length xs ≡ 0 = omega arith in ap (λ k. x
 dropped (suc n) [] ys = let all : suc n - 0 ≡ suc n = omega arith in ap (λ k. drop k ys) (sym all)
 dropped (suc n) (x ∷ xs) ys = let same : n - length xs ≡ suc n - suc (length xs) = omega arith in dropped n xs ys ∙ ap (λ k. drop n xs ++ drop k ys) same
 
-past : {X : Type 0} (xs : List X) → drop (length xs) xs ≡ []
-past [] = refl
-past (x ∷ xs) = past xs
-
 -- all that a log sent out from a place on, by what it sent
 from_on : (start : ℕ) (log : List Batch) → all_items (drop start log) ≡ items_of (drop start (sent_in log))
 from_on start log = items_alike (drop start log) ∙ ap items_of (sym (drop-map (λ (y : Batch). batch_items y) start log))
-
--- what a cursor has shown that has passed all that it has seen
-shown_all : (c : cast.CursorView Alert Call OpenLane) → c.lane.passed ≡ length c.lane.front → cast.shown_items c ≡ all_items (drop c.lane.start c.lane.front)
-shown_all c passed =
-    let front = c.lane.front in
-    let all = all_items (drop c.lane.start front) in
-    ap (λ n. all_items (drop c.lane.start (take n front)) ++ take c.shown (cast.items_at front n)) passed
-    ∙ (ap (λ (l : List Batch). all_items (drop c.lane.start l) ++ take c.shown (cast.items_at front (length front))) (take_all (length front) front (omega arith))
-    ∙ (ap (λ (l : List Batch). all ++ take c.shown (all_items (take 1 l))) (past front)
-    ∙ (ap (λ xs. all ++ xs) (none_of c.shown) ∙ append-nil all)))
-  where
-    none_of : (n : ℕ) → take {A = Alert} n [] ≡ []
-    none_of zero = refl
-    none_of (suc n) = refl
 
 pub pending_owes_nothing : PendingOwesNothing
 pending_owes_nothing before noted was old new due sent opening start shows first =

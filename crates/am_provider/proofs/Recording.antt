@@ -19,14 +19,14 @@ use Rattle.am_store.specs.declared.call.Call.{Call}
 use Rattle.am_store.specs.declared.call.Call.TheVariants.{Posted}
 use Rattle.am_store.specs.declared.lanes.OpenLane.{OpenLane}
 use Rattle.am_store.specs.Journal.{JournalView, with_call, is_closed, is_open, MayFollow, IsLegal, IsKept, IsOpenSubscription, new_journal}
-use Rattle.am_store.specs.Stored.{updates}
+use Rattle.am_store.specs.Stored.{first_reports, updates}
 use Rattle.am_store.specs.Broadcast.{broadcast, batches_of, due}
 use Rattle.am_store.specs.Trims.{IsTrimmed, Drops}
 use Rattle.am_store.specs.Laws.{GiveTheSame}
 use Rattle.am_store.proofs.Journals.{get_end, get_drop, first_stays, first_all, broadcast_last, legal_last}
 use Rattle.am_store.proofs.Trims.{trimmed_gives_the_same, trimmed_grows, trimmed_twice, moved, since_same}
 use Rattle.am_provider.specs.declared.answers.Policy.{Policy}
-use Rattle.am_provider.specs.Headline.{HasLagged}
+use Rattle.am_provider.specs.Headline.{HasLagged, next_place}
 use Rattle.am_provider.specs.Batches.{Batch, LogView, sent_in}
 use Rattle.am_provider.specs.BookView.{BookView, batches, IsEndingOf, IsFaithful}
 use Rattle.am_provider.specs.declared.answers.Ended.{Ended}
@@ -36,6 +36,7 @@ use Rattle.am_provider.specs.Posts.{HasSameLimits, IsCutBy}
 use Rattle.am_provider.specs.inside.Endings.{is_since}
 use Rattle.am_provider.specs.inside.Records.{IsRecorded}
 use Rattle.am_provider.proofs.Endings.{kept_twice}
+use Rattle.am_provider.proofs.Trimming.{sent_each}
 
 -- ---- one entry more
 
@@ -122,6 +123,9 @@ module _ {policy : Policy} {places : ℕ} (book : BookView) (entries : List Entr
 
   pub same_places : length (sent_by entries) ≡ length (batches book)
   same_places = sym (ap length of.sent) ∙ length-map (batches book) (λ (b : Batch). Rattle.am_cast.specs.Keys.batch_items b)
+
+  pub same_count : next_place entries ≡ length (batches book)
+  same_count = sym (sent_each (first_reports new_journal.store) (calls_of entries)) ∙ same_places
 
   pub call_number : book.journal.before + length book.journal.calls ≡ length (calls_of entries)
   call_number = omega (arith, of.few, of.journal.before, ap length of.journal.calls, length-drop (trimmed_by entries) (calls_of entries))

@@ -26,7 +26,8 @@ use Rattle.am_store.proofs.Growing.{silent}
 use Rattle.am_store.proofs.Trimming.{kept_for}
 use Rattle.am_provider.specs.declared.answers.Ended.{Ended}
 use Rattle.am_provider.specs.Batches.{Batch, posts_in, sent_in}
-use Rattle.am_provider.specs.BookView.{sends, IsLaneOf, IsEndingOf, IsFaithful}
+use Rattle.am_provider.specs.BookView.{IsLaneOf, IsEndingOf, IsFaithful}
+use Rattle.am_provider.specs.Histories.{sends}
 use Rattle.am_provider.specs.Lefts.{left_by, left_ats}
 use Rattle.am_provider.proofs.Lefts.{lefts_quiet, count_quiet}
 use Rattle.am_provider.specs.inside.Shelves.{Shelf, view_of, pages_of, IsKeptLane, IsKeptBook}

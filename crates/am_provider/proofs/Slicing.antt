@@ -1,5 +1,5 @@
 -- A subscription as it shows many alerts at once.
-use Rattle.std.proofs.Common.{◌≡◌, ℕ, ◌+◌, ◌-◌, ◌%◌, ◌^◌, ◌≤◌, false, true, List, [], ◌++◌, length, take, drop, Some, refl, sym, ap, subst, ◌∙◌, arith, length-append, Bor}
+use Rattle.std.proofs.Common.{◌≡◌, ℕ, ◌+◌, ◌-◌, ◌%◌, ◌^◌, ◌≤◌, List, ◌++◌, length, take, drop, sym, ap, subst, ◌∙◌, arith, Bor}
 use Rattle.std.proofs.lemmas.List.{drop-take, take-append-drop, take-take, take_min}
 use Rattle.std.specs.declared.alloc.Global.{Global}
 use Rattle.std.specs.declared.sync.Arc.{Arc}
@@ -7,17 +7,16 @@ use Rattle.am_alert.specs.declared.alert.Alert.{Alert}
 use Rattle.am_store.specs.declared.shared_alerts.TheConstants.{BLOCK}
 use Rattle.am_store.specs.Shared.{alerts_in, run_end}
 use Rattle.am_cast.specs.Cursors.{GoesOn, items_at}
-use Rattle.am_cast.specs.Lent.{IsRest, MovesSlice}
+use Rattle.am_cast.specs.Lent.{MovesSlice}
 use Rattle.am_cast.specs.declared.lends.Moved.TheVariants as moved
-use Rattle.am_provider.specs.Subscriptions.{SubscriptionView, taken}
-use Rattle.am_provider.specs.declared.answers.Slice.{Slice}
+use Rattle.am_provider.specs.Subscriptions.{SubscriptionView}
 use Rattle.am_provider.specs.declared.answers.Slice.TheVariants as slice
 use Rattle.am_provider.specs.declared.subscription.Advance.{Advance}
 use Rattle.am_provider.specs.declared.subscription.Advance.TheVariants as advance
-use Rattle.am_provider.specs.Showings.{ShowsNone, ShowsSlice}
-use Rattle.am_provider.specs.inside.Slices.{AdvancesSlice, IsSliceShown, ShowsOpening}
+use Rattle.am_provider.specs.Showings.{ShowsNone}
+use Rattle.am_provider.specs.inside.Slices.{AdvancesSlice, IsSliceShown}
 use Rattle.am_provider.specs.inside.Subscribed.{IsSubscription}
-use Rattle.am_provider.proofs.Subscribing.{logged_more, some_more, still_untold, took_more}
+use Rattle.am_provider.proofs.Subscribing.{logged_more, still_untold}
 
 -- a batch of the log, or the rest of one, was shown: it is a subscription again, and has advanced
 pub batch_shown : (old new : SubscriptionView) (count next from : ℕ) → IsSubscription old count → old.shown ≡ length old.opening

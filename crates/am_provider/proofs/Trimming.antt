@@ -26,12 +26,13 @@ use Rattle.am_store.proofs.Trims.{sent_until, until_stored, trimmed_lefts, trimm
 use Rattle.am_store.proofs.Trimming.{as_many_open, at_same, sound_trimmed, sound_compacted, subscribed_same}
 use Rattle.am_provider.specs.declared.answers.Ended.{Ended}
 use Rattle.am_provider.specs.Batches.{LogView, posts_in, sent_in}
-use Rattle.am_provider.specs.BookView.{sends, IsEndingOf}
+use Rattle.am_provider.specs.BookView.{IsEndingOf}
+use Rattle.am_provider.specs.Histories.{sends}
 use Rattle.am_provider.proofs.Lefts.{lefts_trimmed, ats_kept}
 use Rattle.am_provider.specs.inside.Shelves.{Shelf, pages_of, IsKeptLane, IsKeptBook}
 
 -- as many batches go out as calls send one
-sent_each : (before : List Update) (calls : List Call) → length (broadcast_from before calls) ≡ length (filter sends calls)
+pub sent_each : (before : List Update) (calls : List Call) → length (broadcast_from before calls) ≡ length (filter sends calls)
 sent_each before [] = refl
 sent_each before (Posted now [] ∷ calls) = sent_each (before ++ updates_of (Posted now [])) calls
 sent_each before (Posted now (alert ∷ alerts) ∷ calls) = ap suc (sent_each (before ++ updates_of (Posted now (alert ∷ alerts))) calls)

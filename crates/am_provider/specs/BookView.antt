@@ -1,12 +1,10 @@
 -- What contracts see of a Book over the log.
-use Rattle.std.specs.Prelude.{◌≡◌, ◌≢◌, ℕ, ◌+◌, ◌≤◌, ◌<◌, Bool, true, false, List, [], ◌∷◌, Some, length, map}
+use Rattle.std.specs.Prelude.{◌≡◌, ◌≢◌, ℕ, ◌+◌, ◌≤◌, ◌<◌, true, false, List, [], Some, length, map}
 use Rattle.std.specs.Prelude.{drop, filter}
 use Rattle.std.specs.List.{All}
 use Rattle.am_alert.specs.declared.alert.Alert.{Alert}
 use Rattle.am_cast.specs.Rule.{idle}
 use Rattle.am_cast.specs.Seats.{account_of}
-use Rattle.am_store.specs.declared.call.Call.{Call}
-use Rattle.am_store.specs.declared.call.Call.TheVariants.{Posted, Collected, Subscribed, Left, Closed}
 use Rattle.am_store.specs.Journal.{JournalView, new_journal, call_count, until, is_closed, lefts_of, is_open}
 use Rattle.am_store.specs.Journal.{IsOpenSubscription}
 use Rattle.am_store.specs.Stored.{updates, stored}
@@ -15,6 +13,7 @@ use Rattle.am_store.specs.PlainBook.{PlainBook, FollowsJournal}
 use Rattle.am_provider.specs.declared.answers.Policy.{Policy}
 use Rattle.am_provider.specs.declared.answers.Ended.{Ended}
 use Rattle.am_provider.specs.Batches.{Batch, LogView, sent_in, posts_in}
+use Rattle.am_provider.specs.Histories.{sends}
 use Rattle.am_provider.specs.Lefts.{left_ats}
 
 -- a Book: its stored alerts in order, its journal of accepted calls, how many calls memory has no more, and
@@ -46,15 +45,6 @@ batches book = book.log.tail.log
 abbrev pub plain : BookView → PlainBook
 plain book =
     record { stored = book.stored; journal = book.journal; log = sent_in (batches book) }
-
--- whether a call sends a batch out
-abbrev pub sends : Call → Bool
-sends (Posted now []) = false
-sends (Posted now (alert ∷ alerts)) = true
-sends (Collected now) = false
-sends (Subscribed lane) = false
-sends (Left lane) = false
-sends Closed = false
 
 -- how many batches the calls of a journal sent out, those that were dropped too
 abbrev pub places_of : JournalView → ℕ

@@ -13,8 +13,7 @@ use Rattle.am_store.specs.Journal.{is_closed, journal_of, lefts_of, IsLegal}
 use Rattle.am_store.specs.Trims.{IsTrimmed}
 use Rattle.am_store.specs.declared.call.Call.{Call}
 use Rattle.am_provider.specs.Batches.{Batch, posts_in, sent_in}
-use Rattle.am_provider.specs.BookView.{sends}
-use Rattle.am_provider.specs.Histories.{EntryView, calls_of, endings_of, kept_endings, sent_by}
+use Rattle.am_provider.specs.Histories.{EntryView, calls_of, endings_of, kept_endings, sent_by, sends}
 use Rattle.am_provider.specs.Histories.{gone_by, stored_after, whole}
 use Rattle.am_provider.specs.Settling.{IsOwn, made_of, own_of}
 use Rattle.am_provider.specs.declared.answers.Ended.{Ended}

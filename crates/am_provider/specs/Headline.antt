@@ -1,5 +1,5 @@
 -- What each call of a provider answers: by the history before it, and the entries that it added.
-use Rattle.std.specs.Prelude.{◌≡◌, ◌≢◌, ℕ, ◌+◌, ◌≤◌, ◌<◌, true, false, if◌then◌else◌, nat_eq}
+use Rattle.std.specs.Prelude.{◌≡◌, ◌≢◌, ℕ, ◌+◌, ◌≤◌, ◌<◌, true, false, if◌then◌else◌, nat_eq, nat_le}
 use Rattle.std.specs.Prelude.{List, [], ◌∷◌, ◌++◌, length, filter, take, drop, Option, None, Some}
 use Rattle.std.specs.Prelude.{Result, Ok, Err, IfOk, OnErr}
 use Rattle.std.specs.Arc.{arc_value}
@@ -17,10 +17,11 @@ use Rattle.am_cast.specs.Cursors.{HasCut}
 use Rattle.am_store.specs.AlertList.{lookup}
 use Rattle.am_store.specs.LaneSets.{has_lane}
 use Rattle.am_store.specs.declared.call.Call.TheVariants.{Posted, Collected, Subscribed, Left, Closed}
-use Rattle.am_store.specs.Journal.{JournalView, is_closed, is_open, until, AreAllOpen}
+use Rattle.am_store.specs.declared.journal.TheConstants.{MAX_BEFORE}
+use Rattle.am_store.specs.Journal.{is_closed, is_open, AreAllOpen}
 use Rattle.am_store.specs.Journal.{IsOpenSubscription, IsLowestIdle}
-use Rattle.am_store.specs.Broadcast.{broadcast, due, items_of, IsFront}
-use Rattle.am_store.specs.Trims.{IsTrimmed, Drops}
+use Rattle.am_store.specs.Broadcast.{due, items_of, IsFront}
+use Rattle.am_store.specs.Trims.{AreBeforeOpen}
 use Rattle.am_provider.specs.declared.answers.Policy.{Policy}
 use Rattle.am_provider.specs.declared.answers.Policy.TheVariants.{Refuse}
 use Rattle.am_provider.specs.declared.answers.Posted as answers
@@ -31,13 +32,17 @@ use Rattle.am_store.specs.declared.faults.PutFault.TheVariants as put
 use Rattle.am_store.specs.declared.faults.SubFault.{SubFault}
 use Rattle.am_store.specs.declared.faults.SubFault.TheVariants as sub
 use Rattle.am_provider.specs.Histories.{EntryView, Accepted, Trimmed, Compacted, only_call, calls_of, whole}
-use Rattle.am_provider.specs.Histories.{trimmed_by, gone_by, stored_after, sent_by, is_cut}
+use Rattle.am_provider.specs.Histories.{batch_count, trimmed_by, gone_by, stored_after, sent_by, is_cut}
 use Rattle.am_provider.specs.Subscriptions.{SubscriptionView, taken}
+
+-- the place of the next batch: how many were sent out before it
+abbrev pub next_place : List EntryView → ℕ
+next_place before = batch_count (calls_of before)
 
 -- the lane is open, and at least `count` batches were sent since it was given out
 abbrev pub AreSentSince : ℕ → ℕ → List EntryView → Type 0
 AreSentSince count lane before = (at : ℕ) × IsOpenSubscription (whole before) lane at
-    × (length (broadcast (until (whole before) at)) + count ≤ length (sent_by before))
+    × (batch_count (take at (calls_of before)) + count ≤ next_place before)
 
 -- an accepted post: its alerts are stored, and are sent out as the log's next batch if there is one. It cut
 -- only open lanes that were not cut before and were given out at least as many batches ago as the log has
@@ -47,7 +52,7 @@ pub record IsPosted (policy : Policy) (places now : ℕ) (post : Post) (posted :
   pub still_open : is_closed (whole before) ≡ false
   pub valid : posted.valid ≡ length post.valid
   pub faults : posted.faults ≡ post.faults
-  pub place : posted.place ≡ (if nat_eq (length post.valid) 0 then None else Some (length (sent_by before)))
+  pub place : posted.place ≡ (if nat_eq (length post.valid) 0 then None else Some (next_place before))
   pub cuts : (lane : ℕ) → lane < LANES → has_lane posted.cut lane ≡ true
       → (is_open (whole before) lane ≡ true) × (is_cut before lane ≡ false)
   pub late : (lane : ℕ) → lane < LANES → has_lane posted.cut lane ≡ true → AreSentSince places lane before
@@ -64,14 +69,14 @@ pub record IsPosted (policy : Policy) (places now : ℕ) (post : Post) (posted :
 abbrev pub IsPutRefusal : Policy → ℕ → ℕ → List EntryView → PutFault → Type 0
 IsPutRefusal policy places count before put.Closed = is_closed (whole before) ≡ true
 IsPutRefusal policy places count before put.LogEnd =
-    (is_closed (whole before) ≡ false) × (0 < count) × (LONGEST_LOG ≤ length (sent_by before))
+    (is_closed (whole before) ≡ false) × (0 < count) × (LONGEST_LOG ≤ next_place before)
 IsPutRefusal policy places count before (put.Full lane passed) =
-    (is_closed (whole before) ≡ false) × (0 < count) × (length (sent_by before) < LONGEST_LOG)
+    (is_closed (whole before) ≡ false) × (0 < count) × (next_place before < LONGEST_LOG)
     × (policy ≡ Refuse)
     × (lane < LANES) × (is_open (whole before) lane ≡ true) × (is_cut before lane ≡ false)
-    × (length (sent_by before) ≡ passed + places) × AreSentSince places lane before
+    × (next_place before ≡ passed + places) × AreSentSince places lane before
 IsPutRefusal policy places count before put.NoMemory =
-    (is_closed (whole before) ≡ false) × (0 < count → length (sent_by before) < LONGEST_LOG)
+    (is_closed (whole before) ≡ false) × (0 < count → next_place before < LONGEST_LOG)
 
 -- what a post answers
 abbrev pub AnswersPost : Policy → ℕ → ℕ → Post → Result answers.Posted PutFault → List EntryView
@@ -88,7 +93,7 @@ pub record IsSubscribed (made : SubscriptionView) (before added : List EntryView
   pub at : made.at ≡ length (calls_of before)
   pub opening : made.opening ≡ stored_after before
   pub lane : IsLowestIdle (whole before) made.cursor.lane.number
-  pub start : made.cursor.lane.start ≡ length (sent_by before)
+  pub start : made.cursor.lane.start ≡ next_place before
   pub fresh : (taken made ≡ []) × (made.closed_told ≡ false)
   pub entry : added ≡ only_call (Subscribed made.cursor.lane.number) ∷ []
 
@@ -166,11 +171,16 @@ AnswersClose (Ok done) before added =
     (is_closed (whole before) ≡ false) × (added ≡ only_call Closed ∷ [])
 AnswersClose (Err fault) before added = (is_closed (whole before) ≡ true) × (added ≡ [])
 
--- a trim discards what the journal that earlier trims left needs no more, and nothing of the history
+-- how many calls a trim discards: those before the earliest open subscription, or all if none is open,
+-- without those that earlier trims discarded. None where more would be discarded in all than can be counted
+abbrev pub Discards : List EntryView → ℕ → Type 0
+Discards before dropped =
+    (count : ℕ) × AreBeforeOpen (whole before) (trimmed_by before + count)
+    × (dropped ≡ (if nat_le (trimmed_by before + count) MAX_BEFORE then count else 0))
+
+-- a trim discards of the journal what no open subscription needs, and nothing of the history
 abbrev pub AnswersTrim : {E : Type 0} → Result ℕ E → List EntryView → List EntryView → Type 0
-AnswersTrim (Ok dropped) before added =
-    ((journal : JournalView) × IsTrimmed (whole before) (trimmed_by before) journal × Drops journal dropped)
-    × (added ≡ Trimmed dropped ∷ [])
+AnswersTrim (Ok dropped) before added = Discards before dropped × (added ≡ Trimmed dropped ∷ [])
 AnswersTrim (Err fault) before added = added ≡ []
 
 -- a compaction takes all calls of the journal out of memory, and answers how many those were. Nothing else

@@ -1,6 +1,6 @@
 -- The history of a provider: its accepted calls, its trims and its compactions, in one order.
 use Rattle.std.specs.Prelude.{ℕ, ◌+◌, max, Bool, false, ◌||◌, if◌then◌else◌, nat_eq, nat_le, List, [], ◌∷◌}
-use Rattle.std.specs.Prelude.{Option, None, Some, filter}
+use Rattle.std.specs.Prelude.{Option, None, Some, filter, length, true}
 use Rattle.std.specs.List.{flat_map}
 use Rattle.am_alert.specs.declared.alert.Alert.{Alert}
 use Rattle.am_store.specs.LaneSets.{has_lane}
@@ -60,6 +60,19 @@ gone_by entries = gone_from 0 0 entries
 -- what is stored after a history
 abbrev pub stored_after : List EntryView → List Alert
 stored_after entries = stored (updates (whole entries))
+
+-- whether a call sends a batch out: a post with an alert does
+abbrev pub sends : Call → Bool
+sends (Posted now []) = false
+sends (Posted now (alert ∷ alerts)) = true
+sends (Collected now) = false
+sends (Subscribed lane) = false
+sends (Left lane) = false
+sends Closed = false
+
+-- how many batches calls send out
+abbrev pub batch_count : List Call → ℕ
+batch_count calls = length (filter sends calls)
 
 -- the batches that a history sent out: the log that subscriptions read
 abbrev pub sent_by : List EntryView → List (List Alert)

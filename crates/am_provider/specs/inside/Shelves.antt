@@ -17,7 +17,8 @@ use Rattle.am_provider.specs.declared.answers.Policy.{Policy}
 use Rattle.am_provider.specs.declared.answers.Ended.{Ended}
 use Rattle.am_provider.specs.Batches.{LogView, sent_in, posts_in}
 use Rattle.am_provider.specs.Lefts.{left_ats}
-use Rattle.am_provider.specs.BookView.{BookView, sends, IsEndingOf}
+use Rattle.am_provider.specs.BookView.{BookView, IsEndingOf}
+use Rattle.am_provider.specs.Histories.{sends}
 
 -- the fields of a Book
 pub record Shelf : Type 0 where

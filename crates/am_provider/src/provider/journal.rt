@@ -49,6 +49,7 @@ impl<N: Recorded> Provider<N> {
     {
         let (count, _discarded) = {
             let recorded = &mut *self.lock(rt);
+            recorded.book.kept();
             let count = match recorded.book.trim() {
                 Ok(count) => count,
                 Err(error) => {

@@ -6,7 +6,7 @@ use Rattle.am_store.specs.declared.call.Call.TheVariants.{Posted}
 use Rattle.am_store.specs.Journal.{JournalView, with_call, is_closed}
 use Rattle.am_store.specs.Shared.{alerts_in}
 use Rattle.am_store.specs.AlertList.{with_alerts, batch_by_list}
-use Rattle.am_store.specs.AlertMaps.{stored_in, AreKeptByLabels}
+use Rattle.am_store.specs.AlertMaps.{stored_in}
 use Rattle.am_store.proofs.Entries.{length_batch, length_became}
 use Rattle.am_alert.specs.declared.alert.Alert.{Alert}
 use Rattle.am_cast.specs.declared.views.Tail.{Tail}

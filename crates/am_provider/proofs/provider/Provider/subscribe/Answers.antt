@@ -5,7 +5,7 @@ use Rattle.am_provider.specs.Batches.{Batch}
 use Rattle.am_provider.specs.Histories.{Accepted}
 use Rattle.am_provider.specs.inside.Records.{IsRecorded}
 use Rattle.am_provider.proofs.Answering.{sees_called, sees_none, sub_refusal}
-use Rattle.am_provider.proofs.Recording.{call_number, cuts_one, lags_one, may_whole, prefix_same, recorded_more, same_places, stored_whole}
+use Rattle.am_provider.proofs.Recording.{call_number, cuts_one, lags_one, may_whole, prefix_same, recorded_more, same_count, stored_whole}
 use Rattle.am_provider.proofs.provider.Provider.subscribe.Goals as goal
 
 pub invariant_of-recorded-2 : goal.invariant_of-recorded-2
@@ -37,7 +37,7 @@ returns-clause-sees g c =
       at = made.at ∙ call_number old entries c.recorded.invariant.0;
       opening = made.opening ∙ stored_whole old entries c.recorded.invariant.0 c.kept.ensures;
       lane = may.1;
-      start = made.start ∙ sym (same_places old entries c.recorded.invariant.0);
+      start = made.start ∙ sym (same_count old entries c.recorded.invariant.0);
       fresh = made.fresh;
       entry = refl;
     })

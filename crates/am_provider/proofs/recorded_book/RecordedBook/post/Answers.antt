@@ -7,7 +7,7 @@ use Rattle.am_provider.specs.BookView.{batches}
 use Rattle.am_provider.specs.Histories.{Accepted}
 use Rattle.am_provider.specs.inside.Records.{IsRecorded}
 use Rattle.am_provider.proofs.Answering.{last_is, live_lane, put_refusal, sent_since, sees_called, sees_none}
-use Rattle.am_provider.proofs.Recording.{cuts_posted, lags_posted, may_whole, recorded_more, same_places}
+use Rattle.am_provider.proofs.Recording.{cuts_posted, lags_posted, may_whole, recorded_more, same_count}
 use Rattle.am_provider.proofs.recorded_book.RecordedBook.post.Goals as goal
 
 pub invariant_of-self-2 : goal.invariant_of-self-2
@@ -42,7 +42,7 @@ returns-clause-sees g c =
       still_open = may_whole old new entries call c.self.invariant.0 c.kept-2.ensures posted.journal;
       valid = posted.valid;
       faults = posted.faults;
-      place = posted.place ∙ ap (λ n. cond (nat_eq (length c.args.post.valid) 0) None (Some n)) (sym (same_places old entries c.self.invariant.0));
+      place = posted.place ∙ ap (λ n. cond (nat_eq (length c.args.post.valid) 0) None (Some n)) (sym (same_count old entries c.self.invariant.0));
       cuts = λ lane small yes. live_lane old entries c.self.invariant.0 c.kept.ensures lane small (was_cut lane small yes).0;
       late = λ lane small yes.
           let cut = was_cut lane small yes in
