@@ -194,9 +194,8 @@ module _ {B K A : Type 0} (q q' : WriterView B K A) (k : ℕ) (tail : q'.tail �
   pub none_lowest : (o : Option ℕ) → is_some o ≡ false → Lowest q k o → HasRoom q k
   none_lowest o e room = grind (arith, true≢false)
 
+  pub none_more : (o : Option ℕ) → is_some o ≡ false → HasRoom q' (k + 1) → Lowest q' (k + 1) o
+  none_more o e room = grind (arith, true≢false)
+
   pub lowest_stays : (o : Option ℕ) → is_some o ≡ true → Lowest q k o → Lowest q' (k + 1) o
   lowest_stays o e low = grind (arith, true≢false, still_behind, still_room)
-
-  pub lowest_more : (o : Option ℕ) → Lowest q k o → ((account_of q' k).stand ≡ live → length q'.tail.log < (account_of q' k).known + q'.tail.places) → Lowest q' (k + 1) o
-  lowest_more None room here = more_room room here
-  lowest_more (Some m) low here = lowest_stays (Some m) refl low

@@ -1,5 +1,5 @@
 //! A place, and the index of its slot in each lane's ring.
-ghost use Rattle.std.specs.Prelude.{◌≡◌, ◌+◌, ◌*◌, ◌%◌, ◌<◌, ◌≤◌};
+ghost use Rattle.std.specs.Prelude.{◌≡◌, ◌+◌, ◌%◌, ◌<◌, ◌≤◌};
 ghost use Rattle.am_cast.specs.declared.limits.TheConstants.{LANES, LONGEST_LOG, MAX_PLACES};
 ghost use Rattle.am_cast.specs.Rule.{slot};
 
@@ -56,25 +56,16 @@ impl RingPlace {
         self.index as usize
     }
 
-    /// The index of this place or of an earlier one.
+    /// The index of this place or of an earlier one. It divides only where that one is more than a whole
+    /// ring back.
     pub(crate) fn index_of(&self, place: u64) -> usize
         requires { place ≤ self.now.number }
-        ensures index { result ≡ place % self.now.places }
-        ensures within { result < MAX_PLACES }
-    {
-        if self.number - place > self.places {
-            return (place % self.places) as usize;
-        }
-        self.index_within(place)
-    }
-
-    /// The index of this place or of one that is at most a whole ring back, without a division.
-    pub(crate) fn index_within(&self, place: u64) -> usize
-        requires { (place ≤ self.now.number) × (self.now.number ≤ place + self.now.places) }
-        ensures index { result ≡ place % self.now.places }
-        ensures within { result < MAX_PLACES }
+        ensures { result ≡ place % self.now.places }
     {
         let back = self.number - place;
+        if back > self.places {
+            return (place % self.places) as usize;
+        }
         let turned = if back <= self.index {
             self.index
         } else {
@@ -86,8 +77,7 @@ impl RingPlace {
     /// The index of the slot of the lane's key of this place.
     pub(crate) fn slot(&self, lane: usize) -> usize
         requires { lane < LANES }
-        ensures slot { result ≡ slot self.now.places lane self.now.number }
-        ensures within { result < LANES * MAX_PLACES }
+        ensures { result ≡ slot self.now.places lane self.now.number }
     {
         LANES * self.index as usize + lane
     }

@@ -42,14 +42,11 @@ impl<T> Bucket<T> {
         self.rows.reserve(1)
     }
 
-    // The index of the place's row, which mostly is the only one.
+    // The index of the place's row.
     fn find(&self, place: u64) -> Option<usize>
         ensures none { IfNone result (find_row place self.now.rows ≡ None) }
         ensures some { IfSome result (λ k. IsRowOf place self.now.rows k) }
     {
-        if self.rows.first()?.place() == place {
-            return Some(0);
-        }
         for (index, row) in self.rows.iter().enumerate() {
             if row.place() == place {
                 return Some(index);

@@ -46,7 +46,7 @@ impl<T: Drop, N: Feed, P, A> WriterState<T, N, P, A> {
         let mut full = None;
         for lane in 0..self.used_end() {
             let word = self.harvest_lane(cast, lane);
-            if word != u64::MAX && self.is_full_ring(word / 4) && full.is_none() {
+            if full.is_none() && word != u64::MAX && self.is_full_ring(word / 4) {
                 full = Some(lane);
             }
         }
@@ -77,26 +77,10 @@ impl<T: Drop, N: Feed, P, A> WriterState<T, N, P, A> {
         if self.is_live(lane) {
             return self.harvest_live(cast, lane);
         }
-        self.harvest_resting(cast, lane);
-        u64::MAX
-    }
-
-    /// Looks for the key of a lane that isn't live, if it was cut with a key in its cursor's hand. It is a function
-    /// apart, so that the lanes that are live take little code.
-    #[inline(never)]
-    fn harvest_resting(&mut self, cast: &Cast<T, N, P, A>, lane: usize)
-        requires { (lane < LANES) × Calm self.old.known
-            × ((account_of self.old.known lane).stand ≢ live) }
-        ensures only { OnlyAccount self.old self.new lane (account_of self.new.known lane) }
-        ensures calm { IsCalm (length self.old.known.tail.log) self.old.known.tail.places
-            (account_of self.new.known lane) }
-        ensures account { let b = account_of self.old.known lane in
-            let c = account_of self.new.known lane in SameAdmission b c × (c.stand ≡ b.stand)
-            × (c.half ≡ b.half) × (b.away ≡ true → b.loads < c.loads) }
-    {
         if self.is_away(lane) {
             self.harvest_cut(cast, lane);
         }
+        u64::MAX
     }
 
     /// Loads the word of a live lane, and takes out the keys that it has passed. Answers the word.
@@ -158,7 +142,7 @@ impl<T: Drop, N: Feed, P, A> WriterState<T, N, P, A> {
     {
         let place = self.known_of(lane);
         if self.recover(cast, lane) {
-            self.clear_one(cast, lane, place);
+            self.clear_to(cast, lane, place, place + 1);
         }
     }
 

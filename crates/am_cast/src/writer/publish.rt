@@ -7,7 +7,7 @@
 ghost use Rattle.std.specs.Prelude.{◌≡◌, ◌≢◌, ◌+◌, ◌<◌, ◌≤◌, true, false, length, None, Some, [], ℕ, IfOk, IfSome, IfNone, ◌++◌, ◌∷◌, IfErr, OnOk, OnErr};
 ghost use Rattle.am_segment.specs.Segments.{MayJoin};
 ghost use Rattle.am_cast.specs.declared.batch_view.BatchView.{BatchView};
-ghost use Rattle.am_cast.specs.Rule.{live, slot};
+ghost use Rattle.am_cast.specs.Rule.{live};
 ghost use Rattle.am_cast.specs.Changes.{longer_tail, back, laying, longer, both_of, own_at};
 ghost use Rattle.am_cast.specs.Seats.{account_of};
 ghost use Rattle.am_cast.specs.Keys.{batch_items, key_of};
@@ -179,34 +179,23 @@ impl<T: Drop, N: Feed, P, A> WriterState<T, N, P, A> {
         let end = self.used_end();
         let dealt = if end == LANES { LANES - 1 } else { end };
         let mut row = Row::new(self.next.number());
-        let slots = self.next.slot(0);
-        self.put_key(cast, 0, slots, first, &mut row);
+        self.put_key(cast, 0, first, &mut row);
         let mut rest = rest;
         for lane in 1..dealt {
             let (key, others) = rest.split_first();
             rest = others;
-            self.put_key(cast, lane, slots + lane, key, &mut row);
+            self.put_key(cast, lane, key, &mut row);
         }
         if end == LANES {
-            let last = LANES - 1;
-            self.put_key(cast, last, slots + last, rest.into_last(), &mut row);
+            self.put_key(cast, LANES - 1, rest.into_last(), &mut row);
         } else {
             row.add_rest(rest);
         }
         row
     }
 
-    // The lane's key of the next place goes into its slot, which is this one, if the lane is live, or else into the
-    // place's row.
-    fn put_key(
-        &mut self,
-        cast: &Cast<T, N, P, A>,
-        lane: usize,
-        at: usize,
-        key: SegKey<T>,
-        row: &mut Row<T>,
-    )
-        requires slot { at ≡ slot self.old.known.tail.places lane (length self.old.known.tail.log) }
+    // The lane's key of the next place goes into its slot if the lane is live, or else into the place's row.
+    fn put_key(&mut self, cast: &Cast<T, N, P, A>, lane: usize, key: SegKey<T>, row: &mut Row<T>)
         requires account { let b = account_of self.old.known lane in (lane < LANES) × (b.stand ≡ live
             → (b.out ≡ 0) × (b.laid ≡ None) × (b.stop ≡ length self.old.known.tail.log)
             × (b.stop < b.cleared + self.old.known.tail.places)) }
@@ -219,15 +208,14 @@ impl<T: Drop, N: Feed, P, A> WriterState<T, N, P, A> {
             × (row.new ≡ record row.old { keys = row.old.keys ++ key ∷ [] }) }
     {
         if self.is_live(lane) {
-            self.fill_one(cast, lane, at, key);
+            self.fill_one(cast, lane, key);
         } else {
             row.add(key);
         }
     }
 
     /// The key goes into the lane's slot of the next place.
-    fn fill_one(&mut self, cast: &Cast<T, N, P, A>, lane: usize, at: usize, key: SegKey<T>)
-        requires slot { at ≡ slot self.old.known.tail.places lane (length self.old.known.tail.log) }
+    fn fill_one(&mut self, cast: &Cast<T, N, P, A>, lane: usize, key: SegKey<T>)
         requires account { (lane < LANES) × ((account_of self.old.known lane).stand ≡ live)
             × ((account_of self.old.known lane).out ≡ 0)
             × ((account_of self.old.known lane).laid ≡ None) }
@@ -236,6 +224,7 @@ impl<T: Drop, N: Feed, P, A> WriterState<T, N, P, A> {
             × (b.stop < b.cleared + self.old.known.tail.places) }
         ensures { OneAccount self.old self.new lane (laying key (account_of self.old.known lane)) }
     {
+        let at = self.next.slot(lane);
         board::fill_slot(&cast.board.shared, &mut self.seat, at, lane, key);
     }
 

@@ -1,8 +1,8 @@
 //! What a writer keeps: its seat at the table, the keys that came home, and one account for each lane.
 //! Here is what several calls need; each of the other files has one call.
 ghost use mathlib.Core.List.{IsPrefix};
-ghost use Rattle.std.specs.Prelude.{◌%◌, ◌≡◌, ◌≢◌, ℕ, ◌+◌, ◌<◌, ◌≤◌, true, false, length, None};
-ghost use Rattle.am_cast.specs.declared.limits.TheConstants.{LONGEST_LOG, MAX_PLACES};
+ghost use Rattle.std.specs.Prelude.{◌≡◌, ◌≢◌, ℕ, ◌+◌, ◌<◌, ◌≤◌, true, false, length, None};
+ghost use Rattle.am_cast.specs.declared.limits.TheConstants.{LONGEST_LOG};
 ghost use Rattle.am_cast.specs.Rule.{idle, live};
 ghost use Rattle.am_cast.specs.Changes.{clearing, shut};
 ghost use Rattle.am_cast.specs.Seats.{account_of, IsPast};
@@ -105,40 +105,25 @@ impl<T: Drop, N: Feed, P, A> WriterState<T, N, P, A> {
     }
 
     /// The lane's key of the place, which it has passed, joins the others of its place.
-    fn bring_one(&mut self, cast: &Cast<T, N, P, A>, lane: usize, place: u64, index: usize)
+    fn bring_one(&mut self, cast: &Cast<T, N, P, A>, lane: usize, place: u64)
         requires { let b = account_of self.old.known lane in (lane < LANES) × (place ≡ b.cleared)
             × (place < length self.old.known.tail.log) × IsPast b × (b.out ≡ 0) × (place < b.stop)
-            × (b.away ≡ true → b.known < b.cleared) × (length self.old.known.accounts ≡ LANES)
-            × (index ≡ place % self.old.known.tail.places) × (index < MAX_PLACES) }
+            × (b.away ≡ true → b.known < b.cleared) × (length self.old.known.accounts ≡ LANES) }
         ensures only { OnlyAccount self.old self.new lane (clearing (account_of self.old.known lane)) }
         ensures room { KeepsRoom self.old.rows self.new.rows }
     {
+        let index = self.next.index_of(place);
         let at = LANES * index + lane;
         let key = board::clear_slot(&cast.board.shared, &mut self.seat, at, lane);
         self.rows.bring(index, place, key);
     }
 
-    /// The key of a cut lane that was away is taken out, however many places ago its place was.
-    pub(crate) fn clear_one(&mut self, cast: &Cast<T, N, P, A>, lane: usize, place: u64)
-        requires bounds { (lane < LANES) × (place < length self.old.known.tail.log)
-            × (length self.old.known.accounts ≡ LANES) }
-        requires account { let b = account_of self.old.known lane in (place ≡ b.cleared)
-            × (b.out ≡ 0) × (place < b.stop) × IsPast b × (b.away ≡ true
-            → b.known < b.cleared) }
-        ensures room { KeepsRoom self.old.rows self.new.rows }
-        ensures only { OnlyAccount self.old self.new lane (clearing (account_of self.old.known lane)) }
-    {
-        let index = self.next.index_of(place);
-        self.bring_one(cast, lane, place, index);
-    }
-
-    /// The lane's keys of the places from `from` to `to` are taken out, all of them of the last round of the ring. It
-    /// is part of its callers, since it is mostly one key.
+    /// The lane's keys of the places from `from` to `to` are taken out. It is part of its callers, since it is
+    /// mostly one key.
     #[inline(always)]
     pub(crate) fn clear_to(&mut self, cast: &Cast<T, N, P, A>, lane: usize, from: u64, to: u64)
         requires bounds { (lane < LANES) × (from ≤ to) × (to ≤ length self.old.known.tail.log)
-            × (length self.old.known.accounts ≡ LANES)
-            × (length self.old.known.tail.log ≤ from + self.old.known.tail.places) }
+            × (length self.old.known.accounts ≡ LANES) }
         requires account { let b = account_of self.old.known lane in (from ≡ b.cleared)
             × (b.out ≡ 0) × (to ≤ b.stop) × (b.stand ≡ live → to ≤ b.known) × (b.away ≡ true
             → b.known < b.cleared) }
@@ -147,8 +132,7 @@ impl<T: Drop, N: Feed, P, A> WriterState<T, N, P, A> {
             { cleared = to }) }
     {
         for place in from..to {
-            let index = self.next.index_within(place);
-            self.bring_one(cast, lane, place, index);
+            self.bring_one(cast, lane, place);
         }
     }
 
@@ -167,7 +151,7 @@ impl<T: Drop, N: Feed, P, A> WriterState<T, N, P, A> {
             return;
         }
         if was.is_away() {
-            self.clear_one(cast, lane, was.known());
+            self.clear_to(cast, lane, was.known(), was.known() + 1);
         }
     }
 

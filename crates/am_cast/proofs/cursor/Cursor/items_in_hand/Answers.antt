@@ -13,7 +13,7 @@ pub key_in-requires-clause-full : goal.key_in-requires-clause-full
 key_in-requires-clause-full g c = let i = c.self.inside in let v = lane_of i.seat.me.0 in let k = c.self.invariant in
     let held = subst (λ (v : CursorView g.row.T.Denot g.row.P.Denot g.row.A.Denot). v.lane.held ≡ true) (sym c.self.view_is) c.requires in
     full_at i.seat.me v c.slot-at.result (has_key i.seat.me v i.shown i.hand held k.hand_is)
-    (c.slot-at.ensures.slot ∙ (λ j. slot (sym k.places_is j) (sym k.number_is j) (sym k.passed_is j)))
+    (c.slot-at.ensures ∙ (λ j. slot (sym k.places_is j) (sym k.number_is j) (sym k.passed_is j)))
 
 pub returns : goal.returns
 returns g c = let i = c.self.inside in let v = lane_of i.seat.me.0 in

@@ -13,7 +13,7 @@ use Rattle.am_cast.proofs.cursor.Cursor.take.Goals as goal
 pub key_in-requires-clause-full : goal.key_in-requires-clause-full
 key_in-requires-clause-full g c = let k = c.self.invariant in
     full_at c.take_key.new.seat.me (lane_of c.self.inside.seat.me.0) c.slot-at.result c.if-take_key.ensures.took.1
-    (c.slot-at.ensures.slot ∙ (λ j. slot (sym k.places_is j) (sym k.number_is j) (sym k.passed_is j)))
+    (c.slot-at.ensures ∙ (λ j. slot (sym k.places_is j) (sym k.number_is j) (sym k.passed_is j)))
 
 pub invariant_of-self : goal.invariant_of-self
 invariant_of-self g c =
