@@ -3,7 +3,8 @@
 //!
 //! All lanes' words loaded first, so that their lines come together, brought nothing. Nor does a fill
 //! exchange the new key for an old one: that would keep keys of passed places for a turn, which
-//! `Writer::freed` promises it doesn't.
+//! `Writer::freed` promises it doesn't. A shorter way through the lanes, 896 instructions of 1,024 with eight
+//! readers, made a log of one reader that sleeps up to 7 % slower.
 ghost use Rattle.std.specs.Prelude.{◌≡◌, ◌≢◌, ◌+◌, ◌<◌, ◌≤◌, true, false, length, None, Some, [], ℕ, IfOk, IfSome, IfNone, ◌++◌, ◌∷◌, IfErr, OnOk, OnErr};
 ghost use Rattle.am_segment.specs.Segments.{MayJoin};
 ghost use Rattle.am_cast.specs.declared.batch_view.BatchView.{BatchView};
