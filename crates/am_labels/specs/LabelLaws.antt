@@ -1,6 +1,6 @@
 -- The laws of label sets: of comparing and hashing them by their pairs in order, and of the pairs that they
 -- are made of.
-use Rattle.std.specs.Prelude.{◌≡◌, ℕ, true, List, ◌++◌, refl, T}
+use Rattle.std.specs.Prelude.{◌≡◌, ℕ, ◌+◌, ◌*◌, ◌%◌, ◌^◌, true, List, ◌++◌, flat_map, length, refl, T}
 use Rattle.std.proofs.Common.{ap, sym, ◌∙◌}
 use Rattle.std.specs.Ordering.{as_partial_cmp, ordering_then, eq_by_cmp}
 use Rattle.std.specs.Bool.{Decides}
@@ -27,9 +27,17 @@ pair_cmp p q = ordering_then (text_cmp p.0 q.0) (text_cmp p.1 q.1)
 abbrev pub labels_cmp : Labels → Labels → Ordering
 labels_cmp a b = slice_cmp pair_cmp (entries a) (entries b)
 
--- what names and their values feed a hasher
+-- each name with its value after it, one pair after another
+abbrev pub joined : List (List ℕ × List ℕ) → List ℕ
+joined pairs = flat_map (λ p. p.0 ++ p.1) pairs
+
+-- the lengths of a name and of its value in one number
+abbrev pub lengths_of : List ℕ × List ℕ → ℕ
+lengths_of p = (length p.0 * 2 ^ 32 % 2 ^ 64 + length p.1) % 2 ^ 64
+
+-- what names and their values feed a hasher: all as one text, and the lengths of each pair
 abbrev pub pairs_fed : List (List ℕ × List ℕ) → fed.HashWrites
-pairs_fed pairs = fed.slice (λ p. fed.str p.0 ++ fed.str p.1) pairs
+pairs_fed pairs = fed.str (joined pairs) ++ fed.slice (λ p. fed.u64 (lengths_of p)) pairs
 
 -- the hash that a label set keeps of its names and values
 unfoldable pub pairs_hash : List (List ℕ × List ℕ) → ℕ
@@ -68,21 +76,6 @@ labels_ties a b =
 pub labels_order : IsPartialOrder same_labels (as_partial_cmp labels_cmp)
 labels_order = Cmp.partial_order_from_agreeing_total labels_cmp labels_total (λ a b. refl) labels_ties
 
--- texts with the same bytes feed a hasher alike
-text_alike : fed.Alike same_text fed.str
-text_alike = fed.same_Alike fed.str (pointwise_decides unsigned_Decides)
-
--- the pairs of label sets that are the same feed a hasher alike
-pairs_alike : (a b : Labels) → same_labels a b ≡ true → pairs_fed (entries a) ≡ pairs_fed (entries b)
-pairs_alike = (fed.on_Alike entries (fed.items_Alike
-    (fed.and-Alike (fed.on_Alike (λ p. p.0) text_alike) (fed.on_Alike (λ p. p.1) text_alike)))).fed
-
--- label sets that are the same feed a hasher alike, for `Hash`
-pub labels_alike : (a b : Labels) → same_labels a b ≡ true → labels_fed a ≡ labels_fed b
-unfolding pairs_hash
-labels_alike a b same =
-    ap (λ writes. fed.u64 (folding.finish (fold folding.write folding.initial writes))) (pairs_alike a b same)
-
 -- only equal pairs are the same
 pairs_decide : (p q : List ℕ × List ℕ) → Decides (same_pair p q) (p ≡ q)
 pairs_decide p q = (
@@ -101,6 +94,10 @@ labels_decide a b = (
   λ h. same_entries_map a b ((pointwise_decides pairs_decide (entries a) (entries b)).0 h),
   λ e. ap (λ c. same_labels a c) (sym e) ∙ labels_equiv.refl a,
 )
+
+-- label sets that are the same feed a hasher alike, for `Hash`
+pub labels_alike : (a b : Labels) → same_labels a b ≡ true → labels_fed a ≡ labels_fed b
+labels_alike = (fed.same_Alike labels_fed labels_decide).fed
 
 -- pairs in byte order of names, each name once, are the entries of their label set
 abbrev pub OrderedPairsAreEntries : Type 0

@@ -1,8 +1,9 @@
 //! Label sets, by which Alertmanager identifies alerts.
 //!
 //! A sorted list of pairs under one `Arc`: names and values lie in one text, and a second block says
-//! where each begins. So a set takes three blocks however many labels it has, a copy none, and its hash
-//! is made once.
+//! where each ends. So a set takes three blocks however many labels it has, a copy none, and its hash is
+//! made once. One block would need raw memory: std's shared texts and slices keep a block beside their
+//! count too.
 
 ghost use Rattle.std.specs.Prelude.{◌≡◌, ◌==◌, IfOk};
 ghost use Rattle.std.specs.Prelude.{List, ℕ, map, option_map, Some, T};
@@ -227,13 +228,13 @@ fn find<'a>(pairs: Pairs<'a>, name: &str) -> Option<&'a str>
     }
 }
 
+#[tactic(auto, using(crate::proofs::LabelSets::Searches::find_first, crate::proofs::LabelSets::Searches::find_later))]
 fn find_among_few<'a>(pairs: Pairs<'a>, name: &str) -> Option<&'a str>
     requires { T (is_sorted text_cmp pairs) }
     ensures { option_map (λ value. value.now) result ≡ find text_cmp name.now pairs.entry }
 {
-    for at in 0..pairs.len() {
-        if pairs.has_name(at, name) {
-            let (_, value) = pairs.at(at);
+    for (other, value) in pairs {
+        if other == name {
             return Some(value);
         }
     }

@@ -1,33 +1,27 @@
 //! Names with values that lie one after another in one text.
 
 ghost use Rattle.std.specs.Prelude.{◌≡◌, ◌<◌, [], ◌∷◌, ◌++◌, get_or, IfErr, IfOk, IsTrue, length, slice_range};
-ghost use Rattle.am_labels.specs.Texts.{same_text};
-ghost use Rattle.am_labels.specs.inside.Spans.{pairs_in, AreSpansOf, IsSpanOf};
+ghost use Rattle.am_labels.specs.LabelLaws.{joined};
+ghost use Rattle.am_labels.specs.inside.Spans.{pair_from, start_of, IsSpanFrom};
 
 use std::alloc::{AllocError, Global};
 use std::marker::Model;
 
-/// The place of a name and its value: the name from `start` to `middle`, the value from there to `end`.
+/// The ends of a name and of its value: the name ends at `middle`, the value, which begins there, at `end`. The name
+/// begins where the pair before it ends.
 #[derive(Clone, Copy, Debug, Drop, PartialEq, Eq)]
 pub struct Span {
-    start: u32,
     middle: u32,
     end: u32,
 }
 
 impl Span {
-    fn name(self, text: &str) -> &str
-        requires { IsSpanOf text.now self }
-        ensures { result.now ≡ slice_range text.now self.start self.middle }
+    fn name_and_value(self, text: &str, start: u32) -> (&str, &str)
+        requires { IsSpanFrom text.now start self }
+        ensures { (result.0.now, result.1.now) ≡ pair_from text.now start self }
     {
-        &text[self.start as usize..self.middle as usize]
-    }
-
-    fn value(self, text: &str) -> &str
-        requires { IsSpanOf text.now self }
-        ensures { result.now ≡ slice_range text.now self.middle self.end }
-    {
-        &text[self.middle as usize..self.end as usize]
+        let (start, middle) = (start as usize, self.middle as usize);
+        (&text[start..middle], &text[middle..self.end as usize])
     }
 }
 
@@ -35,18 +29,20 @@ impl Span {
 #[derive(Debug, Drop)]
 pub struct Pairs<'a> {
     text: &'a str,
+    // The first of those that are left begins here.
+    start: u32,
     spans: &'a [Span],
 }
 
 impl<'a> Model for Pairs<'a> {
     ghost use Rattle.std.specs.Prelude.{List, ℕ};
-    ghost use Rattle.am_labels.specs.inside.Spans.{pairs_in, AreSpansOf};
+    ghost use Rattle.am_labels.specs.inside.Spans.{pairs_from, AreSpansFrom};
 
     ghost Value = { List (List ℕ × List ℕ) };
 
-    ghost view = { λ p. pairs_in p.text.now p.spans.now };
+    ghost view = { λ p. pairs_from p.text.now p.start p.spans.now };
 
-    ghost invariant = { λ p. AreSpansOf p.text.now p.spans.now };
+    ghost invariant = { λ p. AreSpansFrom p.text.now p.start p.spans.now };
 }
 
 impl<'a> Iterator for Pairs<'a> {
@@ -60,8 +56,10 @@ impl<'a> Iterator for Pairs<'a> {
 
     fn next(&mut self) -> Option<(&'a str, &'a str)> {
         let (span, others) = self.spans.split_first()?;
+        let pair = span.name_and_value(self.text, self.start);
+        self.start = span.end;
         self.spans = others;
-        Some((span.name(self.text), span.value(self.text)))
+        Some(pair)
     }
 }
 
@@ -72,11 +70,13 @@ impl<'a> Pairs<'a> {
     {
         Pairs {
             text: "",
+            start: 0,
             spans: &[],
         }
     }
 
     /// How many are left.
+    #[tactic(auto, using(crate::proofs::Spans::as_many))]
     pub fn len(&self) -> usize
         ensures { result ≡ length self.now }
     {
@@ -87,36 +87,31 @@ impl<'a> Pairs<'a> {
     pub(crate) fn lie_as(&self, others: &Pairs<'_>) -> bool
         ensures { IsTrue result → self.now ≡ others.now }
     {
-        self.text == others.text && self.spans == others.spans
-    }
-
-    /// Whether one of those that are left has a name. A name of another length isn't read.
-    pub(crate) fn has_name(&self, at: usize, name: &str) -> bool
-        requires { at < length self.now }
-        ensures { result ≡ same_text (get_or self.now at ([], [])).0 name.now }
-    {
-        let spans = self.spans;
-        let span = spans[at];
-        (span.middle - span.start) as usize == name.len() && are_same(span.name(self.text), name)
+        self.text == others.text && self.start == others.start && self.spans == others.spans
     }
 
     /// One of those that are left.
+    #[tactic(auto, using(crate::proofs::Spans::as_many, crate::proofs::Spans::span_at, crate::proofs::Spans::pair_at))]
     pub(crate) fn at(&self, at: usize) -> (&'a str, &'a str)
         requires { at < length self.now }
         ensures { (result.0.now, result.1.now) ≡ get_or self.now at ([], []) }
     {
         let spans = self.spans;
-        let span = spans[at];
-        (span.name(self.text), span.value(self.text))
+        let start = start_of(self.start, spans, at);
+        spans[at].name_and_value(self.text, start)
     }
 }
 
-// It isn't put into its callers: most names differ in their lengths, and then it isn't called.
-#[inline(never)]
-fn are_same(text: &str, other: &str) -> bool
-    ensures { result ≡ same_text text.now other.now }
+// The byte with which the name at a place begins.
+#[tactic(auto, using(crate::proofs::Spans::start_after))]
+fn start_of(first: u32, spans: &[Span], at: usize) -> u32
+    requires { at < length spans.now }
+    ensures { result ≡ start_of first spans.now at }
 {
-    text == other
+    match at.checked_sub(1) {
+        Some(before) => spans[before].end,
+        None => first,
+    }
 }
 
 /// Names with values that are put after each other, seen by contracts as their list. They lie in two
@@ -129,13 +124,13 @@ pub struct PairBuffer {
 
 impl Model for PairBuffer {
     ghost use Rattle.std.specs.Prelude.{List, ℕ, string_bytes};
-    ghost use Rattle.am_labels.specs.inside.Spans.{pairs_in, AreSpansOf};
+    ghost use Rattle.am_labels.specs.inside.Spans.{pairs_from, AreSpansOfAll};
 
     ghost Value = { List (List ℕ × List ℕ) };
 
-    ghost view = { λ b. pairs_in (string_bytes b.text) b.spans.items };
+    ghost view = { λ b. pairs_from (string_bytes b.text) 0 b.spans.items };
 
-    ghost invariant = { λ b. AreSpansOf (string_bytes b.text) b.spans.items };
+    ghost invariant = { λ b. AreSpansOfAll (string_bytes b.text) b.spans.items };
 }
 
 impl PairBuffer {
@@ -175,9 +170,11 @@ impl PairBuffer {
             return Err(AllocError);
         };
         self.text.push_str(name)?;
-        self.text.push_str(value)?;
+        if self.text.push_str(value).is_err() {
+            self.text.truncate(start);
+            return Err(AllocError);
+        }
         self.spans.push(Span {
-            start: start as u32,
             middle: middle as u32,
             end,
         })?;
@@ -197,8 +194,17 @@ impl PairBuffer {
     {
         Pairs {
             text: self.text.as_str(),
+            start: 0,
             spans: self.spans.as_slice(),
         }
+    }
+
+    /// Each name with its value after it, one pair after another.
+    #[tactic(auto, using(crate::proofs::Spans::all_joined))]
+    pub(crate) fn joined(&self) -> &str
+        ensures { result.now ≡ joined self.now }
+    {
+        self.text.as_str()
     }
 
     /// The same pairs once more, in blocks that have no room to spare.

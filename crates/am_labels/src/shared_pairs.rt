@@ -1,7 +1,7 @@
 //! Names with values that the copies of a label set have in common. Only `label_set.rt` uses it.
 
 ghost use Rattle.std.specs.Prelude.{◌≡◌, [], IfOk};
-ghost use Rattle.am_labels.specs.LabelLaws.{pairs_hash};
+ghost use Rattle.am_labels.specs.LabelLaws.{joined, lengths_of, pairs_hash};
 ghost use Rattle.am_labels.specs.inside.Pairs.{pairs_shared};
 
 use crate::pairs::{PairBuffer, Pairs};
@@ -37,14 +37,14 @@ impl SharedPairs {
     {
         SharedPairs {
             pairs: None,
-            hash: hash_of(Pairs::none()),
+            hash: hash_of("", Pairs::none()),
         }
     }
 
     pub(crate) fn from_buffer(alloc: Global, pairs: PairBuffer) -> Result<SharedPairs, AllocError>
         ensures { IfOk result (λ shared. shared ≡ pairs) }
     {
-        let hash = hash_of(pairs.as_pairs());
+        let hash = hash_of(pairs.joined(), pairs.as_pairs());
         Ok(SharedPairs {
             pairs: Some(Arc::new(alloc, pairs)?),
             hash,
@@ -81,14 +81,22 @@ impl SharedPairs {
     }
 }
 
-fn hash_of(pairs: Pairs<'_>) -> u64
+// The texts are hashed as one, and then where each ends.
+fn hash_of(text: &str, pairs: Pairs<'_>) -> u64
+    requires { text.now ≡ joined pairs }
     ensures { result ≡ pairs_hash pairs.entry }
 {
     let mut state = FoldHasher::default();
+    text.hash(&mut state);
     pairs.len().hash(&mut state);
     for (name, value) in pairs {
-        name.hash(&mut state);
-        value.hash(&mut state);
+        lengths_of(name, value).hash(&mut state);
     }
     state.finish()
+}
+
+fn lengths_of(name: &str, value: &str) -> u64
+    ensures { result ≡ lengths_of (name.now, value.now) }
+{
+    ((name.len() as u64) << 32).wrapping_add(value.len() as u64)
 }

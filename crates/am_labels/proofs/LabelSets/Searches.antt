@@ -1,15 +1,16 @@
 -- A binary search by name among pairs in byte order of names.
-use Rattle.std.proofs.Common.{◌≡◌, ◌≢◌, ℕ, zero, suc, ◌<◌, ◌≤◌, ◌&&◌, Bool, true, false, cond, Some, None, List, [], ◌∷◌, length, get_or, refl, sym, ap, ◌∙◌, arith, T, Less, Equal, Greater, inl, inr}
+use Rattle.std.proofs.Common.{◌≡◌, ◌≢◌, ℕ, zero, suc, ◌<◌, ◌≤◌, ◌&&◌, Bool, true, false, cond, Some, None, List, [], ◌∷◌, length, get_or, refl, sym, ap, ◌∙◌, true≢false, arith, T, Less, Equal, Greater, inl, inr}
 use Rattle.std.specs.FinMap.{slice_cmp-IsAntisymmetric, nat_cmp-IsAntisymmetric}
 use Rattle.std.specs.FinMap.Entries.{is_sorted, below_all, find}
 use Rattle.std.specs.Cmp.{tied_itself}
-use Rattle.std.specs.Cmp.Lexicographic.{nat_list_cmp_total}
+use Rattle.std.specs.Cmp.{unsigned_Decides}
+use Rattle.std.specs.Cmp.Lexicographic.{nat_list_cmp_total, pointwise_decides}
 use Rattle.std.specs.declared.cmp.Ordering.{Ordering}
 use Rattle.std.specs.Ordering.{is_lt, is_eq, ordering_reverse}
 use Rattle.std.specs.List.{AllWithin}
 use Rattle.std.proofs.lemmas.Bool.{cases_lt}
 use Rattle.std.proofs.lemmas.List.{get_or_default}
-use Rattle.am_labels.specs.Texts.{text_cmp}
+use Rattle.am_labels.specs.Texts.{same_text, text_cmp}
 
 pub both : (a b : Bool) → T (a && b) → T a × T b
 both true b h = (tt, h)
@@ -45,6 +46,19 @@ untied : (o : Ordering) → (o ≡ Equal → ⊥) → is_eq o ≡ false
 untied Less h = refl
 untied Equal h = absurd (h refl)
 untied Greater h = refl
+
+-- the first of some pairs has the name
+pub find_first : (other name value : List ℕ) (pairs : List (List ℕ × List ℕ)) → same_text other name ≡ true → find text_cmp name ((other, value) ∷ pairs) ≡ Some value
+find_first other name value pairs same =
+    let is : other ≡ name = (pointwise_decides unsigned_Decides other name).0 same in
+    ap (λ o. cond (is_eq o) (Some value) (find text_cmp name pairs)) (ap (text_cmp name) is ∙ tied_itself nat_list_cmp_total name)
+
+-- it hasn't
+pub find_later : (other name value : List ℕ) (pairs : List (List ℕ × List ℕ)) → same_text other name ≡ false
+    → find text_cmp name ((other, value) ∷ pairs) ≡ find text_cmp name pairs
+find_later other name value pairs differs =
+    let apart : text_cmp name other ≡ Equal → ⊥ = λ tie. true≢false (sym ((pointwise_decides unsigned_Decides other name).1 (sym (tied name other tie))) ∙ differs) in
+    ap (λ b. cond b (Some value) (find text_cmp name pairs)) (untied (text_cmp name other) apart)
 
 pub find_nowhere : (pairs : List (List ℕ × List ℕ)) (name : List ℕ) → ((at : ℕ) (d : List ℕ × List ℕ) → at < length pairs → text_cmp (get_or pairs at d).0 name ≢ Equal) → find text_cmp name pairs ≡ None
 find_nowhere [] name h = refl

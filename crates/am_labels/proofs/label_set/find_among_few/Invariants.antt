@@ -1,9 +1,11 @@
-use Rattle.std.proofs.Common.{◌≡◌, ℕ, List, false}
-use Rattle.std.specs.List.{AllWithin}
-use Rattle.am_labels.specs.Texts.{same_text}
+use Rattle.std.proofs.Common.{◌≡◌}
+use Rattle.std.specs.FinMap.Entries.{find}
+use Rattle.am_labels.specs.Texts.{text_cmp}
 use Rattle.am_labels.proofs.label_set.find_among_few.Given as goal
 
--- none of those before has the name
-abbrev pub invariant-loop-at : goal.invariant-loop-at
-invariant-loop-at l =
-    AllWithin (λ (pair : List ℕ × List ℕ). same_text pair.0 l.name ≡ false) l.fn.pairs 0 l.at
+-- the name has the value that it has among those that are left
+abbrev pub invariant-loop-other : goal.invariant-loop-other
+invariant-loop-other l =
+    (goal.iterator-loop-other).can_next l.other-iterator ×
+    (goal.iterator-loop-other).is_finite l.other-iterator ×
+    (find text_cmp l.name l.fn.pairs ≡ find text_cmp l.name l.other-iterator)

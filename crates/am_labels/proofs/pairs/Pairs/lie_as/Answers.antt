@@ -13,5 +13,5 @@ one_by_one E only (x ∷ xs) (y ∷ ys) h =
     let parts = and_parts _ _ h in
     ap (λ z. z ∷ xs) (only x y parts.0) ∙ ap (λ zs. y ∷ zs) (one_by_one E only xs ys parts.1)
 
-pub returns-then-eq : goal.returns-then-eq
-returns-then-eq c taken = grind (arith, common_steps, one_by_one)
+pub returns-then-self-others : goal.returns-then-self-others
+returns-then-self-others c taken = grind (arith, common_steps, one_by_one)
