@@ -2,8 +2,7 @@
 //!
 //! A sorted list of pairs under one `Arc`: names and values lie in one text, and a second block says
 //! where each ends. So a set takes three blocks however many labels it has, a copy none, and its hash is
-//! made once. One block would need raw memory: std's shared texts and slices keep a block beside their
-//! count too.
+//! made once. One block would need raw memory: a shared text or slice of std takes two.
 
 ghost use Rattle.std.specs.Prelude.{◌≡◌, ◌==◌, IfOk};
 ghost use Rattle.std.specs.Prelude.{List, ℕ, map, option_map, Some, T};

@@ -1,6 +1,6 @@
 //! Names with values that lie one after another in one text.
 
-ghost use Rattle.std.specs.Prelude.{◌≡◌, ◌<◌, [], ◌∷◌, ◌++◌, get_or, IfErr, IfOk, IsTrue, length, slice_range};
+ghost use Rattle.std.specs.Prelude.{◌≡◌, ◌+◌, ◌*◌, ◌^◌, ◌<◌, [], ◌∷◌, ◌++◌, get_or, IfErr, IfOk, IsTrue, length, slice_range};
 ghost use Rattle.am_labels.specs.LabelLaws.{joined};
 ghost use Rattle.am_labels.specs.inside.Spans.{pair_from, start_of, IsSpanFrom};
 
@@ -9,13 +9,34 @@ use std::marker::Model;
 
 /// The ends of a name and of its value: the name ends at `middle`, the value, which begins there, at `end`. The name
 /// begins where the pair before it ends.
-#[derive(Clone, Copy, Debug, Drop, PartialEq, Eq)]
+#[derive(Clone, Copy, Debug, Drop)]
 pub struct Span {
     middle: u32,
     end: u32,
 }
 
+// Both ends are compared as one number: label sets are compared while a provider is locked.
+impl PartialEq for Span {
+    ghost use Rattle.std.specs.Cmp.{partial_equiv_from_equiv};
+    ghost use Rattle.am_labels.specs.inside.Spans.{same_span, same_span_equiv};
+
+    ghost eq = { same_span };
+
+    ghost laws = { partial_equiv_from_equiv same_span_equiv };
+
+    fn eq(&self, other: &Span) -> bool {
+        self.ends() == other.ends()
+    }
+}
+
 impl Span {
+    fn ends(self) -> u64
+        ensures value { result ≡ self.end * 2 ^ 32 + self.middle }
+        ensures bound { self.middle < 2 ^ 32 }
+    {
+        (self.end as u64) * (1 << 32) + self.middle as u64
+    }
+
     fn name_and_value(self, text: &str, start: u32) -> (&str, &str)
         requires { IsSpanFrom text.now start self }
         ensures { (result.0.now, result.1.now) ≡ pair_from text.now start self }

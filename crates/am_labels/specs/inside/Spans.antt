@@ -1,7 +1,17 @@
 -- How names with values lie in one text, one after another. Only code of this crate cites it.
-use Rattle.std.specs.Prelude.{◌≡◌, ℕ, zero, suc, ◌≤◌, List, [], ◌∷◌, length, slice_range, ⊤}
+use Rattle.std.specs.Prelude.{◌≡◌, ℕ, zero, suc, ◌≤◌, ◌==◌, ◌&&◌, Bool, List, [], ◌∷◌, length, slice_range, ⊤}
+use Rattle.std.specs.Cmp.{IsEquivalence}
 use Rattle.std.specs.Str.{IsCharBoundary}
+use Rattle.std.proofs.lemmas.Cmp.{and_equiv, nat_eq_equiv, on_equiv}
 use Rattle.am_labels.specs.declared.pairs.Span.{Span}
+
+-- whether names and values end at the same places
+abbrev pub same_span : Span → Span → Bool
+same_span a b = (a.middle == b.middle) && (a.end == b.end)
+
+-- `same_span` is an equivalence
+pub same_span_equiv : IsEquivalence same_span
+same_span_equiv = and_equiv (on_equiv (λ a. a.middle) nat_eq_equiv) (on_equiv (λ a. a.end) nat_eq_equiv)
 
 -- the name that begins at a place, and its value
 abbrev pub pair_from : List ℕ → ℕ → Span → List ℕ × List ℕ
