@@ -10,8 +10,8 @@ use crate::work_fault::WorkFault;
 use std::alloc::Global;
 use std::io::{ErrorKind, Read};
 
-/// How many bytes one read gives at most.
-pub const CHUNK: usize = 4_096;
+/// How many bytes one read gives at most: what a pipe of Linux holds.
+pub const CHUNK: usize = 65_536;
 
 /// The input's bytes, to its end or to the first excess over a script's limits. No contract says
 /// when a read fails, nor how far an input with an excess is read. Tests check that it doesn't fail
