@@ -61,14 +61,22 @@ fn is_swept(swept: Swept, alerts: u64, groups: u64) -> bool {
     swept.alerts == alerts && swept.groups == groups
 }
 
-// The alert is in two groups of each dispatcher, and counts twice when it is swept from one.
-fn goes_from_one(one: &mut Dispatcher<'_>, other: &mut Dispatcher<'_>) -> bool {
-    one.groups().len() == 2
-        && other.groups().len() == 2
-        && is_swept(one.sweep(second(4)), 0, 0)
-        && is_swept(one.sweep(second(5)), 2, 2)
-        && one.groups().is_empty()
-        && other.groups().len() == 2
+fn has_groups(dispatcher: &Dispatcher<'_>, count: usize) -> bool {
+    dispatcher.groups().len() == count
+}
+
+// Its alert is in two groups, and counts twice when it is swept.
+fn goes(dispatcher: &mut Dispatcher<'_>) -> bool {
+    is_swept(dispatcher.sweep(second(4)), 0, 0) && is_swept(dispatcher.sweep(second(5)), 2, 2)
+}
+
+// The alert is in groups of each dispatcher, and goes from one.
+fn goes_from_one(one: &mut Dispatcher<'_>, other: &Dispatcher<'_>) -> bool {
+    has_groups(one, 2)
+        && has_groups(other, 2)
+        && goes(one)
+        && has_groups(one, 0)
+        && has_groups(other, 2)
 }
 
 fn take_one(alloc: Global, dispatcher: &mut Dispatcher<'_>) -> Result<(), AllocError> {
@@ -82,10 +90,18 @@ fn with_one(alloc: Global, tree: &RouteTree) -> Result<Dispatcher<'_>, AllocErro
     Ok(one)
 }
 
+fn change_apart_from(
+    alloc: Global,
+    tree: &RouteTree,
+    one: &mut Dispatcher<'_>,
+) -> Result<bool, AllocError> {
+    let other = with_one(alloc, tree)?;
+    Ok(goes_from_one(one, &other))
+}
+
 fn change_apart(alloc: Global, tree: &RouteTree) -> Result<bool, AllocError> {
     let mut one = with_one(alloc, tree)?;
-    let mut other = with_one(alloc, tree)?;
-    Ok(goes_from_one(&mut one, &mut other))
+    change_apart_from(alloc, tree, &mut one)
 }
 
 // Two dispatchers share one tree and nothing else.
@@ -105,18 +121,27 @@ fn take_noted(dispatcher: &mut Dispatcher<'_>, alert: &Alert) -> Result<Noted, A
 }
 
 // Whether the alert has two groups of its own until it is undone.
-fn comes_and_goes(alloc: Global, tree: &RouteTree) -> Result<bool, AllocError> {
-    let mut one = with_one(alloc, tree)?;
-    let noted = take_noted(&mut one, &alert(alloc, "job=b severity=crit team=db", 6)?)?;
-    let taken = one.groups().len();
+fn comes_and_goes(one: &mut Dispatcher<'_>, alert: &Alert) -> Result<bool, AllocError> {
+    let noted = take_noted(one, alert)?;
+    let came = has_groups(one, 4);
     one.undo(noted);
-    Ok(taken == 4 && one.groups().len() == 2)
+    Ok(came && has_groups(one, 2))
+}
+
+fn another_comes_and_goes(alloc: Global, one: &mut Dispatcher<'_>) -> Result<bool, AllocError> {
+    let another = alert(alloc, "job=b severity=crit team=db", 6)?;
+    comes_and_goes(one, &another)
+}
+
+fn comes_beside_one(alloc: Global, tree: &RouteTree) -> Result<bool, AllocError> {
+    let mut one = with_one(alloc, tree)?;
+    another_comes_and_goes(alloc, &mut one)
 }
 
 #[test]
 fn undone_alert_leaves_no_group(rt: HostRuntime) -> Result<(), Fail> {
     let config = configuration(rt.alloc(), TEAMS)?;
-    let gone = comes_and_goes(rt.alloc(), &config.tree)?;
+    let gone = comes_beside_one(rt.alloc(), &config.tree)?;
     expect(gone, "an alert that was undone has groups")
 }
 
@@ -146,11 +171,15 @@ fn go_in_turn(dispatcher: &mut Dispatcher<'_>, count: usize) -> bool {
         && is_swept(dispatcher.sweep(second(6)), count as u64, count as u64)
 }
 
+fn come_and_go(alloc: Global, dispatcher: &mut Dispatcher<'_>) -> Result<bool, AllocError> {
+    take_jobs(alloc, dispatcher, 10_000, 1, 5)?;
+    take_jobs(alloc, dispatcher, 10_000, 2, 6)?;
+    Ok(go_in_turn(dispatcher, 10_000))
+}
+
 fn take_many(alloc: Global, tree: &RouteTree) -> Result<bool, AllocError> {
     let mut dispatcher = dispatcher(alloc, tree)?;
-    take_jobs(alloc, &mut dispatcher, 10_000, 1, 5)?;
-    take_jobs(alloc, &mut dispatcher, 10_000, 2, 6)?;
-    Ok(go_in_turn(&mut dispatcher, 10_000))
+    come_and_go(alloc, &mut dispatcher)
 }
 
 // Ten thousand groups, each of which is found again.

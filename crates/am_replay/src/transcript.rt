@@ -1,7 +1,4 @@
 //! What each line of a script answered, and how that is printed.
-//!
-//! Each thread has an entry for each line, an empty one if the line is another's. Dealing the lines
-//! out beforehand would save two percent of the instructions of a script of posts at most.
 
 ghost use Rattle.std.specs.Prelude.{◌≡◌, ◌++◌, ◌∷◌, [], IfOk, OnOk, Some, string_bytes};
 ghost use Rattle.std.specs.List.{list_any};
@@ -11,7 +8,7 @@ ghost use Rattle.am_replay.specs.Printing.{ran_out_of_memory, transcript_text};
 
 use am_answers::{Answer, write_answers};
 use am_provider::Counts;
-use am_script::{Form, JsonLine, Line, Thread};
+use am_script::{Form, JsonLine, Line};
 use std::alloc::{AllocError, Global};
 use std::fmt;
 
@@ -19,7 +16,7 @@ use std::fmt;
 #[derive(Drop)]
 pub struct Transcript {
     pub lines: Vec<Line>,
-    /// What each thread answered to each line.
+    /// What each thread answered to each of its own lines.
     pub answers: Vec<Vec<Vec<Answer>>>,
     pub counts: Counts,
 }
@@ -96,24 +93,24 @@ fn write_lines(
     answers: &[Vec<Vec<Answer>>],
 ) -> Result<(), AllocError>
     ensures { OnOk result (string_bytes text.new
-        ≡ string_bytes text.old ++ lines_text form answers.now 0 lines.now) }
+        ≡ string_bytes text.old ++ lines_text form answers.now [] lines.now) }
 {
-    for (index, line) in lines.iter().enumerate() {
-        write_answers(
-            text,
-            form,
-            u64::from(line.number),
-            given_at(answers, line.thread, index),
-        )?;
+    // How many lines of each thread are written.
+    let mut written = [0usize; 8];
+    for line in lines {
+        let thread = line.thread.index();
+        let given = given_at(answers, thread, written[thread]);
+        write_answers(text, form, u64::from(line.number), given)?;
+        written[thread] += 1;
     }
     Ok(())
 }
 
-// What a thread answered to the line at an index of the script.
-fn given_at<'a>(answers: &'a [Vec<Vec<Answer>>], thread: Thread, index: usize) -> &'a [Answer]
+// What a thread answered to the line of its own at an index.
+fn given_at(answers: &[Vec<Vec<Answer>>], thread: usize, index: usize) -> &[Answer]
     ensures { result.now ≡ given_at answers.now thread index }
 {
-    match answers.get(thread.index()) {
+    match answers.get(thread) {
         Some(all) => match all.get(index) {
             Some(given) => given.as_slice(),
             None => &[],

@@ -60,7 +60,7 @@ impl From<ScriptFault> for Stopped {
     }
 }
 
-// Of each thread, what each line of the script answered in it.
+// What each thread answered to each of its own lines.
 type Answers = Vec<Vec<Vec<Answer>>>;
 
 /// What a script's lines answered, and what is left of their provider.
@@ -72,9 +72,8 @@ pub struct Run {
 }
 
 impl Run {
-    // What a line answered in its thread, by its index in the script.
-    fn answers(&self, at: usize) -> Option<&[Answer]> {
-        let thread = self.lines.get(at)?.thread.index();
+    // What a thread answered to the line of its own at an index.
+    fn answers(&self, thread: usize, at: usize) -> Option<&[Answer]> {
         let lines = self.threads.get(thread)?;
         Some(lines.get(at)?.as_slice())
     }
@@ -83,10 +82,14 @@ impl Run {
     /// subscriptions that were left, and how much there is.
     pub fn printed(&self, alloc: Global) -> Result<String, AllocError> {
         let mut text = String::new(alloc);
-        for (at, line) in self.lines.iter().enumerate() {
-            if let Some(answers) = self.answers(at) {
+        // How many lines of each thread are written.
+        let mut written = [0usize; 8];
+        for line in &self.lines {
+            let thread = line.thread.index();
+            if let Some(answers) = self.answers(thread, written[thread]) {
                 write_answers(&mut text, Form::Text, u64::from(line.number), answers)?;
             }
+            written[thread] = written[thread].wrapping_add(1);
         }
         write_settled(&mut text, &self.settled)?;
         Ok(text)

@@ -292,15 +292,16 @@ module _ (law : StaysFrontOfDue) (entries : List EntryView) where
     owed = subst (AreOwed entries) (ap (λ (s : SessionView). s.opened) looks.1) it.owed;
   }
 
-  line_back : (config : Config) (setting : Setting) (order : Order) (thread at : ℕ) (line : Line) (old new : SessionView) (given : List Answer) → RunsLine config setting order thread at line old given new → WasOwed new → WasOwed old
-  line_back config setting order thread at line old new given (works.own begun done mine before it behind turn) owed =
-      looked_back old begun before (does_back config setting begun done line.command given it (looked_back done new behind owed))
-  line_back config setting order thread at line old new given (works.others not_mine) owed = owed
+  line_back : (config : Config) (setting : Setting) (order : Order) (at : ℕ) (line : Line) (old new : SessionView) (given : List Answer) → RunsLine config setting order at line old given new → WasOwed new → WasOwed old
+  line_back config setting order at line old new given runs owed =
+      looked_back old runs.begun runs.before (does_back config setting runs.begun runs.done line.command given runs.does (looked_back runs.done new runs.after owed))
 
   lines_back : (config : Config) (setting : Setting) (order : Order) (thread first : ℕ) (now end : SessionView) (lines : List Line) (answers : List (Vec Answer)) → Works config setting order thread first now lines answers end → WasOwed end → WasOwed now
   lines_back config setting order thread first now end lines answers works.nothing owed = owed
-  lines_back config setting order thread first now end lines answers (works.one_more {lines = before} {answers = told} {old = old} line given it runs) owed =
-      lines_back config setting order thread first now old before told it (line_back config setting order thread (first + length before) line old end given.items runs owed)
+  lines_back config setting order thread first now end lines answers (works.own {lines = before} {answers = told} {old = old} line given mine it runs) owed =
+      lines_back config setting order thread first now old before told it (line_back config setting order (first + length before) line old end given.items runs owed)
+  lines_back config setting order thread first now end lines answers (works.others {lines = before} line not_mine it) owed =
+      lines_back config setting order thread first now end before answers it owed
 
   last_back : (order : Order) (number : ℕ) (end : SessionView) (pass : PassView Alert Call) (front : FrontView EntryView) → LeavesLast order number end pass front → IsPrefix front.seen entries → WasOwed end
   last_back order number end pass front last longer =

@@ -17,25 +17,29 @@ use Rattle.am_answers.specs.declared.answer.Answer.{Answer}
 abbrev pub LooksOn : SessionView → SessionView → Type 0
 LooksOn old new = SeesMore old.front new.front × (new ≡ record old { front = new.front })
 
--- what the line at a number of the script does to a thread's session, and answers there: its command in its
--- turn, where it is this thread's line, and nothing where it is another's
-pub data RunsLine (config : Config) (setting : Setting) (order : Order) (thread at : ℕ) (line : Line)
-    (old : SessionView) : List Answer → SessionView → Type 0 where
-  own : {given : List Answer} {new : SessionView} (begun done : SessionView) → line.thread ≡ thread
-      → LooksOn old begun → Does config setting begun line.command given done → LooksOn done new
-      → IsTurn order at begun.front new.front
-      → RunsLine config setting order thread at line old given new
-  others : line.thread ≢ thread → RunsLine config setting order thread at line old [] old
+-- what a thread's own line, the one at a number of the script, does to its session in its turn, and answers
+pub record RunsLine (config : Config) (setting : Setting) (order : Order) (at : ℕ) (line : Line)
+    (old : SessionView) (given : List Answer) (new : SessionView) : Type 0 where
+  pub begun : SessionView
+  pub done : SessionView
+  pub before : LooksOn old begun
+  pub does : Does config setting begun line.command given done
+  pub after : LooksOn done new
+  pub turn : IsTurn order at begun.front new.front
 
--- the lines one after another, from the one at a number on, with what each answers
+-- the lines one after another, from the one at a number on, with what each of the thread's own answers: those
+-- of other threads do and answer nothing here
 pub data Works (config : Config) (setting : Setting) (order : Order) (thread first : ℕ) (begun : SessionView)
     : List Line → List (Vec Answer) → SessionView → Type 0 where
   nothing : Works config setting order thread first begun [] [] begun
-  one_more : {lines : List Line} {answers : List (Vec Answer)} {old new : SessionView} (line : Line)
-      (given : Vec Answer)
+  own : {lines : List Line} {answers : List (Vec Answer)} {old new : SessionView} (line : Line)
+      (given : Vec Answer) → line.thread ≡ thread
       → Works config setting order thread first begun lines answers old
-      → RunsLine config setting order thread (first + length lines) line old given.items new
+      → RunsLine config setting order (first + length lines) line old given.items new
       → Works config setting order thread first begun (lines ++ line ∷ []) (answers ++ given ∷ []) new
+  others : {lines : List Line} {answers : List (Vec Answer)} {old : SessionView} (line : Line)
+      → line.thread ≢ thread → Works config setting order thread first begun lines answers old
+      → Works config setting order thread first begun (lines ++ line ∷ []) answers old
 
 -- in its last turn, whose number comes after the lines' and those of the threads before it, a thread leaves
 -- what it still has open
@@ -48,8 +52,8 @@ pub record LeavesLast (order : Order) (number : ℕ) (old : SessionView) (pass :
   pub sees : SeesMore left front
   pub turn : IsTurn order number begun.front front
 
--- a thread's work, of which its pass and its front come back: it ran all of its lines, and then left what it
--- still had open
+-- a thread's work, of which its pass and its front come back: it ran all of its lines, with an answer each,
+-- and then left what it still had open
 pub record IsWork (config : Config) (setting : Setting) (order : Order) (lines : List Line) (thread : ℕ)
     (answers : List (Vec Answer)) (pass : PassView Alert Call) (front : FrontView EntryView) : Type 0 where
   pub seat : ℕ

@@ -40,7 +40,7 @@ impl LogLimits {
 /// What the threads answered, and what is left of their provider.
 #[derive(Drop)]
 pub struct WholeRun {
-    /// What each thread answered to each line.
+    /// What each thread answered to each of its own lines.
     pub answers: Vec<Vec<Vec<Answer>>>,
     pub settled: Settled,
 }
@@ -68,7 +68,7 @@ impl<'s, C: Configured, T: Turns, R: Wait> Crew<R> for Script<'s, C, T> {
     ghost use Rattle.am_runner.specs.Turning.{order_of};
     ghost use Rattle.am_threads.specs.Working.{IsWork};
 
-    /// What each line of the script answered. A line of another thread answered nothing.
+    /// What each of the thread's own lines answered.
     type Outcome = Result<Vec<Vec<Answer>>, AllocError>;
 
     ghost fits = { λ _ limits. limits.callers ≡ 8 };

@@ -74,8 +74,8 @@ fn end_session<'p, 'c, N: Recorded, M: Timeline, R: Wait, T: Turns>(
     caller
 }
 
-// What each line answers: nothing, if it is another thread's. If memory runs out, the turns of the
-// following lines are begun and ended, but the lines aren't run.
+// What each of the thread's own lines answers. If memory runs out, the turns of the following ones are
+// begun and ended, but the lines aren't run.
 fn run_lines<'p, 'c, N: Recorded, M: Timeline, R: Wait, T: Turns>(
     context: &mut Context<'p, 'c, N, R, T>,
     register: &Register<N, M>,
@@ -93,6 +93,9 @@ fn run_lines<'p, 'c, N: Recorded, M: Timeline, R: Wait, T: Turns>(
     let mut answers = Vec::new(context.alloc);
     let mut failed = false;
     for (at, line) in lines.iter().enumerate() {
+        if line.thread != thread {
+            continue;
+        }
         let turn = Turn { thread, at };
         let given = run_line(context, register, line, &turn, seen, session, failed);
         if add(&mut answers, given).is_err() {
@@ -116,17 +119,10 @@ fn run_line<'p, 'c, N: Recorded, M: Timeline, R: Wait, T: Turns>(
     ensures kept { IsPrefix seen.old.seen seen.new.seen }
     ensures does { (turns : List (FrontView EntryView)) → IsPrefix seen.new.seen turns
         → IfOk result (λ given. RunsLine context.old.config
-        (setting_of N.places N.policy context.old.provider.now.resolve_timeout) (order_of T.ordered turns) turn.now.thread
+        (setting_of N.places N.policy context.old.provider.now.resolve_timeout) (order_of T.ordered turns)
         turn.now.at line.now session.old given.items session.new) }
     ensures same { context.new ≡ context.old }
 {
-    if line.thread != turn.thread {
-        return if failed {
-            Err(AllocError)
-        } else {
-            Ok(Vec::new(context.alloc))
-        };
-    }
     session.begin_turn(context, register, turn, seen);
     let given = if failed {
         Err(AllocError)
