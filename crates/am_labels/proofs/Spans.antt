@@ -8,7 +8,7 @@ use Rattle.std.proofs.lemmas.Bool.{cases_lt}
 use Rattle.std.proofs.lemmas.List.{append_assoc, append-nil, length-append, length-drop, drop_all, get_or_append_left, take-append-le, drop-append-le, take_all, take_at, drop_at}
 use Rattle.std.proofs.lemmas.List.Folds.{drop_split}
 use Rattle.std.proofs.lemmas.Str.{IsCharBoundary-at_seam, IsUtf8-append}
-use Rattle.am_labels.specs.LabelLaws.{joined}
+use Rattle.am_labels.specs.LabelLaws.{concatenated}
 use Rattle.am_labels.specs.declared.pairs.Span.{Span}
 use Rattle.am_labels.specs.inside.Spans.{pair_from, pairs_from, start_of, end_of, AreSpansFrom, AreSpansOfAll, IsSpanFrom}
 
@@ -107,22 +107,22 @@ pair_at text start (span ∷ spans) (suc at) d p short = pair_at text span.end s
 
 -- ---- all pairs in one text
 
-joined_from : (text : List ℕ) (start : ℕ) (spans : List Span) → AreSpansFrom text start spans
-    → joined (pairs_from text start spans) ++ drop (end_of start spans) text ≡ drop start text
-joined_from text start [] are = refl
-joined_from text start (span ∷ spans) are =
-    let rest = joined_from text span.end spans are.1 in
+concatenated_from : (text : List ℕ) (start : ℕ) (spans : List Span) → AreSpansFrom text start spans
+    → concatenated (pairs_from text start spans) ++ drop (end_of start spans) text ≡ drop start text
+concatenated_from text start [] are = refl
+concatenated_from text start (span ∷ spans) are =
+    let rest = concatenated_from text span.end spans are.1 in
     let of_name = drop_split text start span.middle are.0.name in
     let of_value = drop_split text span.middle span.end are.0.value in
     let name = slice_range text start span.middle in
     let value = slice_range text span.middle span.end in
-    append_assoc (name ++ value) (joined (pairs_from text span.end spans)) (drop (end_of span.end spans) text)
+    append_assoc (name ++ value) (concatenated (pairs_from text span.end spans)) (drop (end_of span.end spans) text)
     ∙ ap (λ t. (name ++ value) ++ t) rest
     ∙ append_assoc name value (drop span.end text)
     ∙ ap (λ t. name ++ t) (sym of_value)
     ∙ sym of_name
 
-pub all_joined : (text : List ℕ) (spans : List Span) → AreSpansOfAll text spans → text ≡ joined (pairs_from text 0 spans)
-all_joined text spans are =
+pub all_concatenated : (text : List ℕ) (spans : List Span) → AreSpansOfAll text spans → text ≡ concatenated (pairs_from text 0 spans)
+all_concatenated text spans are =
     let rest : drop (end_of 0 spans) text ≡ [] = ap (λ end. drop end text) are.fill ∙ search (rules, drop_all) in
-    sym (sym (append-nil (joined (pairs_from text 0 spans))) ∙ ap (λ t. joined (pairs_from text 0 spans) ++ t) (sym rest) ∙ joined_from text 0 spans are.lie)
+    sym (sym (append-nil (concatenated (pairs_from text 0 spans))) ∙ ap (λ t. concatenated (pairs_from text 0 spans) ++ t) (sym rest) ∙ concatenated_from text 0 spans are.lie)

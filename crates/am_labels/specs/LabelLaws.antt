@@ -28,8 +28,8 @@ abbrev pub labels_cmp : Labels → Labels → Ordering
 labels_cmp a b = slice_cmp pair_cmp (entries a) (entries b)
 
 -- each name with its value after it, one pair after another
-abbrev pub joined : List (List ℕ × List ℕ) → List ℕ
-joined pairs = flat_map (λ p. p.0 ++ p.1) pairs
+abbrev pub concatenated : List (List ℕ × List ℕ) → List ℕ
+concatenated pairs = flat_map (λ p. p.0 ++ p.1) pairs
 
 -- the lengths of a name and of its value in one number
 abbrev pub lengths_of : List ℕ × List ℕ → ℕ
@@ -37,7 +37,7 @@ lengths_of p = (length p.0 * 2 ^ 32 % 2 ^ 64 + length p.1) % 2 ^ 64
 
 -- what names and their values feed a hasher: all as one text, and the lengths of each pair
 abbrev pub pairs_fed : List (List ℕ × List ℕ) → fed.HashWrites
-pairs_fed pairs = fed.str (joined pairs) ++ fed.slice (λ p. fed.u64 (lengths_of p)) pairs
+pairs_fed pairs = fed.str (concatenated pairs) ++ fed.slice (λ p. fed.u64 (lengths_of p)) pairs
 
 -- the hash that a label set keeps of its names and values
 unfoldable pub pairs_hash : List (List ℕ × List ℕ) → ℕ

@@ -1,7 +1,7 @@
 //! Names with values that lie one after another in one text.
 
 ghost use Rattle.std.specs.Prelude.{◌≡◌, ◌+◌, ◌*◌, ◌^◌, ◌<◌, [], ◌∷◌, ◌++◌, get_or, IfErr, IfOk, IsTrue, length, slice_range};
-ghost use Rattle.am_labels.specs.LabelLaws.{joined};
+ghost use Rattle.am_labels.specs.LabelLaws.{concatenated};
 ghost use Rattle.am_labels.specs.inside.Spans.{pair_from, start_of, IsSpanFrom};
 
 use std::alloc::{AllocError, Global};
@@ -221,9 +221,9 @@ impl PairBuffer {
     }
 
     /// Each name with its value after it, one pair after another.
-    #[tactic(auto, using(crate::proofs::Spans::all_joined))]
-    pub(crate) fn joined(&self) -> &str
-        ensures { result.now ≡ joined self.now }
+    #[tactic(auto, using(crate::proofs::Spans::all_concatenated))]
+    pub(crate) fn concatenated(&self) -> &str
+        ensures { result.now ≡ concatenated self.now }
     {
         self.text.as_str()
     }

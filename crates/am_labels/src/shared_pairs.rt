@@ -1,7 +1,7 @@
 //! Names with values that the copies of a label set have in common. Only `label_set.rt` uses it.
 
 ghost use Rattle.std.specs.Prelude.{◌≡◌, [], IfOk};
-ghost use Rattle.am_labels.specs.LabelLaws.{joined, lengths_of, pairs_hash};
+ghost use Rattle.am_labels.specs.LabelLaws.{concatenated, lengths_of, pairs_hash};
 ghost use Rattle.am_labels.specs.inside.Pairs.{pairs_shared};
 
 use crate::pairs::{PairBuffer, Pairs};
@@ -44,7 +44,7 @@ impl SharedPairs {
     pub(crate) fn from_buffer(alloc: Global, pairs: PairBuffer) -> Result<SharedPairs, AllocError>
         ensures { IfOk result (λ shared. shared ≡ pairs) }
     {
-        let hash = hash_of(pairs.joined(), pairs.as_pairs());
+        let hash = hash_of(pairs.concatenated(), pairs.as_pairs());
         Ok(SharedPairs {
             pairs: Some(Arc::new(alloc, pairs)?),
             hash,
@@ -83,7 +83,7 @@ impl SharedPairs {
 
 // The texts are hashed as one, and then where each ends.
 fn hash_of(text: &str, pairs: Pairs<'_>) -> u64
-    requires { text.now ≡ joined pairs }
+    requires { text.now ≡ concatenated pairs }
     ensures { result ≡ pairs_hash pairs.entry }
 {
     let mut state = FoldHasher::default();
