@@ -81,7 +81,7 @@ impl SharedPairs {
     }
 }
 
-// The texts are hashed as one, and then where each ends.
+// The texts are hashed as one, and then the lengths of each pair.
 fn hash_of(text: &str, pairs: Pairs<'_>) -> u64
     requires { text.now ≡ concatenated pairs }
     ensures { result ≡ pairs_hash pairs.entry }
