@@ -37,6 +37,7 @@ use crate::item::Item;
 use crate::kept_endings::KeptEndings;
 use crate::parts::{Begun, Parts};
 use crate::pass::deal;
+use crate::sending::EmptiedBatch;
 use am_alert::Alerts;
 use am_cast::CloseFault;
 use am_labels::LabelSet;
@@ -68,9 +69,9 @@ pub struct Book<N: Origin> {
     posters: u32,
     // It counts the places of all passes.
     tally: ledger::Book<N>,
-    // What the last post replaced, the opening of the subscription that left last, as its lane and itself had it, and
-    // what a trim or a compaction discarded: for who drops them once the lock is given back.
-    replaced: Vec<Change>,
+    // What the last post is done with, the opening of the subscription that left last, as its lane and itself had it,
+    // and what a trim or a compaction discarded: for who drops them once the lock is given back.
+    spent: Spent,
     left: Left,
     discarded: Discarded,
 }
@@ -111,6 +112,13 @@ impl<N: Origin> Model for Book<N> {
       early = b.endings.early;
       policy = b.policy;
     }) b.tally.total (length b.endings.endings + b.endings.room) × (b.posters ≡ N.parts) × (1 ≤ b.posters) × AreEndingsOf b.endings b.journal };
+}
+
+// What a post replaced, and the list of what it sent out.
+pub(crate) type Spent = (Vec<Change>, EmptiedBatch);
+
+fn nothing_spent(alloc: Global) -> Spent {
+    (Vec::new(alloc), Vec::new(alloc).into_iter())
 }
 
 // The opening of a subscription that left, as its lane and itself had it.
@@ -216,7 +224,7 @@ impl<N: Origin> Book<N> {
             policy,
             posters,
             tally,
-            replaced: Vec::new(alloc),
+            spent: nothing_spent(alloc),
             left: (None, None),
             discarded: Discarded::new(alloc, keeps),
         })
@@ -257,7 +265,7 @@ impl<N: Origin> Book<N> {
             policy: _,
             posters,
             tally,
-            replaced: _,
+            spent: _,
             left: _,
             discarded: _,
         } = self;
@@ -335,12 +343,12 @@ impl<N: Origin> Book<N> {
         let _ = &self.stored;
     }
 
-    // What the last post replaced. It is given once.
-    pub(crate) fn take_replaced(&mut self) -> Vec<Change>
+    // What the last post is done with. It is given once.
+    pub(crate) fn take_spent(&mut self) -> Spent
         ensures { self.new ≡ self.old }
     {
         let alloc = *self.stored.allocator();
-        mem::replace(&mut self.replaced, Vec::new(alloc))
+        mem::replace(&mut self.spent, nothing_spent(alloc))
     }
 
     // The opening of the subscription that left last. It is given once.

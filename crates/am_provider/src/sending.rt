@@ -18,30 +18,36 @@ use am_store::lanes::OpenLane;
 use am_store::{Call, PutFault, SharedAlert};
 use std::alloc::AllocError;
 use std::snapshot::Snapshot;
+use std::vec;
 
 /// The pass as the log has it.
 pub(crate) type LogPass<N> = am_cast::Pass<Item, N, Call, OpenLane>;
 
-// A segment of these alerts. If one of their number has ended, it lies where that one was.
+/// A batch's list, whose alerts were taken out of it.
+pub(crate) type EmptiedBatch = vec::IntoIter<SharedAlert>;
+
+// A segment of these alerts, and the list that they were in. If a segment of their number has ended, it lies where
+// that one was.
 fn segment_of<N: Origin>(
     writer: &mut Writer<N>,
     batch: Vec<SharedAlert>,
-) -> Result<SegmentBuilder<Item>, AllocError>
+) -> Result<(SegmentBuilder<Item>, EmptiedBatch), AllocError>
     requires { 0 < length batch.items }
-    ensures segment { IfOk result (λ segment. segment.items ≡ alerts_in batch.items) }
+    ensures segment { IfOk result (λ made. made.0.items ≡ alerts_in batch.items) }
     ensures same { writer.new ≡ writer.old }
 {
     let mut segment = match writer.spare(batch.len()) {
         Some(segment) => segment,
         None => SegmentBuilder::with_places(*batch.allocator(), batch.len())?,
     };
-    for alert in batch {
+    let mut alerts = batch.into_iter();
+    while let Some(alert) = alerts.next() {
         match segment.push(Item::new(alert)) {
             Ok(()) => {}
             Err(_) => unreachable!(),
         }
     }
-    Ok(segment)
+    Ok((segment, alerts))
 }
 
 /// Looks at the lanes, and says why the log takes no batch, if it takes none.
@@ -70,7 +76,8 @@ pub(crate) fn look_for_room<N: Origin>(
     }
 }
 
-/// Sends a batch of alerts out, or says why the log doesn't take it.
+/// Sends a batch of alerts out, or says why the log doesn't take it. The batch's list comes back: whoever holds the
+/// lock frees it after the unlock.
 pub(crate) fn send_batch<N: Origin>(
     writer: &mut Writer<N>,
     cast: &Cast<N>,
@@ -78,21 +85,21 @@ pub(crate) fn send_batch<N: Origin>(
     batch: Vec<SharedAlert>,
     call: &Call,
     pass: &mut LogPass<N>,
-) -> Result<Published, PutFault>
+) -> Result<(Published, EmptiedBatch), PutFault>
     requires some { 0 < length batch.items }
     requires open { (writer.old.tail.closed ≡ false) × (length writer.old.tail.log < LONGEST_LOG) }
     requires room { policy ≡ Refuse → HasRoom writer.old 8 }
-    ensures sent { IfOk result (λ sent. IsSent policy writer.old writer.new pass.old pass.new call.now (alerts_in batch.items) sent.place sent.cut) }
-    ensures above { IfOk result (λ sent. AreBelow sent.place pass.old.own) }
+    ensures sent { IfOk result (λ done. IsSent policy writer.old writer.new pass.old pass.new call.now (alerts_in batch.items) done.0.place done.0.cut) }
+    ensures above { IfOk result (λ done. AreBelow done.0.place pass.old.own) }
     ensures unsent { IfErr result (λ fault. IsUnsent policy writer.old writer.new fault) }
     ensures err { OnErr result (pass.new ≡ pass.old) }
 {
-    let segment = segment_of(writer, batch)?;
+    let (segment, emptied) = segment_of(writer, batch)?;
     match send(writer, cast, policy, segment, call, pass) {
         Ok(sent) => {
             // The writer hears which places are the pass's: the new one is above them all.
             writer.confirm(cast, pass);
-            Ok(sent)
+            Ok((sent, emptied))
         }
         Err(fault) => Err(fault),
     }

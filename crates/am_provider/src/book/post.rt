@@ -181,11 +181,11 @@ impl<N: Origin> Book<N> {
         let Absorbed { batch, undo } = self.stored.absorb(reports, now)?;
         let call = Call::Posted { now, alerts: valid };
         match send_batch(&mut self.log, cast, policy, batch, &call, &mut pass.pass) {
-            Ok(sent) => {
+            Ok((sent, emptied)) => {
                 self.tally.add(&mut pass.share, 1);
                 self.journal.push(call);
                 self.posts += 1;
-                self.replaced = undo;
+                self.spent = (undo, emptied);
                 Ok(sent)
             }
             Err(fault) => {

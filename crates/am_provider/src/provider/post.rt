@@ -56,11 +56,11 @@ impl<N: Recorded> Provider<N> {
         ensures err { OnErr result (caller.new.pass ≡ caller.old.pass) }
     {
         let post = PreparedPost::of(self.alloc, post);
-        let (answer, _replaced) = {
+        let (answer, _spent) = {
             let recorded = &mut *self.lock(rt);
             gate.held(rt);
             let answer = recorded.post(&self.cast, &self.table, caller, post, now);
-            (answer, recorded.book.take_replaced())
+            (answer, recorded.book.take_spent())
         };
         self.cast.wake();
         answer
@@ -85,7 +85,7 @@ impl<N: Recorded> Provider<N> {
             caller.old.pass caller.new.pass caller.old.front caller.new.front result }
         ensures callable { F.IsAlwaysCallable accepts.new }
     {
-        let (done, _replaced) = {
+        let (done, _spent) = {
             let recorded = &mut *self.lock(rt);
             gate.held(rt);
             recorded.book.kept();
@@ -102,7 +102,7 @@ impl<N: Recorded> Provider<N> {
                 Ok(posted) => posted,
                 Err(fault) => return Err(fault),
             };
-            (PostedIf { posted, refused }, recorded.book.take_replaced())
+            (PostedIf { posted, refused }, recorded.book.take_spent())
         };
         self.cast.wake();
         Ok(done)

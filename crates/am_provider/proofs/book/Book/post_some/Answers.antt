@@ -38,7 +38,7 @@ send_batch-requires-clause-some g c =
     omega (arith, c.requires.some, count, ap length same)
 
 -- what the log knows of a lane goes on through the harvest and the batch
-lanes_on : (g : Over) (c : goal.After-drop-self-inside g) (lane : ℕ) → lane < 8 → GoesOnAs (account_of c.self.inside.log lane) (account_of c.send_batch.new.writer lane)
+lanes_on : (g : Over) (c : goal.After-drop-self-inside-in-Ok g) (lane : ℕ) → lane < 8 → GoesOnAs (account_of c.self.inside.log lane) (account_of c.send_batch.new.writer lane)
 lanes_on g c lane small =
     let sent = c.in-Ok.ensures.sent in
     goes_on_twice (account_of c.self.inside.log lane) (account_of c.look_for_room.new.writer lane) (account_of c.send_batch.new.writer lane)
