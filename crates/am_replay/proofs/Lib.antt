@@ -1,3 +1,3 @@
 pub mod Replays
 pub mod Lives
-pub mod Transcripts
+pub mod PartTexts

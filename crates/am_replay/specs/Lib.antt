@@ -3,3 +3,4 @@ pub mod Printing
 pub mod Programs
 pub mod Replays
 pub mod Runs
+pub mod inside

@@ -4,6 +4,8 @@
 //! It reads and prints, and decides nothing about alerts.
 #![tactic(auto)]
 
+mod line_counts;
+mod lines_text;
 mod live;
 mod program;
 mod script_run;

@@ -172,7 +172,7 @@ fn printout_under<R: Threads + Wait + Sync>(
                 arguments,
                 config,
             };
-            ran(alloc, arguments.form, run_script(&settings, lines)?)
+            ran(rt, alloc, arguments.form, run_script(&settings, lines)?)
         }
         Err((ScriptFault::Refused(refusal), text)) => {
             let output = refused_script(alloc, arguments.form, refusal)?;
@@ -197,7 +197,7 @@ fn take_lines<R: Threads + Sync>(
     }
 }
 
-fn ran(alloc: Global, form: Form, ran: Ran) -> Result<Printout, RunFault>
+fn ran<R: Threads + Sync>(rt: &R, alloc: Global, form: Form, ran: Ran) -> Result<Printout, RunFault>
     ensures output { IfOk result (λ printout. string_bytes printout.output
         ≡ transcript_text form ran.transcript.lines.items ran.transcript.answers.items ran.transcript.counts) }
     ensures status { IfOk result (λ printout. printout.status
@@ -210,7 +210,7 @@ fn ran(alloc: Global, form: Form, ran: Ran) -> Result<Printout, RunFault>
     };
     Ok(Printout {
         status,
-        output: ran.transcript.text(alloc, form)?,
+        output: ran.transcript.text(rt, alloc, form)?,
         advice: None,
         ran: Some(ran),
     })

@@ -3,14 +3,17 @@
 ghost use Rattle.std.specs.Prelude.{◌≡◌, ◌++◌, ◌∷◌, [], IfOk, OnOk, Some, string_bytes};
 ghost use Rattle.std.specs.List.{list_any};
 ghost use Rattle.am_answers.specs.Answers.{is_out_of_memory};
-ghost use Rattle.am_replay.specs.Printing.{counts_line, counts_text, given_at, lines_text};
+ghost use Rattle.am_replay.specs.Printing.{counts_line, counts_text};
 ghost use Rattle.am_replay.specs.Printing.{ran_out_of_memory, transcript_text};
 
-use am_answers::{Answer, write_answers};
+use crate::line_counts::LineCounts;
+use crate::lines_text::{print_in_threads, threads_to_print};
+use am_answers::Answer;
 use am_provider::Counts;
 use am_script::{Form, JsonLine, Line};
 use std::alloc::{AllocError, Global};
 use std::fmt;
+use std::thread::Threads;
 
 /// What each line of a script answered, and the counts at the end.
 #[derive(Drop)]
@@ -29,13 +32,28 @@ impl Transcript {
         self.answers.iter().any(|all| has_one_run_out(all))
     }
 
-    /// A line for each answer, and the last one.
-    pub fn text(&self, alloc: Global, form: Form) -> Result<String, AllocError>
+    /// A line for each answer, and the last one. The answers to many lines are printed by as many threads as there are
+    /// processors, up to eight.
+    pub fn text<R: Threads + Sync>(
+        &self,
+        rt: &R,
+        alloc: Global,
+        form: Form,
+    ) -> Result<String, AllocError>
         ensures { IfOk result (λ text. string_bytes text
             ≡ transcript_text form self.now.lines.items self.now.answers.items self.now.counts) }
     {
-        let mut text = String::new(alloc);
-        write_lines(&mut text, form, &self.lines, &self.answers)?;
+        let threads = threads_to_print(rt, self.lines.len());
+        let none = LineCounts::none();
+        let mut text = print_in_threads(
+            rt,
+            alloc,
+            threads,
+            form,
+            &self.answers,
+            none,
+            &self.lines,
+        )?;
         write_counts(&mut text, form, self.counts)?;
         Ok(text)
     }
@@ -84,39 +102,6 @@ fn has_run_out(given: &[Answer]) -> bool
     ensures { result ≡ list_any is_out_of_memory given.now }
 {
     given.iter().any(|answer| answer.is_out_of_memory())
-}
-
-fn write_lines(
-    text: &mut String,
-    form: Form,
-    lines: &[Line],
-    answers: &[Vec<Vec<Answer>>],
-) -> Result<(), AllocError>
-    ensures { OnOk result (string_bytes text.new
-        ≡ string_bytes text.old ++ lines_text form answers.now [] lines.now) }
-{
-    // How many lines of each thread are written.
-    let mut written = [0usize; 8];
-    for line in lines {
-        let thread = line.thread.index();
-        let given = given_at(answers, thread, written[thread]);
-        write_answers(text, form, u64::from(line.number), given)?;
-        written[thread] += 1;
-    }
-    Ok(())
-}
-
-// What a thread answered to the line of its own at an index.
-fn given_at(answers: &[Vec<Vec<Answer>>], thread: usize, index: usize) -> &[Answer]
-    ensures { result.now ≡ given_at answers.now thread index }
-{
-    match answers.get(thread) {
-        Some(all) => match all.get(index) {
-            Some(given) => given.as_slice(),
-            None => &[],
-        },
-        None => &[],
-    }
 }
 
 // The last line of the output.

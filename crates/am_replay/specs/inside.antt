@@ -1,0 +1,2 @@
+-- Definitions that only code of this crate cites.
+pub mod PartTexts
