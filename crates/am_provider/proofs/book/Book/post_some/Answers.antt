@@ -1,5 +1,5 @@
 use Rattle.std.proofs.Common.{◌≡◌, ◌≢◌, ◌≤◌, ◌<◌, ◌++◌, ◌∷◌, [], length, Result, Err, IfErr, refl, sym, ap, subst, ◌∙◌, ℕ, false, rules, arith}
-use Rattle.std.proofs.lemmas.List.{length-append}
+use Rattle.std.proofs.lemmas.List.{append-nil, length-append}
 use mathlib.Core.List.{IsPrefix}
 use Rattle.am_store.specs.declared.call.Call.{Call}
 use Rattle.am_store.specs.declared.call.Call.TheVariants.{Posted}
@@ -16,7 +16,7 @@ use Rattle.am_cast.specs.Seats.{account_of}
 use Rattle.am_cast.specs.Posters.{PassView}
 use Rattle.am_provider.specs.Batches.{Batch}
 use Rattle.am_cast.specs.declared.writer.Published.{Published}
-use Rattle.am_provider.specs.BookView.{BookView}
+use Rattle.am_provider.specs.BookView.{BookView, batches}
 use Rattle.am_provider.specs.Posts.{IsPutCause}
 use Rattle.am_provider.specs.inside.Shelves.{view_of}
 use Rattle.am_provider.specs.Sending.{IsLogCause}
@@ -160,3 +160,11 @@ returns-in_err-look_for_room-clause-refused g c =
     }) in
     subst (λ (r : Result Published PutFault). IfErr r (IsPutCause c.args.self.now new (length c.args.valid))) (sym refused)
     (put_cause c.args.self.now new (length c.args.valid) found c.requires.open c.requires.some why.0 why.1 cause)
+
+-- a refused batch leaves the log as it was
+pub returns-in-Err-clause-log : goal.returns-in-Err-clause-log
+returns-in-Err-clause-log g c =
+    let tail = c.in-Err.ensures.unsent.tail ∙ c.look_for_room.ensures.harvested.tail in
+    let same : batches c.args.self.now ≡ c.send_batch.new.writer.tail.log =
+    ap (λ (b : BookView). b.log.tail.log) (sym c.self.view_is) ∙ ap (λ (t : Tail Batch). t.log) (sym tail) in
+    search (rules, append-nil)
