@@ -71,7 +71,7 @@ pub struct Book<N: Origin> {
     tally: ledger::Book<N>,
     // What the last post is done with, the opening of the subscription that left last, as its lane and itself had it,
     // and what a trim or a compaction discarded: for who drops them once the lock is given back.
-    spent: Spent,
+    spent: Option<Spent>,
     left: Left,
     discarded: Discarded,
 }
@@ -116,10 +116,6 @@ impl<N: Origin> Model for Book<N> {
 
 // What a post replaced, and the list of what it sent out.
 pub(crate) type Spent = (Vec<Change>, EmptiedBatch);
-
-fn nothing_spent(alloc: Global) -> Spent {
-    (Vec::new(alloc), Vec::new(alloc).into_iter())
-}
 
 // The opening of a subscription that left, as its lane and itself had it.
 pub(crate) type Left = (Option<OpenLane>, Option<StoredAlerts>);
@@ -224,7 +220,7 @@ impl<N: Origin> Book<N> {
             policy,
             posters,
             tally,
-            spent: nothing_spent(alloc),
+            spent: None,
             left: (None, None),
             discarded: Discarded::new(alloc, keeps),
         })
@@ -344,11 +340,10 @@ impl<N: Origin> Book<N> {
     }
 
     // What the last post is done with. It is given once.
-    pub(crate) fn take_spent(&mut self) -> Spent
+    pub(crate) fn take_spent(&mut self) -> Option<Spent>
         ensures { self.new ≡ self.old }
     {
-        let alloc = *self.stored.allocator();
-        mem::replace(&mut self.spent, nothing_spent(alloc))
+        self.spent.take()
     }
 
     // The opening of the subscription that left last. It is given once.

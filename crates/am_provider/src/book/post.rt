@@ -185,7 +185,7 @@ impl<N: Origin> Book<N> {
                 self.tally.add(&mut pass.share, 1);
                 self.journal.push(call);
                 self.posts += 1;
-                self.spent = (undo, emptied);
+                self.spent = Some((undo, emptied));
                 Ok(sent)
             }
             Err(fault) => {

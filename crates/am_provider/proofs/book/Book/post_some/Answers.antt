@@ -26,7 +26,6 @@ use Rattle.am_provider.proofs.Shelves.{GoesOnAs, stays_as, cut_as, goes_on_twice
 use Rattle.am_provider.proofs.Calls.{kept_posted}
 use Rattle.am_provider.proofs.Endings.{still_endings_of}
 use Rattle.am_provider.proofs.Rising.{one_more}
-use Rattle.am_provider.proofs.book.Book.post_some.Given.{Over}
 use Rattle.am_provider.proofs.book.Book.post_some.Goals as goal
 
 pub send_batch-requires-clause-some : goal.send_batch-requires-clause-some
@@ -36,13 +35,6 @@ send_batch-requires-clause-some g c =
     let count : length c.in_ok-batch.field-0.batch.items ≡ length news = length_became c.in_ok-batch.field-0.batch.items c.args.now news olds c.in_ok-batch.ensures.batch in
     let same : news ≡ c.args.valid = search rules in
     omega (arith, c.requires.some, count, ap length same)
-
--- what the log knows of a lane goes on through the harvest and the batch
-lanes_on : (g : Over) (c : goal.After-drop-self-inside-in-Ok g) (lane : ℕ) → lane < 8 → GoesOnAs (account_of c.self.inside.log lane) (account_of c.send_batch.new.writer lane)
-lanes_on g c lane small =
-    let sent = c.in-Ok.ensures.sent in
-    goes_on_twice (account_of c.self.inside.log lane) (account_of c.look_for_room.new.writer lane) (account_of c.send_batch.new.writer lane)
-    (stays_as _ _ (c.look_for_room.ensures.harvested.each lane small)) (cut_as _ _ _ _ _ (sent.lanes lane small) (sent.cuts lane small))
 
 pub invariant_of-self-in-Ok : goal.invariant_of-self-in-Ok
 invariant_of-self-in-Ok g c =
@@ -57,6 +49,9 @@ invariant_of-self-in-Ok g c =
     let tail = c.look_for_room.ensures.harvested.tail in
     let sent = c.in-Ok.ensures.sent in
     let x = sent.batch in
+    let lanes : (lane : ℕ) → lane < 8 → GoesOnAs (account_of c.self.inside.log lane) (account_of c.send_batch.new.writer lane) =
+    λ lane small. goes_on_twice (account_of c.self.inside.log lane) (account_of c.look_for_room.new.writer lane) (account_of c.send_batch.new.writer lane)
+    (stays_as _ _ (c.look_for_room.ensures.harvested.each lane small)) (cut_as _ _ _ _ _ (sent.lanes lane small) (sent.cuts lane small)) in
     let still : c.self.inside.log.tail.closed ≡ false = kept.pages.closed ∙ (ap (λ (b : BookView). is_closed b.journal) c.self.view_is ∙ c.requires.open) in
     let posted : x.0.post ≡ Posted c.args.now valid = x.1 in
     let few : length c.self.inside.log.tail.log < LONGEST_LOG = omega (arith, c.in_ok-look_for_room.ensures.few, ap (λ (t : Tail Batch). length t.log) tail) in
@@ -65,7 +60,7 @@ invariant_of-self-in-Ok g c =
     let journal : c.push.new.self.journal ≡ with_call c.self.inside.journal.journal (Posted c.args.now valid) =
     c.push.ensures.journal ∙ ap (λ (j : JournalView). with_call j (Posted c.args.now valid)) c.in_ok-reserve.ensures.same.0 in (
       kept_posted _ _ _ _ _ c.args.now valid batch x.0 kept still journal stored became (ap length became ∙ length_batch c.args.now valid olds) c.requires.few c.requires.some few
-          posted x.2 (x.3 ∙ ap (longer_tail x.0) tail) (lanes_on g c) refl refl refl refl c.add.ensures.total gone room,
+          posted x.2 (x.3 ∙ ap (longer_tail x.0) tail) lanes refl refl refl refl c.add.ensures.total gone room,
       c.self.invariant.1,
       c.self.invariant.2,
       still_endings_of _ _ _ _ c.self.invariant.3 refl refl (ap (λ (j : JournalView). j.before) journal) gone,
