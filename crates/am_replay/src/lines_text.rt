@@ -1,4 +1,7 @@
 //! How the answers to lines are printed: by one thread, or each half of the lines by threads of its own.
+//!
+//! These are functions over slices, and no methods of a struct that borrows them: of a closure that captures a struct with
+//! a lifetime, as `|| part.text()`, `join` promises nothing, and of one that captures slices what it ensures.
 
 ghost use Rattle.std.specs.Prelude.{◌≡◌, ◌++◌, ℕ, List, IfOk, length, string_bytes};
 ghost use Rattle.std.specs.Thread.{IsSync};
