@@ -1,5 +1,6 @@
 """Scripts of real size: each is a function that gives its commands in order."""
 import datetime
+import itertools
 import json
 import pathlib
 import random
@@ -343,6 +344,16 @@ def drawn_calls():
     return drawn(1, 10_000)
 
 
+def most_for_one_thread():
+    """As many of them as one thread prints."""
+    return itertools.islice(drawn_calls(), 4_095)
+
+
+def fewest_for_several():
+    """One more, which several threads print."""
+    return itertools.islice(drawn_calls(), 4_096)
+
+
 def every_call():
     """A short script with a call of each kind in each state: posts with and without alerts, merges, reads from the
     opening and from the log, lanes that are left and taken again, collections and an end."""
@@ -482,6 +493,8 @@ SCRIPTS = {
         texts,
         faults,
         drawn_calls,
+        most_for_one_thread,
+        fewest_for_several,
         most_lines,
         trims_between_posts,
         compactions_between_posts,
