@@ -147,9 +147,9 @@ fn add_member_at(
         ≡ answers.old.items ++ answers_of_member inhibitor.old now alert.now) }
     ensures same { unasked inhibitor.new ≡ unasked inhibitor.old }
 {
-    let muting = muting_at(inhibitor, &alert.labels, now)?;
-    answers.push(Answer::Member(alert.copy()?))?;
-    answers.push(muting)?;
+    answers.reserve(2)?;
+    answers.push_reserved(Answer::Member(alert.copy()?));
+    answers.push_reserved(muting_at(inhibitor, &alert.labels, now)?);
     Ok(())
 }
 

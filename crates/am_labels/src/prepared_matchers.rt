@@ -4,10 +4,11 @@ ghost use Rattle.std.specs.Prelude.{◌≡◌};
 
 use crate::label_set::LabelSet;
 use crate::prepared_matcher::PreparedMatcher;
+use std::fmt;
 use std::marker::Model;
 
 /// Prepared matchers in order, seen by contracts as their list.
-#[derive(Debug, Drop)]
+#[derive(Drop)]
 pub struct PreparedMatchers<'m> {
     matchers: Vec<PreparedMatcher<'m>>,
 }
@@ -46,5 +47,11 @@ impl<'m> PreparedMatchers<'m> {
             }
         }
         true
+    }
+}
+
+impl<'m> fmt::Debug for PreparedMatchers<'m> {
+    fn fmt<W: fmt::Write>(&self, f: &mut fmt::Formatter<W>) -> fmt::Result {
+        f.debug_struct("PreparedMatchers").finish_non_exhaustive()
     }
 }
