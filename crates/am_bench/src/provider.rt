@@ -96,8 +96,9 @@ pub(crate) fn wait_for(arrived: &AtomicU64, readers: u32) {
     }
 }
 
-// How many microseconds an idle reader sleeps.
-const NAP: u64 = 100;
+// How many microseconds an idle reader sleeps. A sleep of one takes some sixty, since Linux lets a timer be late by 50 (its
+// timer slack).
+const NAP: u64 = 1;
 
 // How many alerts a subscription delivers until its log ends.
 pub(crate) fn count_shown<N: Origin, R: Clock>(
