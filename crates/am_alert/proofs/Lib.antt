@@ -1,14 +1,4 @@
 pub mod Dates
-pub mod MemberPairs
-pub mod Members
-pub mod Arrays
-pub mod ValidAlerts
 pub mod MergingRules
 pub mod Printing
-pub mod FromParts
-pub mod Bodies
-pub mod Rooms
-pub mod Drafts
-pub mod Tokens
-pub mod Streams
 pub mod PlainMoments

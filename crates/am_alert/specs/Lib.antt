@@ -7,12 +7,6 @@ pub mod Alerts
 pub mod Merging
 pub mod Printing
 pub mod TimeTexts
-pub mod Postables
-pub mod Posts
-pub mod Bodies
 pub mod ValidAlerts
-pub mod FromParts
-pub mod WholeAlerts
-pub mod Tokens
+pub mod GivenMembers
 pub mod Laws
-pub mod inside

@@ -9,8 +9,9 @@ ghost use Rattle.am_answers.specs.Known.{IsShownAt, alert_shown, alerts_put, all
 ghost use Rattle.am_answers.specs.Known.{known_after, known_on, noted, place_taken, places_after, places_taken};
 
 use crate::answer::Answer;
-use am_alert::{Alert, PartsFault, UnjudgedAlert};
+use am_alert::Alert;
 use am_labels::LabelSet;
+use am_posts::{PartsFault, UnjudgedAlert};
 use am_script::Command;
 use indexmap::IndexMap;
 use std::alloc::{AllocError, Global};

@@ -24,9 +24,9 @@ use Rattle.regex_syntax.proofs.Config.TheSendSync as syntax
 use Rattle.regex.specs.contracts.pattern.Pattern as pattern
 use Rattle.regex.specs.contracts.string.regex.Regex as regex
 use Rattle.am_labels.proofs.text.Text.TheSendSync as text
-use Rattle.am_labels.specs.contracts.comparison.Comparison as comparison
-use Rattle.am_labels.specs.contracts.matcher.Matcher as matcher
-use Rattle.am_labels.specs.contracts.matchers.Matchers as matchers
+use Rattle.am_matchers.specs.contracts.comparison.Comparison as comparison
+use Rattle.am_matchers.specs.contracts.matcher.Matcher as matcher
+use Rattle.am_matchers.specs.contracts.matchers.Matchers as matchers
 use Rattle.am_config.proofs.group_by.GroupBy.TheSendSync as grouping
 use Rattle.am_config.proofs.label_names.LabelNames.TheSendSync as names
 use Rattle.am_config.proofs.route.Routes.TheLaws.TheKnot as tree

@@ -11,7 +11,7 @@ use Rattle.std.proofs.lemmas.List.{take-append-drop, length-append}
 use Rattle.std.proofs.lemmas.List.Sums.{sum_by-cons}
 use Rattle.std.proofs.lemmas.Slice.Eq.{bytes_eq-Decides}
 use Rattle.am_labels.specs.Texts.{same_text}
-use Rattle.am_labels.specs.MatcherTexts.{begins}
+use Rattle.am_labels.specs.Letters.{begins}
 use Rattle.am_config.specs.declared.duration.Unit.{Unit}
 use Rattle.am_config.specs.declared.duration.Unit.TheVariants.{Year, Week, Day, Hour, Minute, Second, Millisecond}
 use Rattle.am_config.specs.Durations.{symbol_of, milliseconds_of, rank_of, IsNumber, DurationPart, written, worth, AreParts, ArePartsOf, IsDuration}

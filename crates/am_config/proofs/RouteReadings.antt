@@ -4,7 +4,7 @@ use Rattle.std.specs.Prelude.{codes}
 use Rattle.serde_json.specs.Data.{Data, Items}
 use Rattle.serde_json.specs.View.{items_view}
 use Rattle.serde_json.specs.declared.value.Value.{Value}
-use Rattle.am_labels.specs.Matchers.{MatcherView}
+use Rattle.am_matchers.specs.Matchers.{MatcherView}
 use Rattle.am_config.specs.Routes.{Forest}
 use Rattle.am_config.specs.Paths.{member_path, item_path}
 use Rattle.am_config.specs.Members.{ReadsMember}

@@ -2,7 +2,7 @@
 use Rattle.std.proofs.Common.{◌≡◌, ℕ, List, [], Result, Ok, Err, refl, subst}
 use Rattle.std.specs.Prelude.{codes, ⊤}
 use Rattle.serde_json.specs.Data.{Data, Items}
-use Rattle.am_labels.specs.Matchers.{MatcherView}
+use Rattle.am_matchers.specs.Matchers.{MatcherView}
 use Rattle.am_config.specs.Paths.{member_path}
 use Rattle.am_config.specs.Members.{ReadsMember, array_member, texts_member}
 use Rattle.am_config.specs.Readings.{Is, refused, goes_on, AllowsResult}

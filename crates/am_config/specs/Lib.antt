@@ -1,6 +1,6 @@
 pub use Rattle.am_labels.specs.LabelSets
-pub use Rattle.am_labels.specs.Matchers
-pub use Rattle.am_alert.specs.Postables
+pub use Rattle.am_matchers.specs.Matchers
+pub use Rattle.am_alert.specs.GivenMembers
 pub mod Routes
 pub mod RouteLists
 pub mod Paths

@@ -1,7 +1,7 @@
 -- The matchers of a configuration, each read from its text.
 use Rattle.std.specs.Prelude.{◌≡◌, ℕ, List, Ok, Err}
-use Rattle.am_labels.specs.Matchers.{MatcherView, IsReadingOf}
-use Rattle.am_labels.specs.declared.match_fault.MatchFault.TheVariants as match_fault
+use Rattle.am_matchers.specs.Matchers.{MatcherView, IsReadingOf}
+use Rattle.am_matchers.specs.declared.match_fault.MatchFault.TheVariants as match_fault
 use Rattle.am_config.specs.Paths.{item_path}
 use Rattle.am_config.specs.Readings.{Reading, each}
 use Rattle.am_config.specs.declared.fault.ConfigFault.TheVariants.{NoMemory, NoOperator, BadName, BadQuote}

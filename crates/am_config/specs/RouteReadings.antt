@@ -2,10 +2,10 @@
 -- `dispatch.NewRoute`), over the value that its JSON is.
 use Rattle.std.specs.Prelude.{ℕ, zero, suc, Bool, List, [], ◌∷◌, codes, Option, Some, None, Ok, Err}
 use Rattle.serde_json.specs.Data.{Data, Items, no_items, item}
-use Rattle.am_alert.specs.Postables.{given}
+use Rattle.am_alert.specs.GivenMembers.{given}
 use Rattle.am_config.specs.Paths.{member_path, item_path}
 use Rattle.am_config.specs.RouteHeads.{head_of, tail_of}
-use Rattle.am_labels.specs.Matchers.{MatcherView}
+use Rattle.am_matchers.specs.Matchers.{MatcherView}
 use Rattle.am_config.specs.Routes.{Forest}
 use Rattle.am_config.specs.RouteLists.{forest_of}
 use Rattle.am_config.specs.Readings.{Reading, Is, ◌>>=◌, each}

@@ -1,6 +1,6 @@
 -- The routing tree, as contracts see it (Alertmanager's `dispatch.Route`).
 use Rattle.std.specs.Prelude.{ℕ, ◌+◌, List, Bool}
-use Rattle.am_labels.specs.Matchers.{MatcherView}
+use Rattle.am_matchers.specs.Matchers.{MatcherView}
 use Rattle.am_config.specs.declared.group_by.GroupBy.{GroupBy}
 
 -- a route without the routes below it: its receiver and its grouping, own or from above, its own

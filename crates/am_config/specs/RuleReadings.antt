@@ -2,7 +2,7 @@
 -- "inhibit_rule"), over the value that its JSON is.
 use Rattle.std.specs.Prelude.{ℕ, List, [], codes, Ok}
 use Rattle.serde_json.specs.Data.{Data, Items}
-use Rattle.am_labels.specs.Matchers.{MatcherView}
+use Rattle.am_matchers.specs.Matchers.{MatcherView}
 use Rattle.am_config.specs.Paths.{member_path, item_path}
 use Rattle.am_config.specs.Members.{array_member, texts_member}
 use Rattle.am_config.specs.Readings.{Reading, Is, ◌>>=◌, each}

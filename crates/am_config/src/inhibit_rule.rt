@@ -1,7 +1,7 @@
 //! Inhibition rules: which alerts mute which others.
 
 use crate::label_names::LabelNames;
-use am_labels::Matchers;
+use am_matchers::Matchers;
 use std::marker::Model;
 
 /// A rule by which an alert mutes others. am_inhibit applies it.

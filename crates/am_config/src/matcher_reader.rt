@@ -9,7 +9,7 @@ ghost use Rattle.am_config.specs.Readings.{AllowsResult};
 use crate::fault::ConfigFault;
 use crate::path::Path;
 use crate::texts::Texts;
-use am_labels::{MatchFault, Matcher, Matchers};
+use am_matchers::{MatchFault, Matcher, Matchers};
 use std::alloc::Global;
 
 /// The matchers of the texts, which are the elements of the array at a path.

@@ -2,7 +2,7 @@
 
 ghost use Rattle.std.specs.Prelude.{◌≡◌, option_map};
 ghost use Rattle.serde_json.specs.View.{view, items_view};
-ghost use Rattle.am_alert.specs.Postables.{given};
+ghost use Rattle.am_alert.specs.GivenMembers.{given};
 ghost use Rattle.am_config.specs.Members.{array_member, deprecated_member, flag_member};
 ghost use Rattle.am_config.specs.Members.{member_text, texts_from, texts_member, ReadsMember};
 

@@ -1,7 +1,8 @@
 //! The routes of a configuration, each with those below it.
 
 use crate::group_by::GroupBy;
-use am_labels::{Matchers, Text};
+use am_labels::Text;
+use am_matchers::Matchers;
 use std::marker::Model;
 
 /// A route: who is notified of the alerts that match it, and how they are grouped.
@@ -28,7 +29,7 @@ pub struct Routes {
 }
 
 impl Model for Routes {
-    ghost use Rattle.am_labels.specs.contracts.operator.Operator as operator;
+    ghost use Rattle.am_matchers.specs.contracts.operator.Operator as operator;
     ghost use Rattle.am_config.specs.contracts.group_by.GroupBy as group_by;
     ghost use Rattle.am_config.specs.Routes.{Forest, count_of};
     ghost use Rattle.am_config.specs.inside.RouteCodes.{coded_forest};

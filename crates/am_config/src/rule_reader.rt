@@ -13,7 +13,7 @@ use crate::label_names::LabelNames;
 use crate::matcher_reader::read_matchers;
 use crate::members::{array_member, refuse_deprecated, texts_member};
 use crate::path::Path;
-use am_labels::Matchers;
+use am_matchers::Matchers;
 use serde_json::Value;
 use std::alloc::Global;
 

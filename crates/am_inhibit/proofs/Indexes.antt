@@ -8,7 +8,7 @@ use Rattle.std.proofs.Math.Seq.{take-append_seam}
 use Rattle.indexmap.specs.IndexMap.{insert_entry, set_value_at}
 use Rattle.indexmap.proofs.MapLemmas.{Found-position, insert_entry-first}
 use Rattle.am_labels.specs.LabelSets.{Labels}
-use Rattle.am_labels.specs.Matchers.{all_admitted}
+use Rattle.am_matchers.specs.Matchers.{all_admitted}
 use Rattle.am_config.specs.declared.inhibit_rule.InhibitRule.{InhibitRule}
 use Rattle.am_inhibit.specs.declared.source.Source.{Source}
 use Rattle.am_inhibit.specs.declared.source_index.SourceChange.{SourceChange}

@@ -4,7 +4,7 @@ use Rattle.std.specs.List.{slice_get, find, All, AllByRecursion}
 use Rattle.std.specs.Option.{option_map, option_and_then}
 use Rattle.std.proofs.lemmas.List.Elements.{All-from_recursion}
 use Rattle.am_labels.specs.LabelSets.{Labels, value_of}
-use Rattle.am_labels.specs.Matchers.{all_admitted}
+use Rattle.am_matchers.specs.Matchers.{all_admitted}
 use Rattle.am_labels.specs.Texts.{same_text}
 use Rattle.am_alert.specs.declared.alert.Alert.{Alert}
 use Rattle.am_config.specs.declared.inhibit_rule.InhibitRule.{InhibitRule}

@@ -1,5 +1,5 @@
 pub use Rattle.am_labels.specs.LabelSets
-pub use Rattle.am_labels.specs.Matchers
+pub use Rattle.am_matchers.specs.Matchers
 pub use Rattle.am_alert.specs.Alerts
 pub use Rattle.am_alert.specs.Merging
 pub mod LastAlerts

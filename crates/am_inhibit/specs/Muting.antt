@@ -6,7 +6,7 @@ use Rattle.std.specs.List.{list_all, find, flat_map, enumerate_from, prefix_len}
 use Rattle.am_alert.specs.declared.alert.Alert.{Alert}
 use Rattle.am_alert.specs.Merging.{is_resolved_at}
 use Rattle.am_labels.specs.LabelSets.{Labels, value_of}
-use Rattle.am_labels.specs.Matchers.{all_admitted}
+use Rattle.am_matchers.specs.Matchers.{all_admitted}
 use Rattle.am_labels.specs.Texts.{same_text}
 use Rattle.am_config.specs.declared.inhibit_rule.InhibitRule.{InhibitRule}
 use Rattle.am_inhibit.specs.LastAlerts.{last_alerts}

@@ -9,13 +9,13 @@ use Rattle.std.proofs.lemmas.List.{length-append}
 use Rattle.std.proofs.lemmas.List.Folds.{list_any-append}
 use Rattle.am_labels.specs.LabelSets.{Labels, last_holds}
 use Rattle.am_labels.specs.Printing.{escaped_all, is_classic_name, is_name_byte, is_name_start, labels_text, name_text, pair_text, pairs_text, quoted}
-use Rattle.am_labels.specs.MatcherTexts.{Letter, begins, is_bare_quote, letters, meant, plain, spelled, IsMeantUntil, IsMeantWhole, IsNameThen}
+use Rattle.am_labels.specs.Letters.{Letter, begins, is_bare_quote, letters, meant, plain, spelled, IsMeantUntil, IsMeantWhole, IsNameThen}
 use Rattle.am_labels.proofs.LabelSets.LabelMaps.{entries_rising, sorted_entries}
-use Rattle.am_labels.proofs.MatcherTexts.Letters.{letters_spell}
-use Rattle.am_labels.proofs.MatcherTexts.RoundTrip.{letter_for, meant_back, none_bare, written}
-use Rattle.am_labels.proofs.MatcherTexts.Spaces.{both}
-use Rattle.am_labels.proofs.MatcherTexts.Splits.{one_name}
-use Rattle.am_labels.proofs.MatcherTexts.Values.{first_bare, quote_first}
+use Rattle.am_labels.proofs.LetterTexts.Spelling.{letters_spell}
+use Rattle.am_labels.proofs.LetterTexts.Quotes.{letter_for, meant_back, none_bare, written}
+use Rattle.am_labels.proofs.LetterTexts.Stretches.{both}
+use Rattle.am_labels.proofs.LetterTexts.Names.{one_name}
+use Rattle.am_labels.proofs.LetterTexts.Quotes.{first_bare, quote_first}
 
 letters_closed : (value tail : List ℕ) → letters (escaped_all value ++ 34 ∷ tail) ≡ map letter_for value ++ plain 34 ∷ letters tail
 letters_closed value tail = written value (34 ∷ tail) ∙ ap (λ (end : List Letter). map letter_for value ++ end) (quote_first tail)

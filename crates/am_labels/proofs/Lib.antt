@@ -1,6 +1,5 @@
 pub mod LabelSets
 pub mod Spans
 pub mod Printing
-pub mod MatcherTexts
+pub mod LetterTexts
 pub mod LabelTexts
-pub mod MatcherMeaning

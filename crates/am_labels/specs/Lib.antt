@@ -2,9 +2,6 @@ pub mod Texts
 pub mod LabelSets
 pub mod LabelLaws
 pub mod Printing
+pub mod Letters
 pub mod LabelTexts
-pub mod MatcherTexts
-pub mod Matchers
-pub mod PlainPatterns
-pub mod MatcherLaws
 pub mod inside

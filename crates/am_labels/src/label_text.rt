@@ -11,7 +11,7 @@ ghost use Rattle.am_labels.specs.Printing.{labels_text, name_text, pair_text};
 ghost use Rattle.am_labels.specs.declared.label_text.LabelsFault.TheVariants.{NotLabels};
 
 use crate::label_set::LabelSet;
-use crate::matcher_text::{read_letters, split_name};
+use crate::letters::{read_letters, split_name};
 use crate::text::Text;
 use std::alloc::{AllocError, Global};
 use thiserror::Error;

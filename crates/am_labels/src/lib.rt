@@ -1,43 +1,25 @@
-//! Label sets: finite maps from names to values, both texts; and matchers, which admit some of them.
+//! Label sets: finite maps from names to values, both texts.
 //!
 //! A label set identifies an alert. It is made of pairs of texts; of pairs with one name the last
-//! holds. Its copies share its texts. A matcher is read from a text such as
-//! `severity=~"page|crit"`; a missing label counts as empty. A caller who asks it often prepares
-//! it: it then keeps its pattern's search, and asking takes no memory.
+//! holds. Its copies share its texts. It is printed as `{name="value"}`, and read from what it prints.
 //!
-//! <!-- from crates/am_parts_tests/src/matchers.rt -->
+//! <!-- from crates/am_parts_tests/src/label_sets.rt -->
 //! ```rust
-//! // Whether a prepared matcher gives this answer, asked again and again.
-//! fn stays(matcher: &mut PreparedMatcher<'_>, labels: &LabelSet, answer: bool) -> bool {
-//!     for _ in 0..3 {
-//!         if matcher.admits(labels) != answer {
-//!             return false;
-//!         }
-//!     }
-//!     true
+//! fn has_last_values(labels: &LabelSet) -> bool {
+//!     labels.len() == 2 && labels.get("b") == "3" && labels.get("c") == ""
 //! }
 //! ```
 //!
-//! This crate knows nothing of alerts.
+//! This crate knows nothing of alerts. Matchers, which admit some label sets, are am_matchers'.
 #![tactic(auto)]
 
-mod choice;
-mod comparison;
 mod label_name;
 mod label_set;
 mod label_text;
 pub mod laws;
-mod match_fault;
-mod matcher;
-mod matcher_text;
-mod matchers;
-mod operator;
+mod letters;
 mod pairs;
-mod pattern;
-mod prepared_matcher;
-mod prepared_matchers;
 mod quoted;
-mod search;
 mod shared_pairs;
 mod shared_text;
 mod text;
@@ -45,13 +27,8 @@ mod text;
 pub use label_name::LabelName;
 pub use label_set::LabelSet;
 pub use label_text::LabelsFault;
-pub use match_fault::MatchFault;
-pub use matcher::Matcher;
-pub use matchers::Matchers;
-pub use operator::Operator;
+pub use letters::{read_letters, split_name};
 pub use pairs::{PairBuffer, Pairs};
-pub use prepared_matcher::PreparedMatcher;
-pub use prepared_matchers::PreparedMatchers;
 pub use quoted::Quoted;
 pub use shared_text::SharedText;
 pub use text::Text;

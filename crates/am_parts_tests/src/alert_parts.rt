@@ -3,11 +3,11 @@
 
 use crate::expectation::expect;
 use crate::posts::moment;
-use am_alert::{
-    Alert, AlertFault, AlertParts, MAX_ALERTS, Moment, PartsFault, Post, PostFault, UnjudgedAlert,
-    read_post,
-};
+use am_alert::{Alert, AlertFault, MAX_ALERTS, Moment, Post, PostFault};
 use am_labels::Text;
+use am_posts::{
+    AlertParts, PartsFault, UnjudgedAlert, post_from_alerts, post_from_parts, read_post,
+};
 use std::alloc::{AllocError, Global};
 use std::test::Fail;
 use std::time::Duration;
@@ -67,7 +67,7 @@ fn parts_and(alloc: Global, without: usize) -> Result<Vec<AlertParts>, Fail> {
 }
 
 fn are_all_made(alloc: Global) -> Result<bool, Fail> {
-    match Post::from_parts(alloc, parts_and(alloc, MAX_ALERTS - 1)?) {
+    match post_from_parts(alloc, parts_and(alloc, MAX_ALERTS - 1)?) {
         Ok(post) => Ok(
             post.valid.as_slice().len() == 1 && post.faults.as_slice().len() == MAX_ALERTS - 1,
         ),
@@ -77,7 +77,7 @@ fn are_all_made(alloc: Global) -> Result<bool, Fail> {
 
 fn is_one_too_many(alloc: Global) -> Result<bool, Fail> {
     Ok(matches!(
-        Post::from_parts(alloc, parts_and(alloc, MAX_ALERTS)?),
+        post_from_parts(alloc, parts_and(alloc, MAX_ALERTS)?),
         Err(PostFault::TooMany)
     ))
 }
@@ -107,7 +107,7 @@ fn faulty_parts(alloc: Global) -> Result<Vec<AlertParts>, Fail> {
 
 #[test]
 fn faults_of_parts(rt: HostRuntime) -> Result<(), Fail> {
-    let Ok(post) = Post::from_parts(rt.alloc(), faulty_parts(rt.alloc())?) else {
+    let Ok(post) = post_from_parts(rt.alloc(), faulty_parts(rt.alloc())?) else {
         return Err(Fail::from("the post is refused"));
     };
     assert_eq!(rt; post.valid.as_slice().len(), 1);
@@ -140,7 +140,7 @@ fn posted(alloc: Global) -> Result<Post, Fail> {
 }
 
 fn made(alloc: Global) -> Result<Alert, Fail> {
-    match Alert::from_parts(alloc, parts(alloc, "a", "1", &test_moments()?)?) {
+    match parts(alloc, "a", "1", &test_moments()?)?.into_alert(alloc) {
         Ok(alert) => Ok(alert),
         Err(PartsFault::NoMemory) => Err(Fail::from("no memory")),
         Err(_) => Err(Fail::from("it is invalid")),
@@ -169,8 +169,8 @@ fn unjudged(alloc: Global) -> Result<Vec<UnjudgedAlert>, Fail> {
 fn alerts_are_posted_again(rt: HostRuntime) -> Result<(), Fail> {
     let alerts = unjudged(rt.alloc())?;
     let (Ok(post), Ok(again)) = (
-        Post::from_alerts(rt.alloc(), &alerts),
-        Post::from_alerts(rt.alloc(), &alerts),
+        post_from_alerts(rt.alloc(), &alerts),
+        post_from_alerts(rt.alloc(), &alerts),
     ) else {
         return Err(Fail::from("a post is refused"));
     };

@@ -2,9 +2,8 @@
 //! memory can be made again.
 
 use crate::expectation::expect;
-use am_labels::{
-    LabelSet, MatchFault, Matcher, Matchers, Operator, PreparedMatcher, PreparedMatchers,
-};
+use am_labels::LabelSet;
+use am_matchers::{MatchFault, Matcher, Matchers, Operator, PreparedMatcher, PreparedMatchers};
 use std::alloc::{AllocError, Global};
 use std::test::Fail;
 

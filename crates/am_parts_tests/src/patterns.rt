@@ -2,7 +2,8 @@
 //! refused, and matchers of real size.
 
 use crate::expectation::expect;
-use am_labels::{LabelSet, MatchFault, Matcher};
+use am_labels::LabelSet;
+use am_matchers::{MatchFault, Matcher};
 use std::alloc::{AllocError, Global};
 use std::test::Fail;
 

@@ -1,8 +1,9 @@
 //! Reading a post: its limits, and that what is written otherwise is read alike.
 
 use crate::expectation::expect;
-use am_alert::{Alert, Moment, Post, PostFault, PostReader, TimeFault, read_post, read_time};
+use am_alert::{Alert, Moment, Post, PostFault, TimeFault, read_time};
 use am_labels::{LabelSet, SharedText, Text};
+use am_posts::{PostReader, read_post};
 use std::alloc::{AllocError, Global};
 use std::test::Fail;
 use std::time::Duration;

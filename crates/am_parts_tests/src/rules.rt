@@ -3,7 +3,7 @@
 use crate::configurations::configuration;
 use crate::expectation::expect;
 use am_config::InhibitRule;
-use am_labels::{Matchers, Operator};
+use am_matchers::{Matchers, Operator};
 use std::test::Fail;
 
 const RULES: &str = r#"{"route":{"receiver":"ops"},"inhibit_rules":[

@@ -1,9 +1,10 @@
 //! What errors say of themselves: sentences, whose words no contract has.
 
 use crate::expectation::expect;
-use am_alert::{AlertFault, PartsFault, PostFault, TimeFault};
+use am_alert::{AlertFault, PostFault, TimeFault};
 use am_config::{Config, ConfigFault};
-use am_labels::MatchFault;
+use am_matchers::MatchFault;
+use am_posts::PartsFault;
 use std::alloc::{AllocError, Global};
 use std::fmt::Display;
 use std::test::Fail;

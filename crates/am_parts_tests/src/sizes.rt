@@ -2,8 +2,9 @@
 
 use crate::expectation::expect;
 use crate::posts::moment;
-use am_alert::{Alert, AlertFault, MAX_ALERTS, Post, read_post};
+use am_alert::{Alert, AlertFault, MAX_ALERTS, Post};
 use am_labels::{LabelSet, SharedText, Text};
+use am_posts::read_post;
 use std::alloc::{AllocError, Global};
 use std::test::Fail;
 use std::time::Duration;

@@ -3,7 +3,7 @@ use Rattle.std.specs.Prelude.{◌≡◌, ℕ, ◌+◌, ◌⊎◌, List, [], ◌�
 use mathlib.Core.List.{IsPrefix}
 use Rattle.am_alert.specs.declared.alert.Alert.{Alert}
 use Rattle.am_alert.specs.declared.post.Post.{Post}
-use Rattle.am_alert.specs.Posts.{IsPostOf}
+use Rattle.am_posts.specs.Posts.{IsPostOf}
 use Rattle.am_history.specs.Fronts.{FrontView, made_at}
 use Rattle.am_history.specs.declared.views.Made.{Made}
 use Rattle.am_store.specs.declared.call.Call.{Call}

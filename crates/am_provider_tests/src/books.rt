@@ -5,8 +5,9 @@ ghost use Rattle.std.specs.Prelude.{◌≡◌};
 
 use crate::bodies::{Report, moment, reports_body};
 use crate::stopped::Stopped;
-use am_alert::{Alert, Moment, read_post};
+use am_alert::{Alert, Moment};
 use am_labels::LabelSet;
+use am_posts::read_post;
 use am_provider::{Begun, Book, Cast, Counts, Ended, Origin, Parts, Pass, Policy, Settled, Step};
 use am_store::StoredAlerts;
 use std::alloc::{AllocError, Global};

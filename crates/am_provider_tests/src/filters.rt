@@ -2,7 +2,8 @@
 
 use crate::bodies::{Report, moment, reports_body};
 use crate::stopped::Stopped;
-use am_alert::{Alert, MAX_ALERTS, Moment, Post, read_post};
+use am_alert::{Alert, MAX_ALERTS, Moment, Post};
+use am_posts::read_post;
 use am_provider::Counts;
 use sinnoraku::{Client, Limits, PostedIf, Program, PutFault, Recorded, run};
 use std::alloc::{AllocError, Global};

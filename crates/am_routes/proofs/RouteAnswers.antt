@@ -2,7 +2,7 @@
 use Rattle.std.proofs.Common.{◌≡◌, ℕ, ◌+◌, cond, List, [], ◌∷◌, ◌++◌, refl, sym, ap, subst, ◌∙◌, arith}
 use Rattle.std.proofs.lemmas.List.{append-nil}
 use Rattle.am_labels.specs.LabelSets.{Labels}
-use Rattle.am_labels.specs.Matchers.{all_admitted}
+use Rattle.am_matchers.specs.Matchers.{all_admitted}
 use Rattle.am_config.specs.Routes.{RouteView, Forest, no_routes, route, count_of}
 use Rattle.am_routes.specs.declared.route_id.RouteId.{RouteId}
 use Rattle.am_routes.specs.inside.Searches.{ids_of}

@@ -1,6 +1,6 @@
 pub use Rattle.am_labels.specs.LabelSets
-pub use Rattle.am_labels.specs.Matchers
-pub use Rattle.am_labels.specs.MatcherTexts
+pub use Rattle.am_matchers.specs.Matchers
+pub use Rattle.am_matchers.specs.MatcherTexts
 pub use Rattle.am_alert.specs.Alerts
 pub use Rattle.am_alert.specs.Merging
 pub use Rattle.am_keyed.specs.Keyed

@@ -2,8 +2,8 @@
 -- label set matches (`amtool config routes test`).
 use Rattle.std.specs.Prelude.{◌≡◌, ℕ, ◌+◌, List, [], ◌∷◌, ◌++◌, map}
 use Rattle.am_labels.specs.LabelSets.{Labels}
-use Rattle.am_labels.specs.Matchers.{MatcherView}
-use Rattle.am_labels.specs.MatcherTexts.{operator_text}
+use Rattle.am_matchers.specs.Matchers.{MatcherView}
+use Rattle.am_matchers.specs.MatcherTexts.{operator_text}
 use Rattle.am_labels.specs.Printing.{quoted}
 use Rattle.am_config.specs.GroupLabels.{group_labels}
 use Rattle.am_config.specs.Routes.{Forest, no_routes, route, count_of}

@@ -2,11 +2,11 @@
 -- equality matcher of each doesn't rule out.
 use Rattle.std.specs.Prelude.{ℕ, ◌+◌, Bool, true, false, not, ◌&&◌, if◌then◌else◌, List, Option, None, Some}
 use Rattle.std.specs.List.{find}
-use Rattle.am_labels.specs.declared.operator.Operator.{Operator}
-use Rattle.am_labels.specs.declared.operator.Operator.TheVariants.{Equal, NotEqual, MatchRegexp}
-use Rattle.am_labels.specs.declared.operator.Operator.TheVariants.{MatchNotRegexp}
+use Rattle.am_matchers.specs.declared.operator.Operator.{Operator}
+use Rattle.am_matchers.specs.declared.operator.Operator.TheVariants.{Equal, NotEqual, MatchRegexp}
+use Rattle.am_matchers.specs.declared.operator.Operator.TheVariants.{MatchNotRegexp}
 use Rattle.am_labels.specs.LabelSets.{Labels}
-use Rattle.am_labels.specs.Matchers.{MatcherView, admitted, all_admitted}
+use Rattle.am_matchers.specs.Matchers.{MatcherView, admitted, all_admitted}
 use Rattle.am_config.specs.Routes.{Forest, no_routes, route}
 
 -- whether an operator is `=`

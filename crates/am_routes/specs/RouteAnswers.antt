@@ -1,7 +1,7 @@
 -- Which routes a label set matches (Alertmanager's `dispatch.Route.Match`).
 use Rattle.std.specs.Prelude.{◌≡◌, ℕ, ◌+◌, Bool, true, false, if◌then◌else◌, List, [], ◌∷◌, ◌++◌, map}
 use Rattle.am_labels.specs.LabelSets.{Labels}
-use Rattle.am_labels.specs.Matchers.{all_admitted}
+use Rattle.am_matchers.specs.Matchers.{all_admitted}
 use Rattle.am_routes.specs.declared.route_id.RouteId.{RouteId}
 use Rattle.am_config.specs.Routes.{RouteView, Forest, no_routes, route, count_of}
 

@@ -5,7 +5,7 @@ ghost use Rattle.am_config.specs.RouteLists.{route_view};
 ghost use Rattle.am_routes.specs.inside.ChildIndexes.{child_entry_of, is_nil, other_matchers};
 
 use am_config::Route;
-use am_labels::{Matcher, Operator};
+use am_matchers::{Matcher, Operator};
 
 /// What an index keeps of each of its routes: two words, so that an answer needn't read the route
 /// itself, which is larger.

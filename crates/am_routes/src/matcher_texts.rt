@@ -3,11 +3,12 @@
 ghost use Rattle.std.specs.Prelude.{◌≡◌, IfOk, Some, map};
 ghost use Rattle.std.specs.Fmt.{DisplaysOnOk};
 ghost use Rattle.std.specs.List.{join_with_byte};
-ghost use Rattle.am_labels.specs.MatcherTexts.{operator_text};
+ghost use Rattle.am_matchers.specs.MatcherTexts.{operator_text};
 ghost use Rattle.am_routes.specs.Listings.{matcher_text};
 ghost use Rattle.am_routes.specs.Printing.{matchers_text};
 
-use am_labels::{Matcher, Matchers, Operator, Quoted, Text};
+use am_labels::{Quoted, Text};
+use am_matchers::{Matcher, Matchers, Operator};
 use std::alloc::{AllocError, Global};
 use std::fmt;
 use std::marker::Model;

@@ -4,7 +4,7 @@
 //! a call of its own; in a field it would be a part of what `matches` leaves as it was.
 
 ghost use Rattle.std.specs.Prelude.{◌≡◌, ◌+◌, ◌<◌, [], ◌∷◌, ◌++◌, get_or, length, min, true, IfOk, OnErr, OnOk};
-ghost use Rattle.am_labels.specs.Matchers.{all_admitted};
+ghost use Rattle.am_matchers.specs.Matchers.{all_admitted};
 ghost use Rattle.am_config.specs.RouteLists.{forest_of, root_of, route_view};
 ghost use Rattle.am_routes.specs.Looking.{routes_looked_at};
 ghost use Rattle.am_routes.specs.RouteAnswers.{answer_of, IsAnswerOf};
@@ -15,7 +15,8 @@ ghost use Rattle.am_routes.specs.inside.Searches.{AddsAnswers, AddsLooked, AreSe
 use crate::child_index::ChildIndex;
 use crate::route_id::RouteId;
 use am_config::{Route, RouteTree};
-use am_labels::{LabelSet, Matchers, Operator, PreparedMatchers};
+use am_labels::LabelSet;
+use am_matchers::{Matchers, Operator, PreparedMatchers};
 use std::alloc::{AllocError, Global};
 use std::marker::Model;
 use std::{fmt, mem};

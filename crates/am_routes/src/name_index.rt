@@ -6,12 +6,13 @@ ghost use Rattle.std.specs.Option.{option_copied};
 ghost use Rattle.std.specs.List.Sorted.{IsNonDecreasing};
 ghost use Rattle.am_config.specs.RouteLists.{forest_of};
 ghost use Rattle.am_labels.specs.LabelSets.{value_of};
-ghost use Rattle.am_labels.specs.Matchers.{MatcherView};
+ghost use Rattle.am_matchers.specs.Matchers.{MatcherView};
 ghost use Rattle.am_routes.specs.Looking.{first_equality};
 ghost use Rattle.am_routes.specs.inside.ChildIndexes.{filings, is_filed, indexes_kept, IsFirstFrom, IsIndexOf};
 
 use am_config::Route;
-use am_labels::{LabelSet, Matcher, Operator};
+use am_labels::LabelSet;
+use am_matchers::{Matcher, Operator};
 use smallvec::SmallVec;
 use std::alloc::{AllocError, Global};
 use std::collections::HashMap;

@@ -1,9 +1,9 @@
 -- How a post of a body, and a put of alerts that carry their own moments, are answered.
 use Rattle.std.specs.Prelude.{◌≡◌, ℕ, List, Result, Ok, Err}
-use Rattle.am_alert.specs.Bodies.{IsPostOfBody}
-use Rattle.am_alert.specs.FromParts.{IsPostOfAlerts}
+use Rattle.am_posts.specs.Bodies.{IsPostOfBody}
+use Rattle.am_posts.specs.FromParts.{IsPostOfAlerts}
 use Rattle.am_alert.specs.declared.alert.Alert.{Alert}
-use Rattle.am_alert.specs.declared.body.Body.{Body}
+use Rattle.am_posts.specs.declared.body.Body.{Body}
 use Rattle.am_alert.specs.declared.post.Post.{Post}
 use Rattle.am_alert.specs.declared.post.PostFault.{PostFault}
 use Rattle.am_cast.specs.Posters.{PassView}

@@ -9,7 +9,7 @@ use Rattle.std.specs.declared.alloc.Global.{Global}
 use Rattle.std.specs.declared.sync.Arc.{Arc}
 use Rattle.std.specs.declared.time.Duration.{Duration}
 use Rattle.am_alert.specs.declared.alert.Alert.{Alert}
-use Rattle.am_alert.specs.declared.body.Body.{Body}
+use Rattle.am_posts.specs.declared.body.Body.{Body}
 use Rattle.am_store.specs.declared.call.Call.{Call}
 use Rattle.am_store.specs.Broadcast.{due, IsFront}
 use Rattle.am_store.specs.LaneSets.{has_lane}

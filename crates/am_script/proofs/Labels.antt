@@ -3,7 +3,7 @@ use Rattle.std.proofs.Common.{◌≡◌, ℕ, List, [], ◌∷◌, ◌++◌, Opt
 use Rattle.std.specs.Prelude.{option_map, option_and_then, filter}
 use Rattle.serde_json.specs.Data.{Data, Members, member}
 use Rattle.serde_json.specs.Find.{as_str}
-use Rattle.am_alert.specs.Postables.{pairs_of, has_value}
+use Rattle.am_posts.specs.Postables.{pairs_of, has_value}
 
 kept : (front : List (List ℕ × List ℕ)) (pair : List ℕ × List ℕ) (rest : Option (List (List ℕ × List ℕ))) → has_value pair ≡ true
     → option_map (λ pairs. (front ++ pair ∷ []) ++ filter has_value pairs) rest ≡ option_map (λ pairs. front ++ filter has_value pairs) (option_map (λ pairs. pair ∷ pairs) rest)

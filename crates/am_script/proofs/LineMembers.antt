@@ -7,13 +7,13 @@ use Rattle.serde_json.specs.Find.{as_array, as_number, as_str, as_u64, get_membe
 use Rattle.serde_json.specs.Read.{number_of}
 use Rattle.serde_json.proofs.Numbers.{number_of-decimal}
 use Rattle.serde_json.proofs.Views.{get_member-put, get_member-put_other}
-use Rattle.am_alert.specs.Bodies.{IsBodyOf}
+use Rattle.am_posts.specs.Bodies.{IsBodyOf}
 use Rattle.am_alert.specs.TimeTexts.{time_of}
-use Rattle.am_alert.specs.WholeAlerts.{whole_alerts_in}
+use Rattle.am_posts.specs.WholeAlerts.{whole_alerts_in}
 use Rattle.am_alert.specs.declared.alert.Alert.{Alert}
-use Rattle.am_alert.specs.declared.body.Body.{Body}
-use Rattle.am_alert.proofs.Tokens.{apart, number_read, text_read}
-use Rattle.am_alert.specs.Tokens.{AreNextAlerts, IsNextBody, IsValueOf}
+use Rattle.am_posts.specs.declared.body.Body.{Body}
+use Rattle.am_posts.proofs.Tokens.{apart, number_read, text_read}
+use Rattle.am_posts.specs.Tokens.{AreNextAlerts, IsNextBody, IsValueOf}
 use Rattle.json.specs.Token.{Token}
 use Rattle.json.specs.Token as token
 use Rattle.am_script.specs.Commands.{HasItsBody, IsLineFrom, ReadsCommand, command_for, command_of, kind_of, line_of, max_of, moment_of, name_of, page_of, posted_body, thread_of, unless_empty, verb_at, verb_of, within}

@@ -4,7 +4,7 @@ use Rattle.std.specs.Result.{result_and}
 use Rattle.std.proofs.Math.Logic.{⊎_elim}
 use Rattle.std.proofs.Math.Seq.{drop-cons}
 use Rattle.std.proofs.lemmas.List.{append-nil}
-use Rattle.am_alert.specs.declared.body.Body.{Body}
+use Rattle.am_posts.specs.declared.body.Body.{Body}
 use Rattle.serde_json.specs.Data.{Data}
 use Rattle.am_script.specs.Commands.{command_for, line_of, posted_body, thread_of, verb_at}
 use Rattle.am_script.specs.Members.{◌>>=◌}

@@ -7,10 +7,10 @@ use Rattle.serde_json.specs.Data.{Data, Members, object}
 use Rattle.serde_json.specs.Find.{get, as_number, as_u64}
 use Rattle.serde_json.specs.Read.{read}
 use Rattle.am_labels.specs.LabelSets.{Labels}
-use Rattle.am_alert.specs.Bodies.{IsBodyOf}
-use Rattle.am_alert.specs.Postables.{labels_of}
-use Rattle.am_alert.specs.declared.body.Body.{Body}
-use Rattle.am_alert.specs.declared.body.Body.TheVariants.{Text}
+use Rattle.am_posts.specs.Bodies.{IsBodyOf}
+use Rattle.am_posts.specs.Postables.{labels_of}
+use Rattle.am_posts.specs.declared.body.Body.{Body}
+use Rattle.am_posts.specs.declared.body.Body.TheVariants.{Text}
 use Rattle.am_script.specs.declared.command.Command.{Command}
 use Rattle.am_script.specs.declared.command.Command.TheVariants.{Post, Put, Subscribe, Read, Leave, Collect}
 use Rattle.am_script.specs.declared.command.Command.TheVariants.{Take, Close, Trim, Compact, Groups, Sweep}

@@ -2,7 +2,7 @@
 use Rattle.std.specs.Prelude.{List, codes, Option, option_and_then}
 use Rattle.serde_json.specs.Data.{Data}
 use Rattle.serde_json.specs.Find.{get, as_array}
-use Rattle.am_alert.specs.WholeAlerts.{whole_alerts_in}
+use Rattle.am_posts.specs.WholeAlerts.{whole_alerts_in}
 use Rattle.am_alert.specs.declared.alert.Alert.{Alert}
 
 -- the alerts in `alerts`

@@ -7,8 +7,9 @@ ghost use Rattle.am_script.specs.ScriptTexts.{verb_text};
 use crate::kind::Kind;
 use crate::put_alerts::PutAlerts;
 use crate::thread::Thread;
-use am_alert::{Body, Moment};
+use am_alert::Moment;
 use am_labels::{LabelSet, Text};
+use am_posts::Body;
 use std::alloc::{AllocError, AllocFailed};
 use std::fmt;
 

@@ -7,7 +7,7 @@ ghost use Rattle.std.specs.Prelude.{◌≡◌, ◌<◌, IfOk, IfSome, IsTrue, Ok
 ghost use Rattle.serde_json.specs.Data.{Members, no_members, object, unsigned};
 ghost use Rattle.serde_json.specs.Find.{as_number, as_str, as_u64};
 ghost use Rattle.serde_json.specs.Read.{number_of};
-ghost use Rattle.am_alert.specs.Tokens.{AreNextAlerts};
+ghost use Rattle.am_posts.specs.Tokens.{AreNextAlerts};
 ghost use Rattle.am_alert.specs.TimeTexts.{time_of};
 ghost use Rattle.am_script.specs.Commands.{IsLineFrom, ReadsCommand, command_of, unless_empty, verb_of, within};
 ghost use Rattle.am_script.specs.inside.LineMembers.{AreAhead, AreMembersOfLine, IsNextValue, IsObjectOf, AddsMember};
@@ -17,8 +17,9 @@ use crate::kind::Kind;
 use crate::members::verb_of;
 use crate::put_alerts::PutAlerts;
 use crate::thread::Thread;
-use am_alert::{Body, Moment, TimeFault, UnjudgedAlert, read_time};
+use am_alert::{Moment, TimeFault, read_time};
 use am_labels::{PairBuffer, Text};
+use am_posts::{Body, UnjudgedAlert};
 use json::{Reader, Scratch, Token};
 use std::alloc::{AllocError, Global};
 

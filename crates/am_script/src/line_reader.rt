@@ -14,8 +14,8 @@ use crate::members::{
     thread_at, verb_at,
 };
 use crate::put_reader::alerts_at;
-use am_alert::Body;
 use am_labels::PairBuffer;
+use am_posts::Body;
 use json::Scratch;
 use serde_json::Value;
 use std::alloc::{AllocError, Global};

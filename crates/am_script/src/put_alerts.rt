@@ -2,7 +2,7 @@
 
 ghost use Rattle.std.specs.Prelude.{◌≡◌};
 
-use am_alert::UnjudgedAlert;
+use am_posts::UnjudgedAlert;
 use std::marker::Model;
 
 /// Alerts as a line gives them, seen by contracts as their list. They never change, so that a post of them

@@ -1,7 +1,7 @@
 //! Reading the alerts of a command `put`.
 
 ghost use Rattle.serde_json.specs.View.{items_view, view};
-ghost use Rattle.am_alert.specs.WholeAlerts.{alert_in, whole_alerts_in};
+ghost use Rattle.am_posts.specs.WholeAlerts.{alert_in, whole_alerts_in};
 ghost use Rattle.am_script.specs.Commands.{IsReadAs};
 ghost use Rattle.am_script.specs.Members.{ReadsAs};
 ghost use Rattle.am_script.specs.Puts.{alerts_at};
@@ -9,7 +9,7 @@ ghost use Rattle.am_script.specs.Puts.{alerts_at};
 use crate::command::LineFault;
 use crate::members::take_member;
 use crate::put_alerts::PutAlerts;
-use am_alert::UnjudgedAlert;
+use am_posts::UnjudgedAlert;
 use serde_json::Value;
 use std::alloc::Global;
 

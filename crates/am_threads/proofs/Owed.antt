@@ -9,7 +9,7 @@ use Rattle.std.proofs.lemmas.List.{append_assoc, append-nil}
 use Rattle.std.proofs.lemmas.List.Elements.{filter_map-append}
 use Rattle.std.proofs.lemmas.Option.{slice_get_within}
 use Rattle.am_alert.specs.declared.alert.Alert.{Alert}
-use Rattle.am_alert.specs.declared.body.Body.{Body}
+use Rattle.am_posts.specs.declared.body.Body.{Body}
 use Rattle.am_history.specs.Fronts.{FrontView}
 use Rattle.am_store.specs.Broadcast.{due, IsFront}
 use Rattle.am_cast.specs.Cursors as cast

@@ -40,9 +40,10 @@ mod seat;
 mod start;
 mod worker;
 
-pub use am_alert::{Alert, AlertParts, Moment, Post, PostFault, read_post};
+pub use am_alert::{Alert, Moment, Post, PostFault};
 pub use am_history::Timeline;
 pub use am_labels::{LabelSet, LabelsFault, Text};
+pub use am_posts::{AlertParts, PartsFault, post_from_parts, read_post};
 pub use am_provider::{
     BodyFault, Caller, CloseFault, Ended, Page, Policy, Posted, PostedIf, Provider, PutFault,
     Recorded, Register, Settled, SubFault, Subscription, TurnsSeen,

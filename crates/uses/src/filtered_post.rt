@@ -2,8 +2,8 @@
 
 use anyhow::Result;
 use sinnoraku::{
-    Alert, AlertParts, Client, Duration, Global, Limits, Moment, Post, Program, Recorded, Text,
-    Wait, run,
+    Alert, AlertParts, Client, Duration, Global, Limits, Moment, Program, Recorded, Text, Wait,
+    post_from_parts, run,
 };
 
 const NEW_YEAR: &str = "2024-01-01T00:00:00Z";
@@ -21,7 +21,7 @@ impl<R: Wait + Print + AllocGlobal> Program<R> for FilteredPost {
         for instance in ["db1", "db2", "db3"] {
             parts.push(disk_full(rt.alloc(), instance, now)?)?;
         }
-        let post = Post::from_parts(rt.alloc(), parts)?;
+        let post = post_from_parts(rt.alloc(), parts)?;
         let mut room = 2u32;
         let mut accepts = |_alert: &Alert, is_new: bool| {
             if is_new && room == 0 {

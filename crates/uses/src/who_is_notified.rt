@@ -6,10 +6,11 @@ ghost use Rattle.am_config.specs.RouteLists.{root_of};
 ghost use Rattle.am_routes.specs.Listings.{AreMatchedBy};
 ghost use Rattle.am_inhibit.specs.Muting.{muted};
 
-use am_alert::{Moment, read_post};
+use am_alert::Moment;
 use am_config::Config;
 use am_inhibit::Inhibitor;
 use am_labels::LabelSet;
+use am_posts::read_post;
 use am_routes::{MatchedRoute, matched_routes};
 use anyhow::Result;
 use std::alloc::{AllocError, Global};

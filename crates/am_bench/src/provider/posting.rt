@@ -3,7 +3,7 @@
 use crate::provider::load::Load;
 use crate::provider::{Measured, PLACES, Posted, count_shown, moment, wait, wait_for};
 use crate::stopwatch::since;
-use am_alert::PostReader;
+use am_posts::PostReader;
 use sinnoraku::{Client, Limits, Recorded, Worker, run_workers};
 use std::alloc::{AllocError, Global};
 use std::sync::atomic::{AtomicU64, Ordering};

@@ -1,7 +1,7 @@
 -- A matcher's fault as one of the configuration. Only code of this crate cites it.
 use Rattle.std.specs.Prelude.{ℕ, List}
-use Rattle.am_labels.specs.declared.match_fault.MatchFault.{MatchFault}
-use Rattle.am_labels.specs.declared.match_fault.MatchFault.TheVariants as match_fault
+use Rattle.am_matchers.specs.declared.match_fault.MatchFault.{MatchFault}
+use Rattle.am_matchers.specs.declared.match_fault.MatchFault.TheVariants as match_fault
 use Rattle.am_config.specs.declared.fault.ConfigFault.{ConfigFault}
 use Rattle.am_config.specs.declared.fault.ConfigFault.TheVariants.{NoMemory, NoOperator, BadName, BadQuote}
 use Rattle.am_config.specs.declared.fault.ConfigFault.TheVariants.{BadPattern}

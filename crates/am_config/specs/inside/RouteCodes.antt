@@ -3,8 +3,8 @@
 use Rattle.std.specs.Prelude.{◌≡◌, ℕ, List, [], ◌∷◌, ◌++◌, Bool, Option, Some, None, refl}
 use Rattle.std.specs.Coded.{Coded, code_by, coded×, coded_list, coded_option, coded_ℕ, coded_bool}
 use Rattle.std.proofs.Common.{sym, ◌∙◌, ap, append_assoc, append-nil}
-use Rattle.am_labels.specs.declared.operator.Operator.{Operator}
-use Rattle.am_labels.specs.Matchers.{MatcherView, coded_matcher}
+use Rattle.am_matchers.specs.declared.operator.Operator.{Operator}
+use Rattle.am_matchers.specs.Matchers.{MatcherView, coded_matcher}
 use Rattle.am_config.specs.declared.group_by.GroupBy.{GroupBy}
 use Rattle.am_config.specs.Routes.{RouteView, Forest, no_routes, route}
 

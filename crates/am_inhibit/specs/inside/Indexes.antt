@@ -8,7 +8,7 @@ use Rattle.std.specs.Option.{option_map_or, unwrap_or}
 use Rattle.am_alert.specs.declared.alert.Alert.{Alert}
 use Rattle.am_alert.specs.Merging.{is_resolved_at}
 use Rattle.am_labels.specs.LabelSets.{Labels, value_of}
-use Rattle.am_labels.specs.Matchers.{all_admitted}
+use Rattle.am_matchers.specs.Matchers.{all_admitted}
 use Rattle.am_config.specs.declared.inhibit_rule.InhibitRule.{InhibitRule}
 use Rattle.am_inhibit.specs.declared.source.Source.{Source}
 use Rattle.am_inhibit.specs.declared.source_index.SourceChange.{SourceChange}

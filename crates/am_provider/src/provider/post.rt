@@ -12,7 +12,8 @@ use crate::feed::Recorded;
 use crate::gate::Gate;
 use crate::prepared_post::PreparedPost;
 use crate::provider::Provider;
-use am_alert::{Alert, Moment, Post, read_post};
+use am_alert::{Alert, Moment, Post};
+use am_posts::read_post;
 use am_store::{BodyFault, PutFault};
 use std::sync::Wait;
 

@@ -8,7 +8,7 @@ use Rattle.std.specs.HashMap.{get_by}
 use Rattle.std.specs.List.{AllByRecursion, list_any, list_all}
 use Rattle.std.specs.Option.{option_map, option_map_or}
 use Rattle.am_labels.specs.LabelSets.{Labels, value_of, coded_labels}
-use Rattle.am_labels.specs.Matchers.{MatcherView}
+use Rattle.am_matchers.specs.Matchers.{MatcherView}
 use Rattle.am_config.specs.Routes.{RouteView, Forest, no_routes, route, count_of}
 use Rattle.am_config.specs.RouteLists.{route_view}
 use Rattle.am_routes.specs.declared.candidates.Child.{Child}

@@ -1,7 +1,7 @@
 -- How the searches of a tree's routes are kept: in pre-order. Only code of this crate cites it.
 use Rattle.std.specs.Prelude.{◌≡◌, ℕ, ◌+◌, min, List, [], ◌∷◌, ◌++◌, map, drop}
 use Rattle.am_labels.specs.LabelSets.{Labels}
-use Rattle.am_labels.specs.Matchers.{MatcherView}
+use Rattle.am_matchers.specs.Matchers.{MatcherView}
 use Rattle.am_config.specs.declared.route.Route.{Route}
 use Rattle.am_config.specs.Routes.{RouteView, Forest, no_routes, route}
 use Rattle.am_config.specs.RouteLists.{route_view, forest_of}

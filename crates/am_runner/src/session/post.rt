@@ -7,8 +7,9 @@ ghost use Rattle.am_runner.specs.Sessions.{Does, cut_below, setting_of, posted_a
 
 use crate::context::Context;
 use crate::session::Session;
-use am_alert::{AlertFault, Body, Moment, Post, PostFault};
+use am_alert::{AlertFault, Moment, Post, PostFault};
 use am_answers::{Answer, one};
+use am_posts::{Body, post_from_alerts};
 use am_provider::{BodyFault, Caller, Gate, Posted, Recorded};
 use am_script::{Command, PutAlerts};
 use am_store::LaneSet;
@@ -44,7 +45,7 @@ impl<'p, 'c, N: Recorded> Session<'p, 'c, N> {
             → Does config (setting_of N.places N.policy context.now.provider.now.resolve_timeout)
             self.old (Command.Put at alerts.now) answers.items self.new) }
     {
-        let read = Post::from_alerts(context.alloc, alerts.as_slice());
+        let read = post_from_alerts(context.alloc, alerts.as_slice());
         let posted = match put_read(context, &mut self.caller, at, read) {
             Ok(posted) => posted,
             Err(why) => return one(context.alloc, Answer::PostRefused(why)),

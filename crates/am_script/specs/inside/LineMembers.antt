@@ -5,8 +5,8 @@ use Rattle.json.specs.Token.{Token}
 use Rattle.serde_json.specs.Data.{Data, Members, object, put}
 use Rattle.serde_json.specs.Find.{get_member}
 use Rattle.serde_json.specs.Read.{read}
-use Rattle.am_alert.specs.Bodies.{IsBodyOf}
-use Rattle.am_alert.specs.Tokens.{AreMembers, IsValueOf}
+use Rattle.am_posts.specs.Bodies.{IsBodyOf}
+use Rattle.am_posts.specs.Tokens.{AreMembers, IsValueOf}
 use Rattle.am_script.specs.Commands.{moment_of, name_of, thread_of, verb_at}
 use Rattle.am_script.specs.Puts.{alerts_at}
 use Rattle.am_script.specs.declared.line_members.LineMembers.{LineMembers}

@@ -1,6 +1,6 @@
 use Rattle.std.proofs.Common.{◌<◌, ◌≤◌, ◌∙◌, Ok, Err, ℕ, List, ap, sym, subst, get_or, length, arith}
 use Rattle.std.proofs.lemmas.Result.{err_from_is_err_and}
-use Rattle.am_labels.specs.Matchers.{MatcherView}
+use Rattle.am_matchers.specs.Matchers.{MatcherView}
 use Rattle.am_config.specs.MatcherReadings.{matchers_of}
 use Rattle.am_config.specs.Readings.{AllowsResult}
 use Rattle.am_config.proofs.Readings.{read_at, refused_at, read_all}

@@ -1,6 +1,6 @@
 use Rattle.std.proofs.Common.{◌∷◌, List, ℕ, Some, None, length, arith, ap, lit<, subst, rules}
 use Rattle.std.proofs.lemmas.Str.Pattern.{strip_prefix_char}
-use Rattle.am_labels.specs.MatcherTexts.{IsMeantUntil, IsMeantWhole}
+use Rattle.am_labels.specs.Letters.{IsMeantUntil, IsMeantWhole}
 use Rattle.am_labels.proofs.LabelTexts.{closes, is_closed, name_begins, name_quoted, plain_read, until_shorter}
 use Rattle.am_labels.proofs.label_text.read_name.Goals as goal
 

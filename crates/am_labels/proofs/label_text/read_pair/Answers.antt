@@ -1,6 +1,6 @@
 use Rattle.std.proofs.Common.{◌≡◌, ◌∙◌, ◌∷◌, ◌++◌, ◌≤◌, List, ℕ, length, arith, ap, subst, rules}
 use Rattle.am_labels.specs.Printing.{escaped_all}
-use Rattle.am_labels.specs.MatcherTexts.{IsMeantUntil, IsMeantWhole}
+use Rattle.am_labels.specs.Letters.{IsMeantUntil, IsMeantWhole}
 use Rattle.am_labels.proofs.LabelTexts.{closes, is_closed, pair_split, until_shorter}
 use Rattle.am_labels.proofs.label_text.read_pair.Goals as goal
 

@@ -2,7 +2,7 @@ use Rattle.std.proofs.Common.{rules, ◌≡◌, ◌++◌, ◌∷◌, [], Option,
 use Rattle.std.proofs.lemmas.List.{append-nil}
 use Rattle.std.specs.Option.{option_copied}
 use Rattle.am_config.specs.declared.route.Route.{Route}
-use Rattle.am_labels.specs.Matchers.{MatcherView}
+use Rattle.am_matchers.specs.Matchers.{MatcherView}
 use Rattle.am_routes.specs.Looking.{first_equality}
 use Rattle.am_routes.specs.inside.ChildIndexes.{is_unfiled}
 use Rattle.am_routes.proofs.ChildIndexes.{places-step}

@@ -6,7 +6,7 @@ use Rattle.am_config.specs.declared.route.Route.{Route}
 use Rattle.am_config.specs.Routes.{RouteView, Forest, no_routes, count_of}
 use Rattle.am_config.specs.RouteLists.{route_view, forest_of}
 use Rattle.am_labels.specs.LabelSets.{Labels}
-use Rattle.am_labels.specs.Matchers.{MatcherView, all_admitted}
+use Rattle.am_matchers.specs.Matchers.{MatcherView, all_admitted}
 use Rattle.am_routes.specs.declared.candidates.Child.{Child}
 use Rattle.am_routes.specs.declared.child_entry.ChildEntry.{ChildEntry}
 use Rattle.am_routes.specs.RouteAnswers.{answer_of}

@@ -2,7 +2,7 @@ use Rattle.std.proofs.Common.{◌≡◌, ◌<◌, Some, None, length, arith, ref
 use Rattle.json.specs.Json.{members, read_key, value}
 use Rattle.json.proofs.Grammar.{read_key-shorter}
 use Rattle.serde_json.specs.Data.{no_members, put}
-use Rattle.am_alert.proofs.Tokens.{all_members, no_member_yet, one_more_member}
+use Rattle.am_posts.proofs.Tokens.{all_members, no_member_yet, one_more_member}
 use Rattle.am_script.specs.inside.LineMembers.{AddsMember}
 use Rattle.am_script.proofs.line_members.read_members.Goals as goal
 

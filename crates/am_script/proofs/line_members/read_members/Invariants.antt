@@ -1,7 +1,7 @@
 use Rattle.std.proofs.Common.{length}
 use Rattle.json.specs.Json.{members, value}
 use Rattle.serde_json.specs.Data.{Members}
-use Rattle.am_alert.proofs.Tokens.{Members-so-far}
+use Rattle.am_posts.proofs.Tokens.{Members-so-far}
 use Rattle.am_script.specs.inside.LineMembers.{AreMembersOfLine}
 use Rattle.am_script.proofs.line_members.read_members.Given as goal
 

@@ -1,6 +1,6 @@
 use Rattle.std.proofs.Common.{ap, []}
 use Rattle.serde_json.specs.View.{view}
-use Rattle.am_alert.specs.declared.body.Body.TheVariants.{Text}
+use Rattle.am_posts.specs.declared.body.Body.TheVariants.{Text}
 use Rattle.am_script.specs.Commands.{command_for}
 use Rattle.am_script.proofs.line_reader.command_for.Goals as goal
 

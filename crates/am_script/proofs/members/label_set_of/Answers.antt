@@ -2,7 +2,7 @@ use Rattle.std.proofs.Common.{◌≡◌, ◌++◌, true, Some, sym, ap, ◌∙�
 use Rattle.std.specs.Prelude.{option_map, filter, string_bytes}
 use Rattle.serde_json.specs.View.{view, members_view}
 use Rattle.serde_json.specs.Find.{as_str}
-use Rattle.am_alert.specs.Postables.{has_value, pairs_of}
+use Rattle.am_posts.specs.Postables.{has_value, pairs_of}
 use Rattle.am_script.proofs.Labels.{label_kept, value_is_there}
 use Rattle.am_script.proofs.members.label_set_of.Goals as goal
 

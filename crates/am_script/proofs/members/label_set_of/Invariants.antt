@@ -1,7 +1,7 @@
 use Rattle.std.proofs.Common.{◌≡◌, ◌++◌}
 use Rattle.std.specs.Prelude.{option_map, filter}
 use Rattle.serde_json.specs.View.{members_view}
-use Rattle.am_alert.specs.Postables.{has_value, pairs_of}
+use Rattle.am_posts.specs.Postables.{has_value, pairs_of}
 use Rattle.am_script.proofs.members.label_set_of.Given as goal
 
 -- the pairs so far, with those that come of the members that are left, are those of all members

@@ -1,7 +1,7 @@
 use Rattle.std.proofs.Common.{◌∷◌, [], List, Ok, Err, sym, subst}
 use Rattle.std.specs.Duration.{as_nanos}
 use Rattle.std.specs.declared.time.Duration.{Duration}
-use Rattle.am_alert.specs.Bodies.{IsPostOfBody}
+use Rattle.am_posts.specs.Bodies.{IsPostOfBody}
 use Rattle.am_runner.specs.Sessions.{SessionView, Does, posted, post_refused, posted_answers, setting_of}
 use Rattle.am_answers.specs.declared.answer.Answer.{Answer}
 use Rattle.am_answers.specs.declared.answer.Answer.TheVariants.{PostRefused}

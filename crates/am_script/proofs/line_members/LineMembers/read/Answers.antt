@@ -2,8 +2,8 @@ use Rattle.std.proofs.Common.{◌≡◌, ◌∷◌, [], List, subst, arith, rule
 use Rattle.json.specs.Lex.{tokens}
 use Rattle.json.specs.Token.{Token, begin_object}
 use Rattle.serde_json.specs.Data.{object}
-use Rattle.am_alert.specs.Tokens.{AreMembers}
-use Rattle.am_alert.proofs.Tokens.{object_read, value_read}
+use Rattle.am_posts.specs.Tokens.{AreMembers}
+use Rattle.am_posts.proofs.Tokens.{object_read, value_read}
 use Rattle.am_script.specs.inside.LineMembers.{AreAhead}
 use Rattle.am_script.proofs.line_members.LineMembers.read.Goals as goal
 

@@ -1,7 +1,0 @@
-use Rattle.std.proofs.Common.{arith}
-use Rattle.std.proofs.lemmas.Grind.{common_steps}
-use Rattle.am_alert.proofs.Tokens.{text_read}
-use Rattle.am_alert.proofs.draft_reader.read_text.Goals as goal
-
-pub returns-in-Some-String-clause-read : goal.returns-in-Some-String-clause-read
-returns-in-Some-String-clause-read c = grind (arith, common_steps, text_read)

@@ -1,6 +1,0 @@
-use Rattle.std.proofs.Common.{rules}
-use Rattle.am_alert.proofs.Rooms.{quoted_short}
-use Rattle.am_alert.proofs.room.text_left.Goals as goal
-
-pub returns : goal.returns
-returns c = let short = quoted_short c.args.text.now in search (rules, short)

@@ -1,0 +1,2 @@
+pub mod MatcherTexts
+pub mod MatcherMeaning

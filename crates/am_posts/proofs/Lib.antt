@@ -1,0 +1,10 @@
+pub mod MemberPairs
+pub mod Members
+pub mod Arrays
+pub mod ValidAlerts
+pub mod FromParts
+pub mod Bodies
+pub mod Rooms
+pub mod Drafts
+pub mod Tokens
+pub mod Streams

@@ -1,0 +1,13 @@
+pub use Rattle.am_labels.specs.LabelSets
+pub use Rattle.am_alert.specs.Alerts
+pub use Rattle.am_alert.specs.Moments
+pub use Rattle.am_alert.specs.TimeTexts
+pub use Rattle.am_alert.specs.ValidAlerts
+pub mod Postables
+pub mod Posts
+pub mod Bodies
+pub mod FromParts
+pub mod WholeAlerts
+pub mod Tokens
+pub mod Laws
+pub mod inside
