@@ -1,4 +1,4 @@
--- The members of a command's JSON that several commands have: texts and moments, as am_alert reads them.
+-- The members of a command's JSON that several commands have: texts and moments, as am_posts reads them.
 pub use Rattle.am_posts.specs.WholeAlerts.{moment_at, text_member}
 use Rattle.std.specs.Prelude.{⊤, Option, Some, None, option_and_then, Result, Ok, Err, ◌≡◌}
 use Rattle.am_script.specs.declared.command.LineFault.{LineFault}

@@ -1,7 +1,7 @@
 -- The outcomes of threads that end one after another, and what the turns of all say of each.
 use Rattle.std.proofs.Common.{◌≡◌, ◌∙◌, ℕ, zero, suc, ◌<◌, ◌+◌, ◌++◌, List, [], ◌∷◌, true, length, map, get_or, refl, sym, ap, subst, arith, length-append}
 use Rattle.std.specs.List.{All}
-use Rattle.std.specs.Prelude.{Option, Some, IfSome}
+use Rattle.std.specs.Prelude.{Err, IfOk, IfSome, Ok, Option, Result, Some}
 use Rattle.std.proofs.lemmas.List.{get_or_append_left, length-map}
 use Rattle.std.proofs.lemmas.List.Elements.{All-map}
 use Rattle.am_alert.specs.declared.alert.Alert.{Alert}
@@ -31,6 +31,12 @@ all_end P xs x ys is all =
 
 pub of_some : {O : Type 0} (P : O → Type 0) (o : Option O) (x : O) → o ≡ Some x → IfSome o P → P x
 of_some P o x is holds = subst (λ o. IfSome o P) is holds
+
+-- what three promises of one result give together
+pub if_ok_all : {A E : Type 0} (result : Result A E) (P Q R S : A → Type 0) → ((a : A) → P a → Q a → R a → S a)
+    → IfOk result P → IfOk result Q → IfOk result R → IfOk result S
+if_ok_all (Ok a) P Q R S all p q r = all a p q r
+if_ok_all (Err e) P Q R S all p q r = p
 
 pub no_outcomes : {C O : Type 0} (Done : ℕ → C → O → Type 0) (callers : List C) (outcomes : List O) → callers ≡ [] → outcomes ≡ [] → AreOutcomes Done callers outcomes
 no_outcomes Done callers outcomes none empty = record {

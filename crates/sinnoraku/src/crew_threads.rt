@@ -1,6 +1,6 @@
 //! The threads of a crew: started together, and each run to its end.
 
-ghost use Rattle.std.specs.Prelude.{◌≡◌, ◌<◌, ◌≤◌, [], IfOk, IfSome, List, length, map, vec_len};
+ghost use Rattle.std.specs.Prelude.{◌≡◌, ◌<◌, ◌≤◌, ◌++◌, ◌∷◌, [], IfOk, IfSome, List, Some, length, map, vec_len};
 ghost use Rattle.std.specs.List.{All};
 ghost use mathlib.Core.List.{IsPrefix};
 ghost use Rattle.am_history.specs.Fronts.{FrontView};
@@ -112,8 +112,7 @@ pub(crate) fn run_threads<N: Recorded + Send + Sync, C: Crew<R> + Sync, R: Threa
     requires limits { (N.places ≡ limits.places) × (N.policy ≡ limits.policy)
         × (provider.now.resolve_timeout ≡ limits.resolve_timeout) }
     ensures { IfOk result (λ done. (length done.callers.items ≡ limits.callers)
-        × (turns : List (FrontView EntryView))
-        × AreCrewOutcomes (C.comes_to crew.now limits turns)
+        × (turns : List (FrontView EntryView)) × AreCrewOutcomes (C.comes_to crew.now limits turns)
         (map (λ caller. (caller.pass, caller.front)) done.callers.items) done.outcomes.items) }
 {
     let taken = NewHistory::<Front<Entry, N>>::make(alloc, 1)?;
@@ -132,23 +131,19 @@ fn run_registered<
     limits: Limits,
     crew: &C,
     provider: &Provider<N>,
-    callers: Vec<Caller<N>>,
+    mut callers: Vec<Caller<N>>,
     taken: NewHistory<Front<Entry, N>>,
 ) -> Result<Done<C::Outcome, N>, RunFault>
     requires table { taken.board.shared.table_id ≡ M.timeline }
-    requires ledger { (taken.ledger.name ≡ M.entries) × (taken.ledger.parts ≡ M.holders) }
-    requires some { 0 < taken.ledger.parts }
-    requires fits { C.fits crew.now limits }
-    requires count { vec_len callers ≡ limits.callers }
+    requires ledger { (taken.ledger.name ≡ M.entries) × (taken.ledger.parts ≡ M.holders) × (0 < taken.ledger.parts) }
+    requires fits { C.fits crew.now limits × (vec_len callers ≡ limits.callers) }
     requires fresh { All (λ caller. IsNewCaller caller.pass caller.front) callers.items }
     requires limits { (N.places ≡ limits.places) × (N.policy ≡ limits.policy)
         × (provider.now.resolve_timeout ≡ limits.resolve_timeout) }
     ensures { IfOk result (λ done. (length done.callers.items ≡ limits.callers)
-        × (turns : List (FrontView EntryView))
-        × AreCrewOutcomes (C.comes_to crew.now limits turns)
+        × (turns : List (FrontView EntryView)) × AreCrewOutcomes (C.comes_to crew.now limits turns)
         (map (λ caller. (caller.pass, caller.front)) done.callers.items) done.outcomes.items) }
 {
-    let mut callers = callers;
     let onlooker = onlooker_of(provider, &mut callers);
     let register = Register::new(open::<Front<Entry, N>, M>(taken), onlooker);
     let start = Start::new(limits.callers);
@@ -220,7 +215,7 @@ fn run_from<
 >(
     scope: &Scope<'s, E>,
     shared: &'s Shared<'s, N, M, C, R>,
-    callers: Vec<Caller<N>>,
+    mut callers: Vec<Caller<N>>,
 ) -> Result<AllDone<C::Outcome, N, M>, RunFault>
     requires fits { C.fits shared.now.crew.now shared.now.limits }
     requires count { vec_len callers ≤ shared.now.limits.callers }
@@ -230,7 +225,6 @@ fn run_from<
         → AreCrewOutcomes (C.comes_to shared.now.crew.now shared.now.limits turns)
         (map (λ caller. (caller.pass, caller.front)) all.0.callers.items) all.0.outcomes.items)) }
 {
-    let mut callers = callers;
     let Some(caller) = callers.pop() else {
         return Ok((Done::none(shared.alloc), Vec::new(shared.alloc)));
     };
@@ -248,7 +242,20 @@ fn run_from<
     };
     let others = run_from(scope, shared, callers);
     let ended = child.join(shared.rt);
-    let (mut done, mut all_seen) = others?;
+    with_last(others?, ended)
+}
+
+// What threads came to, and one more that ended.
+fn with_last<O: Drop, N: Recorded, M: Timeline>(
+    others: AllDone<O, N, M>,
+    ended: EndedThread<O, N, M>,
+) -> Result<AllDone<O, N, M>, RunFault>
+    ensures callers { IfOk result (λ all. all.0.callers.items ≡ others.0.callers.items ++ ended.caller ∷ []) }
+    ensures seen { IfOk result (λ all. all.1.items ≡ others.1.items ++ ended.seen ∷ []) }
+    ensures outcome { IfOk result (λ all. (one : O) × (ended.outcome ≡ Some one)
+        × (all.0.outcomes.items ≡ others.0.outcomes.items ++ one ∷ [])) }
+{
+    let (mut done, mut all_seen) = others;
     let Worked {
         outcome,
         caller,

@@ -68,8 +68,7 @@ fn judge_over<F: FnMut(&Alert, bool) -> bool>(
     requires room { length news ≤ vec_capacity changes.old }
     ensures judged { IfOk result (λ done. AreJudged F.FnMut now accepts.new accepts.old 0
         (stored_in alerts.old.entries) news done.accepted done.refused.items) }
-    ensures asked { OnErr result (WasAsked F.FnMut now accepts.new accepts.old
-        (stored_in alerts.old.entries) news) }
+    ensures asked { OnErr result (WasAsked F.FnMut now accepts.new accepts.old (stored_in alerts.old.entries) news) }
     ensures callable { F.IsAlwaysCallable accepts.new }
     ensures back { all_taken_back changes.new.items alerts.new.entries ≡ alerts.old.entries }
 {
