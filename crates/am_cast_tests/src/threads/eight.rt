@@ -112,17 +112,13 @@ fn read_pair<N: Feed>(cast: &Cast<u64, N>, pair: &mut Pair<'_, N>) {
     }
 }
 
-// Answers how many batches took new memory, and how many pairs were shown all that was posted.
-fn read_beside<N: Feed + Send + Sync, R: Threads + Sync>(
-    rt: &R,
+// Two lanes for each pass.
+fn pairs_of<'a, N: Feed>(
     alloc: Global,
-    cast: &Cast<u64, N>,
+    cast: &'a Cast<u64, N>,
     writer: &mut Writer<u64, N>,
-    mut passes: Vec<Pass<u64, N>>,
-) -> Result<(u64, u64), AllocError> {
-    let Some(mut own) = passes.pop() else {
-        return Err(AllocError);
-    };
+    passes: Vec<Pass<u64, N>>,
+) -> Result<Vec<Pair<'a, N>>, AllocError> {
     let mut pairs = Vec::new(alloc);
     for pass in passes {
         let Ok(ahead) = writer.admit(cast, Snapshot::of(&())) else {
@@ -140,6 +136,21 @@ fn read_beside<N: Feed + Send + Sync, R: Threads + Sync>(
             closed: false,
         })?;
     }
+    Ok(pairs)
+}
+
+// Answers how many batches took new memory, and how many pairs were shown all that was posted.
+fn read_beside<N: Feed + Send + Sync, R: Threads + Sync>(
+    rt: &R,
+    alloc: Global,
+    cast: &Cast<u64, N>,
+    writer: &mut Writer<u64, N>,
+    mut passes: Vec<Pass<u64, N>>,
+) -> Result<(u64, u64), AllocError> {
+    let Some(mut own) = passes.pop() else {
+        return Err(AllocError);
+    };
+    let mut pairs = pairs_of(alloc, cast, writer, passes)?;
     let lent = pairs.as_mut_slice();
     let (new, ()) = thread::join(
         rt,
