@@ -159,9 +159,7 @@ impl<N: Origin> Book<N> {
         now: Moment,
     ) -> Result<Published, PutFault>
         requires prepared { IfOk reports (λ reports. reports ≡ valid) }
-        requires open { is_closed self.old.journal ≡ false }
-        requires some { 0 < length valid }
-        requires few { length valid ≤ MAX_ALERTS }
+        requires given { (is_closed self.old.journal ≡ false) × (0 < length valid) × (length valid ≤ MAX_ALERTS) }
         ensures journal { OnOk result (self.new.journal ≡ with_call self.old.journal (Call.Posted now valid)) }
         ensures last { OnOk result (self.new.gone < call_count self.new.journal) }
         ensures own { IfOk result (λ sent. (sent.place ≡ length (batches self.old))
@@ -170,15 +168,13 @@ impl<N: Origin> Book<N> {
         ensures cut { IfOk result (λ sent. IsCutTo self.old self.new sent.cut) }
         ensures loads { Loads self.old.log self.new.log }
         ensures rest { KeepsRest self.old self.new }
-
         ensures refused { IfErr result (IsPutCause self.old self.new (length valid)) }
         ensures err { OnErr result (IsAsBefore self.old self.new × (pass.new ≡ pass.old)) }
     {
         let policy = self.policy;
         look_for_room(&mut self.log, cast, policy)?;
-        let reports = reports?;
         self.journal.reserve(ENTRIES)?;
-        let Absorbed { batch, undo } = self.stored.absorb(reports, now)?;
+        let Absorbed { batch, undo } = self.stored.absorb(reports?, now)?;
         let call = Call::Posted { now, alerts: valid };
         match send_batch(&mut self.log, cast, policy, batch, &call, &mut pass.pass) {
             Ok((sent, emptied)) => {

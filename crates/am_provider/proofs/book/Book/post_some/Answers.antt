@@ -31,10 +31,10 @@ use Rattle.am_provider.proofs.book.Book.post_some.Goals as goal
 pub send_batch-requires-clause-some : goal.send_batch-requires-clause-some
 send_batch-requires-clause-some g c =
     let olds = stored_in c.self.inside.stored in
-    let news = c.in_ok-reports.reports in
+    let news = c.in_ok-reports.field-0 in
     let count : length c.in_ok-batch.field-0.batch.items ≡ length news = length_became c.in_ok-batch.field-0.batch.items c.args.now news olds c.in_ok-batch.ensures.batch in
     let same : news ≡ c.args.valid = search rules in
-    omega (arith, c.requires.some, count, ap length same)
+    omega (arith, c.requires.given.1, count, ap length same)
 
 pub invariant_of-self-in-Ok : goal.invariant_of-self-in-Ok
 invariant_of-self-in-Ok g c =
@@ -42,7 +42,7 @@ invariant_of-self-in-Ok g c =
     let olds = stored_in c.self.inside.stored in
     let valid = c.args.valid in
     let batch = alerts_in c.in_ok-batch.field-0.batch.items in
-    let same : c.in_ok-reports.reports ≡ valid = search rules in
+    let same : c.in_ok-reports.field-0 ≡ valid = search rules in
     let became : batch ≡ batch_by_list c.args.now valid olds = c.in_ok-batch.ensures.batch ∙ ap (λ news. batch_by_list c.args.now news olds) same in
     let stored : stored_in c.absorb.new.self ≡ with_alerts batch olds =
     c.in_ok-batch.ensures.stored ∙ (ap (λ news. with_alerts (batch_by_list c.args.now news olds) olds) same ∙ ap (λ b. with_alerts b olds) (sym became)) in
@@ -52,14 +52,14 @@ invariant_of-self-in-Ok g c =
     let lanes : (lane : ℕ) → lane < 8 → GoesOnAs (account_of c.self.inside.log lane) (account_of c.send_batch.new.writer lane) =
     λ lane small. goes_on_twice (account_of c.self.inside.log lane) (account_of c.look_for_room.new.writer lane) (account_of c.send_batch.new.writer lane)
     (stays_as _ _ (c.look_for_room.ensures.harvested.each lane small)) (cut_as _ _ _ _ _ (sent.lanes lane small) (sent.cuts lane small)) in
-    let still : c.self.inside.log.tail.closed ≡ false = kept.pages.closed ∙ (ap (λ (b : BookView). is_closed b.journal) c.self.view_is ∙ c.requires.open) in
+    let still : c.self.inside.log.tail.closed ≡ false = kept.pages.closed ∙ (ap (λ (b : BookView). is_closed b.journal) c.self.view_is ∙ c.requires.given.0) in
     let posted : x.0.post ≡ Posted c.args.now valid = x.1 in
     let few : length c.self.inside.log.tail.log < LONGEST_LOG = omega (arith, c.in_ok-look_for_room.ensures.few, ap (λ (t : Tail Batch). length t.log) tail) in
     let room : 9 ≤ c.push.new.self.room = omega (arith, c.in_ok-reserve.ensures.room, c.push.ensures.room) in
     let gone : c.push.new.self.gone ≡ c.self.inside.journal.gone = c.push.ensures.gone.0 ∙ c.in_ok-reserve.ensures.same.1 in
     let journal : c.push.new.self.journal ≡ with_call c.self.inside.journal.journal (Posted c.args.now valid) =
     c.push.ensures.journal ∙ ap (λ (j : JournalView). with_call j (Posted c.args.now valid)) c.in_ok-reserve.ensures.same.0 in (
-      kept_posted _ _ _ _ _ c.args.now valid batch x.0 kept still journal stored became (ap length became ∙ length_batch c.args.now valid olds) c.requires.few c.requires.some few
+      kept_posted _ _ _ _ _ c.args.now valid batch x.0 kept still journal stored became (ap length became ∙ length_batch c.args.now valid olds) c.requires.given.2 c.requires.given.1 few
           posted x.2 (x.3 ∙ ap (longer_tail x.0) tail) lanes refl refl refl refl c.add.ensures.total gone room,
       c.self.invariant.1,
       c.self.invariant.2,
@@ -84,6 +84,16 @@ pub invariant_of-self-in_err-reserve : goal.invariant_of-self-in_err-reserve
 invariant_of-self-in_err-reserve g c =
     let same = c.in_err-reserve.ensures.same in (
       kept_alike _ _ _ _ c.self.invariant.0 same.0 same.1 c.in_err-reserve.ensures.kept refl c.look_for_room.ensures.harvested.tail
+          (λ lane small. stays_as _ _ (c.look_for_room.ensures.harvested.each lane small)) refl refl refl refl,
+      c.self.invariant.1,
+      c.self.invariant.2,
+      still_endings_of _ _ _ _ c.self.invariant.3 refl refl (ap (λ (j : JournalView). j.before) same.0) same.1,
+    )
+
+pub invariant_of-self-in_err-reports : goal.invariant_of-self-in_err-reports
+invariant_of-self-in_err-reports g c =
+    let same = c.in_ok-reserve.ensures.same in (
+      kept_alike _ _ _ _ c.self.invariant.0 same.0 same.1 c.in_ok-reserve.ensures.kept refl c.look_for_room.ensures.harvested.tail
           (λ lane small. stays_as _ _ (c.look_for_room.ensures.harvested.each lane small)) refl refl refl refl,
       c.self.invariant.1,
       c.self.invariant.2,
@@ -154,7 +164,7 @@ returns-in_err-look_for_room-clause-refused g c =
       policy = c.self.inside.policy;
     }) in
     subst (λ (r : Result Published PutFault). IfErr r (IsPutCause c.args.self.now new (length c.args.valid))) (sym refused)
-    (put_cause c.args.self.now new (length c.args.valid) found c.requires.open c.requires.some why.0 why.1 cause)
+    (put_cause c.args.self.now new (length c.args.valid) found c.requires.given.0 c.requires.given.1 why.0 why.1 cause)
 
 -- a refused batch leaves the log as it was
 pub returns-in-Err-clause-log : goal.returns-in-Err-clause-log
