@@ -21,6 +21,8 @@ mod inhibitor;
 #[cfg(test)]
 mod label_sets;
 #[cfg(test)]
+mod letters;
+#[cfg(test)]
 mod matchers;
 #[cfg(test)]
 mod moments;

@@ -245,7 +245,7 @@ fn run_from<
     with_last(others?, ended)
 }
 
-// What threads came to, and one more that ended.
+// The outcomes of some threads, and that of one more, which has ended.
 fn with_last<O: Drop, N: Recorded, M: Timeline>(
     others: AllDone<O, N, M>,
     ended: EndedThread<O, N, M>,
