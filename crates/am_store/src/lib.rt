@@ -15,7 +15,7 @@
 //!
 //! <!-- parts of crates/am_provider/src/book/post.rt -->
 //! ```rust
-//! let Absorbed { batch, undo } = self.stored.absorb(reports, now)?;
+//! let Absorbed { batch, undo } = self.stored.absorb(reports?, now)?;
 //!
 //! self.stored.take_back(undo);
 //! ```
