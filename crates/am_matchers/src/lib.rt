@@ -16,7 +16,7 @@
 //! }
 //! ```
 //!
-//! This crate knows nothing of alerts.
+//! This crate knows nothing of alerts. It is apart from `am_labels` so that alerts need not wait for its proofs.
 #![tactic(auto)]
 
 mod choice;

@@ -11,7 +11,8 @@
 //! let post = read_post(alloc, BODY, now, config.resolve_timeout)?;
 //! ```
 //!
-//! This crate knows nothing of stores, nor of how two reports become one: `am_alert` says what an alert is.
+//! This crate knows nothing of stores, nor of how two reports become one: `am_alert` says what an alert is. It is apart from
+//! that one so that stores need not wait for its proofs.
 #![tactic(auto)]
 
 mod alert_parts;
